@@ -1,0 +1,6 @@
+-- The event machine: its state, its events, what each does, and the laws over lists of them.
+pub mod State
+pub mod Event
+pub mod Next
+pub mod History
+pub mod Laws

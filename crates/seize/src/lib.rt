@@ -1,0 +1,4 @@
+//! Memory reclamation for concurrent data structures by the Hyaline-1 scheme.
+#![tactic(auto)]
+
+pub mod machine;
