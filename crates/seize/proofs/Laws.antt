@@ -9,3 +9,12 @@ pub mod Fits
 pub mod Histories
 pub mod Invariants
 pub mod Reclaiming
+pub mod Lists
+pub mod Ends
+pub mod PartsLaw
+pub mod Holders
+pub mod Quiet
+pub mod Protection
+pub mod Tries
+pub mod Refuting
+pub mod Counterexamples

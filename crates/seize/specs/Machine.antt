@@ -4,3 +4,7 @@ pub mod Event
 pub mod Next
 pub mod History
 pub mod Laws
+pub mod Rows
+pub mod Schedules
+pub mod Counterexamples
+pub mod Code

@@ -2,3 +2,6 @@
 #![tactic(auto)]
 
 pub mod machine;
+mod refusal;
+
+pub use refusal::Refusal;

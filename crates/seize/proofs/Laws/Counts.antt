@@ -75,7 +75,7 @@ change f st s new o h e = rw (← e) (sum_by-set (λ slot. f slot.call) st.slots
 
 -- a change of one slot's record that moves no count
 same_counts : (b : ℕ) (st : State) (s : ℕ) (new : Slot) (o : Option Call) → s < length st.slots → (slot_at st s).call ≡ o
-  → (walks b new.call ≡ walks b o) → (owns b new.call ≡ owns b o) → (wins b new.call ≡ wins b o) → CountedIn b st → Counted b (set st.slots s new) st.heads st.batches
+    → (walks b new.call ≡ walks b o) → (owns b new.call ≡ owns b o) → (wins b new.call ≡ wins b o) → CountedIn b st → Counted b (set st.slots s new) st.heads st.batches
 same_counts b st s new o h e walk own win c =
     let x : _ ≡ _ = change (walks b) st s new o h e in
     let y : _ ≡ _ = change (owns b) st s new o h e in
@@ -157,19 +157,24 @@ pub held_range : (b n k : ℕ) → (n ≤ b → k ≡ 0) → 1 ≤ k → b < n
 held_range b n k h le = grind arith
 
 added_count : (b : ℕ) (st : State) (s a won : ℕ) (queue : List ℕ) (given values : List ℕ) → (1 ≤ length values → is_zero ((batch_at st a).count +ℤ pos won) ≡ false) → Stands st s (Add a won) queue → CountedIn b st
-  → Counted b (set st.slots s (record (slot_at st s) { call = Some (record { place = Rest given []; queue = queue }) })) st.heads (set st.batches a (record { values = values; count = (batch_at st a).count +ℤ pos won }))
+    → Counted b (set st.slots s (record (slot_at st s) { call = Some (record { place = Rest given []; queue = queue }) })) st.heads (set st.batches a (record { values = values; count = (batch_at st a).count +ℤ pos won }))
 added_count b st s a won queue given values some e c = go (is_true (a == b))
   where
     new : Slot
     new = record (slot_at st s) { call = Some (record { place = Rest given []; queue = queue }) }
+
     batch : Batch
     batch = record { values = values; count = (batch_at st a).count +ℤ pos won }
+
     x : of_calls (walks b) (set st.slots s new) + 0 ≡ of_calls (walks b) st.slots + 0
     x = change (walks b) st s new _ (in_range st s _ e) e
+
     y : of_calls (owns b) (set st.slots s new) + one (a == b) ≡ of_calls (owns b) st.slots + 0
     y = change (owns b) st s new _ (in_range st s _ e) e
+
     z : of_calls (wins b) (set st.slots s new) + (if a == b then won else 0) ≡ of_calls (wins b) st.slots + 0
     z = change (wins b) st s new _ (in_range st s _ e) e
+
     go : ((a == b) ≡ true) ⊎ ((a == b) ≡ false) → Counted b (set st.slots s new) st.heads (set st.batches a batch)
     go (inl t) =
         let same : a ≡ b = eq_true a b t in
@@ -179,10 +184,16 @@ added_count b st s a won queue given values some e c = go (is_true (a == b))
         let r : a < length st.batches = rw same (held_range b _ _ c.fresh (omega (arith, x, y))) in
         let n : count_at (set st.batches a batch) b ≡ count_at st.batches b +ℤ pos won = rw (← same) (new_at a st.batches batch r) in
         let len : _ ≡ _ = length-set st.batches a batch in
-        record { balance = omega (arith, ints, x, y, z); alone = omega (arith, x, y, z); few = omega (arith, x, y, z); fresh = omega (arith, x, y, z); held = λ h.
-            let full : 1 ≤ length values = subst (λ k. 1 ≤ length (k.values)) (get_or-set_same st.batches a batch no_batch r) (subst (λ j. 1 ≤ length (get_or (set st.batches a batch) j no_batch).values) (sym same) h) in
-            let is : (batch_at st a).count +ℤ pos won ≡ pos (listed b st.heads + of_calls (walks b) st.slots) = rw same (omega (arith, ints, c.balance)) in
-            omega (arith, x, y, nonzero _ _ (some full) is) }
+        record {
+          balance = omega (arith, ints, x, y, z);
+          alone = omega (arith, x, y, z);
+          few = omega (arith, x, y, z);
+          fresh = omega (arith, x, y, z);
+          held = λ h.
+              let full : 1 ≤ length values = subst (λ k. 1 ≤ length (k.values)) (get_or-set_same st.batches a batch no_batch r) (subst (λ j. 1 ≤ length (get_or (set st.batches a batch) j no_batch).values) (sym same) h) in
+              let is : (batch_at st a).count +ℤ pos won ≡ pos (listed b st.heads + of_calls (walks b) st.slots) = rw same (omega (arith, ints, c.balance)) in
+              omega (arith, x, y, nonzero _ _ (some full) is);
+        }
     go (inr t) =
         let other : b ≢ a = grind arith in
         let own : one (a == b) ≡ 0 = ap one t in
@@ -192,19 +203,24 @@ added_count b st s a won queue given values some e c = go (is_true (a == b))
         record { balance = omega (arith, ints, x, y, z); alone = omega (arith, x, y, z); few = omega (arith, x, y, z); fresh = omega (arith, x, y, z); held = λ h. (let same : get_or (set st.batches a batch) b no_batch ≡ get_or st.batches b no_batch = get_or-set_other st.batches a b batch no_batch other in omega (arith, x, y, z, c.held (rw (← same) h))) }
 
 subtracted_count : (b : ℕ) (st : State) (s a : ℕ) (walk queue : List ℕ) (given values : List ℕ) → (1 ≤ length values → is_zero ((batch_at st a).count -ℤ pos 1) ≡ false) → Stands st s (Rest [] (a ∷ walk)) queue → CountedIn b st
-  → Counted b (set st.slots s (record (slot_at st s) { call = Some (record { place = Rest given walk; queue = queue }) })) st.heads (set st.batches a (record { values = values; count = (batch_at st a).count -ℤ pos 1 }))
+    → Counted b (set st.slots s (record (slot_at st s) { call = Some (record { place = Rest given walk; queue = queue }) })) st.heads (set st.batches a (record { values = values; count = (batch_at st a).count -ℤ pos 1 }))
 subtracted_count b st s a walk queue given values some e c = go (is_true (a == b))
   where
     new : Slot
     new = record (slot_at st s) { call = Some (record { place = Rest given walk; queue = queue }) }
+
     batch : Batch
     batch = record { values = values; count = (batch_at st a).count -ℤ pos 1 }
+
     x : of_calls (walks b) (set st.slots s new) + (one (a == b) + occ b walk) ≡ of_calls (walks b) st.slots + occ b walk
     x = change (walks b) st s new _ (in_range st s _ e) e
+
     y : of_calls (owns b) (set st.slots s new) + 0 ≡ of_calls (owns b) st.slots + 0
     y = change (owns b) st s new _ (in_range st s _ e) e
+
     z : of_calls (wins b) (set st.slots s new) + 0 ≡ of_calls (wins b) st.slots + 0
     z = change (wins b) st s new _ (in_range st s _ e) e
+
     owned_or : is_zero ((batch_at st a).count -ℤ pos 1) ≡ false → a ≡ b → (nat_lt 0 (of_calls (owns b) st.slots) ≡ true) ⊎ (nat_lt 0 (of_calls (owns b) st.slots) ≡ false) → 1 ≤ listed b st.heads + of_calls (walks b) (set st.slots s new) + of_calls (owns b) (set st.slots s new)
     owned_or z same (inl t) = omega (arith, y, lt_true _ _ t)
     owned_or z same (inr t) =
@@ -213,6 +229,7 @@ subtracted_count b st s a walk queue given values some e c = go (is_true (a == b
         let own : one (a == b) ≡ 1 = (let k : (a == b) ≡ true = grind arith in ap one k) in
         let is : (batch_at st a).count -ℤ pos 1 ≡ pos (listed b st.heads + of_calls (walks b) (set st.slots s new)) = rw same (omega (arith, ints, c.balance, x)) in
         omega (arith, nonzero _ _ z is)
+
     go : ((a == b) ≡ true) ⊎ ((a == b) ≡ false) → Counted b (set st.slots s new) st.heads (set st.batches a batch)
     go (inl t) =
         let same : a ≡ b = eq_true a b t in
@@ -220,9 +237,15 @@ subtracted_count b st s a walk queue given values some e c = go (is_true (a == b
         let r : a < length st.batches = rw same (held_range b _ _ c.fresh (omega (arith, x, y))) in
         let n : count_at (set st.batches a batch) b ≡ count_at st.batches b -ℤ pos 1 = rw (← same) (new_at a st.batches batch r) in
         let len : _ ≡ _ = length-set st.batches a batch in
-        record { balance = omega (arith, ints, x, y, z); alone = omega (arith, x, y, z); few = omega (arith, x, y, z); fresh = omega (arith, x, y, z); held = λ h.
-            let full : 1 ≤ length values = subst (λ k. 1 ≤ length (k.values)) (get_or-set_same st.batches a batch no_batch r) (subst (λ j. 1 ≤ length (get_or (set st.batches a batch) j no_batch).values) (sym same) h) in
-            owned_or (some full) same (is_true (nat_lt 0 (of_calls (owns b) st.slots))) }
+        record {
+          balance = omega (arith, ints, x, y, z);
+          alone = omega (arith, x, y, z);
+          few = omega (arith, x, y, z);
+          fresh = omega (arith, x, y, z);
+          held = λ h.
+              let full : 1 ≤ length values = subst (λ k. 1 ≤ length (k.values)) (get_or-set_same st.batches a batch no_batch r) (subst (λ j. 1 ≤ length (get_or (set st.batches a batch) j no_batch).values) (sym same) h) in
+              owned_or (some full) same (is_true (nat_lt 0 (of_calls (owns b) st.slots)));
+        }
     go (inr t) =
         let other : b ≢ a = grind arith in
         let own : one (a == b) ≡ 0 = ap one t in
@@ -231,21 +254,27 @@ subtracted_count b st s a walk queue given values some e c = go (is_true (a == b
         record { balance = omega (arith, ints, x, y, z); alone = omega (arith, x, y, z); few = omega (arith, x, y, z); fresh = omega (arith, x, y, z); held = λ h. (let same : get_or (set st.batches a batch) b no_batch ≡ get_or st.batches b no_batch = get_or-set_other st.batches a b batch no_batch other in omega (arith, x, y, z, c.held (rw (← same) h))) }
 
 detached_count : (b : ℕ) (st : State) (s next note : ℕ) (marks queue : List ℕ) → Stands st s (Mark next note marks) queue → CountedIn b st
-  → Counted b (set st.slots s (record { used = (slot_at st s).used; batch = []; call = Some (record { place = look (length st.batches) 0 marks; queue = queue }) })) st.heads (st.batches ++ record { values = (slot_at st s).batch; count = pos 0 } ∷ [])
+    → Counted b (set st.slots s (record { used = (slot_at st s).used; batch = []; call = Some (record { place = look (length st.batches) 0 marks; queue = queue }) })) st.heads (st.batches ++ record { values = (slot_at st s).batch; count = pos 0 } ∷ [])
 detached_count b st s next note marks queue e c = go (is_true (length st.batches == b))
   where
     n : ℕ
     n = length st.batches
+
     new : Slot
     new = record { used = (slot_at st s).used; batch = []; call = Some (record { place = look n 0 marks; queue = queue }) }
+
     batch : Batch
     batch = record { values = (slot_at st s).batch; count = pos 0 }
+
     x : of_calls (walks b) (set st.slots s new) + 0 ≡ of_calls (walks b) st.slots + 0
     x = subst (λ k. of_calls (walks b) (set st.slots s new) + 0 ≡ of_calls (walks b) st.slots + k) (look_walks b n 0 marks) (change (walks b) st s new _ (in_range st s _ e) e)
+
     y : of_calls (owns b) (set st.slots s new) + 0 ≡ of_calls (owns b) st.slots + one (n == b)
     y = subst (λ k. of_calls (owns b) (set st.slots s new) + 0 ≡ of_calls (owns b) st.slots + k) (look_owns b n 0 marks) (change (owns b) st s new _ (in_range st s _ e) e)
+
     z : of_calls (wins b) (set st.slots s new) + 0 ≡ of_calls (wins b) st.slots + 0
     z = subst (λ k. of_calls (wins b) (set st.slots s new) + 0 ≡ of_calls (wins b) st.slots + k) (look_none b n marks) (change (wins b) st s new _ (in_range st s _ e) e)
+
     go : ((n == b) ≡ true) ⊎ ((n == b) ≡ false) → Counted b (set st.slots s new) st.heads (st.batches ++ batch ∷ [])
     go (inl t) =
         let same : length st.batches ≡ b = eq_true n b t in
@@ -264,19 +293,24 @@ detached_count b st s next note marks queue e c = go (is_true (length st.batches
         record { balance = omega (arith, ints, x, y, z); alone = omega (arith, x, y, z); few = omega (arith, x, y, z); fresh = omega (arith, x, y, z); held = λ h. (let same : get_or (st.batches ++ batch ∷ []) b no_batch ≡ get_or st.batches b no_batch = get_or_push_other st.batches batch no_batch b other in omega (arith, x, y, z, c.held (rw (← same) h))) }
 
 inserted_count : (b : ℕ) (st : State) (s m a won : ℕ) (later saw queue waiting : List ℕ) → Stands st s (Try a won m later saw) queue → head_at st m ≡ Active waiting → CountedIn b st
-  → Counted b (set st.slots s (record (slot_at st s) { call = Some (record { place = look a (won + 1) later; queue = queue }) })) (set st.heads m (Active (a ∷ waiting))) st.batches
+    → Counted b (set st.slots s (record (slot_at st s) { call = Some (record { place = look a (won + 1) later; queue = queue }) })) (set st.heads m (Active (a ∷ waiting))) st.batches
 inserted_count b st s m a won later saw queue waiting e head_is c = go (is_true (a == b))
   where
     new : Slot
     new = record (slot_at st s) { call = Some (record { place = look a (won + 1) later; queue = queue }) }
+
     l : listed b (set st.heads m (Active (a ∷ waiting))) + occ b waiting ≡ listed b st.heads + (one (a == b) + occ b waiting)
     l = rw head_is at (sum_by-set (λ head. occ b (waiting_at head)) st.heads m (Active (a ∷ waiting)) Inactive (head_range st m waiting head_is))
+
     x : of_calls (walks b) (set st.slots s new) + 0 ≡ of_calls (walks b) st.slots + 0
     x = subst (λ k. of_calls (walks b) (set st.slots s new) + 0 ≡ of_calls (walks b) st.slots + k) (look_walks b a (won + 1) later) (change (walks b) st s new _ (in_range st s _ e) e)
+
     y : of_calls (owns b) (set st.slots s new) + one (a == b) ≡ of_calls (owns b) st.slots + one (a == b)
     y = subst (λ k. of_calls (owns b) (set st.slots s new) + one (a == b) ≡ of_calls (owns b) st.slots + k) (look_owns b a (won + 1) later) (change (owns b) st s new _ (in_range st s _ e) e)
+
     z : of_calls (wins b) (set st.slots s new) + (if a == b then won else 0) ≡ of_calls (wins b) st.slots + (if a == b then won + 1 else 0)
     z = subst (λ k. of_calls (wins b) (set st.slots s new) + (if a == b then won else 0) ≡ of_calls (wins b) st.slots + k) (look_wins b a (won + 1) later) (change (wins b) st s new _ (in_range st s _ e) e)
+
     go : ((a == b) ≡ true) ⊎ ((a == b) ≡ false) → Counted b (set st.slots s new) (set st.heads m (Active (a ∷ waiting))) st.batches
     go (inl t) =
         let own : one (a == b) ≡ 1 = ap one t in

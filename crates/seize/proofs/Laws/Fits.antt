@@ -74,13 +74,13 @@ fits_step size st event _ (Step.begun_retire s w e new) c = fits_set (max 1 size
 fits_step size st event _ (Step.begun_other s job place e which) c =
     let f : length (slot_at st s).batch < max (max 1 size) (length st.slots) = rw (idle_call (slot_at st s) e) at (c s) in
     fits_set (max 1 size) st s (record (slot_at st s) { call = Some (record { place = place; queue = [] }) }) c
-      (starts (PlaceFits (max 1 size) (length st.slots) (length (slot_at st s).batch)) (length st.slots) f (omega arith, omega arith) f f place which)
+    (starts (PlaceFits (max 1 size) (length st.slots) (length (slot_at st s).batch)) (length st.slots) f (omega arith, omega arith) f f place which)
 fits_step size st event _ (Step.put s w from before after place e which (inl to)) c =
     fits_set (max 1 size) st s (record { used = (slot_at st s).used; batch = (slot_at st s).batch ++ w ∷ []; call = Some (record { place = place; queue = after }) }) c
-      (subst (PlaceFits (max 1 size) (length st.slots) (length ((slot_at st s).batch ++ w ∷ []))) (sym to.0) (omega (arith, to.1)))
+    (subst (PlaceFits (max 1 size) (length st.slots) (length ((slot_at st s).batch ++ w ∷ []))) (sym to.0) (omega (arith, to.1)))
 fits_step size st event _ (Step.put s w from before after place e which (inr to)) c =
     fits_set (max 1 size) st s (record { used = (slot_at st s).used; batch = (slot_at st s).batch ++ w ∷ []; call = Some (record { place = place; queue = after }) }) c
-      (subst (PlaceFits (max 1 size) (length st.slots) (length ((slot_at st s).batch ++ w ∷ []))) (sym to) (omega arith, omega arith))
+    (subst (PlaceFits (max 1 size) (length st.slots) (length ((slot_at st s).batch ++ w ∷ []))) (sym to) (omega arith, omega arith))
 fits_step size st event _ (Step.marked s n next note marks queue e r k) c =
     let f : (length marks ≤ next) × (next ≤ length st.slots) = rw e at (c s) in
     fits_set (max 1 size) st s (record (slot_at st s) { call = Some (record { place = marked_place (is_active (head_at st n)) n note marks (slot_at st s).batch; queue = queue }) }) c (marked_fits (max 1 size) (length st.slots) n next note (is_active (head_at st n)) marks (slot_at st s).batch r (grind arith) f.0)

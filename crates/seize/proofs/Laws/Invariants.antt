@@ -82,4 +82,3 @@ opening_inv slots links distinct =
         let z : _ ≡ _ = sum_replicate (λ slot. wins b slot.call) slots no_slot refl in
         let l : _ ≡ _ = sum_replicate (λ head. occ b (waiting_at head)) slots Inactive refl in
         record { balance = omega (arith, ints); alone = omega arith; few = omega arith; fresh = omega arith; held = λ h. absurd (omega arith) }
-

@@ -73,7 +73,7 @@ pushed P xs j y d new old = go (is_true (length xs == j))
 
 -- a change of one slot's record
 keeps : (s v : ℕ) (st : State) (i : ℕ) (new : Slot) (o : Option Call) → i < length st.slots → (slot_at st i).call ≡ o
-  → given v new.call ≡ given v o → (1 ≤ occ v new.batch → Marks s new.call) → ((b : ℕ) → left b s new.call ≡ left b s o) → KeptIn s v st → Kept s v (set st.slots i new) st.heads st.batches st.gone
+    → given v new.call ≡ given v o → (1 ≤ occ v new.batch → Marks s new.call) → ((b : ℕ) → left b s new.call ≡ left b s o) → KeptIn s v st → Kept s v (set st.slots i new) st.heads st.batches st.gone
 keeps s v st i new o r e same_given marked same_left c =
     record {
       active = c.active;
@@ -105,7 +105,7 @@ look_marks s c won [] = tt
 look_marks s c won (m ∷ marks) = tt
 
 looked_left : (b s : ℕ) (heads : List Head) (c won m : ℕ) (later : List ℕ) → is_active (get_or heads s Inactive) ≡ true
-  → place_left b s (looked (get_or heads m Inactive) c won m later) ≡ (if c == b then one (m == s) + occ s later else 0)
+    → place_left b s (looked (get_or heads m Inactive) c won m later) ≡ (if c == b then one (m == s) + occ s later else 0)
 looked_left b s heads c won m later on = go (get_or heads m Inactive) refl (is_true (m == s))
   where
     go : (head : Head) → get_or heads m Inactive ≡ head → ((m == s) ≡ true) ⊎ ((m == s) ≡ false) → place_left b s (looked head c won m later) ≡ (if c == b then one (m == s) + occ s later else 0)
@@ -138,11 +138,12 @@ one_same a b e = grind arith
 
 -- reading a head keeps the promise to mark s
 marked_marks : (s n next note : ℕ) (heads : List Head) (marks batch : List ℕ) → is_active (get_or heads s Inactive) ≡ true → (n ≡ next) ⊎ ((note ≤ next) × (next < n))
-  → (s < note) × (s < next → 1 ≤ occ s marks) → WillMark s (marked_place (is_active (get_or heads n Inactive)) n note marks batch)
+    → (s < note) × (s < next → 1 ≤ occ s marks) → WillMark s (marked_place (is_active (get_or heads n Inactive)) n note marks batch)
 marked_marks s n next note heads marks batch on at_next will = go (is_active (get_or heads n Inactive)) refl
   where
     not_here : is_active (get_or heads n Inactive) ≡ false → s ≡ n → ⊥
     not_here off same = let k : is_active (get_or heads n Inactive) ≡ true = rw (← same) on in cc
+
     go : (b : Bool) → is_active (get_or heads n Inactive) ≡ b → WillMark s (marked_place b n note marks batch)
     go false off = (will.0, λ h. mark_skip s n next note _ at_next will.0 will.1 (not_here off) h)
     go true e = fits (nat_lt (length marks) (length batch))
@@ -159,6 +160,7 @@ let_go s v a st c l h =
   where
     none_kept : (x k : ℕ) → (1 ≤ x → 1 ≤ k) → k ≡ 0 → x ≡ 0
     none_kept x k w e = grind arith
+
     at_most_listed : (nat_lt s (length st.heads) ≡ true) ⊎ (nat_lt s (length st.heads) ≡ false) → occ a (waiting_at (head_at st s)) ≡ 0
     at_most_listed (inl t) = omega (arith, get_or-le-sum_by (λ head. occ a (waiting_at head)) st.heads s Inactive (lt_true _ _ t))
     at_most_listed (inr t) = let r : length st.heads ≤ s = grind arith in ap (λ head. occ a (waiting_at head)) (get_or_past st.heads s Inactive r)
@@ -206,8 +208,8 @@ sub_lets_go s v a walk queue st i sound e c z =
 
 -- the count of a batch put anew, where its values are kept back by nobody if it is given up
 settled : (s v a : ℕ) (st : State) (i : ℕ) (from : Place) (up : Bool) (count : ℤ) (walk queue : List ℕ) → Stands st i from queue → place_given v from ≡ 0 → ((b : ℕ) → place_left b s from ≡ 0)
-  → (up ≡ true → occ v (batch_at st a).values ≡ 0) → KeptIn s v st
-  → Kept s v (set st.slots i (record (slot_at st i) { call = Some (record { place = Rest (if up then (batch_at st a).values else []) walk; queue = queue }) })) st.heads (set st.batches a (record { values = if up then [] else (batch_at st a).values; count = count })) st.gone
+    → (up ≡ true → occ v (batch_at st a).values ≡ 0) → KeptIn s v st
+    → Kept s v (set st.slots i (record (slot_at st i) { call = Some (record { place = Rest (if up then (batch_at st a).values else []) walk; queue = queue }) })) st.heads (set st.batches a (record { values = if up then [] else (batch_at st a).values; count = count })) st.gone
 settled s v a st i from up count walk queue e not_given no_left free c =
     let none : occ v (if up then (batch_at st a).values else []) ≡ 0 = nothing up free in
     let k : Kept s v (set st.slots i new) st.heads st.batches st.gone = keeps s v st i new _ (in_range st i _ e) e (omega (arith, not_given)) (λ h. tt) (λ b. sym (no_left b)) c in
@@ -221,9 +223,11 @@ settled s v a st i from up count walk queue e not_given no_left free c =
   where
     new : Slot
     new = record (slot_at st i) { call = Some (record { place = Rest (if up then (batch_at st a).values else []) walk; queue = queue }) }
+
     fewer : (up : Bool) → 1 ≤ occ v (if up then [] else (batch_at st a).values) → 1 ≤ occ v (batch_at st a).values
     fewer true h = absurd (omega arith)
     fewer false h = h
+
     nothing : (up : Bool) → (up ≡ true → occ v (batch_at st a).values ≡ 0) → occ v (if up then (batch_at st a).values else []) ≡ 0
     nothing true f = f refl
     nothing false f = refl
@@ -233,7 +237,7 @@ head_other P heads s m head other h = rw (get_or-set_other heads m s head Inacti
 
 -- what holds of the places at which a call begins, or goes on after an append
 pub starts : (P : Place → Type 0) (n : ℕ) → P (Rest [] []) → P (Mark 0 n []) → P (Out true) → P (Out false) → (place : Place)
-  → (place ≡ Rest [] []) ⊎ (place ≡ Mark 0 n []) ⊎ (place ≡ Out true) ⊎ (place ≡ Out false) → P place
+    → (place ≡ Rest [] []) ⊎ (place ≡ Mark 0 n []) ⊎ (place ≡ Out true) ⊎ (place ≡ Out false) → P place
 starts P n a b c d place (inl e) = subst P (sym e) a
 starts P n a b c d place (inr (inl e)) = subst P (sym e) b
 starts P n a b c d place (inr (inr (inl e))) = subst P (sym e) c
@@ -250,7 +254,7 @@ silent_from s v w from before after (inl p) = (ap (place_given v) p.0, λ b. ap 
 silent_from s v w from before after (inr p) = (ap (place_given v) p.0, λ b. ap (place_left b s) p.0)
 
 detached_kept : (s v : ℕ) (st : State) (i next note : ℕ) (marks queue : List ℕ) → Stands st i (Mark next note marks) queue → note ≤ next → KeptIn s v st
-  → Kept s v (set st.slots i (record { used = (slot_at st i).used; batch = []; call = Some (record { place = look (length st.batches) 0 marks; queue = queue }) })) st.heads (st.batches ++ record { values = (slot_at st i).batch; count = pos 0 } ∷ []) st.gone
+    → Kept s v (set st.slots i (record { used = (slot_at st i).used; batch = []; call = Some (record { place = look (length st.batches) 0 marks; queue = queue }) })) st.heads (st.batches ++ record { values = (slot_at st i).batch; count = pos 0 } ∷ []) st.gone
 detached_kept s v st i next note marks queue e le c =
     record {
       active = c.active;
@@ -258,20 +262,23 @@ detached_kept s v st i next note marks queue e le c =
       not_gone = c.not_gone;
       marks = λ t. at_set (λ slot. 1 ≤ occ v slot.batch → Marks s slot.call) st.slots i t new no_slot (λ same r h. absurd (omega arith)) (c.marks t);
       waits = λ b. pushed (λ batch. 1 ≤ occ v batch.values → 1 ≤ of_calls (left b s) (set st.slots i new) + occ b (waiting_at (head_at st s))) st.batches b (record { values = (slot_at st i).batch; count = pos 0 }) no_batch
-        (λ same h. omega (arith, lefts b, now_left b same, will (rw e at (c.marks i h)))) (λ h. omega (arith, lefts b, c.waits b h));
+          (λ same h. omega (arith, lefts b, now_left b same, will (rw e at (c.marks i h)))) (λ h. omega (arith, lefts b, c.waits b h));
     }
   where
     new : Slot
     new = record { used = (slot_at st i).used; batch = []; call = Some (record { place = look (length st.batches) 0 marks; queue = queue }) }
+
     lefts : (b : ℕ) → of_calls (left b s) (set st.slots i new) + 0 ≡ of_calls (left b s) st.slots + place_left b s (look (length st.batches) 0 marks)
     lefts b = change (left b s) st i new _ (in_range st i _ e) e
+
     now_left : (b : ℕ) → length st.batches ≡ b → place_left b s (look (length st.batches) 0 marks) ≡ occ s marks
     now_left b same = look_left b s (length st.batches) 0 marks ∙ (let t : (length st.batches == b) ≡ true = grind arith in ap (λ q. if q then occ s marks else 0) t)
+
     will : (s < note) × (s < next → 1 ≤ occ s marks) → 1 ≤ occ s marks
     will w = w.1 (omega arith)
 
 inserted_kept : (s v : ℕ) (st : State) (i m a won : ℕ) (later saw queue waiting : List ℕ) → Stands st i (Try a won m later saw) queue → head_at st m ≡ Active waiting → KeptIn s v st
-  → Kept s v (set st.slots i (record (slot_at st i) { call = Some (record { place = look a (won + 1) later; queue = queue }) })) (set st.heads m (Active (a ∷ waiting))) st.batches st.gone
+    → Kept s v (set st.slots i (record (slot_at st i) { call = Some (record { place = look a (won + 1) later; queue = queue }) })) (set st.heads m (Active (a ∷ waiting))) st.batches st.gone
 inserted_kept s v st i m a won later saw queue waiting e head_is c =
     record {
       active = at_set (λ head. is_active head ≡ true) st.heads m s (Active (a ∷ waiting)) Inactive (λ same r. refl) c.active;
@@ -283,8 +290,10 @@ inserted_kept s v st i m a won later saw queue waiting e head_is c =
   where
     new : Slot
     new = record (slot_at st i) { call = Some (record { place = look a (won + 1) later; queue = queue }) }
+
     lefts : (b : ℕ) → of_calls (left b s) (set st.slots i new) + (if a == b then one (m == s) + occ s later else 0) ≡ of_calls (left b s) st.slots + place_left b s (look a (won + 1) later)
     lefts b = change (left b s) st i new _ (in_range st i _ e) e
+
     more : (b : ℕ) → 1 ≤ of_calls (left b s) st.slots + occ b (waiting_at (head_at st s)) → 1 ≤ of_calls (left b s) (set st.slots i new) + occ b (waiting_at (get_or (set st.heads m (Active (a ∷ waiting))) s Inactive))
     more b h = go (is_true (a == b)) (is_true (m == s))
       where
@@ -334,7 +343,9 @@ kept_step s v size st event _ (Step.entered i e off) stays sound c =
     let other : s ≢ i = λ same. (let on : is_active (head_at st i) ≡ true = rw (← same) c.active in cc) in
     record {
       active = head_other (λ head. is_active head ≡ true) st.heads s i _ other c.active;
-      not_given = c.not_given; not_gone = c.not_gone; marks = c.marks;
+      not_given = c.not_given;
+      not_gone = c.not_gone;
+      marks = c.marks;
       waits = λ b h. head_other (λ head. 1 ≤ of_calls (left b s) st.slots + occ b (waiting_at head)) st.heads s i _ other (c.waits b h);
     }
 kept_step s v size st event _ (Step.begun_retire i w e new) stays sound c = keeps s v st i _ None (idle_range st i e) (idle_call (slot_at st i) e) refl (λ h. tt) (λ b. refl) c
@@ -347,10 +358,10 @@ kept_step s v size st event _ (Step.put i w from before after place e which to) 
     keeps s v st i (record { used = (slot_at st i).used; batch = (slot_at st i).batch ++ w ∷ []; call = Some (record { place = place; queue = after }) }) _ (in_range st i _ e) e (q.0 ∙ sym f.0) (λ h. q.1) (λ b. q.2 b ∙ sym (f.1 b)) c
 kept_step s v size st event _ (Step.marked i n next note marks queue e r k) stays sound c =
     keeps s v st i (record (slot_at st i) { call = Some (record { place = marked_place (is_active (head_at st n)) n note marks (slot_at st i).batch; queue = queue }) }) _ (in_range st i _ e) e (marked_given v _ n note marks _)
-      (λ h. marked_marks s n next note st.heads marks _ c.active k (rw e at (c.marks i h))) (λ b. marked_left b s _ n note marks _) c
+    (λ h. marked_marks s n next note st.heads marks _ c.active k (rw e at (c.marks i h))) (λ b. marked_left b s _ n note marks _) c
 kept_step s v size st event _ (Step.looked_at i a won m later queue e) stays sound c =
     keeps s v st i (record (slot_at st i) { call = Some (record { place = looked (head_at st m) a won m later; queue = queue }) }) _ (in_range st i _ e) e (looked_given v _ a won m later)
-      (λ h. looked_marks s _ a won m later) (λ b. looked_left b s st.heads a won m later c.active) c
+    (λ h. looked_marks s _ a won m later) (λ b. looked_left b s st.heads a won m later c.active) c
 kept_step s v size st event _ (Step.detached i next note marks queue e le) stays sound c = detached_kept s v st i next note marks queue e le c
 kept_step s v size st event _ (Step.inserted i m a won later saw queue waiting e head_is) stays sound c = inserted_kept s v st i m a won later saw queue waiting e head_is c
 kept_step s v size st event _ (Step.lost i m a won later saw queue e differs) stays sound c =
@@ -364,7 +375,9 @@ kept_step s v size st event _ (Step.swapped_out i leave queue e) stays sound c =
     let k : Kept s v _ st.heads st.batches st.gone = keeps s v st i (record (slot_at st i) { call = Some (record { place = Rest [] (waiting_at (head_at st i)); queue = queue }) }) _ (in_range st i _ e) e refl (λ h. tt) (λ b. refl) c in
     record {
       active = head_other (λ head. is_active head ≡ true) st.heads s i _ other k.active;
-      not_given = k.not_given; not_gone = k.not_gone; marks = k.marks;
+      not_given = k.not_given;
+      not_gone = k.not_gone;
+      marks = k.marks;
       waits = λ b h. head_other (λ head. 1 ≤ of_calls (left b s) (set st.slots i (record (slot_at st i) { call = Some (record { place = Rest [] (waiting_at (head_at st i)); queue = queue }) })) + occ b (waiting_at head)) st.heads s i _ other (k.waits b h);
     }
 kept_step s v size st event _ (Step.handed i w puts given_on walk queue e new) stays sound c =

@@ -63,16 +63,19 @@ mark_has v active n note marks batch = grind arith
 
 -- the values of a batch that is given up go over to the call
 pub gives : (v : ℕ) (batches : List Batch) (a : ℕ) (up : Bool) (count : ℤ)
-  → in_batches v (set batches a (record { values = if up then [] else (get_or batches a no_batch).values; count = count })) + occ v (if up then (get_or batches a no_batch).values else []) ≡ in_batches v batches
+    → in_batches v (set batches a (record { values = if up then [] else (get_or batches a no_batch).values; count = count })) + occ v (if up then (get_or batches a no_batch).values else []) ≡ in_batches v batches
 gives v batches a up count = go (is_true (nat_lt a (length batches)))
   where
     values : List ℕ
     values = (get_or batches a no_batch).values
+
     batch : Batch
     batch = record { values = if up then [] else values; count = count }
+
     split : (up : Bool) → occ v (if up then [] else values) + occ v (if up then values else []) ≡ occ v values
     split true = omega arith
     split false = omega arith
+
     go : (nat_lt a (length batches) ≡ true) ⊎ (nat_lt a (length batches) ≡ false) → in_batches v (set batches a batch) + occ v (if up then values else []) ≡ in_batches v batches
     go (inl h) = omega (arith, sum_by-set (λ batch. occ v batch.values) batches a batch no_batch (lt_true _ _ h), split up)
     go (inr h) =
@@ -82,7 +85,7 @@ gives v batches a up count = go (is_true (nat_lt a (length batches)))
 
 -- a call that puts the batch's count anew
 settles : (v : ℕ) (st : State) (s a : ℕ) (from : Place) (up : Bool) (count : ℤ) (walk queue : List ℕ) → Stands st s from queue → place_has v from ≡ 0 → Once v st
-  → Once v (record st {
+    → Once v (record st {
       slots = set st.slots s (record (slot_at st s) { call = Some (record { place = Rest (if up then (batch_at st a).values else []) walk; queue = queue }) });
       batches = set st.batches a (record { values = if up then [] else (batch_at st a).values; count = count });
     })
@@ -120,6 +123,7 @@ begun_once v st s w e new c =
     le : (v w : ℕ) (xs : List ℕ) → occ v (filter (λ x. not (x == w)) xs) ≤ occ v xs
     le v w [] = omega arith
     le v w (x ∷ xs) = grind (arith, le v w xs)
+
     go : ((w == v) ≡ true) ⊎ ((w == v) ≡ false) → one (w == v) + occ v (filter (λ x. not (x == w)) st.loose) + in_slots v st.slots + in_batches v st.batches + in_links v st.links + occ v st.gone ≤ 1
     go (inl t) =
         let same : w ≡ v = eq_true w v t in

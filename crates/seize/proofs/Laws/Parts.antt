@@ -34,7 +34,7 @@ had : (v : ℕ) (st : State) (s : ℕ) (o : Option Call) → (slot_at st s).call
 had v st s o e = ap (λ o. occ v (slot_at st s).batch + given v o) e
 
 settles : (v : ℕ) (st : State) (s a : ℕ) (from : Place) (up : Bool) (count : ℤ) (walk queue : List ℕ) → Stands st s from queue → place_given v from ≡ 0
-  → kept_in v (set st.slots s (record (slot_at st s) { call = Some (record { place = Rest (if up then (batch_at st a).values else []) walk; queue = queue }) }))
+    → kept_in v (set st.slots s (record (slot_at st s) { call = Some (record { place = Rest (if up then (batch_at st a).values else []) walk; queue = queue }) }))
     + in_batches v (set st.batches a (record { values = if up then [] else (batch_at st a).values; count = count })) + occ v st.gone ≡ parts v st + 0
 settles v st s a from up count walk queue e none =
     let g : _ ≡ _ = gives v st.batches a up count in
@@ -96,9 +96,11 @@ kept-le-slots v slots = sum_by-le-sum_by (slot_keeps v) (slot_has v) slots le
     at_place (Add b won) = omega arith
     at_place (Out stays) = omega arith
     at_place (Rest given walk) = omega arith
+
     in_call : (call : Option Call) → given v call ≤ Rattle.seize.proofs.Laws.Once.call_has v call
     in_call None = omega arith
     in_call (Some call) = omega (arith, at_place call.place)
+
     le : (slot : Slot) → slot_keeps v slot ≤ slot_has v slot
     le slot = omega (arith, in_call slot.call)
 

@@ -27,17 +27,17 @@ stays_gone v c [] st i g r = none_in c r.0 r.1
 stays_gone v zero (t ∷ ts) st i g r =
     let P : Moment → Type 0 = λ m. handed_value m.answer ≡ Some v → ⊥ in
     at_first P (next t.size st t.event) st t ts r.0 r.1
-      (λ d e h.
-        let step : Step t.size st t.event d = step_of t.size st t.event d e in
-        let j : Inv d.0 = inv_step t.size st t.event d step i in
-        omega (arith, handed_gone v t.size st t.event d step h, (j.once v).once))
-      r.2
+    (λ d e h.
+    let step : Step t.size st t.event d = step_of t.size st t.event d e in
+    let j : Inv d.0 = inv_step t.size st t.event d step i in
+    omega (arith, handed_gone v t.size st t.event d step h, (j.once v).once))
+    r.2
 stays_gone v (suc c) (t ∷ ts) st i g r =
     let w : (d : State × Answer) × (next t.size st t.event ≡ Some d) × (slice_get (run d.0 ts) c ≡ Some r.0) = later _ st t ts c r.0 r.1 in
     let step : Step t.size st t.event w.0 = step_of t.size st t.event w.0 w.1 in
     stays_gone v c ts (w.0).0 (inv_step t.size st t.event w.0 step i) (omega (arith, gone_grows v t.size st t.event w.0 step)) (r.0, w.2, r.2)
 
-first_gone : (v : ℕ) (t : Timed) (ts : List Timed) (st : State) → Reclaimed (run st (t ∷ ts)) v zero → (d : State × Answer) → next t.size st t.event ≡ Some d → 1 ≤ occ v (d.0).gone
+pub first_gone : (v : ℕ) (t : Timed) (ts : List Timed) (st : State) → Reclaimed (run st (t ∷ ts)) v zero → (d : State × Answer) → next t.size st t.event ≡ Some d → 1 ≤ occ v (d.0).gone
 first_gone v t ts st r d e =
     let P : Moment → Type 0 = λ m. handed_value m.answer ≡ Some v → 1 ≤ occ v m.after.gone in
     let m_is : moment_of st t d ≡ r.0 = moment_here st t ts d r.0 e r.1 in
@@ -79,11 +79,11 @@ keeps_until s v (suc c) (t ∷ ts) st i k r = go (later _ st t ts c r.0 r.1) (λ
         let before : x.0 < c = x.1 in
         (suc x.0, omega arith, ((x.2).0, sooner _ w.0 st t ts x.0 (x.2).0 w.1 (x.2).1, (x.2).2))
 
-value_once : (v : ℕ) (o : Option ℕ) → (o ≡ Some v) ⊎ (is_value v o ≡ 0)
+pub value_once : (v : ℕ) (o : Option ℕ) → (o ≡ Some v) ⊎ (is_value v o ≡ 0)
 value_once v None = inr refl
 value_once v (Some w) = grind arith
 
-value_is : (v : ℕ) (o : Option ℕ) → o ≡ Some v → is_value v o ≡ 1
+pub value_is : (v : ℕ) (o : Option ℕ) → o ≡ Some v → is_value v o ≡ 1
 value_is v o e = grind arith
 
 given_none : (v : ℕ) (st : State) → parts v st ≡ 0 → of_calls (given v) st.slots ≡ 0
@@ -115,11 +115,11 @@ stays_retired v q [] st i g r = none_in q r.0 r.1
 stays_retired v zero (t ∷ ts) st i g r =
     let P : Moment → Type 0 = λ m. retired_value m.before m.timed.event ≡ Some v → ⊥ in
     at_first P (next t.size st t.event) st t ts r.0 r.1
-      (λ d e h.
-        let step : Step t.size st t.event d = step_of t.size st t.event d e in
-        let j : Inv d.0 = inv_step t.size st t.event d step i in
-        omega (arith, parts_step v t.size st t.event d step, value_is v _ h, parts-le-places v d.0, (j.once v).once))
-      r.2
+    (λ d e h.
+    let step : Step t.size st t.event d = step_of t.size st t.event d e in
+    let j : Inv d.0 = inv_step t.size st t.event d step i in
+    omega (arith, parts_step v t.size st t.event d step, value_is v _ h, parts-le-places v d.0, (j.once v).once))
+    r.2
 stays_retired v (suc q) (t ∷ ts) st i g r =
     let w : (d : State × Answer) × (next t.size st t.event ≡ Some d) × (slice_get (run d.0 ts) q ≡ Some r.0) = later _ st t ts q r.0 r.1 in
     let step : Step t.size st t.event w.0 = step_of t.size st t.event w.0 w.1 in
@@ -139,16 +139,20 @@ story_first v c t ts st i n r d e app =
   where
     here : Moment
     here = moment_of st t d
+
     here_is : slice_get (run st (t ∷ ts)) zero ≡ Some here
     here_is = first_is st t ts d e
+
     step : Step t.size st t.event d
     step = step_of t.size st t.event d e
+
     only : (r : ℕ) → Retired (run st (t ∷ ts)) v r → r ≡ zero
     only zero x = refl
     only (suc r) x =
         let w : (d : State × Answer) × (next t.size st t.event ≡ Some d) × (slice_get (run d.0 ts) r ≡ Some x.0) = later _ st t ts r x.0 x.1 in
         let same : d ≡ w.0 = some_is _ _ (sym e ∙ w.1) in
         absurd (stays_retired v r ts d.0 (inv_step t.size st t.event d step i) (omega (arith, parts_step v t.size st t.event d step, value_is v _ app)) (x.0, rw same w.2, x.2))
+
     parted : (s : ℕ) → IsActiveAt (run st (t ∷ ts)) s zero → HasParted (run st (t ∷ ts)) s zero (suc c)
     parted s a =
         let on : is_active (head_at st s) ≡ true = ap (λ m. is_active (head_at m.before s)) (moment_here st t ts d a.0 e a.1) ∙ a.2 in
@@ -172,6 +176,7 @@ story_later v c t ts st d e none x =
         let w : (d : State × Answer) × (next t.size st t.event ≡ Some d) × (slice_get (run d.0 ts) r ≡ Some y.0) = later _ st t ts r y.0 y.1 in
         let same : d ≡ w.0 = some_is _ _ (sym e ∙ w.1) in
         ap (λ n. suc n) (x.3 r (y.0, rw same w.2, y.2))
+
     parted : (s : ℕ) → IsActiveAt (run st (t ∷ ts)) s (suc x.0) → HasParted (run st (t ∷ ts)) s (suc x.0) (suc c)
     parted s a =
         let w : (d : State × Answer) × (next t.size st t.event ≡ Some d) × (slice_get (run d.0 ts) x.0 ≡ Some a.0) = later _ st t ts x.0 a.0 a.1 in
@@ -186,7 +191,7 @@ after v c [] st i n r = none_in c r.0 r.1
 after v zero (t ∷ ts) st i n r =
     let P : Moment → Type 0 = λ m. handed_value m.answer ≡ Some v → ⊥ in
     absurd (at_first P (next t.size st t.event) st t ts r.0 r.1
-      (λ d e h. omega (arith, handed_given v t.size st t.event d (step_of t.size st t.event d e) h, given_none v st n)) r.2)
+    (λ d e h. omega (arith, handed_given v t.size st t.event d (step_of t.size st t.event d e) h, given_none v st n)) r.2)
 after v (suc c) (t ∷ ts) st i n r = go (later _ st t ts c r.0 r.1) (λ st. after v c ts st) (value_once v (retired_value st t.event))
   where
     go : (w : (d : State × Answer) × (next t.size st t.event ≡ Some d) × (slice_get (run d.0 ts) c ≡ Some r.0))
@@ -196,7 +201,6 @@ after v (suc c) (t ∷ ts) st i n r = go (later _ st t ts c r.0 r.1) (λ st. aft
     go w ih (inr none) =
         let step : Step t.size st t.event w.0 = step_of t.size st t.event w.0 w.1 in
         story_later v c t ts st w.0 w.1 none (ih (w.0).0 (inv_step t.size st t.event w.0 step i) (omega (arith, parts_step v t.size st t.event w.0 step)) (r.0, w.2, r.2))
-
 
 pub law_at_most_once : (slots : ℕ) (links : List (Option ℕ)) (ts : List Timed) → are_distinct (linked links) ≡ true → AtMostOnce (run (opening slots links) ts)
 law_at_most_once slots links ts distinct = at_most_once ts (opening slots links) (opening_inv slots links distinct)

@@ -19,54 +19,60 @@ Stands st s place queue = (slot_at st s).call ≡ Some (record { place = place; 
 
 pub data Step (size : ℕ) (st : State) : Event → State × Answer → Type 0 where
   took_new : (s : ℕ) → s ≡ length st.slots
-    → Step size st (Take s) (record st { slots = st.slots ++ record { used = true; batch = []; call = None } ∷ []; heads = st.heads ++ Inactive ∷ [] }, Done)
+      → Step size st (Take s) (record st { slots = st.slots ++ record { used = true; batch = []; call = None } ∷ []; heads = st.heads ++ Inactive ∷ [] }, Done)
   took_old : (s : ℕ) → s < length st.slots → (slot_at st s).used ≡ false
-    → Step size st (Take s) (set_slot st s (record (slot_at st s) { used = true }), Done)
+      → Step size st (Take s) (set_slot st s (record (slot_at st s) { used = true }), Done)
   gave : (s : ℕ) → is_idle (slot_at st s) ≡ true
-    → Step size st (Give s) (set_slot st s (record (slot_at st s) { used = false }), Done)
+      → Step size st (Give s) (set_slot st s (record (slot_at st s) { used = false }), Done)
   entered : (s : ℕ) → is_idle (slot_at st s) ≡ true → is_active (head_at st s) ≡ false
-    → Step size st (Enter s) (set_head st s (Active []), Done)
+      → Step size st (Enter s) (set_head st s (Active []), Done)
   begun_retire : (s v : ℕ) → is_idle (slot_at st s) ≡ true → (has v st.named ≡ false) ⊎ (has v st.loose ≡ true)
-    → Step size st (Begin s (Retire v)) (begun (retiring st v) s (Append v), Done)
+      → Step size st (Begin s (Retire v)) (begun (retiring st v) s (Append v), Done)
   begun_other : (s : ℕ) (job : Job) (place : Place) → is_idle (slot_at st s) ≡ true
-    → (place ≡ Rest [] []) ⊎ (place ≡ Mark 0 (length st.slots) []) ⊎ (place ≡ Out true) ⊎ (place ≡ Out false)
-    → Step size st (Begin s job) (begun st s place, Done)
+      → (place ≡ Rest [] []) ⊎ (place ≡ Mark 0 (length st.slots) []) ⊎ (place ≡ Out true) ⊎ (place ≡ Out false)
+      → Step size st (Begin s job) (begun st s place, Done)
   put : (s v : ℕ) (from : Place) (before after : List ℕ) (place : Place) → Stands st s from before
-    → ((from ≡ Append v) × (before ≡ after)) ⊎ ((from ≡ Rest [] []) × (before ≡ v ∷ after))
-    → ((place ≡ Rest [] []) × (length ((slot_at st s).batch ++ v ∷ []) < max 1 size)) ⊎ (place ≡ Mark 0 (length st.slots) [])
-    → Step size st (Put s) (set_slot st s (record { used = (slot_at st s).used; batch = (slot_at st s).batch ++ v ∷ []; call = Some (record { place = place; queue = after }) }), Done)
+      → ((from ≡ Append v) × (before ≡ after)) ⊎ ((from ≡ Rest [] []) × (before ≡ v ∷ after))
+      → ((place ≡ Rest [] []) × (length ((slot_at st s).batch ++ v ∷ []) < max 1 size)) ⊎ (place ≡ Mark 0 (length st.slots) [])
+      → Step size st (Put s) (set_slot st s (record { used = (slot_at st s).used; batch = (slot_at st s).batch ++ v ∷ []; call = Some (record { place = place; queue = after }) }), Done)
   marked : (s n next note : ℕ) (marks queue : List ℕ) → Stands st s (Mark next note marks) queue → n < length st.slots → (n ≡ next) ⊎ ((note ≤ next) × (next < n))
-    → Step size st (ReadHead s n) (go_on st s (record { place = marked_place (is_active (head_at st n)) n note marks (slot_at st s).batch; queue = queue }), Found (is_active (head_at st n)))
+      → Step size st (ReadHead s n) (go_on st s (record { place = marked_place (is_active (head_at st n)) n note marks (slot_at st s).batch; queue = queue }), Found (is_active (head_at st n)))
   looked_at : (s b won m : ℕ) (later queue : List ℕ) → Stands st s (Look b won m later) queue
-    → Step size st (ReadHead s m) (go_on st s (record { place = looked (head_at st m) b won m later; queue = queue }), Found (is_active (head_at st m)))
+      → Step size st (ReadHead s m) (go_on st s (record { place = looked (head_at st m) b won m later; queue = queue }), Found (is_active (head_at st m)))
   detached : (s next note : ℕ) (marks queue : List ℕ) → Stands st s (Mark next note marks) queue → note ≤ next
-    → Step size st (Detach s) (record st {
-        slots = slice_set st.slots s (record { used = (slot_at st s).used; batch = []; call = Some (record { place = look (length st.batches) 0 marks; queue = queue }) });
-        batches = st.batches ++ record { values = (slot_at st s).batch; count = pos 0 } ∷ [];
-      }, Done)
+      → Step size st (Detach s) (
+        record st {
+          slots = slice_set st.slots s (record { used = (slot_at st s).used; batch = []; call = Some (record { place = look (length st.batches) 0 marks; queue = queue }) });
+          batches = st.batches ++ record { values = (slot_at st s).batch; count = pos 0 } ∷ [];
+        },
+        Done,
+      )
   inserted : (s m b won : ℕ) (later saw queue waiting : List ℕ) → Stands st s (Try b won m later saw) queue → head_at st m ≡ Active waiting
-    → Step size st (Insert s m Won) (go_on (set_head st m (Active (b ∷ waiting))) s (record { place = look b (won + 1) later; queue = queue }), Done)
+      → Step size st (Insert s m Won) (go_on (set_head st m (Active (b ∷ waiting))) s (record { place = look b (won + 1) later; queue = queue }), Done)
   lost : (s m b won : ℕ) (later saw queue : List ℕ) → Stands st s (Try b won m later saw) queue → head_at st m ≢ Active saw
-    → Step size st (Insert s m Lost) (go_on st s (record { place = Look b won m later; queue = queue }), Done)
+      → Step size st (Insert s m Lost) (go_on st s (record { place = Look b won m later; queue = queue }), Done)
   added : (s b won : ℕ) (queue : List ℕ) (d : State × Answer) → Stands st s (Add b won) queue → counted st s b ((batch_at st b).count +ℤ pos won) [] queue ≡ Some d
-    → Step size st (AddCount s) d
+      → Step size st (AddCount s) d
   subtracted : (s b : ℕ) (walk queue : List ℕ) (d : State × Answer) → Stands st s (Rest [] (b ∷ walk)) queue → counted st s b ((batch_at st b).count -ℤ pos 1) walk queue ≡ Some d
-    → Step size st (SubCount s) d
+      → Step size st (SubCount s) d
   swapped_out : (s : ℕ) (stays : Bool) (queue : List ℕ) → Stands st s (Out stays) queue
-    → Step size st (SwapOut s) (go_on (set_head st s (if stays then Active [] else Inactive)) s (record { place = Rest [] (waiting_at (head_at st s)); queue = queue }), Done)
+      → Step size st (SwapOut s) (go_on (set_head st s (if stays then Active [] else Inactive)) s (record { place = Rest [] (waiting_at (head_at st s)); queue = queue }), Done)
   handed : (s v : ℕ) (puts given walk queue : List ℕ) → Stands st s (Rest (v ∷ given) walk) queue → are_fresh st.named puts ≡ true
-    → Step size st (Hand s puts) (record st {
-        slots = slice_set st.slots s (record (slot_at st s) { call = Some (record { place = Rest given walk; queue = queue ++ puts }) });
-        gone = st.gone ++ v ∷ [];
-        named = st.named ++ puts;
-      }, Handed v)
+      → Step size st (Hand s puts) (
+        record st {
+          slots = slice_set st.slots s (record (slot_at st s) { call = Some (record { place = Rest given walk; queue = queue ++ puts }) });
+          gone = st.gone ++ v ∷ [];
+          named = st.named ++ puts;
+        },
+        Handed v,
+      )
   returned : (s : ℕ) → Stands st s (Rest [] []) []
-    → Step size st (Return s) (set_slot st s (record (slot_at st s) { call = None }), Done)
+      → Step size st (Return s) (set_slot st s (record (slot_at st s) { call = None }), Done)
   read : (s l : ℕ) → can_link st s l ≡ true → Step size st (ReadLink s l) (st, Link (link_at st l))
   exchanged : (s l : ℕ) (exchange : Exchange) (new : Option ℕ) → can_link st s l ≡ true → is_none_or_fresh st new ≡ true
-    → Step size st (ExchangeLink s l exchange) (swapped st l new, Link (link_at st l))
+      → Step size st (ExchangeLink s l exchange) (swapped st l new, Link (link_at st l))
   compared : (s l : ℕ) (exchange : Exchange) → can_link st s l ≡ true
-    → Step size st (ExchangeLink s l exchange) (st, Link (link_at st l))
+      → Step size st (ExchangeLink s l exchange) (st, Link (link_at st l))
 
 -- an outcome under a test
 pub if_some : {A : Type 0} (b : Bool) (x d : A) → (if b then Some x else None) ≡ Some d → (b ≡ true) × (x ≡ d)
@@ -100,7 +106,7 @@ le_true a b h = grind arith
 
 -- what the call of a slot does is what it does at its place
 from_call : (P : State × Answer → Type 0) (st : State) (s : ℕ) (event : Place → List ℕ → Outcome) → ((place : Place) (queue : List ℕ) (d : State × Answer) → Stands st s place queue → event place queue ≡ Some d → P d)
-  → (d : State × Answer) → in_call st s event (slot_at st s).call ≡ Some d → P d
+    → (d : State × Answer) → in_call st s event (slot_at st s).call ≡ Some d → P d
 from_call P st s event k d h = go (slot_at st s).call refl h
   where
     go : (o : Option Call) → (slot_at st s).call ≡ o → in_call st s event o ≡ Some d → P d
@@ -150,7 +156,7 @@ step_detach size st s (Try b won m later saw) queue d e h = absurd (cc)
 step_detach size st s (Add b won) queue d e h = absurd (cc)
 step_detach size st s (Out stays) queue d e h = absurd (cc)
 
-same_list-refl : (xs : List ℕ) → same_list xs xs ≡ true
+pub same_list-refl : (xs : List ℕ) → same_list xs xs ≡ true
 same_list-refl [] = refl
 same_list-refl (x ∷ xs) = grind (arith, same_list-refl xs)
 
@@ -165,6 +171,7 @@ step_insert size st s n Won (Try b won m later saw) queue d e h =
     into : (t : Bool) → (n == m) ≡ t → (if t then insert_into st s m (head_at st m) b won later queue else None) ≡ Some d → (n ≡ m) × (insert_into st s m (head_at st m) b won later queue ≡ Some d)
     into true n_is h = (eq_true _ _ n_is, h)
     into false n_is h = absurd (cc)
+
     go : (head : Head) → head_at st m ≡ head → insert_into st s m head b won later queue ≡ Some d → Step size st (Insert s n Won) d
     go Inactive head_is h = absurd (cc)
     go (Active waiting) head_is g = subst (λ n. Step size st (Insert s n Won) d) (sym (into (n == m) refl h).0) (subst (λ d. Step size st (Insert s m Won) d) (some_is _ _ g) (inserted s m b won later saw queue waiting e head_is))

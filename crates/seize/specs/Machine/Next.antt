@@ -119,10 +119,13 @@ read_head st s n _ queue = None
 abbrev pub detach : State → ℕ → Place → List ℕ → Outcome
 detach st s (Mark next note marked) queue =
     if nat_le note next
-    then Some (record st {
+    then Some (
+      record st {
         slots = slice_set st.slots s (record { used = (slot_at st s).used; batch = []; call = Some (record { place = look (length st.batches) 0 marked; queue = queue }) });
         batches = st.batches ++ record { values = (slot_at st s).batch; count = pos 0 } ∷ [];
-      }, Done)
+      },
+      Done,
+    )
     else None
 detach st s _ queue = None
 
@@ -158,10 +161,13 @@ abbrev pub counted : State → ℕ → ℕ → ℤ → List ℕ → List ℕ →
 counted st s b count walk queue =
     let gives_up = is_zero count in
     let values = (batch_at st b).values in
-    Some (record st {
-      slots = slice_set st.slots s (record (slot_at st s) { call = Some (record { place = Rest (if gives_up then values else []) walk; queue = queue }) });
-      batches = slice_set st.batches b (record { values = if gives_up then [] else values; count = count });
-    }, Count count)
+    Some (
+      record st {
+        slots = slice_set st.slots s (record (slot_at st s) { call = Some (record { place = Rest (if gives_up then values else []) walk; queue = queue }) });
+        batches = slice_set st.batches b (record { values = if gives_up then [] else values; count = count });
+      },
+      Count count,
+    )
 
 abbrev pub add_count : State → ℕ → Place → List ℕ → Outcome
 add_count st s (Add b won) queue = counted st s b ((batch_at st b).count +ℤ pos won) [] queue
@@ -187,11 +193,14 @@ are_fresh named values = list_all (λ v. not (has v named)) values && are_distin
 abbrev pub hand : State → ℕ → List ℕ → Place → List ℕ → Outcome
 hand st s puts (Rest (v ∷ given) walk) queue =
     if are_fresh st.named puts
-    then Some (record st {
+    then Some (
+      record st {
         slots = slice_set st.slots s (record (slot_at st s) { call = Some (record { place = Rest given walk; queue = queue ++ puts }) });
         gone = st.gone ++ v ∷ [];
         named = st.named ++ puts;
-      }, Handed v)
+      },
+      Handed v,
+    )
     else None
 hand st s puts _ queue = None
 
