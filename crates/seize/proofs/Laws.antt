@@ -18,3 +18,4 @@ pub mod Protection
 pub mod Tries
 pub mod Refuting
 pub mod Counterexamples
+pub mod Reached

@@ -1,12 +1,12 @@
 -- The count of a batch, with the insertions not yet added to it, is how often the batch is held.
-use Rattle.std.proofs.Common.{◌≡◌, ◌≢◌, ℕ, zero, suc, ◌+◌, ◌-◌, ◌<◌, ◌≤◌, ℤ, pos, negsuc, ◌+ℤ◌, ◌-ℤ◌, Bool, true, false, not, ◌==◌, if◌then◌else◌, nat_lt, List, [], ◌∷◌, ◌++◌, length, get_or, set, Option, Some, None, refl, sym, ◌∙◌, ap, subst, ◌⊎◌, inl, inr, arith}
+use Rattle.std.proofs.Common.{◌≡◌, ◌≢◌, ℕ, zero, suc, ◌+◌, ◌<◌, ◌≤◌, ℤ, pos, ◌+ℤ◌, ◌-ℤ◌, Bool, true, false, ◌==◌, if◌then◌else◌, nat_lt, List, [], ◌∷◌, ◌++◌, length, get_or, set, Option, Some, None, refl, sym, ◌∙◌, ap, subst, ◌⊎◌, inl, inr, arith}
 use Rattle.std.specs.List.{sum_by}
 use Rattle.std.proofs.lemmas.Int.{ints}
 use Rattle.std.proofs.lemmas.List.{get_or-set_same, get_or-set_other, get_or_past, get_or_push, get_or_append_left, set_past, length-set, length_push}
-use Rattle.std.proofs.lemmas.List.Sums.{sum_by-set, sum_by_push, get_or-le-sum_by, sum_by-le-sum_by}
-use Rattle.seize.specs.Machine.State.{no_slot, no_batch, State, Slot, Batch, Call, Head, Inactive, Active, Place, Append, Mark, Look, Try, Add, Out, Rest, slot_at, head_at, batch_at, link_at, is_active, waiting_at, is_idle}
+use Rattle.std.proofs.lemmas.List.Sums.{sum_by-set, sum_by_push, get_or-le-sum_by}
+use Rattle.seize.specs.Machine.State.{no_slot, no_batch, State, Slot, Batch, Call, Head, Inactive, Active, Place, Mark, Look, Try, Add, Rest, slot_at, head_at, batch_at, is_active, waiting_at, is_idle}
 use Rattle.seize.specs.Machine.Event.{Event}
-use Rattle.seize.specs.Machine.Next.{next, set_head, look, marked_place, looked, counted, is_zero}
+use Rattle.seize.specs.Machine.Next.{next, look, marked_place, looked, is_zero}
 use Rattle.seize.specs.declared.machine.event.Answer.{Answer}
 use Rattle.seize.proofs.Laws.Steps.{Step, Stands, is_true, eq_true, lt_true, some_is}
 use Rattle.seize.proofs.Laws.Sums.{one, occ, sum_alone, sum_nothing}

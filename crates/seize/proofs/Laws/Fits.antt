@@ -1,12 +1,12 @@
 -- What bounds the batches of slots, the marks and the insertions.
-use Rattle.std.proofs.Common.{◌≡◌, ◌≢◌, ℕ, ◌+◌, ◌-◌, ◌<◌, ◌≤◌, max, pos, Bool, true, false, not, ◌==◌, if◌then◌else◌, nat_lt, List, [], ◌∷◌, ◌++◌, length, get_or, set, Option, Some, None, refl, sym, ◌∙◌, ap, subst, ◌⊎◌, inl, inr, arith}
-use Rattle.std.proofs.lemmas.List.{get_or_past, length-set, length_push}
-use Rattle.seize.specs.Machine.State.{no_slot, State, Slot, Batch, Call, Head, Inactive, Active, Place, Append, Mark, Look, Try, Add, Out, Rest, slot_at, head_at, is_active, is_idle}
+use Rattle.std.proofs.Common.{◌≡◌, ℕ, ◌+◌, ◌<◌, ◌≤◌, max, Bool, true, false, if◌then◌else◌, nat_lt, List, [], ◌∷◌, ◌++◌, length, get_or, set, Option, Some, None, refl, sym, subst, inl, inr, arith}
+use Rattle.std.proofs.lemmas.List.{length-set, length_push}
+use Rattle.seize.specs.Machine.State.{no_slot, State, Slot, Call, Head, Inactive, Active, Place, Append, Mark, Look, Try, Add, Out, Rest, slot_at, head_at, is_active}
 use Rattle.seize.specs.Machine.Event.{Event}
 use Rattle.seize.specs.Machine.Next.{look, marked_place, looked}
 use Rattle.seize.specs.declared.machine.event.Answer.{Answer}
-use Rattle.seize.proofs.Laws.Steps.{Step, Stands, some_is}
-use Rattle.seize.proofs.Laws.Counts.{in_range, idle_range, idle_call}
+use Rattle.seize.proofs.Laws.Steps.{Step, some_is}
+use Rattle.seize.proofs.Laws.Counts.{idle_call}
 use Rattle.seize.proofs.Laws.Kept.{at_set, pushed, starts}
 
 -- k: the size, at least 1; n: how many slots; l: how long the slot's batch is

@@ -1,10 +1,10 @@
 -- The moments of a list of events, from its first event on.
-use Rattle.std.proofs.Common.{◌≡◌, ◌≢◌, ℕ, zero, suc, ◌+◌, ◌<◌, ◌≤◌, Bool, true, false, ◌==◌, ◌||◌, List, [], ◌∷◌, ◌++◌, length, Option, Some, None, refl, sym, ◌∙◌, ap, subst, ◌⊎◌, inl, inr, arith}
+use Rattle.std.proofs.Common.{◌≡◌, ◌≢◌, ℕ, zero, suc, Bool, true, false, ◌==◌, ◌||◌, List, [], ◌∷◌, Option, Some, None, refl, sym, ◌∙◌, ap, subst, arith}
 use Rattle.std.specs.List.{slice_get, list_any}
-use Rattle.seize.specs.Machine.State.{State, are_distinct, linked, opening}
+use Rattle.seize.specs.Machine.State.{State}
 use Rattle.seize.specs.Machine.Event.{Event, SwapOut}
 use Rattle.seize.specs.Machine.Next.{Outcome, next}
-use Rattle.seize.specs.Machine.History.{Transition, Timed, Moment, history, end_of, is_swap_out, after_events, IsReached}
+use Rattle.seize.specs.Machine.History.{Timed, Moment, history, is_swap_out}
 use Rattle.seize.specs.declared.machine.event.Answer.{Answer}
 use Rattle.seize.proofs.Laws.Steps.{some_is}
 

@@ -1,22 +1,19 @@
 -- What holds before and after every event of a list that began at an opening state.
-use Rattle.std.proofs.Common.{◌≡◌, ◌≢◌, ℕ, zero, suc, ◌+◌, ◌-◌, ◌<◌, ◌≤◌, Bool, true, false, not, ◌&&◌, ◌==◌, nat_lt, List, [], ◌∷◌, ◌++◌, length, get_or, set, replicate, Option, Some, None, refl, sym, ◌∙◌, ap, subst, ◌⊎◌, inl, inr, arith}
+use Rattle.std.proofs.Common.{◌≡◌, ℕ, zero, suc, ◌+◌, ◌≤◌, true, ◌==◌, List, [], ◌∷◌, length, replicate, Option, Some, refl, sym, ◌∙◌, ap, subst, arith}
 use Rattle.std.specs.Prelude.{option_to_list}
-use Rattle.std.specs.List.{slice_get, sum_by, flat_map}
+use Rattle.std.specs.List.{sum_by}
 use Rattle.std.proofs.lemmas.Int.{ints}
-use Rattle.std.proofs.lemmas.List.{length-set, length_push, get_or_past, length-replicate}
+use Rattle.std.proofs.lemmas.List.{length-set, length_push, length-replicate}
 use Rattle.std.proofs.lemmas.List.Sums.{sum_by-cons, get_or-le-sum_by}
-use Rattle.seize.specs.Machine.State.{no_slot, no_batch, State, Slot, Batch, Call, Head, Inactive, Active, Place, Append, Mark, Look, Try, Add, Out, Rest, slot_at, head_at, batch_at, is_active, waiting_at, has, linked, are_distinct, opening}
-use Rattle.seize.specs.Machine.Event.{Event, Take, Give, Enter, Begin, Put, ReadHead, Detach, Insert, AddCount, SwapOut, SubCount, Hand, Return, ReadLink, ExchangeLink}
-use Rattle.seize.specs.Machine.Next.{Outcome, next}
+use Rattle.seize.specs.Machine.State.{no_slot, State, Slot, Head, Inactive, waiting_at, linked, are_distinct, opening}
+use Rattle.seize.specs.Machine.Event.{Event}
 use Rattle.seize.specs.Machine.History.{handed_value}
 use Rattle.seize.specs.declared.machine.event.Answer.{Answer}
-use Rattle.seize.specs.declared.machine.event.Answer.TheVariants.{Done, Handed}
-use Rattle.seize.proofs.Laws.Steps.{Step, Stands, step_of, is_true, eq_true, and_true, not_true, lt_true, some_is}
-use Rattle.seize.proofs.Laws.Sums.{one, occ, occ-append, occ-push, has_none, sum_nothing, distinct_once}
-use Rattle.seize.proofs.Laws.Counts.{Counted, CountedIn, counted_step, of_calls, owns, wins, walks, listed, in_range, held_range}
-use Rattle.seize.proofs.Laws.Once.{Once, once_step, in_slots, in_links, in_batches, places, slot_has}
-use Rattle.seize.proofs.Laws.Kept.{Kept, KeptIn, Sound, kept_step, given, left}
-use Rattle.seize.proofs.Laws.Parts.{parts, parts_step, parts-le-places, is_value, kept_in, slot_keeps}
+use Rattle.seize.proofs.Laws.Steps.{Step, some_is}
+use Rattle.seize.proofs.Laws.Sums.{one, occ, occ-append, occ-push, distinct_once}
+use Rattle.seize.proofs.Laws.Counts.{CountedIn, counted_step, of_calls, owns, wins, walks, in_range}
+use Rattle.seize.proofs.Laws.Once.{Once, once_step, in_links, slot_has}
+use Rattle.seize.proofs.Laws.Kept.{Sound, given}
 
 -- what holds before and after every event
 pub record Inv (st : State) : Type 0 where

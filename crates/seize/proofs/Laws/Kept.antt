@@ -1,17 +1,15 @@
 -- While an active slot neither leaves nor refreshes, it keeps back what was not given up when it was active.
-use Rattle.std.proofs.Common.{◌≡◌, ◌≢◌, ℕ, ◌+◌, ◌-◌, ◌<◌, ◌≤◌, ℤ, pos, negsuc, ◌+ℤ◌, ◌-ℤ◌, Bool, true, false, not, ◌==◌, if◌then◌else◌, nat_lt, List, [], ◌∷◌, ◌++◌, length, get_or, set, Option, Some, None, refl, sym, ◌∙◌, ap, subst, ◌⊎◌, inl, inr, arith}
-use Rattle.std.specs.List.{sum_by}
+use Rattle.std.proofs.Common.{◌≡◌, ◌≢◌, ℕ, ◌+◌, ◌<◌, ◌≤◌, ℤ, pos, negsuc, ◌+ℤ◌, ◌-ℤ◌, Bool, true, false, ◌==◌, if◌then◌else◌, nat_lt, List, [], ◌∷◌, ◌++◌, length, get_or, set, Option, Some, None, refl, sym, ◌∙◌, ap, subst, ◌⊎◌, inl, inr, arith}
 use Rattle.std.proofs.lemmas.Int.{ints}
-use Rattle.std.proofs.lemmas.List.{get_or-set_same, get_or-set_other, get_or_past, get_or_push, get_or_append_left, set_past, length-set, length_push}
-use Rattle.std.proofs.lemmas.List.Sums.{sum_by-set, sum_by_push, get_or-le-sum_by}
-use Rattle.seize.specs.Machine.State.{no_slot, no_batch, State, Slot, Batch, Call, Head, Inactive, Active, Place, Append, Mark, Look, Try, Add, Out, Rest, slot_at, head_at, batch_at, is_active, waiting_at, is_idle}
+use Rattle.std.proofs.lemmas.List.{get_or-set_same, get_or-set_other, get_or_past, get_or_push, get_or_append_left, set_past}
+use Rattle.std.proofs.lemmas.List.Sums.{sum_by_push, get_or-le-sum_by}
+use Rattle.seize.specs.Machine.State.{no_slot, no_batch, State, Slot, Batch, Call, Head, Inactive, Active, Place, Append, Mark, Look, Try, Add, Out, Rest, slot_at, head_at, batch_at, is_active, waiting_at}
 use Rattle.seize.specs.Machine.Event.{Event, SwapOut}
 use Rattle.seize.specs.Machine.Next.{look, marked_place, looked, is_zero}
 use Rattle.seize.specs.declared.machine.event.Answer.{Answer}
-use Rattle.seize.specs.declared.machine.event.Answer.TheVariants.{Handed}
 use Rattle.seize.proofs.Laws.Steps.{Step, Stands, is_true, eq_true, lt_true, some_is}
-use Rattle.seize.proofs.Laws.Sums.{one, occ, occ-append, occ-push, sum_alone, sum_nothing}
-use Rattle.seize.proofs.Laws.Counts.{Counted, CountedIn, of_calls, owns, place_owns, wins, walks, listed, change, in_range, idle_range, idle_call, get_or_push_other, owns-wins, in_call_of, wins_alone, head_range}
+use Rattle.seize.proofs.Laws.Sums.{one, occ, occ-push, sum_alone, sum_nothing}
+use Rattle.seize.proofs.Laws.Counts.{Counted, CountedIn, of_calls, owns, place_owns, wins, walks, listed, change, in_range, idle_range, idle_call, get_or_push_other, owns-wins, wins_alone, head_range}
 
 abbrev pub place_given : ℕ → Place → ℕ
 place_given v (Rest given walk) = occ v given

@@ -1,12 +1,12 @@
 -- Each value stands in one place at most.
-use Rattle.std.proofs.Common.{◌≡◌, ◌≢◌, ℕ, ◌+◌, ◌-◌, ◌<◌, ◌≤◌, ℤ, pos, negsuc, ◌+ℤ◌, ◌-ℤ◌, Bool, true, false, not, ◌==◌, if◌then◌else◌, nat_lt, List, [], ◌∷◌, ◌++◌, length, get_or, set, Option, Some, None, refl, sym, ◌∙◌, ap, subst, ◌⊎◌, inl, inr, arith}
+use Rattle.std.proofs.Common.{◌≡◌, ◌≢◌, ℕ, ◌+◌, ◌<◌, ◌≤◌, ℤ, pos, Bool, true, false, not, ◌==◌, if◌then◌else◌, nat_lt, List, [], ◌∷◌, ◌++◌, length, get_or, set, Option, Some, None, refl, ap, subst, ◌⊎◌, inl, inr, arith}
 use Rattle.std.specs.Prelude.{option_to_list}
 use Rattle.std.specs.List.{sum_by, filter}
-use Rattle.std.proofs.lemmas.List.{get_or-set_same, get_or-set_other, get_or_past, set_past, length-set, length_push}
-use Rattle.std.proofs.lemmas.List.Sums.{sum_by-set, sum_by_push, get_or-le-sum_by, sum_by-le-sum_by}
-use Rattle.seize.specs.Machine.State.{no_slot, no_batch, State, Slot, Batch, Call, Head, Inactive, Active, Place, Append, Mark, Look, Try, Add, Out, Rest, slot_at, head_at, batch_at, link_at, is_active, waiting_at, is_idle, has}
+use Rattle.std.proofs.lemmas.List.{get_or_past, set_past}
+use Rattle.std.proofs.lemmas.List.Sums.{sum_by-set, sum_by_push}
+use Rattle.seize.specs.Machine.State.{no_slot, no_batch, State, Slot, Batch, Call, Head, Inactive, Active, Place, Append, Look, Add, Rest, slot_at, head_at, batch_at, link_at, is_active, waiting_at, is_idle, has}
 use Rattle.seize.specs.Machine.Event.{Event}
-use Rattle.seize.specs.Machine.Next.{look, marked_place, looked, is_zero, can_link, begun, retiring, swapped, is_none_or_fresh}
+use Rattle.seize.specs.Machine.Next.{look, marked_place, looked, begun, retiring, swapped, is_none_or_fresh}
 use Rattle.seize.specs.declared.machine.event.Answer.{Answer}
 use Rattle.seize.proofs.Laws.Steps.{Step, Stands, is_true, eq_true, lt_true, and_true, not_true, some_is}
 use Rattle.seize.proofs.Laws.Sums.{one, occ, occ-append, occ-push, has_none, has_some, occ-filter_other, occ-filter_same, are_fresh-occ}

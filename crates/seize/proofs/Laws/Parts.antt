@@ -1,14 +1,14 @@
 -- The values retired so far are those in batches, in retired batches, given up, and reclaimed.
-use Rattle.std.proofs.Common.{◌≡◌, ◌≢◌, ℕ, ◌+◌, ◌-◌, ◌<◌, ◌≤◌, ℤ, pos, negsuc, ◌+ℤ◌, ◌-ℤ◌, Bool, true, false, not, ◌==◌, if◌then◌else◌, nat_lt, List, [], ◌∷◌, ◌++◌, length, get_or, set, Option, Some, None, refl, sym, ◌∙◌, ap, subst, ◌⊎◌, inl, inr, arith}
+use Rattle.std.proofs.Common.{◌≡◌, ℕ, ◌+◌, ◌<◌, ◌≤◌, ℤ, pos, Bool, true, false, ◌==◌, if◌then◌else◌, List, [], ◌∷◌, ◌++◌, length, set, Option, Some, None, refl, ◌∙◌, ap, subst, arith}
 use Rattle.std.specs.List.{sum_by}
 use Rattle.std.proofs.lemmas.List.Sums.{sum_by-set, sum_by_push, sum_by-le-sum_by}
-use Rattle.seize.specs.Machine.State.{no_slot, no_batch, State, Slot, Batch, Call, Head, Inactive, Active, Place, Append, Mark, Look, Try, Add, Out, Rest, slot_at, head_at, batch_at, is_active, waiting_at, is_idle}
+use Rattle.seize.specs.Machine.State.{no_slot, State, Slot, Call, Place, Append, Mark, Look, Try, Add, Out, Rest, slot_at, head_at, batch_at, is_active, waiting_at}
 use Rattle.seize.specs.Machine.Event.{Event}
 use Rattle.seize.specs.Machine.Next.{look, marked_place, looked}
 use Rattle.seize.specs.Machine.History.{retired_value, place_value, call_value}
 use Rattle.seize.specs.declared.machine.event.Answer.{Answer}
 use Rattle.seize.proofs.Laws.Steps.{Step, Stands, some_is}
-use Rattle.seize.proofs.Laws.Sums.{one, occ, occ-append, occ-push}
+use Rattle.seize.proofs.Laws.Sums.{one, occ, occ-push}
 use Rattle.seize.proofs.Laws.Counts.{in_range, idle_range, idle_call}
 use Rattle.seize.proofs.Laws.Once.{in_batches, gives, slot_has, place_has, in_slots, places, Once}
 use Rattle.seize.proofs.Laws.Kept.{given, place_given, look_given, looked_given, marked_given, starts}

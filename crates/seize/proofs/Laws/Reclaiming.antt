@@ -1,22 +1,19 @@
 -- At most once, and after.
-use Rattle.std.proofs.Common.{◌≡◌, ◌≢◌, ℕ, zero, suc, ◌+◌, ◌-◌, ◌<◌, ◌≤◌, Bool, true, false, not, ◌&&◌, ◌==◌, nat_lt, List, [], ◌∷◌, ◌++◌, length, get_or, set, replicate, Option, Some, None, refl, sym, ◌∙◌, ap, subst, ◌⊎◌, inl, inr, arith}
-use Rattle.std.specs.Prelude.{option_to_list}
-use Rattle.std.specs.List.{slice_get, sum_by, flat_map}
-use Rattle.std.proofs.lemmas.Int.{ints}
-use Rattle.std.proofs.lemmas.List.{length-set, length_push, get_or_past, length-replicate}
-use Rattle.std.proofs.lemmas.List.Sums.{sum_by-cons, get_or-le-sum_by}
-use Rattle.seize.specs.Machine.State.{no_slot, no_batch, State, Slot, Batch, Call, Head, Inactive, Active, Place, Append, Mark, Look, Try, Add, Out, Rest, slot_at, head_at, batch_at, is_active, waiting_at, has, linked, are_distinct, opening}
-use Rattle.seize.specs.Machine.Event.{Event, Take, Give, Enter, Begin, Put, ReadHead, Detach, Insert, AddCount, SwapOut, SubCount, Hand, Return, ReadLink, ExchangeLink}
-use Rattle.seize.specs.Machine.Next.{Outcome, next}
-use Rattle.seize.specs.Machine.History.{Timed, Moment, history, handed_value, retired_value, is_swap_out, Reclaimed, Retired, IsActiveAt, HasParted}
+use Rattle.std.proofs.Common.{◌≡◌, ℕ, zero, suc, ◌<◌, ◌≤◌, true, false, nat_lt, List, [], ◌∷◌, length, get_or, Option, Some, None, refl, sym, ◌∙◌, ap, ◌⊎◌, inl, inr, arith}
+use Rattle.std.specs.List.{slice_get, sum_by}
+use Rattle.std.proofs.lemmas.List.{get_or_past}
+use Rattle.std.proofs.lemmas.List.Sums.{get_or-le-sum_by}
+use Rattle.seize.specs.Machine.State.{no_slot, no_batch, State, head_at, is_active, linked, are_distinct, opening}
+use Rattle.seize.specs.Machine.Event.{Event, Put}
+use Rattle.seize.specs.Machine.Next.{next}
+use Rattle.seize.specs.Machine.History.{Timed, Moment, handed_value, retired_value, is_swap_out, Reclaimed, Retired, IsActiveAt, HasParted}
 use Rattle.seize.specs.Machine.Laws.{AtMostOnce, After}
 use Rattle.seize.specs.declared.machine.event.Answer.{Answer}
-use Rattle.seize.specs.declared.machine.event.Answer.TheVariants.{Done, Handed}
-use Rattle.seize.proofs.Laws.Steps.{Step, Stands, step_of, is_true, eq_true, and_true, not_true, lt_true, some_is}
-use Rattle.seize.proofs.Laws.Sums.{one, occ, occ-append, occ-push, has_none, sum_nothing, distinct_once}
-use Rattle.seize.proofs.Laws.Counts.{Counted, CountedIn, counted_step, of_calls, owns, wins, walks, listed, in_range, held_range}
-use Rattle.seize.proofs.Laws.Once.{Once, once_step, in_slots, in_links, in_batches, places, slot_has}
-use Rattle.seize.proofs.Laws.Kept.{Kept, KeptIn, Sound, kept_step, given, left}
+use Rattle.seize.proofs.Laws.Steps.{Step, step_of, is_true, lt_true, some_is}
+use Rattle.seize.proofs.Laws.Sums.{occ, sum_nothing}
+use Rattle.seize.proofs.Laws.Counts.{of_calls}
+use Rattle.seize.proofs.Laws.Once.{in_batches}
+use Rattle.seize.proofs.Laws.Kept.{KeptIn, kept_step, given}
 use Rattle.seize.proofs.Laws.Parts.{parts, parts_step, parts-le-places, is_value, kept_in, slot_keeps}
 use Rattle.seize.proofs.Laws.Invariants.{Inv, inv_step, handed_given, handed_gone, gone_grows, opening_inv, sum_replicate}
 use Rattle.seize.proofs.Laws.Histories.{run, moment_of, none_in, at_first, later, sooner, first_is, moment_here, not_out}

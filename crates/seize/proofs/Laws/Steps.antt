@@ -1,9 +1,9 @@
 -- Each legal event is one of these steps.
-use Rattle.std.proofs.Common.{◌≡◌, ◌≢◌, ℕ, ◌+◌, ◌-◌, ◌^◌, ◌<◌, ◌≤◌, ℤ, pos, negsuc, ◌+ℤ◌, ◌-ℤ◌, Bool, true, false, not, cond, ◌&&◌, ◌||◌, ◌==◌, if◌then◌else◌, nat_lt, nat_le, max, List, [], ◌∷◌, ◌++◌, length, slice_set, Option, Some, None, refl, sym, ◌∙◌, ap, subst, ◌⊎◌, inl, inr, arith}
+use Rattle.std.proofs.Common.{◌≡◌, ◌≢◌, ℕ, ◌+◌, ◌-◌, ◌^◌, ◌<◌, ◌≤◌, pos, ◌+ℤ◌, ◌-ℤ◌, Bool, true, false, not, ◌&&◌, ◌||◌, ◌==◌, if◌then◌else◌, nat_lt, nat_le, max, List, [], ◌∷◌, ◌++◌, length, slice_set, Option, Some, None, refl, sym, subst, ◌⊎◌, inl, inr, arith}
 use Rattle.std.proofs.lemmas.List.Sums.{prefix_len-le-length, passes_at_first}
-use Rattle.seize.specs.Machine.State.{no_slot, State, Slot, Call, Head, Inactive, Active, Place, Append, Mark, Look, Try, Add, Out, Rest, slot_at, head_at, batch_at, link_at, is_active, waiting_at, has, is_idle}
+use Rattle.seize.specs.Machine.State.{no_slot, State, Call, Head, Inactive, Active, Place, Append, Mark, Look, Try, Add, Out, Rest, slot_at, head_at, batch_at, link_at, is_active, waiting_at, has, is_idle}
 use Rattle.seize.specs.Machine.Event.{Event, Take, Give, Enter, Begin, Put, ReadHead, Detach, Insert, AddCount, SwapOut, SubCount, Hand, Return, ReadLink, ExchangeLink}
-use Rattle.seize.specs.Machine.Next.{Outcome, next, first_free, is_empty, set_slot, set_head, go_on, taken, begun, retiring, begin, appended, append_next, append, look, marked_place, looked, read_head, detach, same_list, insert_into, insert, is_zero, counted, add_count, sub_count, swap_out, are_fresh, hand, return, can_link, is_none_or_fresh, same_link, swapped, exchange_link, in_call}
+use Rattle.seize.specs.Machine.Next.{Outcome, next, first_free, is_empty, set_slot, set_head, go_on, begun, retiring, begin, append, look, marked_place, looked, read_head, detach, same_list, insert_into, insert, counted, add_count, sub_count, swap_out, are_fresh, hand, return, can_link, is_none_or_fresh, same_link, swapped, exchange_link, in_call}
 use Rattle.seize.specs.declared.machine.event.Job.{Job}
 use Rattle.seize.specs.declared.machine.event.Job.TheVariants.{Retire, Flush, Leave, Refresh}
 use Rattle.seize.specs.declared.machine.event.Try.{Try as Tried}
@@ -11,7 +11,7 @@ use Rattle.seize.specs.declared.machine.event.Try.TheVariants.{Won, Lost}
 use Rattle.seize.specs.declared.machine.event.Exchange.{Exchange}
 use Rattle.seize.specs.declared.machine.event.Exchange.TheVariants.{Swap, Compare}
 use Rattle.seize.specs.declared.machine.event.Answer.{Answer}
-use Rattle.seize.specs.declared.machine.event.Answer.TheVariants.{Done, Head as Found, Count, Handed, Link}
+use Rattle.seize.specs.declared.machine.event.Answer.TheVariants.{Done, Head as Found, Handed, Link}
 
 -- slot s has a call under way that stands so
 abbrev pub Stands : State → ℕ → Place → List ℕ → Type 0

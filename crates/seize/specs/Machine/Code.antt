@@ -1,12 +1,12 @@
 -- What the code's values stand for, and what its parts do.
-use Rattle.std.specs.Prelude.{◌≡◌, ℕ, ◌+◌, ◌^◌, ◌<◌, ◌≤◌, ℤ, Bool, true, false, ◌&&◌, ◌||◌, ◌==◌, not, nat_lt, nat_le, List, [], ◌∷◌, ◌++◌, length, max, if◌then◌else◌, Option, Some, None, option_map, unwrap_or}
+use Rattle.std.specs.Prelude.{◌≡◌, ℕ, ◌+◌, ◌^◌, ◌<◌, ◌≤◌, pos, neg_ℤ, ◌+ℤ◌, ◌≤ℤ◌, Bool, true, false, ◌&&◌, ◌||◌, ◌==◌, not, nat_lt, nat_le, List, [], ◌∷◌, ◌++◌, length, if◌then◌else◌, Option, Some, None, option_map, unwrap_or}
 use Rattle.std.specs.declared.collections.VecDeque.{VecDeque}
 use Rattle.std.specs.declared.alloc.Global.{Global}
-use Rattle.seize.specs.Machine.State.{State, Slot, Call, Head, Inactive, Active, Batch, Place, Append, Mark, Look, Try, Add, Out, Rest, is_active, waiting_at, batch_at, slot_at}
+use Rattle.seize.specs.Machine.State.{State, Slot, Call, Head, Inactive, Active, Place, Append, Mark, Look, Try, Add, Out, Rest, is_active, waiting_at, batch_at, slot_at}
 use Rattle.seize.specs.Machine.Event.{Event, Take, Give, Enter, Begin, Put, ReadHead, Detach, Insert, AddCount, SwapOut, SubCount, Hand, Return, ReadLink, ExchangeLink}
-use Rattle.seize.specs.Machine.Next.{Outcome, look, looked, marked_place, same_list}
+use Rattle.seize.specs.Machine.Next.{Outcome, look, looked, marked_place, same_list, run_state, run_answers}
 use Rattle.seize.specs.declared.machine.event.Answer.{Answer}
-use Rattle.seize.specs.declared.machine.event.Answer.TheVariants.{Done, Illegal}
+use Rattle.seize.specs.declared.machine.event.Answer.TheVariants.{Illegal}
 use Rattle.seize.specs.declared.machine.event.Event.{Event as Written}
 use Rattle.seize.specs.declared.machine.event.Event.TheVariants.{Take as WTake, Give as WGive, Enter as WEnter, Begin as WBegin, Put as WPut, ReadHead as WReadHead, Detach as WDetach, Insert as WInsert, AddCount as WAddCount, SwapOut as WSwapOut, SubCount as WSubCount, Hand as WHand, Return as WReturn, ReadLink as WReadLink, ExchangeLink as WExchangeLink}
 use Rattle.seize.specs.declared.machine.slot.Place.{Place as Stood}
@@ -49,6 +49,11 @@ slot_view used batch call = record { used = used; batch = batch; call = option_m
 abbrev pub head_view : Option (VecDeque ℕ Global) → Head
 head_view None = Inactive
 head_view (Some waiting) = Active waiting.items
+
+-- what callers see of a machine: its size and its state
+pub record Sized : Type 0 where
+  pub size : ℕ
+  pub state : State
 
 -- what an event did, by its outcome and the state before and after it
 abbrev pub Does : Outcome → State → State → Answer → Type 0
@@ -144,7 +149,7 @@ abbrev pub won_on : Place → Place
 won_on (Try b won m later saw) = look b (won + 1) later
 won_on place = place
 
--- one more insertion can be counted
+-- an insertion can be counted
 abbrev pub CanWinAt : Place → Type 0
 CanWinAt (Try b won m later saw) = won + 1 < 2 ^ 64
 CanWinAt _ = Unit {0}
@@ -218,3 +223,35 @@ slot_return slot = of_call (return_at slot) slot.call
 abbrev pub IsInserted : Bool → ℕ → Head → Head → Type 0
 IsInserted true batch old new = (is_active old ≡ true) × (new ≡ Active (batch ∷ waiting_at old))
 IsInserted false batch old new = (old ≡ Inactive) × (new ≡ old)
+
+-- What bounds the numbers that a call counts with, in a state that a legal list reaches.
+
+-- the insertions won stay below the number of slots
+abbrev pub WinsFit : State → Place → Type 0
+WinsFit st (Try b won m later saw) = won + 1 ≤ length st.slots
+WinsFit st _ = Unit {0}
+
+-- a batch that is counted up or down is there, and its count stays near 0
+abbrev pub AddFits : State → ℕ → ℕ → Type 0
+AddFits st b won = (b < length st.batches) × (won ≤ length st.slots) × (pos 0 ≤ℤ ((batch_at st b).count +ℤ pos won)) × (((batch_at st b).count +ℤ pos won) ≤ℤ pos (length st.slots))
+
+abbrev pub SubFits : State → ℕ → Type 0
+SubFits st b = (b < length st.batches) × (neg_ℤ (pos (length st.slots)) ≤ℤ (batch_at st b).count)
+
+abbrev pub CountFits : State → Place → Type 0
+CountFits st (Add b won) = AddFits st b won
+CountFits st (Rest [] (b ∷ walk)) = SubFits st b
+CountFits st _ = Unit {0}
+
+abbrev pub CallCountsFit : State → Option Call → Type 0
+CallCountsFit st None = Unit {0}
+CallCountsFit st (Some call) = WinsFit st call.place × CountFits st call.place
+
+pub record CountsFit (st : State) : Type 0 where
+  pub fit : (s : ℕ) → CallCountsFit st (slot_at st s).call
+
+-- after these events the machine and the answers are those of the fold
+pub record HasRun (events : List Event) (old new : Sized) (old_answers new_answers : List Answer) : Type 0 where
+  pub size : new.size ≡ old.size
+  pub state : new.state ≡ run_state old.size old.state events
+  pub answers : new_answers ≡ old_answers ++ run_answers old.size old.state events

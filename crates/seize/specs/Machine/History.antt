@@ -1,7 +1,6 @@
 -- Lists of events, and positions in them, counted from 0.
-use Rattle.std.specs.Prelude.{◌≡◌, ℕ, ◌<◌, Bool, true, false, ◌==◌, List, [], ◌∷◌, slice_get, Option, Some, None, is_some}
-use Rattle.std.specs.List.{list_all}
-use Rattle.seize.specs.Machine.State.{State, Call, Place, Append, Mark, Look, Try, Add, Out, Rest, slot_at, head_at, is_active, linked, are_distinct, opening}
+use Rattle.std.specs.Prelude.{◌≡◌, ℕ, ◌<◌, Bool, true, false, ◌==◌, List, [], ◌∷◌, slice_get, Option, Some, None}
+use Rattle.seize.specs.Machine.State.{State, Call, Place, Append, Rest, slot_at, head_at, is_active, linked, are_distinct, opening}
 use Rattle.seize.specs.Machine.Event.{Event, Put, SwapOut, ReadLink, ExchangeLink}
 use Rattle.seize.specs.Machine.Next.{Outcome, next}
 use Rattle.seize.specs.declared.machine.event.Answer.{Answer}
@@ -90,15 +89,15 @@ IsActiveAt ms s q = (m : Moment) × (slice_get ms q ≡ Some m) × (is_active (h
 abbrev pub HasParted : List Moment → ℕ → ℕ → ℕ → Type 0
 HasParted ms s q c = (p : ℕ) × (q < p) × (p < c) × ((m : Moment) × (slice_get ms p ≡ Some m) × (is_swap_out s m.timed.event ≡ true))
 
--- the state after all events, if each is legal
-abbrev pub after_events : State → List Timed → Option State
-after_events st [] = Some st
-after_events st (t ∷ ts) = elim (next t.size st t.event) [ None ↦ None | Some done ↦ after_events done.0 ts ]
+-- the state after some events at one size, if each is legal
+abbrev pub after_events : ℕ → State → List Event → Option State
+after_events size st [] = Some st
+after_events size st (e ∷ es) = elim (next size st e) [ None ↦ None | Some done ↦ after_events size done.0 es ]
 
--- some legal list of events leads to this state
-pub record IsReached (st : State) : Type 0 where
+-- some legal list of events at this size leads to this state
+pub record IsReached (size : ℕ) (st : State) : Type 0 where
   pub slots : ℕ
   pub links : List (Option ℕ)
-  pub events : List Timed
+  pub events : List Event
   pub distinct : are_distinct (linked links) ≡ true
-  pub leads : after_events (opening slots links) events ≡ Some st
+  pub leads : after_events size (opening slots links) events ≡ Some st

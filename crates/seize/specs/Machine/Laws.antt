@@ -2,11 +2,11 @@
 -- legal list is a legal list, so what a law says of the end of a list, it says before every event.
 use Rattle.std.specs.Prelude.{◌≡◌, ℕ, ◌<◌, ◌≤◌, ◌↔◌, ◌⊎◌, Bool, true, false, not, ◌&&◌, ◌==◌, max, List, [], ◌∷◌, ◌++◌, length, Option, Some, None, is_some}
 use Rattle.std.specs.List.{Contains, list_all, flat_map, count_by, take_while}
-use Rattle.seize.specs.Machine.State.{State, Slot, Call, Head, Inactive, Active, Place, Append, Mark, Look, Try, Add, Out, Rest, slot_at, head_at, batch_at, is_active, waiting_at, are_distinct}
+use Rattle.seize.specs.Machine.State.{State, Call, Head, Inactive, Active, Look, Try, Add, Rest, slot_at, head_at, batch_at, is_active, waiting_at, are_distinct}
 use Rattle.seize.specs.Machine.Event.{Event, Begin, Insert, Return, slot_of}
 use Rattle.seize.specs.Machine.Next.{same_list}
 use Rattle.seize.specs.Machine.History.{Moment, end_of, Retired, Reclaimed, Found, IsActiveAt, HasParted}
-use Rattle.seize.specs.declared.machine.event.Try.TheVariants.{Won, Lost}
+use Rattle.seize.specs.declared.machine.event.Try.TheVariants.{Lost}
 
 -- **At most once.** Each value goes to its reclaimer at most once.
 abbrev pub AtMostOnce : List Moment → Type 0

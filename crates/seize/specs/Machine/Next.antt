@@ -1,5 +1,5 @@
 -- What each event does: `next`, the one transition function, which is total and computes.
-use Rattle.std.specs.Prelude.{ℕ, ◌+◌, ◌-◌, ◌^◌, ℤ, pos, negsuc, ◌+ℤ◌, ◌-ℤ◌, Bool, true, false, not, ◌&&◌, ◌||◌, ◌==◌, if◌then◌else◌, nat_lt, nat_le, max, List, [], ◌∷◌, ◌++◌, length, slice_set, Option, Some, None, is_some, option_to_list}
+use Rattle.std.specs.Prelude.{ℕ, ◌+◌, ◌-◌, ◌^◌, ℤ, pos, negsuc, ◌+ℤ◌, ◌-ℤ◌, Bool, true, false, not, ◌&&◌, ◌||◌, ◌==◌, if◌then◌else◌, nat_lt, nat_le, max, List, [], ◌∷◌, ◌++◌, length, slice_set, Option, Some, None, option_to_list}
 use Rattle.std.specs.List.{list_all, position_or_len, filter}
 use Rattle.seize.specs.Machine.State.{State, Slot, Call, Head, Inactive, Active, Place, Append, Mark, Look, Try, Add, Out, Rest, slot_at, head_at, batch_at, link_at, is_active, waiting_at, is_idle, has, are_distinct}
 use Rattle.seize.specs.Machine.Event.{Event, Take, Give, Enter, Begin, Put, ReadHead, Detach, Insert, AddCount, SwapOut, SubCount, Hand, Return, ReadLink, ExchangeLink}
@@ -267,9 +267,13 @@ next size st (Return s) = in_call st s (return st s) (slot_at st s).call
 next size st (ReadLink s l) = if can_link st s l then Some (st, Link (link_at st l)) else None
 next size st (ExchangeLink s l exchange) = exchange_link st s l exchange
 
--- the same where an illegal event answers so and changes nothing
+-- an outcome, where an illegal event answers so and changes nothing
+abbrev pub or_illegal : State → Outcome → State × Answer
+or_illegal st None = (st, Illegal)
+or_illegal st (Some done) = done
+
 abbrev pub tried : ℕ → State → Event → State × Answer
-tried size st event = elim (next size st event) [ None ↦ (st, Illegal) | Some done ↦ done ]
+tried size st event = or_illegal st (next size st event)
 
 -- the state after some events, and their answers
 abbrev pub run_state : ℕ → State → List Event → State

@@ -1,9 +1,9 @@
 -- Worked runs of the machine at size 1, from the opening with no slot made: for each the events, their answers under the same
 -- name with `_answers`.
 use Rattle.std.specs.Prelude.{ℕ, pos, negsuc, Bool, true, false, ◌&&◌, List, [], ◌∷◌, ◌++◌, is_none}
-use Rattle.seize.specs.Machine.State.{State, head_at, is_active, opening}
-use Rattle.seize.specs.Machine.Event.{Event, Take, Give, Enter, Begin, Put, ReadHead, Detach, Insert, AddCount, SwapOut, SubCount, Hand, Return}
-use Rattle.seize.specs.Machine.Next.{next, tried, run_state, run_answers}
+use Rattle.seize.specs.Machine.State.{State}
+use Rattle.seize.specs.Machine.Event.{Event, Take, Enter, Begin, Put, ReadHead, Detach, Insert, AddCount, SwapOut, SubCount, Hand, Return}
+use Rattle.seize.specs.Machine.Next.{next, tried}
 use Rattle.seize.specs.declared.machine.event.Job.TheVariants.{Retire, Leave}
 use Rattle.seize.specs.declared.machine.event.Try.TheVariants.{Won, Lost}
 use Rattle.seize.specs.declared.machine.event.Answer.{Answer}

@@ -1,9 +1,7 @@
 -- The same calls in other orders, at size 1 from the opening with no slot made: for each order the events, their answers under
 -- the same name with `_answers`.
 use Rattle.std.specs.Prelude.{pos, true, false, List, [], ◌∷◌, ◌++◌}
-use Rattle.seize.specs.Machine.State.{opening}
 use Rattle.seize.specs.Machine.Event.{Event, Take, Enter, Begin, Put, ReadHead, Detach, Insert, AddCount, SwapOut, SubCount, Hand, Return}
-use Rattle.seize.specs.Machine.Next.{run_answers}
 use Rattle.seize.specs.Machine.Rows.{detached_twice, detached_twice_answers}
 use Rattle.seize.specs.declared.machine.event.Job.TheVariants.{Retire, Leave}
 use Rattle.seize.specs.declared.machine.event.Try.TheVariants.{Won, Lost}

@@ -1,6 +1,6 @@
 -- The state of the event machine. Slots, batches and links go by their numbers, and a read past the last of them gives
 -- one with which no event is legal.
-use Rattle.std.specs.Prelude.{ℕ, ℤ, pos, Bool, true, false, not, ◌&&◌, ◌==◌, List, [], ◌∷◌, replicate, Option, Some, None, slice_index_or, is_some, option_to_list}
+use Rattle.std.specs.Prelude.{ℕ, ℤ, pos, Bool, true, false, not, ◌&&◌, ◌==◌, List, [], ◌∷◌, replicate, Option, None, slice_index_or, is_some, option_to_list}
 use Rattle.std.specs.List.{list_any, flat_map}
 
 -- a slot's head: inactive, or active with the retired batches that wait for the slot, the newest insertion first

@@ -1,5 +1,5 @@
 //! A retired batch.
-ghost use Rattle.std.specs.Prelude.{◌≡◌, ℤ, pos, ◌+ℤ◌, ◌^◌, [], if◌then◌else◌};
+ghost use Rattle.std.specs.Prelude.{◌≡◌, ◌^◌, pos, neg_ℤ, ◌+ℤ◌, ◌-ℤ◌, ◌≤ℤ◌, [], if◌then◌else◌};
 ghost use Rattle.seize.specs.Machine.State as state;
 ghost use Rattle.seize.specs.Machine.Next.{is_zero};
 
@@ -29,12 +29,6 @@ impl Batch {
         Batch { values, count: 0 }
     }
 
-    pub(super) fn count(&self) -> i128
-        ensures { result ≡ self.now.count }
-    {
-        self.count
-    }
-
     /// The count becomes this one. At 0 the values are given up.
     pub(super) fn settle(&mut self, alloc: Global, count: i128) -> VecDeque<u64>
         ensures given { result.items ≡ (if is_zero count then self.old.values else []) }
@@ -46,5 +40,22 @@ impl Batch {
         } else {
             VecDeque::new(alloc)
         }
+    }
+
+    /// The count after this many insertions.
+    pub(super) fn raised(&self, won: usize) -> i128
+        requires low { pos 0 ≤ℤ (self.now.count +ℤ pos won) }
+        requires high { (self.now.count +ℤ pos won) ≤ℤ pos (2 ^ 64) }
+        ensures { result ≡ self.now.count +ℤ pos won }
+    {
+        self.count + won as i128
+    }
+
+    /// The count after one of the slots that hold the batch has left it.
+    pub(super) fn lowered(&self) -> i128
+        requires { neg_ℤ (pos (2 ^ 64)) ≤ℤ self.now.count }
+        ensures { result ≡ self.now.count -ℤ pos 1 }
+    {
+        self.count - 1
     }
 }

@@ -1,10 +1,11 @@
 //! The state of the machine, and each event as a method.
-ghost use Rattle.std.specs.Prelude.{◌≡◌, ◌≤◌, ◌==◌, ◌∷◌, ◌++◌, [], not, IfOk, OnOk, OnErr, IsTrue, if◌then◌else◌, length};
-ghost use Rattle.std.specs.List.{filter};
+ghost use Rattle.std.specs.Prelude.{◌≡◌, ◌<◌, ◌≤◌, ◌==◌, ◌&&◌, ◌∷◌, ◌++◌, [], not, is_some, IfOk, OnOk, OnErr, IsTrue, if◌then◌else◌, length};
+ghost use Rattle.std.specs.List.{filter, list_all};
 ghost use Rattle.seize.specs.Machine.State as state;
 ghost use Rattle.seize.specs.Machine.Event as event;
-ghost use Rattle.seize.specs.Machine.Next.{next, first_free};
-ghost use Rattle.seize.specs.Machine.Code.{Does, head_view};
+ghost use Rattle.seize.specs.Machine.Next.{next, first_free, is_none_or_fresh, swapped};
+ghost use Rattle.seize.specs.Machine.Laws.{is_quiet};
+ghost use Rattle.seize.specs.Machine.Code.{Does, CountsFit, head_view, event_of};
 
 use super::batch::Batch;
 use super::event::{Answer, Event, Exchange, Job, Try};
@@ -65,7 +66,71 @@ fn remove(values: &mut Vec<u64>, value: u64)
     values.retain(|x| *x != value);
 }
 
+/// Whether none of these values was ever named.
+fn are_new(named: &[u64], values: &[u64]) -> bool
+    ensures { result ≡ list_all (λ v. not (state.has v named.now)) values.now }
+{
+    values.iter().all(|value| !named.contains(value))
+}
+
+/// Whether no slot has a call under way.
+fn are_idle(slots: &[Slot]) -> bool
+    ensures { result ≡ list_all (λ slot. not (is_some slot.call)) slots.now }
+{
+    slots.iter().all(|slot| !slot.has_call())
+}
+
+/// Whether no head is active.
+fn are_inactive(heads: &[Head]) -> bool
+    ensures { result ≡ list_all (λ head. not (state.is_active head)) heads.now }
+{
+    heads.iter().all(|head| !head.is_active())
+}
+
+/// Whether no value stands in the list twice.
+fn are_distinct(values: &[u64]) -> bool
+    ensures { result ≡ state.are_distinct values.now }
+{
+    for (i, value) in values.iter().enumerate() {
+        if values[i + 1..].contains(value) {
+            return false;
+        }
+    }
+    true
+}
+
 impl Configuration {
+    /// The opening state with no slot made and these links.
+    pub(super) fn new(alloc: Global, links: Vec<Option<u64>>) -> Configuration
+        requires { state.linked links.items ≡ [] }
+        ensures { result ≡ state.opening 0 links.items }
+    {
+        Configuration {
+            alloc,
+            slots: Vec::new(alloc),
+            heads: Vec::new(alloc),
+            batches: Vec::new(alloc),
+            links,
+            loose: Vec::new(alloc),
+            gone: Vec::new(alloc),
+            named: Vec::new(alloc),
+        }
+    }
+
+    /// The values reclaimed, in order.
+    pub(super) fn reclaimed(&self) -> &[u64]
+        ensures { result.now ≡ self.now.gone }
+    {
+        &self.gone
+    }
+
+    /// Whether no call is under way and no slot is active.
+    pub(super) fn quiet(&self) -> bool
+        ensures { result ≡ is_quiet self.now }
+    {
+        are_idle(&self.slots) && are_inactive(&self.heads)
+    }
+
     /// Whether the slot is active.
     pub(super) fn active(&self, s: usize) -> bool
         ensures { result ≡ state.is_active (state.head_at self.now s) }
@@ -74,6 +139,14 @@ impl Configuration {
             None => false,
             Some(head) => head.is_active(),
         }
+    }
+
+    /// Whether the slot is in use, with no call under way and not active.
+    fn is_outside(&self, s: usize) -> bool
+        ensures outside { result ≡ (state.is_idle (state.slot_at self.now s) && not (state.is_active (state.head_at self.now s))) }
+        ensures in_range { IsTrue result → s < length self.now.slots }
+    {
+        s < self.slots.len() && self.slots[s].is_idle() && !self.heads[s].is_active()
     }
 
     /// The number is taken.
@@ -99,10 +172,7 @@ impl Configuration {
     fn give(&mut self, s: usize) -> Answer
         ensures { Does (next 0 self.old (event.Give s)) self.old self.new result }
     {
-        if s >= self.slots.len() {
-            return Answer::Illegal;
-        }
-        if !self.slots[s].is_idle() || self.heads[s].is_active() {
+        if !self.is_outside(s) {
             return Answer::Illegal;
         }
         self.slots[s].set_used(false);
@@ -113,10 +183,7 @@ impl Configuration {
     fn enter(&mut self, s: usize) -> Answer
         ensures { Does (next 0 self.old (event.Enter s)) self.old self.new result }
     {
-        if s >= self.slots.len() {
-            return Answer::Illegal;
-        }
-        if !self.slots[s].is_idle() || self.heads[s].is_active() {
+        if !self.is_outside(s) {
             return Answer::Illegal;
         }
         self.heads[s] = Head::empty(self.alloc);
@@ -250,6 +317,25 @@ impl Configuration {
         Ok(Answer::Done)
     }
 
+    /// The insertion is won.
+    fn insert_won(&mut self, s: usize, m: usize) -> Result<Answer, AllocError>
+        requires { CountsFit self.old }
+        ensures step { IfOk result (λ answer. Does (next 0 self.old (event.Insert s m Try.Won)) self.old self.new answer) }
+        ensures err { OnErr result (self.new ≡ self.old) }
+    {
+        if s >= self.slots.len() || m >= self.heads.len() {
+            return Ok(Answer::Illegal);
+        }
+        let Some((batch, slot)) = self.slots[s].trying() else {
+            return Ok(Answer::Illegal);
+        };
+        if m != slot || !self.heads[m].insert(batch)? {
+            return Ok(Answer::Illegal);
+        }
+        self.slots[s].won();
+        Ok(Answer::Done)
+    }
+
     /// The insertion is lost.
     fn insert_lost(&mut self, s: usize, m: usize) -> Answer
         ensures { Does (next 0 self.old (event.Insert s m Try.Lost)) self.old self.new result }
@@ -284,6 +370,63 @@ impl Configuration {
         Answer::Done
     }
 
+    /// The insertions won are added to the batch's count.
+    fn add_count(&mut self, s: usize) -> Answer
+        requires { CountsFit self.old }
+        ensures { Does (next 0 self.old (event.AddCount s)) self.old self.new result }
+    {
+        if s >= self.slots.len() {
+            return Answer::Illegal;
+        }
+        let Some((b, won)) = self.slots[s].adding() else {
+            return Answer::Illegal;
+        };
+        let count = self.batches[b].raised(won);
+        let given = self.batches[b].settle(self.alloc, count);
+        self.slots[s].rest(given, VecDeque::new(self.alloc));
+        Answer::Count(count)
+    }
+
+    /// One batch of the walk is counted down.
+    fn sub_count(&mut self, s: usize) -> Answer
+        requires { CountsFit self.old }
+        ensures { Does (next 0 self.old (event.SubCount s)) self.old self.new result }
+    {
+        if s >= self.slots.len() {
+            return Answer::Illegal;
+        }
+        let Some(b) = self.slots[s].walking() else {
+            return Answer::Illegal;
+        };
+        let count = self.batches[b].lowered();
+        let given = self.batches[b].settle(self.alloc, count);
+        self.slots[s].walked(given);
+        Answer::Count(count)
+    }
+
+    /// The first given-up value goes to its reclaimer, which puts these values.
+    fn hand(&mut self, s: usize, puts: &[u64]) -> Result<Answer, AllocError>
+        ensures step { IfOk result (λ answer. Does (next 0 self.old (event.Hand s puts.now)) self.old self.new answer) }
+        ensures err { OnErr result (self.new ≡ self.old) }
+    {
+        if s >= self.slots.len() {
+            return Ok(Answer::Illegal);
+        }
+        let Some(value) = self.slots[s].handing() else {
+            return Ok(Answer::Illegal);
+        };
+        if !are_new(&self.named, puts) || !are_distinct(puts) {
+            return Ok(Answer::Illegal);
+        }
+        let further = VecDeque::from_vec(puts.to_vec(self.alloc)?);
+        self.gone.reserve(1)?;
+        self.named.reserve(puts.len())?;
+        self.slots[s].hand(further)?;
+        self.gone.push_reserved(value);
+        self.named.extend_from_slice(puts).unwrap();
+        Ok(Answer::Handed(value))
+    }
+
     /// The call is over.
     fn finish(&mut self, s: usize) -> Answer
         ensures { Does (next 0 self.old (event.Return s)) self.old self.new result }
@@ -303,5 +446,85 @@ impl Configuration {
             return Answer::Illegal;
         }
         Answer::Link(self.links[l])
+    }
+
+    /// The link is exchanged.
+    fn exchange_link(
+        &mut self,
+        s: usize,
+        l: usize,
+        exchange: Exchange,
+    ) -> Result<Answer, AllocError>
+        ensures step { IfOk result (λ answer. Does (next 0 self.old (event.ExchangeLink s l exchange)) self.old self.new answer) }
+        ensures err { OnErr result (self.new ≡ self.old) }
+    {
+        let new = match exchange {
+            Exchange::Swap(new) => new,
+            Exchange::Compare(_, new) => new,
+        };
+        if !self.active(s) || l >= self.links.len() || !self.may_link(new) {
+            return Ok(Answer::Illegal);
+        }
+        let old = self.links[l];
+        if let Exchange::Compare(current, _) = exchange {
+            if old != current {
+                return Ok(Answer::Link(old));
+            }
+        }
+        self.swap_link(l, new)?;
+        Ok(Answer::Link(old))
+    }
+
+    /// Whether a link may take this value: one that was never named, or none.
+    fn may_link(&self, new: Option<u64>) -> bool
+        ensures { result ≡ is_none_or_fresh self.now new }
+    {
+        match new {
+            None => true,
+            Some(value) => !self.named.contains(&value),
+        }
+    }
+
+    /// The link holds the new value, and the old one is out.
+    fn swap_link(&mut self, l: usize, new: Option<u64>) -> Result<(), AllocError>
+        requires { l < length self.old.links }
+        ensures ok { OnOk result (self.new ≡ swapped self.old l new) }
+        ensures err { OnErr result (self.new ≡ self.old) }
+    {
+        self.loose.reserve(1)?;
+        if let Some(value) = new {
+            self.named.push(value)?;
+        }
+        if let Some(value) = self.links[l] {
+            self.loose.push_reserved(value);
+        }
+        self.links[l] = new;
+        Ok(())
+    }
+
+    /// The event, at a batch size.
+    pub(super) fn step(&mut self, size: usize, event: &Event) -> Result<Answer, AllocError>
+        requires { CountsFit self.old }
+        ensures step { IfOk result (λ answer. Does (next size self.old (event_of event.now)) self.old self.new answer) }
+        ensures err { OnErr result (self.new ≡ self.old) }
+    {
+        match event {
+            Event::Take(s) => self.take(*s),
+            Event::Give(s) => Ok(self.give(*s)),
+            Event::Enter(s) => Ok(self.enter(*s)),
+            Event::Begin(s, job) => self.begin(*s, *job),
+            Event::Put(s) => self.put(size, *s),
+            Event::ReadHead(s, n) => self.read_head(*s, *n),
+            Event::Detach(s) => self.detach(*s),
+            Event::Insert(s, m, Try::Won) => self.insert_won(*s, *m),
+            Event::Insert(s, m, Try::Lost) => Ok(self.insert_lost(*s, *m)),
+            Event::AddCount(s) => Ok(self.add_count(*s)),
+            Event::SwapOut(s) => Ok(self.swap_out(*s)),
+            Event::SubCount(s) => Ok(self.sub_count(*s)),
+            Event::Hand(s, puts) => self.hand(*s, puts),
+            Event::Return(s) => Ok(self.finish(*s)),
+            Event::ReadLink(s, l) => Ok(self.read_link(*s, *l)),
+            Event::ExchangeLink(s, l, exchange) => self.exchange_link(*s, *l, *exchange),
+        }
     }
 }
