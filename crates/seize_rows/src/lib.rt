@@ -1,0 +1,6 @@
+//! Tests that cross modules: worked runs, and whatever no contract says. They stand in a crate of their own, since a crate
+//! with tests is proved twice.
+#![tactic(auto)]
+
+#[cfg(test)]
+mod machine;
