@@ -1,5 +1,5 @@
 //! The events of a collector as a machine, in one caller's hands and without memory of its own to reclaim: which events
-//! are legal, what each does, and the laws that hold of every list of them. It uses no other module, and the modules above
+//! are legal, what each does, and the laws that hold of every list of them. It uses `refusal` alone, and the modules above
 //! use its definitions alone.
 ghost use Rattle.std.specs.Prelude.{◌≡◌, ℕ, ◌<◌, List, Option, true, length, map, take, replicate, OnOk, OnErr, IfOk, IfErr};
 ghost use Rattle.seize.specs.Machine.State.{linked, are_distinct, opening, head_at, is_active};
