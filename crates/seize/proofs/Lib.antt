@@ -1,2 +1,5 @@
+pub mod FreeNumbers
 pub mod Laws
+pub mod Places
+pub mod Shown
 pub mod Words

@@ -1,1 +1,5 @@
+pub mod Free
 pub mod Machine
+pub mod Place
+pub mod Refusals
+pub mod Table

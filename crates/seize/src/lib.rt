@@ -3,5 +3,7 @@
 
 pub mod machine;
 mod refusal;
+pub mod thread_id;
+pub mod tls;
 
 pub use refusal::Refusal;

@@ -1,0 +1,230 @@
+// Numbers, their places, and the table.
+use seize::Refusal;
+use seize::thread_id::{BUCKETS, MAX_INDEX, Numbers, Thread};
+use seize::tls::ThreadLocal;
+use std::alloc::Global;
+use std::process::Abort;
+use std::sync::atomic::{AtomicU64, Ordering};
+use std::sync::{Arc, Wait};
+use std::test::Fail;
+use std::thread;
+use std::thread::Threads;
+
+// A value that counts its end, and says who made it.
+struct Counted<'a> {
+    ends: &'a AtomicU64,
+    maker: u64,
+}
+
+impl Drop for Counted<'_> {
+    fn drop(self) {
+        let Counted { ends, maker: _ } = self;
+        ends.fetch_add(1, Ordering::SeqCst);
+    }
+}
+
+fn place(id: usize) -> Option<(usize, usize)> {
+    let thread = Thread::new(id)?;
+    Some((thread.bucket, thread.entry))
+}
+
+// The bucket and the entry by counting entries from number 0 on.
+fn counted_place(id: usize) -> (usize, usize) {
+    let mut left = id;
+    let mut capacity = 32usize;
+    for bucket in 0..8 {
+        if left < capacity {
+            return (bucket, left);
+        }
+        left -= capacity;
+        capacity = capacity.saturating_mul(2);
+    }
+    (8, left)
+}
+
+#[test]
+fn numbers_have_places(rt: HostRuntime) {
+    for (id, want) in [
+        (0, (0, 0)),
+        (31, (0, 31)),
+        (32, (1, 0)),
+        (95, (1, 63)),
+        (96, (2, 0)),
+        (MAX_INDEX, (58, (1 << 63) - 1)),
+    ] {
+        assert!(rt; place(id) == Some(want), "at {id}");
+    }
+    assert!(rt; MAX_INDEX == 18446744073709551583);
+    assert!(rt; place(18446744073709551584).is_none());
+    assert!(rt; place(usize::MAX).is_none());
+}
+
+#[test]
+fn places_are_counted(rt: HostRuntime) {
+    for id in 0..224 {
+        assert!(rt; place(id) == Some(counted_place(id)), "at {id}");
+    }
+}
+
+#[test]
+fn capacities_sum_to_all_numbers(rt: HostRuntime) {
+    let mut sum = 0u128;
+    for bucket in 0..BUCKETS {
+        sum = sum.saturating_add(Thread::bucket_capacity(bucket) as u128);
+    }
+    assert!(rt; sum == MAX_INDEX as u128 + 1);
+}
+
+#[test]
+fn numbers_are_used_again(rt: HostRuntime) -> Result<(), Fail> {
+    let mut numbers = Numbers::new(rt.alloc());
+    let first = numbers.take()?;
+    let second = numbers.take()?;
+    let third = numbers.take()?;
+    assert_eq!(rt; (first, second, third), (0, 1, 2));
+    numbers.give(second);
+    assert_eq!(rt; numbers.take()?, 1);
+    assert_eq!(rt; numbers.take()?, 3);
+    Ok(())
+}
+
+fn at(rt: &impl Abort, id: usize) -> Thread {
+    Thread::new(id).expect(rt, "a number with a place")
+}
+
+#[test]
+fn a_table_keeps_the_first_value(rt: HostRuntime) -> Result<(), Fail> {
+    for (capacity, buckets) in [(0, 1), (31, 1), (32, 2)] {
+        let table: ThreadLocal<u64> = ThreadLocal::with_capacity(rt.alloc(), capacity)?;
+        assert_eq!(rt; table.buckets(), buckets);
+        assert_eq!(rt; *table.load_or(|| 1, at(&rt, 0))?, 1);
+        assert_eq!(rt; *table.load_or(|| 2, at(&rt, 0))?, 1);
+        assert_eq!(rt; table.try_load(at(&rt, 0)).copied(), Some(1));
+        assert_eq!(rt; table.try_load(at(&rt, 1)).copied(), None);
+        assert!(rt; table.iter().map(|x| *x).eq([1u64]));
+    }
+    Ok(())
+}
+
+#[test]
+fn a_fill_makes_its_own_bucket(rt: HostRuntime) -> Result<(), Fail> {
+    let table: ThreadLocal<u64> = ThreadLocal::with_capacity(rt.alloc(), 0)?;
+    assert_eq!(rt; *table.load(at(&rt, 500))?, 0);
+    assert_eq!(rt; table.buckets(), 2);
+    assert_eq!(rt; *table.load_or(|| 7, at(&rt, 31))?, 7);
+    assert_eq!(rt; *table.load_or(|| 8, at(&rt, 95))?, 8);
+    assert_eq!(rt; table.buckets(), 3);
+    assert!(rt; table.iter().map(|x| *x).eq([7u64, 8, 0]));
+    Ok(())
+}
+
+#[test]
+fn no_table_is_too_large(rt: HostRuntime) {
+    let table: Result<ThreadLocal<u64>, Refusal> = ThreadLocal::with_capacity(
+        rt.alloc(),
+        18446744073709551584,
+    );
+    assert!(rt; matches!(table, Err(Refusal::NoNumbers)));
+}
+
+#[test]
+fn tokens_show_one_value(rt: HostRuntime) -> Result<(), Fail> {
+    let table: ThreadLocal<u64> = ThreadLocal::with_capacity(rt.alloc(), 0)?;
+    let thread = at(&rt, 40);
+    assert!(rt; table.try_load_seen(thread).is_none());
+    let (value, mut seen) = table.load_seen(|| 5, thread, None)?;
+    let mut again = seen.again();
+    assert_eq!(rt; *value, 5);
+    assert_eq!(rt; *table.value(thread, &mut seen), 5);
+    let (value, other) = table.load_seen(|| 6, thread, Some(seen))?;
+    assert_eq!(rt; *value, 5);
+    table.agree(thread, &mut again, other);
+    Ok(())
+}
+
+#[test]
+fn the_end_of_a_table_ends_each_value_once(rt: HostRuntime) -> Result<(), Fail> {
+    let ends = AtomicU64::new(0);
+    let table = ThreadLocal::with_capacity(rt.alloc(), 1)?;
+    let ends_seen = &ends;
+    table.load_or(
+        move || Counted {
+            ends: ends_seen,
+            maker: 1,
+        },
+        at(&rt, 0),
+    )?;
+    assert_eq!(rt; ends.load(Ordering::SeqCst), 0);
+    drop(table);
+    assert_eq!(rt; ends.load(Ordering::SeqCst), 1);
+    Ok(())
+}
+
+fn made<'a>(made: &AtomicU64, ends: &'a AtomicU64, maker: u64) -> Counted<'a> {
+    made.fetch_add(1, Ordering::SeqCst);
+    Counted { ends, maker }
+}
+
+// Both threads fill one entry: how many values were made, how many of them had ended while the table stood, and how many
+// after it; and whether both calls answered one value.
+fn race<R: Threads + Sync>(
+    rt: &R,
+    alloc: Global,
+    thread: Thread,
+) -> Result<(u64, u64, u64, bool), Refusal> {
+    let count = AtomicU64::new(0);
+    let ends = AtomicU64::new(0);
+    let table = ThreadLocal::with_capacity(alloc, 0)?;
+    let (one, two) = thread::join(
+        rt,
+        || table
+            .load_or(|| made(&count, &ends, 1), thread)
+            .map(|value| value.maker),
+        || table
+            .load_or(|| made(&count, &ends, 2), thread)
+            .map(|value| value.maker),
+    );
+    let same = one? == two?;
+    let standing = ends.load(Ordering::SeqCst);
+    drop(table);
+    Ok((
+        count.load(Ordering::SeqCst),
+        standing,
+        ends.load(Ordering::SeqCst),
+        same,
+    ))
+}
+
+#[test]
+fn two_fills_at_once_keep_one(rt: HostRuntime) -> Result<(), Fail> {
+    for _ in 0..1000 {
+        let (made, standing, after, same) = race(&rt, rt.alloc(), at(&rt, 40))?;
+        assert!(rt; same);
+        assert!(rt; made == 1 || made == 2);
+        assert_eq!(rt; made, standing.wrapping_add(1));
+        assert_eq!(rt; made, after);
+    }
+    Ok(())
+}
+
+#[test]
+fn threads_fill_a_table_side_by_side(rt: HostRuntime) -> Result<(), Fail> {
+    let table: Arc<ThreadLocal<usize>, Global> = Arc::new(
+        rt.alloc(),
+        ThreadLocal::with_capacity(rt.alloc(), 0)?,
+    )?;
+    let mut children = Vec::new(rt.alloc());
+    for id in 0..64 {
+        let table = Arc::try_clone(&table)?;
+        let thread = at(&rt, id);
+        children.push(thread::spawn(&rt, move || {
+            table.load_or(|| id, thread).copied() == Ok(id)
+        })?)?;
+    }
+    for child in children {
+        assert!(rt; child.join(&rt));
+    }
+    assert_eq!(rt; table.iter().count(), 64);
+    assert!(rt; table.iter().map(|x| *x).eq(0..64));
+    Ok(())
+}
