@@ -1,5 +1,11 @@
+pub mod Agreement
+pub mod Alone
+pub mod Blocks
 pub mod Free
 pub mod Machine
+pub mod Making
 pub mod Place
 pub mod Refusals
 pub mod Table
+pub mod Told
+pub mod Waiting

@@ -1,0 +1,48 @@
+-- What it means that the two models agree.
+use Rattle.std.specs.Prelude.{◌≡◌, ℕ, ◌<◌, false, List, [], length, Some}
+use Rattle.std.specs.List.{sum_by}
+use Rattle.seize.specs.Machine.State as machine
+use Rattle.seize.specs.Machine.State.{has}
+use Rattle.seize.specs.Machine.Event.{Event}
+use Rattle.seize.specs.declared.machine.event.Answer.{Answer}
+use Rattle.seize.specs.Waiting.State as waiting
+use Rattle.seize.specs.Waiting.Attempt.{Outcome}
+use Rattle.seize.specs.Waiting.Lists.{Call, Protect, Swap, Reply, Refused, step}
+use Rattle.seize.specs.Agreement.Shows.{Stand, Shows}
+use Rattle.seize.specs.Agreement.Play.{play, handed, reply_by}
+
+-- what a reclaimer puts weighs less than the value, so that the further values end
+abbrev pub Lighter : {T R : Type 0} → (R → T → List T) → (T → ℕ) → Type 0
+Lighter {T} {R} puts weight = (r : R) (v : T) → sum_by weight (puts r v) < weight v
+
+-- Each value that a call names gets a number that was never named before: there is always one that stands for it.
+abbrev pub HasNames : {T : Type 0} → (ℕ → T) → Type 0
+HasNames {T} of = (v : T) (named : List ℕ) → (n : ℕ) × (has n named ≡ false) × (of n ≡ v)
+
+-- a call of links is for one that is there
+abbrev pub HasLink : {T R : Type 0} → waiting.State T R → Call T R → Type 0
+HasLink st (Protect s l) = l < length st.links
+HasLink st (Swap s l new r) = l < length st.links
+HasLink st _ = Unit {0}
+
+-- a refused call has no events, and the reply to another one is by its events and their answers
+abbrev pub IsReply : {T R : Type 0} → Call T R → List Event → List Answer → Reply T → Type 0
+IsReply call events answers (Refused r back) = events ≡ []
+IsReply call events answers reply = reply ≡ reply_by call events answers
+
+-- A call is such a list of events: each is legal, the state after them shows the new state, the values handed are those gone, in
+-- order, and the reply is as told.
+pub record IsRun (T R : Type 0) (of : ℕ → T) (call : Call T R) (size : ℕ) (before : machine.State) (told : Reply T × Outcome T R) : Type 0 where
+  pub events : List Event
+  pub answers : List Answer
+  pub later : machine.State
+  pub legal : play size before events ≡ Some (later, answers)
+  pub shows : Shows T R of told.1.0 later
+  pub gone : Stand of (handed answers) told.1.1
+  pub reply : IsReply call events answers told.0
+
+-- **The two models agree.** From each two states that show each other, each call is a list of events.
+abbrev pub Agreement : {T R : Type 0} → (R → T → List T) → (T → ℕ) → (ℕ → T) → Type 0
+Agreement {T} {R} puts weight of =
+    (st : waiting.State T R) (before : machine.State) (call : Call T R) → HasLink st call → Shows T R of st before
+    → IsRun T R of call st.size before (step puts weight st call)

@@ -1,0 +1,315 @@
+//! A plain slow collector: lists of slots and of retired batches, the batches by number, and which of them wait for each slot. It has
+//! no words and no counts, so that it can be believed at sight: each of its functions is one line of the model of waiting sets.
+//! The collector keeps its state in one.
+ghost use Rattle.std.specs.Prelude.{◌≡◌, ℕ, ◌<◌, ◌≤◌, ◌∷◌, ◌++◌, [], length, slice_set, replicate, map, None, Some, IfOk, OnErr, MatchResult, option_map, if◌then◌else◌};
+ghost use Rattle.seize.specs.Blocks.{content};
+ghost use Rattle.seize.specs.Waiting.State as state;
+ghost use Rattle.seize.specs.Waiting.Attempt as waiting;
+ghost use Rattle.seize.specs.Waiting.Calls as calls;
+ghost use Rattle.seize.specs.Told.{Queued, Grew, Said};
+
+use crate::block::{Owned, Weigh};
+use crate::collector::Watch;
+use crate::reclaim::Reclaim;
+use crate::refusal::Refusal;
+use crate::usage::Kind;
+use batch::Batch;
+use give::give_all;
+use link::Link;
+use slot::Slot;
+use std::alloc::{AllocError, Global};
+use std::cmp::max;
+use std::collections::VecDeque;
+use std::marker::Model;
+
+mod all;
+mod batch;
+mod calls;
+mod ends;
+mod give;
+mod link;
+mod slot;
+
+// How many slot numbers there are: 2^64 - 32.
+const NUMBERS: usize = 0xFFFF_FFFF_FFFF_FFE0;
+
+/// The state of a collector.
+#[derive(Drop)]
+pub(crate) struct Plain<T, R: Copy> {
+    alloc: Global,
+    size: usize,
+    slots: Vec<Slot<T, R>>,
+    retired: Vec<Batch<T, R>>,
+    links: Vec<Link<T, R>>,
+}
+
+impl<T, R: Copy> Model for Plain<T, R> {
+    ghost use Rattle.seize.specs.Waiting.State as state;
+
+    ghost Value = { state.State T R };
+
+    ghost view = { λ c. record { size = c.size; slots = c.slots.items; retired = c.retired.items; links = c.links.items } };
+}
+
+// The least number not in use.
+fn least_unused<T: Drop, R: Copy>(slots: &[Slot<T, R>]) -> usize
+    ensures is { result ≡ calls.least_unused slots.now }
+    ensures in_range { result ≤ length slots.now }
+{
+    for (n, slot) in slots.iter().enumerate() {
+        if slot.is_free() {
+            return n;
+        }
+    }
+    slots.len()
+}
+
+// All active slots wait for batch `b`.
+fn wait_all<T: Drop, R: Copy>(slots: &mut [Slot<T, R>], b: usize) -> Result<(), AllocError>
+    ensures { IfOk result (λ _. slots.new ≡ map (waiting.wait_if_active b) slots.old) }
+{
+    for i in 0..slots.len() {
+        let slot = &mut slots[i];
+        slot.wait(b)?;
+    }
+    Ok(())
+}
+
+// That many empty links.
+fn empty_links<T: Drop, R: Copy>(alloc: Global, links: usize) -> Result<Vec<Link<T, R>>, AllocError>
+    ensures { IfOk result (λ all. all.items ≡ replicate links None) }
+{
+    let mut all = Vec::with_capacity(alloc, links)?;
+    for _ in 0..links {
+        all.push(Link::empty())?;
+    }
+    Ok(all)
+}
+
+impl<T: Drop, R: Copy> Plain<T, R> {
+    /// A collector just made.
+    pub(crate) fn new(alloc: Global, size: usize, links: usize) -> Result<Plain<T, R>, AllocError>
+        ensures { IfOk result (λ plain. plain ≡ state.new size links) }
+    {
+        let links = empty_links(alloc, links)?;
+        Ok(Plain {
+            alloc,
+            size,
+            slots: Vec::new(alloc),
+            retired: Vec::new(alloc),
+            links,
+        })
+    }
+
+    pub(crate) fn allocator(&self) -> Global {
+        self.alloc
+    }
+
+    pub(crate) fn size(&self) -> usize
+        ensures { result ≡ self.now.size }
+    {
+        self.size
+    }
+
+    pub(crate) fn set_size(&mut self, size: usize)
+        ensures { self.new ≡ record self.old { size = size } }
+    {
+        self.size = size;
+    }
+
+    pub(crate) fn links(&self) -> usize
+        ensures { result ≡ length self.now.links }
+    {
+        self.links.len()
+    }
+
+    /// Whether a slot waits for batch `b`.
+    fn is_kept(&self, b: usize) -> bool
+        ensures { result ≡ state.is_kept self.now b }
+    {
+        self.slots.iter().any(|slot| slot.keeps(b))
+    }
+
+    fn active_slots(&self) -> usize
+        ensures { result ≡ waiting.active_slots self.now }
+    {
+        self.slots.iter().filter(|slot| slot.is_active()).count()
+    }
+
+    /// How many values the batch of slot `s` has.
+    fn batch_len(&self, s: usize) -> usize
+        ensures { result ≡ length (state.slot_at self.now s).batch }
+    {
+        match self.slots.get(s) {
+            Some(slot) => slot.len(),
+            None => 0,
+        }
+    }
+
+    fn kind(&self, s: usize) -> Kind
+        ensures { result ≡ (state.slot_at self.now s).kind }
+    {
+        match self.slots.get(s) {
+            Some(slot) => slot.kind(),
+            None => Kind::Free,
+        }
+    }
+
+    fn guards(&self, s: usize) -> u64
+        ensures { result ≡ (state.slot_at self.now s).guards }
+    {
+        match self.slots.get(s) {
+            Some(slot) => slot.guards(),
+            None => 0,
+        }
+    }
+
+    fn is_owned(&self, s: usize) -> bool
+        ensures { result ≡ calls.is_owned (state.slot_at self.now s).kind }
+    {
+        match self.kind(s) {
+            Kind::Owned => true,
+            _ => false,
+        }
+    }
+
+    fn set_guards(&mut self, s: usize, guards: u64)
+        ensures { self.new ≡ calls.set_guards self.old s guards }
+    {
+        if let Some(slot) = self.slots.get_mut(s) {
+            slot.set_guards(guards);
+        }
+    }
+
+    fn free(&mut self, s: usize)
+        ensures { self.new ≡ calls.freed self.old s }
+    {
+        if let Some(slot) = self.slots.get_mut(s) {
+            slot.set_use(Kind::Free, 0);
+        }
+    }
+
+    fn free_if(&mut self, s: usize, owned: bool)
+        ensures { self.new ≡ (if owned then calls.freed self.old s else self.old) }
+    {
+        if owned {
+            self.free(s);
+        }
+    }
+
+    /// Takes the values of retired batch `b` out.
+    fn take_retired(&mut self, b: usize) -> Vec<(T, R)>
+        ensures values { result.items ≡ state.retired_at self.old b }
+        ensures rest { self.new ≡ record self.old { retired = slice_set self.old.retired b [] } }
+    {
+        match self.retired.get_mut(b) {
+            Some(batch) => batch.take(self.alloc),
+            None => Vec::new(self.alloc),
+        }
+    }
+
+    /// No batch waits for slot `s` any more: those that did, in order.
+    fn take_order(&mut self, s: usize) -> VecDeque<usize>
+        ensures order { result.items ≡ (state.slot_at self.old s).order }
+        ensures rest { self.new ≡ state.set_slot self.old s (record (state.slot_at self.old s) { order = [] }) }
+    {
+        match self.slots.get_mut(s) {
+            Some(slot) => slot.take_order(self.alloc),
+            None => VecDeque::new(self.alloc),
+        }
+    }
+
+    /// The batch of slot `s` becomes a retired batch, which waits for all active slots.
+    fn detach(&mut self, s: usize) -> Result<(), AllocError>
+        ensures { IfOk result (λ _. self.new ≡ waiting.detached self.old s) }
+    {
+        let values = match self.slots.get_mut(s) {
+            Some(slot) => slot.take_batch(self.alloc),
+            None => Vec::new(self.alloc),
+        };
+        let b = self.retired.len();
+        wait_all(&mut self.slots, b)?;
+        self.retired.push(Batch::new(values))?;
+        Ok(())
+    }
+
+    /// Appends a value to the batch of slot `s`.
+    fn push(&mut self, s: usize, value: T, reclaim: R) -> Result<(), AllocError>
+        ensures { IfOk result (λ _. self.new ≡ waiting.appended self.old s (value, reclaim)) }
+    {
+        if let Some(slot) = self.slots.get_mut(s) {
+            slot.push(value, reclaim)?;
+        }
+        Ok(())
+    }
+}
+
+impl<T: Weigh + Drop, R: Reclaim<T>> Plain<T, R> {
+    /// Batch `b` is gone if its waiting set is empty.
+    fn release<W: Watch<T>>(
+        &mut self,
+        b: usize,
+        queue: &mut VecDeque<(T, R)>,
+        watch: &mut W,
+    ) -> Result<(), AllocError>
+        ensures { IfOk result (λ _. Queued R.puts W.told (waiting.release self.old b) self.new queue.old.items queue.new.items (W.seen watch.old) (W.seen watch.new)) }
+    {
+        if !self.is_kept(b) {
+            let values = self.take_retired(b);
+            give_all(self.alloc, values, queue, watch)?;
+        }
+        Ok(())
+    }
+
+    /// Slot `s` parts from the batches that wait for it, first to last.
+    fn part<W: Watch<T>>(
+        &mut self,
+        s: usize,
+        queue: &mut VecDeque<(T, R)>,
+        watch: &mut W,
+    ) -> Result<(), AllocError>
+        ensures { IfOk result (λ _. Queued R.puts W.told (waiting.part self.old s) self.new queue.old.items queue.new.items (W.seen watch.old) (W.seen watch.new)) }
+    {
+        let mut order = self.take_order(s);
+        while let Some(b) = order.pop_front() {
+            self.release(b, queue, watch)?;
+        }
+        Ok(())
+    }
+
+    /// An attempt by slot `s`.
+    fn attempt<W: Watch<T>>(
+        &mut self,
+        s: usize,
+        queue: &mut VecDeque<(T, R)>,
+        watch: &mut W,
+    ) -> Result<(), AllocError>
+        ensures { IfOk result (λ _. Queued R.puts W.told (waiting.attempt self.old s) self.new queue.old.items queue.new.items (W.seen watch.old) (W.seen watch.new)) }
+    {
+        let len = self.batch_len(s);
+        if len == 0 || len < self.active_slots() {
+            return Ok(());
+        }
+        let b = self.retired.len();
+        self.detach(s)?;
+        self.release(b, queue, watch)
+    }
+
+    /// Retires a value into the batch of slot `s`.
+    fn put<W: Watch<T>>(
+        &mut self,
+        s: usize,
+        value: T,
+        reclaim: R,
+        queue: &mut VecDeque<(T, R)>,
+        watch: &mut W,
+    ) -> Result<(), AllocError>
+        ensures { IfOk result (λ _. Queued R.puts W.told (waiting.put self.old s (value, reclaim)) self.new queue.old.items queue.new.items (W.seen watch.old) (W.seen watch.new)) }
+    {
+        self.push(s, value, reclaim)?;
+        if self.batch_len(s) >= max(1, self.size) {
+            self.attempt(s, queue, watch)?;
+        }
+        Ok(())
+    }
+}

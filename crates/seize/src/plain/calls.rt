@@ -1,0 +1,124 @@
+//! The calls of the plain collector that tell nobody: numbers, guards and links.
+ghost use Rattle.std.specs.Prelude.{◌≡◌, ◌≤◌, ◌<◌, length, slice_set, IfOk, OnErr, MatchResult, option_map, None, Some};
+ghost use Rattle.seize.specs.Blocks.{content};
+ghost use Rattle.seize.specs.Waiting.State as state;
+ghost use Rattle.seize.specs.Waiting.Calls as calls;
+ghost use Rattle.seize.specs.Told.{Grew, Said};
+
+use crate::block::Owned;
+use crate::plain::slot::Slot;
+use crate::plain::{NUMBERS, Plain, least_unused};
+use crate::refusal::Refusal;
+use crate::usage::Kind;
+use std::alloc::AllocError;
+
+impl<T: Drop, R: Copy> Plain<T, R> {
+    /// The refusal of a call that needs a number in use.
+    pub(crate) fn unused(&self, s: usize) -> Option<Refusal>
+        ensures { result ≡ calls.unused self.now s }
+    {
+        match self.kind(s) {
+            Kind::Free => Some(Refusal::NotInUse),
+            _ => None,
+        }
+    }
+
+    /// The refusal of a call that needs a guard of the slot.
+    pub(crate) fn no_guard(&self, s: usize) -> Option<Refusal>
+        ensures { result ≡ calls.no_guard self.now s }
+    {
+        match self.unused(s) {
+            Some(refusal) => Some(refusal),
+            None if self.guards(s) == 0 => Some(Refusal::NotActive),
+            None => None,
+        }
+    }
+
+    /// The refusal of a call that needs a registered slot.
+    fn not_registered(&self, s: usize) -> Option<Refusal>
+        ensures { result ≡ calls.not_registered self.now s }
+    {
+        match self.kind(s) {
+            Kind::Free => Some(Refusal::NotInUse),
+            Kind::Owned => Some(Refusal::WrongKind),
+            Kind::Registered => None,
+        }
+    }
+
+    /// Number `n` has this use.
+    fn occupy(&mut self, n: usize, kind: Kind, guards: u64) -> Result<(), AllocError>
+        requires { n ≤ length self.old.slots }
+        ensures done { IfOk result (λ _. self.new ≡ calls.taken self.old n kind guards) }
+        ensures refused { OnErr result (self.new ≡ self.old) }
+    {
+        if n < self.slots.len() {
+            let slot = &mut self.slots[n];
+            slot.set_use(kind, guards);
+            return Ok(());
+        }
+        self.slots.push(Slot::new(self.alloc, kind, guards))?;
+        Ok(())
+    }
+
+    /// Takes the least number not in use.
+    pub(crate) fn take_number(&mut self, kind: Kind, guards: u64) -> Result<usize, Refusal>
+        ensures { Grew (calls.take_number self.old kind guards) result self.old self.new }
+    {
+        let n = least_unused(&self.slots);
+        if n == NUMBERS {
+            return Err(Refusal::NoNumbers);
+        }
+        let Ok(()) = self.occupy(n, kind, guards) else {
+            return Err(Refusal::NoMemory);
+        };
+        Ok(n)
+    }
+
+    pub(crate) fn enter(&mut self, s: usize) -> Result<(), Refusal>
+        ensures { Said (calls.enter self.old s) result self.new }
+    {
+        if let Some(refusal) = self.not_registered(s) {
+            return Err(refusal);
+        }
+        let guards = self.guards(s);
+        if guards == u64::MAX {
+            return Err(Refusal::TooManyGuards);
+        }
+        self.set_guards(s, guards + 1);
+        Ok(())
+    }
+
+    pub(crate) fn end(&mut self, s: usize) -> Result<bool, Refusal>
+        ensures { Said (calls.end_slot self.old s) result self.new }
+    {
+        if let Some(refusal) = self.not_registered(s) {
+            return Err(refusal);
+        }
+        if self.guards(s) != 0 {
+            return Ok(false);
+        }
+        self.free(s);
+        Ok(true)
+    }
+
+    /// What the link holds.
+    pub(crate) fn protect(&self, s: usize, link: usize) -> Result<Option<&T>, Refusal>
+        requires { link < length self.now.links }
+        ensures { MatchResult result (λ found. (calls.no_guard self.now s ≡ None) × (option_map (λ value. value.now) found ≡ calls.link_at self.now link)) (λ refusal. calls.no_guard self.now s ≡ Some refusal) }
+    {
+        if let Some(refusal) = self.no_guard(s) {
+            return Err(refusal);
+        }
+        Ok(self.links[link].get())
+    }
+
+    /// Exchanges what the link holds.
+    pub(crate) fn swap(&mut self, link: usize, new: Option<Owned<T, R>>) -> Option<Owned<T, R>>
+        requires { link < length self.old.links }
+        ensures held { option_map content result ≡ calls.link_at self.old link }
+        ensures holds { self.new ≡ record self.old { links = slice_set self.old.links link (option_map content new) } }
+    {
+        let place = &mut self.links[link];
+        place.swap(new)
+    }
+}

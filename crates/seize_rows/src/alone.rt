@@ -1,0 +1,371 @@
+//! The collector in one caller's hands: each public call once, that every value ends exactly once, and that its reclaimer is called
+//! once. No contract says these.
+
+use seize::reclaim::{Boxed, InPlace, Reclaim, boxed};
+use seize::{
+    Alone, Call, Collector, Further, IdSource, Owned, Refusal, Reply, Unlinked, Watch, Weigh,
+};
+use std::alloc::Global;
+use std::cell::Cell;
+use std::collections::VecDeque;
+use std::process::Abort;
+use std::test::Fail;
+
+/// A value that counts its end.
+struct Item<'a> {
+    name: u64,
+    ended: &'a Cell<u64>,
+}
+
+impl Drop for Item<'_> {
+    fn drop(self) {
+        let Item { name: _, ended } = self;
+        ended.set(ended.get().saturating_add(1));
+    }
+}
+
+impl Weigh for Item<'_> {
+    ghost use Rattle.std.proofs.Common.{lit≤};
+
+    ghost weight = { λ _. 1 };
+
+    ghost at_least_one = { λ _. lit≤ tt };
+}
+
+/// A reclaimer that counts its calls.
+#[derive(Clone, Copy)]
+struct Counting<'a> {
+    calls: &'a Cell<u64>,
+}
+
+impl<'a> Reclaim<Item<'a>> for Counting<'a> {
+    ghost use Rattle.std.specs.Prelude.{[]};
+    ghost use Rattle.std.proofs.Common.{lit<};
+
+    ghost puts = { λ _ _. [] };
+
+    ghost lighter = { λ _ _. lit< tt };
+
+    fn reclaim(self, value: Item<'a>, further: &mut Further<Item<'a>, Counting<'a>>) {
+        self.calls.set(self.calls.get().saturating_add(1));
+        boxed(value, further);
+    }
+}
+
+/// Keeps the names of the values gone.
+#[derive(Drop)]
+struct Names {
+    names: Vec<u64>,
+}
+
+impl<'a> Watch<Item<'a>> for Names {
+    ghost Seen = { Unit {0} };
+
+    ghost seen = { λ _. tt };
+
+    ghost told = { λ _ _. tt };
+
+    fn gone(&mut self, value: &Item<'a>) {
+        let _ = self.names.push(value.name);
+    }
+}
+
+type Items<'a> = Collector<Item<'a>, Counting<'a>>;
+
+fn items<'a>(
+    alloc: Global,
+    ids: &mut IdSource,
+    size: usize,
+    links: usize,
+) -> Result<Items<'a>, Refusal> {
+    Ok(Collector::new(alloc, ids, 1, links)?.batch_size(size))
+}
+
+fn block<'a>(
+    collector: &Items<'a>,
+    name: u64,
+    ended: &'a Cell<u64>,
+) -> Result<Owned<Item<'a>, Counting<'a>>, Refusal> {
+    match Owned::new(collector, Item { name, ended }) {
+        Ok(block) => Ok(block),
+        Err((refusal, item)) => {
+            drop(item);
+            Err(refusal)
+        }
+    }
+}
+
+/// Retires a value by a slot that is in use.
+fn retire<'c, 'a>(
+    rt: &impl Abort,
+    alone: &mut Alone<'c, Item<'a>, Counting<'a>>,
+    s: usize,
+    value: Unlinked<'c, Item<'a>, Counting<'a>>,
+    by: Counting<'a>,
+    watch: &mut Names,
+) {
+    match alone.retire(s, value, by, watch) {
+        Ok(()) => {}
+        Err((_, _value)) => panic!(rt; "refused"),
+    }
+}
+
+/// The name of the value that came back with a refusal.
+fn given_back<'a>(reply: Option<Reply<Item<'a>, Counting<'a>>>) -> u64 {
+    match reply {
+        Some(Reply::Refused(Refusal::NotInUse, Some(back))) => back.name,
+        _ => 0,
+    }
+}
+
+#[test]
+fn retired_beside_its_own_guard(rt: HostRuntime) -> Result<(), Fail> {
+    let ended = Cell::new(0);
+    let calls = Cell::new(0);
+    two_values(&rt, &ended, Counting { calls: &calls })
+}
+
+fn two_values<'a>(
+    rt: &(impl AllocGlobal + Abort),
+    ended: &'a Cell<u64>,
+    by: Counting<'a>,
+) -> Result<(), Fail> {
+    let mut ids = IdSource::new();
+    let mut collector = items(rt.alloc(), &mut ids, 2, 0)?;
+    let mut names = Names {
+        names: Vec::new(rt.alloc()),
+    };
+    assert_eq!(rt; collector.alone().register(), Ok(0));
+    for name in 1..3 {
+        let block = block(&collector, name, ended)?;
+        let mut alone = collector.alone();
+        assert_eq!(rt; alone.enter(0), Ok(()));
+        let value = alone.unlinked(block);
+        retire(rt, &mut alone, 0, value, by, &mut names);
+        assert_eq!(rt; ended.get(), 0);
+        assert_eq!(rt; alone.leave(0, &mut names), Ok(()));
+    }
+    assert_eq!(rt; names.names.as_slice(), [1, 2].as_slice());
+    assert_eq!(rt; ended.get(), 2);
+    assert_eq!(rt; by.calls.get(), 2);
+    Ok(())
+}
+
+/// A number that a forgotten guard keeps stays in use until all is reclaimed.
+#[test]
+fn forgotten(rt: HostRuntime) -> Result<(), Fail> {
+    let ended = Cell::new(0);
+    let calls = Cell::new(0);
+    forgotten_number(&rt, &ended, Counting { calls: &calls })
+}
+
+fn forgotten_number<'a>(
+    rt: &(impl AllocGlobal + Abort),
+    ended: &'a Cell<u64>,
+    by: Counting<'a>,
+) -> Result<(), Fail> {
+    let mut ids = IdSource::new();
+    let mut collector = items(rt.alloc(), &mut ids, 1, 0)?;
+    let mut names = Names {
+        names: Vec::new(rt.alloc()),
+    };
+    assert_eq!(rt; collector.alone().enter_owned(), Ok(0));
+    for _ in 0..2u8 {
+        assert_eq!(rt; collector.alone().register(), Ok(1));
+        assert_eq!(rt; collector.alone().end(1), Ok(true));
+    }
+    let value = block(&collector, 7, ended)?;
+    let mut alone = collector.alone();
+    let value = alone.unlinked(value);
+    retire(rt, &mut alone, 0, value, by, &mut names);
+    assert_eq!(rt; ended.get(), 0);
+    collector.reclaim_all(&mut names);
+    assert_eq!(rt; names.names.as_slice(), [7].as_slice());
+    assert_eq!(rt; ended.get(), 1);
+    assert_eq!(rt; collector.alone().register(), Ok(0));
+    drop(collector);
+    assert_eq!(rt; ended.get(), 1);
+    assert_eq!(rt; by.calls.get(), 1);
+    Ok(())
+}
+
+/// The drop gives what is retired to its reclaimers.
+#[test]
+fn dropped_with_a_batch(rt: HostRuntime) -> Result<(), Fail> {
+    let ended = Cell::new(0);
+    let calls = Cell::new(0);
+    batch_of_four(&rt, &ended, Counting { calls: &calls })
+}
+
+fn batch_of_four<'a>(
+    rt: &(impl AllocGlobal + Abort),
+    ended: &'a Cell<u64>,
+    by: Counting<'a>,
+) -> Result<(), Fail> {
+    let mut ids = IdSource::new();
+    let mut collector = items(rt.alloc(), &mut ids, 9, 0)?;
+    assert_eq!(rt; collector.alone().register(), Ok(0));
+    let mut names = Names {
+        names: Vec::new(rt.alloc()),
+    };
+    for name in 0..4 {
+        let block = block(&collector, name, ended)?;
+        let mut alone = collector.alone();
+        let value = alone.unlinked(block);
+        retire(rt, &mut alone, 0, value, by, &mut names);
+    }
+    assert_eq!(rt; ended.get(), 0);
+    drop(collector);
+    assert_eq!(rt; ended.get(), 4);
+    assert_eq!(rt; by.calls.get(), 4);
+    Ok(())
+}
+
+/// A refusal in a list gives the block back.
+#[test]
+fn refused_in_a_list(rt: HostRuntime) -> Result<(), Fail> {
+    let ended = Cell::new(0);
+    let calls = Cell::new(0);
+    unused_slot(&rt, &ended, Counting { calls: &calls })
+}
+
+fn unused_slot<'a>(
+    rt: &(impl AllocGlobal + Abort),
+    ended: &'a Cell<u64>,
+    by: Counting<'a>,
+) -> Result<(), Fail> {
+    let mut ids = IdSource::new();
+    let mut collector = items(rt.alloc(), &mut ids, 9, 0)?;
+    let mut list = VecDeque::new(rt.alloc());
+    list.push_back(Call::Retire(4, block(&collector, 5, ended)?, by))?;
+    let mut replies = Vec::new(rt.alloc());
+    assert_eq!(rt;
+        collector.alone().run(&mut list, &mut replies, &mut ()),
+        Ok(())
+    );
+    assert_eq!(rt; given_back(replies.pop()), 5);
+    assert_eq!(rt; ended.get(), 1);
+    assert_eq!(rt; by.calls.get(), 0);
+    Ok(())
+}
+
+#[test]
+fn sizes_and_refusals_of_new_collectors(rt: HostRuntime) -> Result<(), Fail> {
+    let mut ids = IdSource::new();
+    for (processors, text) in [
+        (0, "Collector { batch_size: 32 }"),
+        (1, "Collector { batch_size: 32 }"),
+        (32, "Collector { batch_size: 32 }"),
+        (33, "Collector { batch_size: 64 }"),
+        (64, "Collector { batch_size: 64 }"),
+        (100, "Collector { batch_size: 128 }"),
+    ] {
+        let collector: Items<'_> = Collector::new(rt.alloc(), &mut ids, processors, 0)?;
+        let shown = format!(in rt.alloc(); "{collector:?}")?;
+        assert_eq!(rt; shown.as_str(), text);
+    }
+    let most: Result<Items<'_>, Refusal> = Collector::new(rt.alloc(), &mut ids, (1 << 63) + 1, 0);
+    assert!(rt; matches!(most, Err(Refusal::TooManyProcessors)));
+    let a = items(rt.alloc(), &mut ids, 1, 0)?;
+    let b = items(rt.alloc(), &mut ids, 3, 0)?;
+    assert_eq!(rt; a.id(), 6);
+    assert_eq!(rt; b.id(), 7);
+    assert!(rt; a == a);
+    assert!(rt; a != b);
+    let shown = format!(in rt.alloc(); "{b:?}")?;
+    assert_eq!(rt; shown.as_str(), "Collector { batch_size: 3 }");
+    Ok(())
+}
+
+/// The ready reclaimers end the value.
+#[test]
+fn ready_reclaimers(rt: HostRuntime) -> Result<(), Fail> {
+    let ended = Cell::new(0);
+    let mut ids = IdSource::new();
+    let boxes: Collector<Item<'_>> = Collector::new(rt.alloc(), &mut ids, 1, 0)?;
+    assert!(rt; goes(&rt, boxes, Boxed, &ended));
+    assert_eq!(rt; ended.get(), 1);
+    let places: Collector<Item<'_>, InPlace> = Collector::new(rt.alloc(), &mut ids, 1, 0)?;
+    assert!(rt; goes(&rt, places, InPlace, &ended));
+    assert_eq!(rt; ended.get(), 2);
+    Ok(())
+}
+
+/// One value is retired by a slot, and reclaimed with all.
+fn goes<'a, R: Reclaim<Item<'a>>>(
+    rt: &impl Abort,
+    mut collector: Collector<Item<'a>, R>,
+    by: R,
+    ended: &'a Cell<u64>,
+) -> bool {
+    let value = match Owned::new(&collector, Item { name: 0, ended }) {
+        Ok(value) => value,
+        Err((_, item)) => {
+            drop(item);
+            return false;
+        }
+    };
+    let mut alone = collector.alone();
+    if alone.register() != Ok(0) {
+        return false;
+    }
+    let value = alone.unlinked(value);
+    match alone.retire(0, value, by, &mut ()) {
+        Ok(()) => {
+            alone.reclaim_all(&mut ());
+            true
+        }
+        Err((_, _value)) => panic!(rt; "refused"),
+    }
+}
+
+/// A value that holds blocks of its own type.
+#[derive(Drop)]
+struct Tree<'a> {
+    item: Item<'a>,
+    below: Option<Owned<Tree<'a>>>,
+}
+
+impl Weigh for Tree<'_> {
+    ghost use Rattle.std.proofs.Common.{lit≤};
+
+    ghost weight = { λ _. 1 };
+
+    ghost at_least_one = { λ _. lit≤ tt };
+}
+
+/// What a value holds ends with it, where its reclaimer doesn't put it.
+#[test]
+fn blocks_inside_blocks(rt: HostRuntime) -> Result<(), Fail> {
+    let ended = Cell::new(0);
+    let mut ids = IdSource::new();
+    let mut collector: Collector<Tree<'_>> = Collector::new(rt.alloc(), &mut ids, 1, 0)?;
+    let mut below = None;
+    for name in 0..3 {
+        let item = Item {
+            name,
+            ended: &ended,
+        };
+        match Owned::new(&collector, Tree { item, below }) {
+            Ok(tree) => below = Some(tree),
+            Err((refusal, tree)) => {
+                drop(tree);
+                return Err(refusal.into());
+            }
+        }
+    }
+    let mut list = VecDeque::new(rt.alloc());
+    list.push_back(Call::Register)?;
+    if let Some(tree) = below {
+        list.push_back(Call::Retire(0, tree, Boxed))?;
+    }
+    let mut replies = Vec::new(rt.alloc());
+    assert_eq!(rt;
+        collector.alone().run(&mut list, &mut replies, &mut ()),
+        Ok(())
+    );
+    assert_eq!(rt; ended.get(), 0);
+    collector.reclaim_all(&mut ());
+    assert_eq!(rt; ended.get(), 3);
+    Ok(())
+}
