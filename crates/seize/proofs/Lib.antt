@@ -1,12 +1,7 @@
 pub mod Emptying
 pub mod Firsts
-pub mod FreeNumbers
 pub mod Giving
-pub mod Laws
 pub mod Models
-pub mod Places
 pub mod Quieting
 pub mod Running
 pub mod Settling
-pub mod Shown
-pub mod Words

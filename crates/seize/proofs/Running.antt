@@ -2,7 +2,7 @@
 use Rattle.std.proofs.Common.{◌≡◌, ℕ, zero, suc, ◌-◌, ◌^◌, Bool, true, false, ◌||◌, ◌==◌, nat_le, max, List, [], ◌∷◌, ◌++◌, length, map, Option, Some, None, Result, Ok, Err, ◌⊎◌, inl, inr, refl, sym, ◌∙◌, ap, subst}
 use Rattle.std.proofs.lemmas.List.{append_assoc, append-nil, length-set}
 use Rattle.std.proofs.lemmas.List.Sums.{fold-append}
-use Rattle.seize.specs.declared.refusal.Refusal.{Refusal}
+use Rattle.seize_table.specs.declared.refusal.Refusal.{Refusal}
 use Rattle.seize.specs.declared.usage.Kind.TheVariants.{Registered, Owned}
 use Rattle.seize.specs.Waiting.State.{State, slot_at, set_slot, is_active, is_kept}
 use Rattle.seize.specs.Waiting.Attempt.{Outcome, release, attempt, gives_up, detached, put, appended, release_all, part}

@@ -1,11 +1,11 @@
 pub mod Agreement
 pub mod Alone
 pub mod Blocks
-pub mod Free
-pub mod Machine
 pub mod Making
-pub mod Place
-pub mod Refusals
-pub mod Table
 pub mod Told
 pub mod Waiting
+pub use Rattle.seize_machine.specs.Machine
+pub use Rattle.seize_table.specs.Free
+pub use Rattle.seize_table.specs.Place
+pub use Rattle.seize_table.specs.Refusals
+pub use Rattle.seize_table.specs.Table

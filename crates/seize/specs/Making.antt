@@ -1,7 +1,7 @@
 -- How collectors are made and numbered.
 use Rattle.std.specs.Prelude.{ℕ, ◌^◌, if◌then◌else◌, nat_lt, nat_le, Option, Some, None}
-use Rattle.seize.specs.declared.refusal.Refusal.{Refusal}
-use Rattle.seize.specs.declared.refusal.Refusal.TheVariants.{TooManyProcessors, NoNumbers}
+use Rattle.seize_table.specs.declared.refusal.Refusal.{Refusal}
+use Rattle.seize_table.specs.declared.refusal.Refusal.TheVariants.{TooManyProcessors, NoNumbers}
 
 -- Why a collector is refused, with ample memory: it is for this many processors, and the source of its id has given this many ids. A
 -- source gives its number of ids given as the next id.

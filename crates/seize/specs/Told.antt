@@ -5,8 +5,8 @@ use Rattle.seize.specs.Waiting.State.{State}
 use Rattle.seize.specs.Waiting.Attempt.{Outcome}
 use Rattle.seize.specs.Waiting.Further.{further}
 use Rattle.seize.specs.Waiting.Calls.{Answer}
-use Rattle.seize.specs.declared.refusal.Refusal.{Refusal}
-use Rattle.seize.specs.declared.refusal.Refusal.TheVariants.{NoMemory}
+use Rattle.seize_table.specs.declared.refusal.Refusal.{Refusal}
+use Rattle.seize_table.specs.declared.refusal.Refusal.TheVariants.{NoMemory}
 
 -- what a watch has seen once it was told of these values
 abbrev pub told_of : {T R Seen : Type 0} → (Seen → T → Seen) → Seen → List (T × R) → Seen

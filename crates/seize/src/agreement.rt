@@ -2,7 +2,7 @@
 //! is shown.
 
 ghost use Rattle.std.specs.Prelude.{◌≡◌, ℕ, List, replicate, None};
-ghost use Rattle.seize.specs.Machine.State.{opening};
+ghost use Rattle.seize_machine.specs.Machine.State.{opening};
 ghost use Rattle.seize.specs.Waiting.State.{new};
 ghost use Rattle.seize.specs.Waiting.Runs as runs;
 ghost use Rattle.seize.specs.Agreement.Shows.{Shows};

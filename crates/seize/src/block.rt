@@ -2,11 +2,11 @@
 //! blocks on by these types.
 ghost use Rattle.std.specs.Prelude.{◌≡◌, ℕ, ◌≤◌, [], ◌∷◌, ◌&&◌, ◌==◌, Some, map, IfOk, IfErr};
 ghost use Rattle.seize.specs.Blocks.{content, shared_content, Joined};
-ghost use Rattle.seize.specs.declared.refusal.Refusal.TheVariants.{NoMemory as no_memory};
+ghost use Rattle.seize_table.specs.declared.refusal.Refusal.TheVariants.{NoMemory as no_memory};
 
 use crate::collector::Collector;
 use crate::reclaim::{Boxed, Reclaim};
-use crate::refusal::Refusal;
+use seize_table::Refusal;
 use std::alloc::{AllocError, Global};
 use std::marker::{Model, PhantomData};
 use std::ops::Deref;

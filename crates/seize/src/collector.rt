@@ -4,14 +4,14 @@ ghost use Rattle.std.specs.Prelude.{◌≡◌, ◌⊎◌, ℕ, ◌+◌, ◌==◌
 ghost use Rattle.std.specs.Int.{IsNextPowerOfTwo};
 ghost use Rattle.seize.specs.Making.{refusal_for};
 ghost use Rattle.seize.specs.Waiting.State as waiting;
-ghost use Rattle.seize.specs.declared.refusal.Refusal.TheVariants.{NoMemory as no_memory};
+ghost use Rattle.seize_table.specs.declared.refusal.Refusal.TheVariants.{NoMemory as no_memory};
 
 mod alone;
 
 use crate::block::Weigh;
 use crate::plain::Plain;
 use crate::reclaim::{Boxed, Reclaim};
-use crate::refusal::Refusal;
+use seize_table::Refusal;
 pub use alone::{Alone, Call, Reply};
 use std::alloc::Global;
 use std::cmp::max;

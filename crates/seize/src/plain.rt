@@ -11,7 +11,7 @@ ghost use Rattle.seize.specs.Told.{Queued, Grew, Said};
 use crate::block::{Owned, Weigh};
 use crate::collector::Watch;
 use crate::reclaim::Reclaim;
-use crate::refusal::Refusal;
+use seize_table::Refusal;
 use crate::usage::Kind;
 use batch::Batch;
 use give::give_all;

@@ -2,12 +2,12 @@
 use Rattle.std.proofs.Common.{◌≡◌, ℕ, ◌+◌, ◌<◌, ◌≤◌, pos, ◌+ℤ◌, Bool, true, false, ◌==◌, if◌then◌else◌, nat_lt, List, [], ◌∷◌, ◌++◌, length, map, set, Some, refl, sym, ◌∙◌, ap, subst, arith, append_assoc, append-nil}
 use Rattle.std.proofs.Math.Seq.{get_or-append_seam}
 use Rattle.std.proofs.lemmas.List.{length-append}
-use Rattle.seize.specs.Machine.State.{State, Head, Inactive, Active, Batch, Place, Mark, Add, Rest, head_at, batch_at, is_active, no_batch}
-use Rattle.seize.specs.Machine.Event.{ReadHead, Detach, Insert, AddCount}
-use Rattle.seize.specs.Machine.Next.{next, look, marked_place, looked}
-use Rattle.seize.specs.declared.machine.event.Try.TheVariants.{Won}
-use Rattle.seize.specs.declared.machine.event.Answer.TheVariants.{Done, Head as Found}
-use Rattle.seize.proofs.Laws.Steps.{lt_true}
+use Rattle.seize_machine.specs.Machine.State.{State, Head, Inactive, Active, Batch, Place, Mark, Add, Rest, head_at, batch_at, is_active, no_batch}
+use Rattle.seize_machine.specs.Machine.Event.{ReadHead, Detach, Insert, AddCount}
+use Rattle.seize_machine.specs.Machine.Next.{next, look, marked_place, looked}
+use Rattle.seize_machine.specs.declared.machine.event.Try.TheVariants.{Won}
+use Rattle.seize_machine.specs.declared.machine.event.Answer.TheVariants.{Done, Head as Found}
+use Rattle.seize_machine.proofs.Laws.Steps.{lt_true}
 use Rattle.seize.proofs.Models.Leads.{Leads, and_then}
 use Rattle.seize.proofs.Models.Busy.{busy, if_yes, mark_step, detach_step, look_step, insert_step, add_step, with_batch, with_count, counted_place}
 

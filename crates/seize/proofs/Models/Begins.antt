@@ -2,14 +2,14 @@
 use Rattle.std.proofs.Common.{◌≡◌, ℕ, ◌<◌, ◌≤◌, Bool, true, false, not, ◌&&◌, ◌||◌, if◌then◌else◌, List, [], ◌++◌, length, map, get_or, Option, Some, None, Ok, refl, sym, ◌∙◌, ap, subst, ◌⊎◌, inl, inr, append-nil}
 use Rattle.std.proofs.lemmas.List.{get_or_past, length-set, set-get_or}
 use Rattle.std.proofs.Math.ListN.{get_or-map}
-use Rattle.seize.specs.Machine.State as machine
-use Rattle.seize.specs.Machine.State.{State, Slot, Head, Inactive, Active, Place, Append, Mark, Out, Rest, has, is_idle, is_active, head_at, no_slot}
-use Rattle.seize.specs.Machine.Event.{Event, Begin, Return, Give}
-use Rattle.seize.specs.Machine.Next.{next, set_slot, retiring, is_empty}
-use Rattle.seize.specs.declared.machine.event.Job.TheVariants.{Retire, Flush, Leave, Refresh}
-use Rattle.seize.specs.declared.machine.event.Answer.{Answer}
-use Rattle.seize.specs.declared.machine.event.Answer.TheVariants.{Done}
-use Rattle.seize.specs.declared.refusal.Refusal.{Refusal}
+use Rattle.seize_machine.specs.Machine.State as machine
+use Rattle.seize_machine.specs.Machine.State.{State, Slot, Head, Inactive, Active, Place, Append, Mark, Out, Rest, has, is_idle, is_active, head_at, no_slot}
+use Rattle.seize_machine.specs.Machine.Event.{Event, Begin, Return, Give}
+use Rattle.seize_machine.specs.Machine.Next.{next, set_slot, retiring, is_empty}
+use Rattle.seize_machine.specs.declared.machine.event.Job.TheVariants.{Retire, Flush, Leave, Refresh}
+use Rattle.seize_machine.specs.declared.machine.event.Answer.{Answer}
+use Rattle.seize_machine.specs.declared.machine.event.Answer.TheVariants.{Done}
+use Rattle.seize_table.specs.declared.refusal.Refusal.{Refusal}
 use Rattle.seize.specs.Waiting.State as waiting
 use Rattle.seize.specs.Waiting.State.{slot_at}
 use Rattle.seize.specs.Waiting.Attempt.{Outcome}

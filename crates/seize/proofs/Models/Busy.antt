@@ -1,11 +1,11 @@
 -- What each event does to a slot whose call is under way.
 use Rattle.std.proofs.Common.{◌≡◌, ℕ, zero, suc, ◌+◌, ◌<◌, ◌≤◌, ℤ, pos, ◌+ℤ◌, ◌-ℤ◌, Bool, true, false, ◌&&◌, ◌||◌, ◌==◌, if◌then◌else◌, nat_lt, nat_le, max, List, [], ◌∷◌, ◌++◌, length, set, Some, None, refl, ◌∙◌, ap, arith}
 use Rattle.std.proofs.lemmas.List.{get_or-set_same, length-set}
-use Rattle.seize.specs.Machine.State.{State, Slot, Head, Inactive, Active, Place, Append, Mark, Look, Try, Add, Out, Rest, slot_at, head_at, batch_at, is_active, waiting_at, no_slot}
-use Rattle.seize.specs.Machine.Event.{Put, ReadHead, Detach, Insert, AddCount, SwapOut, SubCount, Hand, Return}
-use Rattle.seize.specs.Machine.Next.{Outcome, next, set_slot, set_head, go_on, appended, append, look, marked_place, looked, read_head, detach, insert_into, insert, is_zero, counted, add_count, sub_count, swap_out, are_fresh, hand, return, in_call}
-use Rattle.seize.specs.declared.machine.event.Try.TheVariants.{Won}
-use Rattle.seize.specs.declared.machine.event.Answer.TheVariants.{Done, Head as Found, Count, Handed}
+use Rattle.seize_machine.specs.Machine.State.{State, Slot, Head, Inactive, Active, Place, Append, Mark, Look, Try, Add, Out, Rest, slot_at, head_at, batch_at, is_active, waiting_at, no_slot}
+use Rattle.seize_machine.specs.Machine.Event.{Put, ReadHead, Detach, Insert, AddCount, SwapOut, SubCount, Hand, Return}
+use Rattle.seize_machine.specs.Machine.Next.{Outcome, next, set_slot, set_head, go_on, appended, append, look, marked_place, looked, read_head, detach, insert_into, insert, is_zero, counted, add_count, sub_count, swap_out, are_fresh, hand, return, in_call}
+use Rattle.seize_machine.specs.declared.machine.event.Try.TheVariants.{Won}
+use Rattle.seize_machine.specs.declared.machine.event.Answer.TheVariants.{Done, Head as Found, Count, Handed}
 
 -- slot s has this batch, and its call stands so; all else is as in base
 abbrev pub busy_slot : List ℕ → Place → List ℕ → Slot

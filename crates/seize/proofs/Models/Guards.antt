@@ -1,15 +1,15 @@
 -- The calls that change a slot's guards: leave, enter and end.
 use Rattle.std.proofs.Common.{◌≡◌, ◌≢◌, ℕ, zero, suc, ◌+◌, ◌-◌, ◌<◌, ◌≤◌, Bool, true, false, not, ◌&&◌, ◌||◌, ◌==◌, if◌then◌else◌, List, [], ◌∷◌, ◌++◌, length, get_or, set, Option, Some, None, Ok, Err, refl, sym, ◌∙◌, ap, subst, ◌⊎◌, inl, inr, arith, append-nil, is_some, map}
 use Rattle.std.proofs.lemmas.List.{get_or-set_same, length-set, set-get_or}
-use Rattle.seize.specs.Machine.State as machine
-use Rattle.seize.specs.Machine.State.{State, Slot, Head, Inactive, Active, Out, is_active, is_idle, head_at}
-use Rattle.seize.specs.Machine.Event.{Begin, Return, Give, Enter as EnterHead}
-use Rattle.seize.specs.Machine.Next.{next, set_head}
-use Rattle.seize.specs.declared.machine.event.Job as job
-use Rattle.seize.specs.declared.machine.event.Answer.TheVariants.{Done as DoneEvent}
+use Rattle.seize_machine.specs.Machine.State as machine
+use Rattle.seize_machine.specs.Machine.State.{State, Slot, Head, Inactive, Active, Out, is_active, is_idle, head_at}
+use Rattle.seize_machine.specs.Machine.Event.{Begin, Return, Give, Enter as EnterHead}
+use Rattle.seize_machine.specs.Machine.Next.{next, set_head}
+use Rattle.seize_machine.specs.declared.machine.event.Job as job
+use Rattle.seize_machine.specs.declared.machine.event.Answer.TheVariants.{Done as DoneEvent}
 use Rattle.seize.specs.declared.usage.Kind.TheVariants.{Free}
-use Rattle.seize.specs.declared.refusal.Refusal.{Refusal}
-use Rattle.seize.specs.declared.refusal.Refusal.TheVariants.{NotInUse, WrongKind}
+use Rattle.seize_table.specs.declared.refusal.Refusal.{Refusal}
+use Rattle.seize_table.specs.declared.refusal.Refusal.TheVariants.{NotInUse, WrongKind}
 use Rattle.seize.specs.Waiting.State as waiting
 use Rattle.seize.specs.Waiting.State.{slot_at, set_slot}
 use Rattle.seize.specs.Waiting.Attempt.{Outcome, release_all, part}

@@ -1,13 +1,13 @@
 -- The calls that are jobs of the machine: flush, retire, refresh and leave.
 use Rattle.std.proofs.Common.{◌≡◌, ℕ, zero, suc, ◌<◌, Bool, true, false, not, ◌||◌, ◌==◌, if◌then◌else◌, nat_lt, List, [], ◌∷◌, length, set, Some, None, refl, sym, ◌∙◌, ap, subst, arith}
 use Rattle.std.proofs.lemmas.List.{get_or-set_same}
-use Rattle.seize.specs.Machine.State as machine
-use Rattle.seize.specs.Machine.State.{State, Slot, Head, Inactive, Active, Place, Append, Mark, Out, Rest, has, is_active, head_at, waiting_at}
-use Rattle.seize.specs.Machine.Event.{Event, Begin, Put, SwapOut}
-use Rattle.seize.specs.Machine.Next.{set_head, retiring, is_empty}
-use Rattle.seize.specs.declared.machine.event.Job as job
-use Rattle.seize.specs.declared.machine.event.Answer.TheVariants.{Done as DoneEvent}
-use Rattle.seize.specs.declared.refusal.Refusal.TheVariants.{NotInUse, NotActive}
+use Rattle.seize_machine.specs.Machine.State as machine
+use Rattle.seize_machine.specs.Machine.State.{State, Slot, Head, Inactive, Active, Place, Append, Mark, Out, Rest, has, is_active, head_at, waiting_at}
+use Rattle.seize_machine.specs.Machine.Event.{Event, Begin, Put, SwapOut}
+use Rattle.seize_machine.specs.Machine.Next.{set_head, retiring, is_empty}
+use Rattle.seize_machine.specs.declared.machine.event.Job as job
+use Rattle.seize_machine.specs.declared.machine.event.Answer.TheVariants.{Done as DoneEvent}
+use Rattle.seize_table.specs.declared.refusal.Refusal.TheVariants.{NotInUse, NotActive}
 use Rattle.seize.specs.Waiting.State as waiting
 use Rattle.seize.specs.Waiting.State.{slot_at, set_slot}
 use Rattle.seize.specs.Waiting.Attempt.{attempt, gives_up, active_slots, release_all, part, put}

@@ -1,12 +1,12 @@
 -- Runs of legal events, with the values that they hand to reclaimers.
 use Rattle.std.proofs.Common.{◌≡◌, ℕ, List, [], ◌∷◌, ◌++◌, Option, Some, None, refl, ◌∙◌, ap, option_to_list}
 use Rattle.std.proofs.lemmas.List.Concat.{flat_map-cons}
-use Rattle.seize.specs.Machine.State.{State}
-use Rattle.seize.specs.Machine.Event.{Event}
-use Rattle.seize.specs.Machine.Next.{next}
-use Rattle.seize.specs.Machine.History.{handed_value}
-use Rattle.seize.specs.declared.machine.event.Answer.{Answer}
-use Rattle.seize.specs.declared.machine.event.Answer.TheVariants.{Handed}
+use Rattle.seize_machine.specs.Machine.State.{State}
+use Rattle.seize_machine.specs.Machine.Event.{Event}
+use Rattle.seize_machine.specs.Machine.Next.{next}
+use Rattle.seize_machine.specs.Machine.History.{handed_value}
+use Rattle.seize_machine.specs.declared.machine.event.Answer.{Answer}
+use Rattle.seize_machine.specs.declared.machine.event.Answer.TheVariants.{Handed}
 use Rattle.seize.specs.Agreement.Play.{play, played, handed}
 
 pub data Leads (size : ℕ) : State → List ℕ → State → Type 0 where

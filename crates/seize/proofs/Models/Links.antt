@@ -2,16 +2,16 @@
 use Rattle.std.proofs.Common.{◌≡◌, ℕ, ◌<◌, Bool, true, false, not, ◌&&◌, ◌||◌, ◌==◌, if◌then◌else◌, nat_lt, List, [], ◌∷◌, ◌++◌, length, map, get_or, set, Option, Some, None, Ok, is_some, option_to_list, refl, sym, ◌∙◌, ap, subst, arith}
 use Rattle.std.proofs.lemmas.List.{length-map, map-set}
 use Rattle.std.proofs.Math.ListN.{get_or-map}
-use Rattle.seize.specs.Machine.State as machine
-use Rattle.seize.specs.Machine.State.{State, has, is_active, head_at}
-use Rattle.seize.specs.Machine.Event.{Event, Give, ReadLink, ExchangeLink}
-use Rattle.seize.specs.Machine.Next.{next, is_none_or_fresh}
-use Rattle.seize.specs.Machine.Next as machine_next
-use Rattle.seize.specs.declared.machine.event.Exchange.TheVariants.{Swap as SwapLink}
-use Rattle.seize.specs.declared.machine.event.Answer.{Answer}
-use Rattle.seize.specs.declared.machine.event.Answer.TheVariants.{Done as DoneEvent, Link}
-use Rattle.seize.specs.declared.refusal.Refusal.{Refusal}
-use Rattle.seize.specs.declared.refusal.Refusal.TheVariants.{NotInUse}
+use Rattle.seize_machine.specs.Machine.State as machine
+use Rattle.seize_machine.specs.Machine.State.{State, has, is_active, head_at}
+use Rattle.seize_machine.specs.Machine.Event.{Event, Give, ReadLink, ExchangeLink}
+use Rattle.seize_machine.specs.Machine.Next.{next, is_none_or_fresh}
+use Rattle.seize_machine.specs.Machine.Next as machine_next
+use Rattle.seize_machine.specs.declared.machine.event.Exchange.TheVariants.{Swap as SwapLink}
+use Rattle.seize_machine.specs.declared.machine.event.Answer.{Answer}
+use Rattle.seize_machine.specs.declared.machine.event.Answer.TheVariants.{Done as DoneEvent, Link}
+use Rattle.seize_table.specs.declared.refusal.Refusal.{Refusal}
+use Rattle.seize_table.specs.declared.refusal.Refusal.TheVariants.{NotInUse}
 use Rattle.seize.specs.Waiting.State as waiting
 use Rattle.seize.specs.Waiting.State.{slot_at}
 use Rattle.seize.specs.Waiting.Attempt.{put}

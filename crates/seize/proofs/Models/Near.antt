@@ -4,13 +4,13 @@ use Rattle.std.specs.List.{count_by, list_any}
 use Rattle.std.proofs.lemmas.Grind.{common_steps}
 use Rattle.std.proofs.lemmas.List.{get_or-set_same, get_or-set_other, length-set, map-set}
 use Rattle.std.proofs.Math.Seq.{map-set_same}
-use Rattle.seize.specs.Machine.State as machine
-use Rattle.seize.specs.Machine.State.{Head, Inactive, Active, Batch, has, no_batch, are_distinct}
+use Rattle.seize_machine.specs.Machine.State as machine
+use Rattle.seize_machine.specs.Machine.State.{Head, Inactive, Active, Batch, has, no_batch, are_distinct}
 use Rattle.seize.specs.Waiting.State as waiting
 use Rattle.seize.specs.Waiting.State.{keeps, is_kept, retired_at}
 use Rattle.seize.specs.Agreement.Shows.{Stand, held, head_of, ShowsSlot, Shows}
-use Rattle.seize.proofs.Laws.Steps.{is_true, eq_true}
-use Rattle.seize.proofs.Laws.Sums.{one, occ, has_none, has_some, distinct_once}
+use Rattle.seize_machine.proofs.Laws.Steps.{is_true, eq_true}
+use Rattle.seize_machine.proofs.Laws.Sums.{one, occ, has_none, has_some, distinct_once}
 
 pub record Near (T R : Type 0) (of : ℕ → T) (walk : List ℕ) (st : waiting.State T R) (slots : List machine.Slot) (heads : List Head) (batches : List Batch) (links : List (Option ℕ)) : Type 0 where
   pub numbers : length st.slots ≤ 2 ^ 64 - 32

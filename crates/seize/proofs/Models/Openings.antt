@@ -1,6 +1,6 @@
 -- A machine just opened shows a collector just made.
 use Rattle.std.proofs.Common.{◌≡◌, ℕ, zero, suc, List, ◌∷◌, map, replicate, Option, None, refl, ap, arith}
-use Rattle.seize.specs.Machine.State.{opening}
+use Rattle.seize_machine.specs.Machine.State.{opening}
 use Rattle.seize.specs.Waiting.State.{new}
 use Rattle.seize.specs.Agreement.Shows.{held, Shows}
 

@@ -3,13 +3,13 @@ use Rattle.std.proofs.Common.{◌≡◌, ◌≢◌, ℕ, ◌+◌, ◌<◌, ◌�
 use Rattle.std.specs.List.{count_by}
 use Rattle.std.proofs.lemmas.Int.{ints}
 use Rattle.std.proofs.lemmas.List.{get_or-set_same, get_or-set_other, get_or_past, length-set, set-get_or}
-use Rattle.seize.specs.Machine.State as machine
-use Rattle.seize.specs.Machine.State.{Head, Inactive, Active, Batch, has, no_batch, are_distinct}
+use Rattle.seize_machine.specs.Machine.State as machine
+use Rattle.seize_machine.specs.Machine.State.{Head, Inactive, Active, Batch, has, no_batch, are_distinct}
 use Rattle.seize.specs.Waiting.State as waiting
 use Rattle.seize.specs.Waiting.State.{keeps, is_kept, retired_at}
 use Rattle.seize.specs.Waiting.Attempt.{Outcome, release}
 use Rattle.seize.specs.Agreement.Shows.{Stand}
-use Rattle.seize.proofs.Laws.Sums.{one, occ, has_none}
+use Rattle.seize_machine.proofs.Laws.Sums.{one, occ, has_none}
 use Rattle.seize.proofs.Models.Near.{Near, any_counts, or_same, in_or_past}
 
 -- the batch in its place

@@ -1,7 +1,7 @@
 -- The further values within a call, on both sides, to the end of the call's queue.
 use Rattle.std.proofs.Common.{◌≡◌, ℕ, zero, suc, ◌<◌, ◌≤◌, List, [], ◌∷◌, ◌++◌, length, refl, ◌∙◌, subst, arith}
-use Rattle.seize.specs.Machine.State.{State, Rest}
-use Rattle.seize.specs.Machine.Event.{Put}
+use Rattle.seize_machine.specs.Machine.State.{State, Rest}
+use Rattle.seize_machine.specs.Machine.Event.{Put}
 use Rattle.seize.specs.Waiting.State as waiting
 use Rattle.seize.specs.Waiting.State.{slot_at}
 use Rattle.seize.specs.Waiting.Attempt.{Outcome, after, put}

@@ -5,15 +5,15 @@ use Rattle.std.proofs.lemmas.Grind.{common_steps}
 use Rattle.std.proofs.lemmas.List.{get_or-set_same, map-append}
 use Rattle.std.proofs.lemmas.List.Sums.{prefix_len-le-length, passes_at_first}
 use Rattle.std.proofs.Math.Seq.{get_or-append_seam}
-use Rattle.seize.specs.Machine.State as machine
-use Rattle.seize.specs.Machine.State.{State, Slot, Inactive, Active}
-use Rattle.seize.specs.Machine.Event.{Take, Enter as EnterHead}
-use Rattle.seize.specs.Machine.Next as machine_next
-use Rattle.seize.specs.Machine.Next.{next, set_head, first_free}
-use Rattle.seize.specs.declared.machine.event.Answer.TheVariants.{Done as DoneEvent}
+use Rattle.seize_machine.specs.Machine.State as machine
+use Rattle.seize_machine.specs.Machine.State.{State, Slot, Inactive, Active}
+use Rattle.seize_machine.specs.Machine.Event.{Take, Enter as EnterHead}
+use Rattle.seize_machine.specs.Machine.Next as machine_next
+use Rattle.seize_machine.specs.Machine.Next.{next, set_head, first_free}
+use Rattle.seize_machine.specs.declared.machine.event.Answer.TheVariants.{Done as DoneEvent}
 use Rattle.seize.specs.declared.usage.Kind.{Kind}
 use Rattle.seize.specs.declared.usage.Kind.TheVariants.{Registered, Owned}
-use Rattle.seize.specs.declared.refusal.Refusal.TheVariants.{NoNumbers}
+use Rattle.seize_table.specs.declared.refusal.Refusal.TheVariants.{NoNumbers}
 use Rattle.seize.specs.Waiting.State as waiting
 use Rattle.seize.specs.Waiting.State.{slot_at, set_slot, keeps}
 use Rattle.seize.specs.Waiting.Calls.{least_unused, taken, is_free, set_guards}

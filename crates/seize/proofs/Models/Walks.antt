@@ -3,16 +3,16 @@ use Rattle.std.proofs.Common.{◌≡◌, ℕ, ◌<◌, ◌≤◌, pos, ◌-ℤ�
 use Rattle.std.specs.List.{count_by}
 use Rattle.std.proofs.lemmas.List.Concat.{flat_map-cons}
 use Rattle.std.proofs.lemmas.List.{get_or-set_same, length-set, length-map}
-use Rattle.seize.specs.Machine.State as machine
-use Rattle.seize.specs.Machine.State.{State, Head, Batch, Place, Mark, Rest, has, are_distinct, no_batch}
-use Rattle.seize.specs.Machine.Event.{SubCount}
+use Rattle.seize_machine.specs.Machine.State as machine
+use Rattle.seize_machine.specs.Machine.State.{State, Head, Batch, Place, Mark, Rest, has, are_distinct, no_batch}
+use Rattle.seize_machine.specs.Machine.Event.{SubCount}
 use Rattle.seize.specs.Waiting.State as waiting
 use Rattle.seize.specs.Waiting.State.{slot_at, keeps, is_kept}
 use Rattle.seize.specs.Waiting.Attempt.{Outcome, after, release, release_all, attempt, put, appended}
 use Rattle.seize.specs.Waiting.Further.{further, put_by}
 use Rattle.seize.specs.Agreement.Shows.{Stand, ShowsSlot}
 use Rattle.seize.specs.Agreement.Statement.{HasNames}
-use Rattle.seize.proofs.Laws.Steps.{and_true, not_true}
+use Rattle.seize_machine.proofs.Laws.Steps.{and_true, not_true}
 use Rattle.seize.proofs.Models.Leads.{Leads, and_then}
 use Rattle.seize.proofs.Models.Busy.{busy, rested, set_twice, sub_step, put_place, with_count}
 use Rattle.seize.proofs.Models.Near.{Near, NearAt, near_set}

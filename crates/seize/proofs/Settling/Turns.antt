@@ -6,7 +6,7 @@ use Rattle.seize.specs.Waiting.Attempt.{Outcome, put}
 use Rattle.seize.specs.Waiting.Further.{further, still_to_come, afterwards, settled}
 use Rattle.seize.specs.Waiting.Calls.{unless, freed, freed_if}
 use Rattle.seize.specs.Told.{told_of, Queued, Did, Answered}
-use Rattle.seize.specs.declared.refusal.Refusal.{Refusal}
+use Rattle.seize_table.specs.declared.refusal.Refusal.{Refusal}
 use Rattle.seize.proofs.Settling.Falls.{Lighter, falls, no_rest, afterwards-nil, afterwards-cons}
 
 -- one turn of the loop that retires the further values

@@ -1,13 +1,13 @@
 -- The events of a call that is made while no other is under way, as they are computed.
 use Rattle.std.specs.Prelude.{ℕ, zero, suc, ◌==◌, ◌||◌, if◌then◌else◌, nat_lt, List, [], ◌∷◌, ◌++◌, Option, Some, None}
-use Rattle.seize.specs.Machine.State as machine
-use Rattle.seize.specs.Machine.State.{Place, Append, Mark, Look, Try, Add, Out, Rest}
-use Rattle.seize.specs.Machine.Event.{Event, Take, Give, Enter as EnterHead, Begin, Put, ReadHead, Detach, Insert, AddCount, SwapOut, SubCount, Hand, Return, ReadLink, ExchangeLink}
-use Rattle.seize.specs.Machine.Next.{next}
-use Rattle.seize.specs.declared.machine.event.Job.{Job}
-use Rattle.seize.specs.declared.machine.event.Job.TheVariants.{Retire as RetireJob, Flush as FlushJob, Leave as LeaveJob, Refresh as RefreshJob}
-use Rattle.seize.specs.declared.machine.event.Try.TheVariants.{Won}
-use Rattle.seize.specs.declared.machine.event.Exchange.TheVariants.{Swap as SwapLink}
+use Rattle.seize_machine.specs.Machine.State as machine
+use Rattle.seize_machine.specs.Machine.State.{Place, Append, Mark, Look, Try, Add, Out, Rest}
+use Rattle.seize_machine.specs.Machine.Event.{Event, Take, Give, Enter as EnterHead, Begin, Put, ReadHead, Detach, Insert, AddCount, SwapOut, SubCount, Hand, Return, ReadLink, ExchangeLink}
+use Rattle.seize_machine.specs.Machine.Next.{next}
+use Rattle.seize_machine.specs.declared.machine.event.Job.{Job}
+use Rattle.seize_machine.specs.declared.machine.event.Job.TheVariants.{Retire as RetireJob, Flush as FlushJob, Leave as LeaveJob, Refresh as RefreshJob}
+use Rattle.seize_machine.specs.declared.machine.event.Try.TheVariants.{Won}
+use Rattle.seize_machine.specs.declared.machine.event.Exchange.TheVariants.{Swap as SwapLink}
 use Rattle.seize.specs.Waiting.State as waiting
 use Rattle.seize.specs.Waiting.Calls.{is_owned, least_unused}
 use Rattle.seize.specs.Waiting.Lists.{Call, Register, EnterOwned, Enter, Leave, End, Refresh, Flush, Retire, Protect, Swap, Reply, Refused, step}

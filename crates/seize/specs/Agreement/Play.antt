@@ -1,12 +1,12 @@
 -- Lists of events that are legal, and what they tell.
 use Rattle.std.specs.Prelude.{ℕ, List, [], ◌∷◌, Option, Some, None, option_to_list, is_some}
 use Rattle.std.specs.List.{flat_map}
-use Rattle.seize.specs.Machine.State.{State}
-use Rattle.seize.specs.Machine.Event.{Event, Take}
-use Rattle.seize.specs.Machine.Next.{next}
-use Rattle.seize.specs.Machine.History.{handed_value}
-use Rattle.seize.specs.declared.machine.event.Answer.{Answer}
-use Rattle.seize.specs.declared.machine.event.Answer.TheVariants.{Link}
+use Rattle.seize_machine.specs.Machine.State.{State}
+use Rattle.seize_machine.specs.Machine.Event.{Event, Take}
+use Rattle.seize_machine.specs.Machine.Next.{next}
+use Rattle.seize_machine.specs.Machine.History.{handed_value}
+use Rattle.seize_machine.specs.declared.machine.event.Answer.{Answer}
+use Rattle.seize_machine.specs.declared.machine.event.Answer.TheVariants.{Link}
 use Rattle.seize.specs.Waiting.Lists.{Call, Register, EnterOwned, End, Protect, Reply, Done, Number, Kept, Found}
 
 -- the state after these events, and their answers, or none where one is illegal

@@ -1,6 +1,6 @@
 -- The worked runs of waiting sets on both models.
 use Rattle.std.specs.Prelude.{ℕ, List, [], ◌∷◌, ◌++◌, map, replicate, Option, Some, None}
-use Rattle.seize.specs.Machine.State.{Head, opening}
+use Rattle.seize_machine.specs.Machine.State.{Head, opening}
 use Rattle.seize.specs.Waiting.State.{new}
 use Rattle.seize.specs.Waiting.Lists.{Call, run}
 use Rattle.seize.specs.Waiting.Runs.{puts, weight, Group, Calls, All}

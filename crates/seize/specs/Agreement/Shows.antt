@@ -1,8 +1,8 @@
 -- How a state of the machine shows a state of waiting sets, where no call is under way.
 use Rattle.std.specs.Prelude.{◌≡◌, ℕ, pos, ◌-◌, ◌^◌, ◌≤◌, true, false, not, if◌then◌else◌, List, [], length, map, Option, Some, None}
 use Rattle.std.specs.List.{count_by}
-use Rattle.seize.specs.Machine.State as machine
-use Rattle.seize.specs.Machine.State.{Inactive, Active}
+use Rattle.seize_machine.specs.Machine.State as machine
+use Rattle.seize_machine.specs.Machine.State.{Inactive, Active}
 use Rattle.seize.specs.Waiting.State as waiting
 use Rattle.seize.specs.Waiting.Calls.{is_free, is_owned}
 

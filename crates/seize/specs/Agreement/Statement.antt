@@ -1,10 +1,10 @@
 -- What it means that the two models agree.
 use Rattle.std.specs.Prelude.{◌≡◌, ℕ, ◌<◌, false, List, [], length, Some}
 use Rattle.std.specs.List.{sum_by}
-use Rattle.seize.specs.Machine.State as machine
-use Rattle.seize.specs.Machine.State.{has}
-use Rattle.seize.specs.Machine.Event.{Event}
-use Rattle.seize.specs.declared.machine.event.Answer.{Answer}
+use Rattle.seize_machine.specs.Machine.State as machine
+use Rattle.seize_machine.specs.Machine.State.{has}
+use Rattle.seize_machine.specs.Machine.Event.{Event}
+use Rattle.seize_machine.specs.declared.machine.event.Answer.{Answer}
 use Rattle.seize.specs.Waiting.State as waiting
 use Rattle.seize.specs.Waiting.Attempt.{Outcome}
 use Rattle.seize.specs.Waiting.Lists.{Call, Protect, Swap, Reply, Refused, step}

@@ -3,8 +3,8 @@ use Rattle.std.specs.Prelude.{ℕ, ◌+◌, ◌-◌, ◌^◌, Bool, true, false,
 use Rattle.std.specs.List.{position_or_len, flat_map, range_with_len}
 use Rattle.seize.specs.declared.usage.Kind.{Kind}
 use Rattle.seize.specs.declared.usage.Kind.TheVariants.{Free, Registered, Owned}
-use Rattle.seize.specs.declared.refusal.Refusal.{Refusal}
-use Rattle.seize.specs.declared.refusal.Refusal.TheVariants.{NoNumbers, TooManyGuards, NotInUse, NotActive, WrongKind}
+use Rattle.seize_table.specs.declared.refusal.Refusal.{Refusal}
+use Rattle.seize_table.specs.declared.refusal.Refusal.TheVariants.{NoNumbers, TooManyGuards, NotInUse, NotActive, WrongKind}
 use Rattle.seize.specs.Waiting.State.{Slot, State, slot_at, set_slot, is_active}
 use Rattle.seize.specs.Waiting.Attempt.{Outcome, after, attempt, put, part}
 use Rattle.seize.specs.Waiting.Further.{further, settled, drained}

@@ -1,7 +1,7 @@
 -- Lists of calls: each call gives its reply, and the whole list its replies, the state after it and the values gone.
 use Rattle.std.specs.Prelude.{ℕ, Bool, if◌then◌else◌, List, [], ◌∷◌, Option, Some, None, Result, Ok, Err, is_some}
 use Rattle.seize.specs.declared.usage.Kind.TheVariants.{Registered, Owned}
-use Rattle.seize.specs.declared.refusal.Refusal.{Refusal}
+use Rattle.seize_table.specs.declared.refusal.Refusal.{Refusal}
 use Rattle.seize.specs.Waiting.State.{State}
 use Rattle.seize.specs.Waiting.Attempt.{Outcome, after}
 use Rattle.seize.specs.Waiting.Calls.{Answer, take_number, enter, leave, end_slot, refresh, flush, retire, protect, swap}

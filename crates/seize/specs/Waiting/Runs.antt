@@ -2,7 +2,7 @@
 -- number, which its one reclaimer knows.
 use Rattle.std.specs.Prelude.{ℕ, zero, suc, ◌-◌, ◌==◌, if◌then◌else◌, true, false, List, [], ◌∷◌, ◌++◌, Some, None, map, replicate}
 use Rattle.std.specs.List.{flat_map, range_with_len}
-use Rattle.seize.specs.declared.refusal.Refusal.TheVariants.{NotInUse, NotActive, WrongKind}
+use Rattle.seize_table.specs.declared.refusal.Refusal.TheVariants.{NotInUse, NotActive, WrongKind}
 use Rattle.seize.specs.Waiting.State.{State}
 use Rattle.seize.specs.Waiting.Calls.{reclaim_all}
 use Rattle.seize.specs.Waiting.Lists.{Call, Register, EnterOwned, Enter, Leave, End, Refresh, Flush, Retire, Protect, Swap, Reply, Done, Number, Kept, Found, Refused, run}

@@ -7,12 +7,12 @@ ghost use Rattle.seize.specs.Waiting.Lists as lists;
 ghost use Rattle.seize.specs.Alone.{call_of, reply_of, InRange, AllInRange, Stepped, Ran};
 ghost use Rattle.seize.specs.Told.{Answers, AllDone, Grew, Said, without_block};
 ghost use Rattle.seize.specs.declared.usage.Kind.TheVariants.{Registered as registered, Owned as owned_slot};
-ghost use Rattle.seize.specs.declared.refusal.Refusal.TheVariants.{NoMemory as no_memory};
+ghost use Rattle.seize_table.specs.declared.refusal.Refusal.TheVariants.{NoMemory as no_memory};
 
 use crate::block::{Owned, Shared, Unlinked, Weigh};
 use crate::collector::{Collector, Watch};
 use crate::reclaim::{Boxed, Reclaim};
-use crate::refusal::Refusal;
+use seize_table::Refusal;
 use crate::usage::Kind;
 use std::collections::VecDeque;
 

@@ -8,7 +8,7 @@ ghost use Rattle.seize.specs.Told.{Grew, Said};
 use crate::block::Owned;
 use crate::plain::slot::Slot;
 use crate::plain::{NUMBERS, Plain, least_unused};
-use crate::refusal::Refusal;
+use seize_table::Refusal;
 use crate::usage::Kind;
 use std::alloc::AllocError;
 

@@ -11,7 +11,7 @@ use crate::block::Weigh;
 use crate::collector::Watch;
 use crate::plain::Plain;
 use crate::reclaim::Reclaim;
-use crate::refusal::Refusal;
+use seize_table::Refusal;
 use crate::usage::Kind;
 use std::alloc::AllocError;
 use std::collections::VecDeque;

@@ -1,6 +1,0 @@
-use Rattle.std.proofs.Common.{map, take}
-use Rattle.seize.specs.Machine.Code.{event_of, HasRun}
-use Rattle.seize.proofs.machine.Machine.run.Given as goal
-
-abbrev pub invariant-loop-event : goal.invariant-loop-event
-invariant-loop-event l = HasRun (map event_of (take l.event-index l.events)) l.initial.self l.self l.initial.answers.items l.answers.items

@@ -1,9 +1,0 @@
-use Rattle.std.proofs.Common.{◌≡◌, ◌≤◌, ◌-◌}
-use Rattle.seize.specs.Table.{number_at}
-use Rattle.seize.proofs.tls.iter.Iter.next_seen.Given as goal
-
-abbrev pub invariant-loop-self : goal.invariant-loop-self
-invariant-loop-self g l = (l.self.table ≡ l.fn.self.table) × (number_at l.fn.self.bucket l.fn.self.entry ≤ number_at l.self.bucket l.self.entry)
-
-abbrev pub decreases-loop-self : goal.decreases-loop-self
-decreases-loop-self g l = 59 - l.self.bucket

@@ -1,0 +1,118 @@
+-- The state at the end of a history: what it shows of its moments.
+use Rattle.std.proofs.Common.{◌≡◌, ℕ, zero, suc, ◌+◌, ◌≤◌, max, true, false, ◌==◌, nat_lt, List, [], ◌∷◌, get_or, replicate, Option, Some, None, refl, sym, ◌∙◌, ap, subst, ◌⊎◌, inl, inr, arith}
+use Rattle.std.specs.List.{slice_get, list_all}
+use Rattle.std.proofs.lemmas.List.{get_or-replicate, get_or_past, length-replicate}
+use Rattle.seize_machine.specs.Machine.State.{no_slot, State, opening}
+use Rattle.seize_machine.specs.Machine.Event.{Event}
+use Rattle.seize_machine.specs.Machine.Next.{Outcome, next}
+use Rattle.seize_machine.specs.Machine.History.{Timed, Moment, end_of, retired_value, handed_value, Retired, Reclaimed}
+use Rattle.seize_machine.specs.Machine.Laws.{HaveSize}
+use Rattle.seize_machine.specs.declared.machine.event.Answer.{Answer}
+use Rattle.seize_machine.proofs.Laws.Steps.{Step, step_of, is_true, eq_true, lt_true, and_true, some_is}
+use Rattle.seize_machine.proofs.Laws.Sums.{occ, occ-push}
+use Rattle.seize_machine.proofs.Laws.Parts.{parts, parts_step, is_value}
+use Rattle.seize_machine.proofs.Laws.Fits.{Fits, fits_step}
+use Rattle.seize_machine.proofs.Laws.Invariants.{Inv, inv_step}
+use Rattle.seize_machine.proofs.Laws.Histories.{run, moment_of, from_first, none_in}
+use Rattle.seize_machine.proofs.Laws.Reclaiming.{value_once, value_is}
+
+-- what each legal event keeps holds at the end
+pub end_keeps : (P : State → Type 0) → ((size : ℕ) (st : State) (event : Event) (d : State × Answer) → Step size st event d → P st → P d.0)
+    → (ts : List Timed) (st : State) → P st → P (end_of st (run st ts))
+end_keeps P step [] st p = p
+end_keeps P step (t ∷ ts) st p = go (next t.size st t.event) refl (λ st. end_keeps P step ts st)
+  where
+    go : (o : Outcome) → next t.size st t.event ≡ o → ((st : State) → P st → P (end_of st (run st ts))) → P (end_of st (from_first o st t ts))
+    go None e ih = p
+    go (Some d) e ih = ih d.0 (step t.size st t.event d (step_of t.size st t.event d e) p)
+
+pub end_inv : (ts : List Timed) (st : State) → Inv st → Inv (end_of st (run st ts))
+end_inv ts st i = end_keeps Inv inv_step ts st i
+
+pub end_fits : (size : ℕ) (ts : List Timed) (st : State) → HaveSize size (run st ts) → Fits (max 1 size) st → Fits (max 1 size) (end_of st (run st ts))
+end_fits size [] st same fits = fits
+end_fits size (t ∷ ts) st same fits = go (next t.size st t.event) refl same (λ st. end_fits size ts st)
+  where
+    go : (o : Outcome) → next t.size st t.event ≡ o → HaveSize size (from_first o st t ts)
+        → ((st : State) → HaveSize size (run st ts) → Fits (max 1 size) st → Fits (max 1 size) (end_of st (run st ts))) → Fits (max 1 size) (end_of st (from_first o st t ts))
+    go None e same ih = fits
+    go (Some d) e same ih =
+        let w : ((t.size == size) ≡ true) × (list_all (λ m. m.timed.size == size) (run d.0 ts) ≡ true) = and_true _ _ same in
+        let size_is : t.size ≡ size = eq_true _ _ w.0 in
+        ih d.0 w.1 (subst (λ k. Fits (max 1 k) d.0) size_is (fits_step t.size st t.event d (step_of t.size st t.event d e) (subst (λ k. Fits (max 1 k) st) (sym size_is) fits)))
+
+pub opening_fits : (size slots : ℕ) (links : List (Option ℕ)) → Fits (max 1 size) (opening slots links)
+opening_fits size slots links t = rw (length-replicate slots no_slot) (rw (same (is_true (nat_lt t slots))) (omega arith))
+  where
+    same : ((nat_lt t slots) ≡ true) ⊎ ((nat_lt t slots) ≡ false) → get_or (replicate slots no_slot) t no_slot ≡ no_slot
+    same (inl h) = get_or-replicate slots t no_slot no_slot (lt_true _ _ h)
+    same (inr h) = let past : slots ≤ t = grind arith in get_or_past (replicate slots no_slot) t no_slot (omega (arith, length-replicate slots no_slot))
+
+-- a number that each event raises by one if it brings v, and else leaves
+abbrev pub Grows : ℕ → (State → ℕ) → (Moment → Option ℕ) → Type 0
+Grows v f value = (st : State) (t : Timed) (d : State × Answer) → next t.size st t.event ≡ Some d → f d.0 ≡ f st + is_value v (value (moment_of st t d))
+
+-- event q brings v
+abbrev pub Brings : (Moment → Option ℕ) → List Moment → ℕ → ℕ → Type 0
+Brings value ms v q = (m : Moment) × (slice_get ms q ≡ Some m) × (value m ≡ Some v)
+
+never_less : (v : ℕ) (f : State → ℕ) (value : Moment → Option ℕ) → Grows v f value → (ts : List Timed) (st : State) → f st ≤ f (end_of st (run st ts))
+never_less v f value grows [] st = omega arith
+never_less v f value grows (t ∷ ts) st = go (next t.size st t.event) refl (λ st. never_less v f value grows ts st)
+  where
+    go : (o : Outcome) → next t.size st t.event ≡ o → ((st : State) → f st ≤ f (end_of st (run st ts))) → f st ≤ f (end_of st (from_first o st t ts))
+    go None e ih = omega arith
+    go (Some d) e ih = omega (arith, ih d.0, grows st t d e)
+
+-- the number counts the events that brought v
+brought_if : (v : ℕ) (f : State → ℕ) (value : Moment → Option ℕ) → Grows v f value → (ts : List Timed) (st : State) → f st ≡ 0 → 1 ≤ f (end_of st (run st ts)) → (q : ℕ) × Brings value (run st ts) v q
+brought_if v f value grows [] st none some = absurd (omega arith)
+brought_if v f value grows (t ∷ ts) st none some = go (next t.size st t.event) refl some (λ st. brought_if v f value grows ts st)
+  where
+    go : (o : Outcome) → next t.size st t.event ≡ o → 1 ≤ f (end_of st (from_first o st t ts))
+        → ((st : State) → f st ≡ 0 → 1 ≤ f (end_of st (run st ts)) → (q : ℕ) × Brings value (run st ts) v q) → (q : ℕ) × Brings value (from_first o st t ts) v q
+    go None e some ih = absurd (omega arith)
+    go (Some d) e some ih = here (value_once v (value (moment_of st t d)))
+      where
+        here : (value (moment_of st t d) ≡ Some v) ⊎ (is_value v (value (moment_of st t d)) ≡ 0) → (q : ℕ) × Brings value (from_first (Some d) st t ts) v q
+        here (inl brings) = (zero, (moment_of st t d, refl, brings))
+        here (inr other) =
+            let r : (q : ℕ) × Brings value (run d.0 ts) v q = ih d.0 (omega (arith, grows st t d e)) some in
+            (suc r.0, r.1)
+
+if_brought : (v : ℕ) (f : State → ℕ) (value : Moment → Option ℕ) → Grows v f value → (q : ℕ) (ts : List Timed) (st : State) → Brings value (run st ts) v q → 1 ≤ f (end_of st (run st ts))
+if_brought v f value grows q [] st b = none_in q b.0 b.1
+if_brought v f value grows q (t ∷ ts) st b = go (next t.size st t.event) refl b (λ q st. if_brought v f value grows q ts st)
+  where
+    go : (o : Outcome) → next t.size st t.event ≡ o → Brings value (from_first o st t ts) v q
+        → ((q : ℕ) (st : State) → Brings value (run st ts) v q → 1 ≤ f (end_of st (run st ts))) → 1 ≤ f (end_of st (from_first o st t ts))
+    go None e b ih = none_in q b.0 b.1
+    go (Some d) e b ih = at q b
+      where
+        at : (q : ℕ) → Brings value (from_first (Some d) st t ts) v q → 1 ≤ f (end_of d.0 (run d.0 ts))
+        at zero b =
+            let m_is : moment_of st t d ≡ b.0 = some_is _ _ b.1 in
+            let brings : value (moment_of st t d) ≡ Some v = ap value m_is ∙ b.2 in
+            omega (arith, never_less v f value grows ts d.0, grows st t d e, value_is v _ brings)
+        at (suc q) b = ih q d.0 b
+
+gone_step : (v size : ℕ) (st : State) (event : Event) (d : State × Answer) → Step size st event d → occ v (d.0).gone ≡ occ v st.gone + is_value v (handed_value d.1)
+gone_step v size st event _ (Step.handed s w puts given_on walk queue e new) = omega (arith, occ-push v st.gone w)
+gone_step v size st event _ (Step.added s a won queue d e k) = subst (λ d. occ v (d.0).gone ≡ occ v st.gone + is_value v (handed_value d.1)) (some_is _ _ k) (omega arith)
+gone_step v size st event _ (Step.subtracted s a walk queue d e k) = subst (λ d. occ v (d.0).gone ≡ occ v st.gone + is_value v (handed_value d.1)) (some_is _ _ k) (omega arith)
+gone_step v size st event _ _ = omega arith
+
+parts_grow : (v : ℕ) → Grows v (parts v) (λ m. retired_value m.before m.timed.event)
+parts_grow v st t d e = parts_step v t.size st t.event d (step_of t.size st t.event d e)
+
+gone_grow : (v : ℕ) → Grows v (λ st. occ v st.gone) (λ m. handed_value m.answer)
+gone_grow v st t d e = gone_step v t.size st t.event d (step_of t.size st t.event d e)
+
+pub retired_if : (v : ℕ) (ts : List Timed) (st : State) → parts v st ≡ 0 → 1 ≤ parts v (end_of st (run st ts)) → (q : ℕ) × Retired (run st ts) v q
+retired_if v = brought_if v (parts v) (λ m. retired_value m.before m.timed.event) (parts_grow v)
+
+pub if_retired : (v q : ℕ) (ts : List Timed) (st : State) → Retired (run st ts) v q → 1 ≤ parts v (end_of st (run st ts))
+if_retired v = if_brought v (parts v) (λ m. retired_value m.before m.timed.event) (parts_grow v)
+
+pub reclaimed_if : (v : ℕ) (ts : List Timed) (st : State) → occ v st.gone ≡ 0 → 1 ≤ occ v (end_of st (run st ts)).gone → (c : ℕ) × Reclaimed (run st ts) v c
+reclaimed_if v = brought_if v (λ st. occ v st.gone) (λ m. handed_value m.answer) (gone_grow v)

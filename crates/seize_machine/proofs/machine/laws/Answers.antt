@@ -1,0 +1,28 @@
+use Rattle.seize_machine.proofs.Laws.Reclaiming.{law_at_most_once, law_after}
+use Rattle.seize_machine.proofs.Laws.Quiet.{law_quiet}
+use Rattle.seize_machine.proofs.Laws.Protection.{law_protection}
+use Rattle.seize_machine.proofs.Laws.PartsLaw.{law_parts}
+use Rattle.seize_machine.proofs.Laws.Holders.{law_holders}
+use Rattle.seize_machine.proofs.Laws.Tries.{law_tries}
+use Rattle.seize_machine.proofs.machine.laws.Goals as goal
+
+pub returns-clause-at_most_once : goal.returns-clause-at_most_once
+returns-clause-at_most_once c = law_at_most_once
+
+pub returns-clause-after : goal.returns-clause-after
+returns-clause-after c = law_after
+
+pub returns-clause-quiet : goal.returns-clause-quiet
+returns-clause-quiet c = law_quiet
+
+pub returns-clause-protection : goal.returns-clause-protection
+returns-clause-protection c = law_protection
+
+pub returns-clause-parts : goal.returns-clause-parts
+returns-clause-parts c = law_parts
+
+pub returns-clause-holders : goal.returns-clause-holders
+returns-clause-holders c = law_holders
+
+pub returns-clause-tries : goal.returns-clause-tries
+returns-clause-tries c = law_tries

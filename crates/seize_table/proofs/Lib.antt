@@ -1,0 +1,3 @@
+pub mod FreeNumbers
+pub mod Places
+pub mod Shown

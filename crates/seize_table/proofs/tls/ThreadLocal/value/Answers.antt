@@ -1,0 +1,13 @@
+use Rattle.std.proofs.Common.{◌≡◌, sym, ◌∙◌, ap, subst, Some, IfSome}
+use Rattle.seize_table.proofs.tls.ThreadLocal.value.Goals as goal
+
+pub returns-clause-value : goal.returns-clause-value
+returns-clause-value g c =
+    let seen = c.requires.1 in
+    let row = seen.entry_is.1.0 in
+    let same : row ≡ c.in-Some.row.now = subst (λ k. IfSome k (λ y. y ≡ c.in-Some.row.now)) seen.entry_is.1.1 c.in-Some.ensures.value.1 in
+    record {
+      bucket_is = (seen.bucket_is.0, seen.bucket_is.1, c.get_as.ensures.cell ∙ seen.bucket_is.2);
+      entry_is = (seen.entry_is.0, (row, c.in-Some.ensures.value.0 ∙ ap (λ r. Some r) (sym same), seen.entry_is.1.2), c.get_as-2.ensures.cell ∙ seen.entry_is.2);
+      value_is = c.in-Some-get_as.ensures.value.0;
+    }

@@ -1,0 +1,4 @@
+pub mod Free
+pub mod Place
+pub mod Refusals
+pub mod Table

@@ -1,0 +1,40 @@
+-- What is known of a table: which cells its entries are, and what a token shows of one.
+--     number_at b e          the number whose place is entry e of bucket b
+--     IsCell note e c        the bucket that the note knows has the cell c at entry e
+--     Shows bs b e f x       the token f shows that entry e of bucket b holds x, in the table of the buckets bs
+--     IsOf bs b e f          the token f shows some value there
+use Rattle.std.specs.Prelude.{◌≡◌, ℕ, ◌+◌, ◌-◌, ◌^◌, List, slice_get}
+use Rattle.std.specs.declared.option.Option.TheVariants.{Some}
+use Rattle.std.specs.declared.alloc.Global.{Global}
+use Rattle.std.specs.declared.vec.Vec.{Vec}
+use Rattle.once_cell.specs.declared.race.note.Note.{Note}
+use Rattle.seize_table.specs.declared.tls.filled.Filled.{Filled}
+
+abbrev pub number_at : ℕ → ℕ → ℕ
+number_at bucket entry = 2 ^ (bucket + 5) + entry - 32
+
+abbrev pub Cell : Type 0
+Cell = Global × ℕ
+
+abbrev pub Row : Type 0
+Row = Vec Cell Global
+
+-- bucket b is the cell of this name
+abbrev pub IsBucket : List Cell → ℕ → ℕ → Type 0
+IsBucket buckets bucket name = (cell : Cell) × (slice_get buckets bucket ≡ Some cell) × (name ≡ cell.1)
+
+abbrev pub IsCell : Note Row → ℕ → Cell → Type 0
+IsCell note entry cell = (row : Row) × (note.known ≡ Some row) × (slice_get row.items entry ≡ Some cell)
+
+pub record Shows {T : Type 0} (buckets : List Cell) (bucket entry : ℕ) (filled : Filled T) (value : T) : Type 0 where
+  pub bucket_is : IsBucket buckets bucket filled.row.cell
+  pub entry_is : (cell : Cell) × IsCell filled.row entry cell × (filled.item.cell ≡ cell.1)
+  pub value_is : filled.item.known ≡ Some value
+
+-- the token is of that entry
+abbrev pub IsOf : {T : Type 0} → List Cell → ℕ → ℕ → Filled T → Type 0
+IsOf {T} buckets bucket entry filled = (value : T) × Shows buckets bucket entry filled value
+
+-- the note shows that entry e of the row holds x
+abbrev pub HasCell : {T : Type 0} → List Cell → ℕ → Note T → T → Type 0
+HasCell items entry note value = (cell : Cell) × (slice_get items entry ≡ Some cell) × (note.cell ≡ cell.1) × (note.known ≡ Some value)

@@ -1,0 +1,251 @@
+//! A table of values that threads share without a lock. It only grows, and a value stays where it was put. It uses
+//! `thread_id` for the places of its entries and `refusal`; the collector keeps its slots in one.
+ghost use Rattle.std.specs.Prelude.{◌≡◌, ◌↔◌, ◌<◌, ◌≤◌, Err, length, IfOk, IfErr, IfSome, IsOkAnd, IsNone, Some, ◌⊎◌};
+ghost use Rattle.seize_table.specs.declared.tls.filled.Filled.{Filled as Token};
+ghost use Rattle.std.specs.Option.{ForSome};
+ghost use Rattle.seize_table.specs.Table.{IsBucket, IsCell, IsOf, Shows, number_at};
+ghost use Rattle.seize_table.specs.declared.refusal.Refusal.TheVariants.{NoMemory, NoNumbers};
+
+mod filled;
+mod iter;
+mod room;
+
+use crate::Refusal;
+use crate::thread_id::{BUCKETS, MAX_INDEX, Thread};
+pub use filled::Filled;
+pub use iter::Iter;
+use iter::first_filled;
+use once_cell::race::{Note, OnceBox};
+use std::alloc::Global;
+use std::array;
+
+/// A table with an entry for each number from 0 to `MAX_INDEX`. An entry is filled at most once.
+#[derive(Drop)]
+pub struct ThreadLocal<T> {
+    buckets: [OnceBox<Vec<OnceBox<T>>>; 59],
+    alloc: Global,
+    ghost all_there: { 59 ≡ length buckets },
+}
+
+impl<T: Drop> ThreadLocal<T> {
+    /// A table with the buckets of the numbers from 0 to `capacity`, and no entry filled. Further buckets are made as they are
+    /// needed, and the memory is given back when the table ends.
+    ///
+    /// `NoNumbers` where `capacity` is above `MAX_INDEX`; `NoMemory` where a growth was refused, and then nothing is kept.
+    pub fn with_capacity(alloc: Global, capacity: usize) -> Result<ThreadLocal<T>, Refusal>
+        ensures refusals { IfErr result (λ e. (e ≡ NoNumbers) ⊎ (e ≡ NoMemory)) }
+        ensures no_numbers { (result ≡ Err NoNumbers) ↔ (MAX_INDEX < capacity) }
+    {
+        let Some(last) = Thread::new(capacity) else {
+            return Err(Refusal::NoNumbers);
+        };
+        let table = ThreadLocal {
+            buckets: array::from_fn(move |_| OnceBox::new(alloc)),
+            alloc,
+        };
+        for bucket in 0..last.bucket + 1 {
+            let mut note = table.buckets[bucket].note();
+            table.row(bucket, &mut note)?;
+        }
+        Ok(table)
+    }
+
+    /// How many buckets are made, from 1 to `BUCKETS`. It looks at each bucket, and takes no memory.
+    pub fn buckets(&self) -> usize
+        ensures { result ≤ BUCKETS }
+    {
+        self.buckets
+            .iter()
+            .filter(|bucket| bucket.get().is_some())
+            .count()
+    }
+
+    /// The filled entries' values, by bucket and then by entry. It takes no memory.
+    pub fn iter(&self) -> Iter<'_, T>
+        ensures table { result.table.now ≡ self.now }
+        ensures start { number_at result.bucket result.entry ≡ 0 }
+    {
+        Iter::new(self)
+    }
+
+    // The first filled entry of the bucket that is not before `from`.
+    fn first_from(&self, bucket: usize, from: usize) -> Option<(Thread, &T, Filled<T>)>
+        requires { bucket < BUCKETS }
+        ensures place { IfSome result (λ found. (found.0.bucket ≡ bucket) × (from ≤ found.0.entry)) }
+        ensures shown { IfSome result (λ found. Shows self.now.buckets found.0.bucket found.0.entry found.2 found.1.now) }
+    {
+        let mut row = self.buckets[bucket].note();
+        let cells = self.buckets[bucket].get_as(&mut row)?;
+        let end = Thread::bucket_capacity(bucket);
+        let (entry, value, item) = first_filled(cells, from, end)?;
+        Some((Thread::at(bucket, entry), value, Filled { row, item }))
+    }
+
+    // The bucket, which is made where it isn't yet. A bucket that another thread makes first is kept in place of this one.
+    fn row<'a>(
+        &'a self,
+        bucket: usize,
+        note: &mut Note<Vec<OnceBox<T>>>,
+    ) -> Result<&'a Vec<OnceBox<T>>, Refusal>
+        requires bucket { bucket < BUCKETS }
+        requires cell { IsBucket self.now.buckets bucket note.old.cell }
+        ensures cell { note.new.cell ≡ note.old.cell }
+        ensures known { IfOk result (λ row. note.new.known ≡ Some row.now) }
+        ensures refusal { IfErr result (λ e. e ≡ NoMemory) }
+    {
+        let alloc = self.alloc;
+        let capacity = Thread::bucket_capacity(bucket);
+        Ok(self.buckets[bucket].get_or_try_init_as(move || room::row(alloc, capacity), note)?)
+    }
+
+    // The entry if it is filled, and what shows that it is.
+    fn find(&self, thread: Thread) -> Option<(&T, Filled<T>)>
+        ensures { IfSome result (λ found. Shows self.now.buckets thread.bucket thread.entry found.1 found.0.now) }
+    {
+        let mut row = self.buckets[thread.bucket].note();
+        let cell = self.buckets[thread.bucket]
+            .get_as(&mut row)?
+            .get(thread.entry)?;
+        let mut item = cell.note();
+        let value = cell.get_as(&mut item)?;
+        Some((value, Filled { row, item }))
+    }
+
+    // The entry's cell, in its bucket, which is made where it isn't yet. A bucket is made with a cell for each of its entries,
+    // so the refusal below is only that of memory: the bucket's own cell does not say how many entries the bucket has.
+    fn cell<'a>(
+        &'a self,
+        thread: Thread,
+        note: &mut Note<Vec<OnceBox<T>>>,
+    ) -> Result<&'a OnceBox<T>, Refusal>
+        requires { IsBucket self.now.buckets thread.bucket note.old.cell }
+        ensures bucket { note.new.cell ≡ note.old.cell }
+        ensures cell { IfOk result (λ cell. IsCell note.new thread.entry cell.now) }
+        ensures refusal { IfErr result (λ e. e ≡ NoMemory) }
+    {
+        match self.row(thread.bucket, note)?.get(thread.entry) {
+            Some(cell) => Ok(cell),
+            None => Err(Refusal::NoMemory),
+        }
+    }
+
+    // Fills the entry where it isn't filled yet.
+    fn fill<F: Fn() -> T>(&self, create: F, thread: Thread) -> Result<(&T, Filled<T>), Refusal>
+    where
+        F: Drop,
+        requires { F.IsAlwaysCallable create }
+        ensures shown { IfOk result (λ found. Shows self.now.buckets thread.bucket thread.entry found.1 found.0.now) }
+        ensures refusal { IfErr result (λ e. e ≡ NoMemory) }
+    {
+        let alloc = self.alloc;
+        let mut row = self.buckets[thread.bucket].note();
+        let cell = self.cell(thread, &mut row)?;
+        let mut item = cell.note();
+        let value = cell.get_or_try_init_as(|| room::filled(alloc, &create), &mut item)?;
+        Ok((value, Filled { row, item }))
+    }
+
+    /// The entry's value, if it is filled. It takes no memory, changes nothing: three loads, of which two depend on one
+    /// before them, and no atomic write.
+    pub fn try_load(&self, thread: Thread) -> Option<&T> {
+        let (value, _filled) = self.find(thread)?;
+        Some(value)
+    }
+
+    /// As `try_load`, with a token that shows the entry's value from then on.
+    pub fn try_load_seen(&self, thread: Thread) -> Option<(&T, Filled<T>)>
+        ensures { IfSome result (λ found. Shows self.now.buckets thread.bucket thread.entry found.1 found.0.now) }
+    {
+        self.find(thread)
+    }
+
+    /// The entry's value. Where the entry isn't filled, it is filled with what `create` answers; where another thread fills it
+    /// first, that thread's value stays, this one's is ended, and both calls answer the value that stays.
+    ///
+    /// `NoMemory` where a growth was refused; then no entry is filled, and what `create` answered, if it was called, is ended.
+    /// The bucket of the entry and the entry's own memory are made here, where they aren't yet, and stay until the table ends.
+    pub fn load_or<F: Fn() -> T>(&self, create: F, thread: Thread) -> Result<&T, Refusal>
+    where
+        F: Drop,
+        requires { F.IsAlwaysCallable create }
+        ensures { IfErr result (λ e. e ≡ NoMemory) }
+    {
+        let (value, _filled) = self.fill(create, thread)?;
+        Ok(value)
+    }
+
+    /// As `load_or`, for a caller that may have seen the entry filled and then kept the token. With a token `create` isn't
+    /// called, and need not be callable, and the answer is the value that was seen.
+    pub fn load_seen<F: Fn() -> T>(
+        &self,
+        create: F,
+        thread: Thread,
+        seen: Option<Filled<T>>,
+    ) -> Result<(&T, Filled<T>), Refusal>
+    where
+        F: Drop,
+        requires callable { IsNone seen → F.IsAlwaysCallable create }
+        requires of_entry { ForSome seen (IsOf self.now.buckets thread.bucket thread.entry) }
+        ensures shown { IfOk result (λ found. Shows self.now.buckets thread.bucket thread.entry found.1 found.0.now) }
+        ensures kept { (f : Token T) (x : T) → seen ≡ Some f → Shows self.now.buckets thread.bucket thread.entry f x → IsOkAnd result (λ found. found.0.now ≡ x) }
+        ensures refusal { IfErr result (λ e. e ≡ NoMemory) }
+    {
+        match seen {
+            Some(mut filled) => {
+                let value = self.value(thread, &mut filled);
+                Ok((value, filled))
+            }
+            None => self.fill(create, thread),
+        }
+    }
+
+    /// The value of an entry that was seen filled. It takes no memory and changes nothing.
+    pub fn value<'a>(&'a self, thread: Thread, filled: &mut Filled<T>) -> &'a T
+        requires { IsOf self.now.buckets thread.bucket thread.entry filled.old }
+        ensures value { Shows self.now.buckets thread.bucket thread.entry filled.new result.now }
+        ensures same { (x : T) → Shows self.now.buckets thread.bucket thread.entry filled.old x → result.now ≡ x }
+    {
+        let Some(row) = self.buckets[thread.bucket].get_as(&mut filled.row) else {
+            unreachable!()
+        };
+        let Some(value) = row[thread.entry].get_as(&mut filled.item) else {
+            unreachable!()
+        };
+        value
+    }
+
+    /// Two tokens of one entry show one value. It does nothing else.
+    pub fn agree(&self, thread: Thread, one: &mut Filled<T>, other: Filled<T>)
+        requires one { IsOf self.now.buckets thread.bucket thread.entry one.old }
+        requires other { IsOf self.now.buckets thread.bucket thread.entry other }
+        ensures { (x y : T) → Shows self.now.buckets thread.bucket thread.entry one.old x → Shows self.now.buckets thread.bucket thread.entry other y → x ≡ y }
+    {
+        let Filled { row, item } = other;
+        one.row.compare(row);
+        one.item.compare(item);
+    }
+}
+
+impl<T: Drop + Default> ThreadLocal<T> {
+    /// As `load_or`, with the default value of `T`, which is made only where the entry isn't filled.
+    pub fn load(&self, thread: Thread) -> Result<&T, Refusal>
+        ensures { IfErr result (λ e. e ≡ NoMemory) }
+    {
+        let mut row = self.buckets[thread.bucket].note();
+        let cell = self.cell(thread, &mut row)?;
+        match cell.get() {
+            Some(value) => Ok(value),
+            None => Ok(keep(cell, room::defaulted(self.alloc)?)),
+        }
+    }
+}
+
+// The value that the cell holds once this one was offered: this one, or another thread's that came first.
+fn keep<T: Drop>(cell: &OnceBox<T>, value: Box<T>) -> &T {
+    let mut note = cell.note();
+    drop(cell.set_as(value, &mut note));
+    match cell.get_as(&mut note) {
+        Some(value) => value,
+        None => unreachable!(),
+    }
+}
