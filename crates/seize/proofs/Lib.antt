@@ -3,5 +3,6 @@ pub mod Firsts
 pub mod Giving
 pub mod Models
 pub mod Quieting
+pub mod Reaching
 pub mod Running
 pub mod Settling

@@ -1,15 +1,16 @@
 -- The links are as many after a call as before, and one turn of the loop over a list of calls.
-use Rattle.std.proofs.Common.{◌≡◌, ℕ, zero, suc, ◌-◌, ◌^◌, Bool, true, false, ◌||◌, ◌==◌, nat_le, max, List, [], ◌∷◌, ◌++◌, length, map, Option, Some, None, Result, Ok, Err, ◌⊎◌, inl, inr, refl, sym, ◌∙◌, ap, subst}
+use Rattle.std.proofs.Common.{◌≡◌, ℕ, zero, suc, ◌-◌, ◌^◌, Bool, true, false, true≢false, ◌||◌, ◌==◌, nat_le, max, List, [], ◌∷◌, ◌++◌, length, map, Option, Some, None, Result, Ok, Err, ◌⊎◌, inl, inr, refl, sym, ◌∙◌, ap, subst}
+use Rattle.std.specs.List.{list_any}
 use Rattle.std.proofs.lemmas.List.{append_assoc, append-nil, length-set}
 use Rattle.std.proofs.lemmas.List.Sums.{fold-append}
 use Rattle.seize_table.specs.declared.refusal.Refusal.{Refusal}
 use Rattle.seize.specs.declared.usage.Kind.TheVariants.{Registered, Owned}
 use Rattle.seize.specs.Waiting.State.{State, slot_at, set_slot, is_active, is_kept}
-use Rattle.seize.specs.Waiting.Attempt.{Outcome, release, attempt, gives_up, detached, put, appended, release_all, part}
+use Rattle.seize.specs.Waiting.Attempt.{Outcome, after, release, attempt, gives_up, detached, put, appended, release_all, part}
 use Rattle.seize.specs.Waiting.Further.{further, settle, still_to_come, settled}
 use Rattle.seize.specs.Waiting.Calls as calls
-use Rattle.seize.specs.Waiting.Lists.{Call, Register, EnterOwned, Enter, Leave, End, Refresh, Flush, Retire, Protect, Swap, Reply, step, run, swapped}
-use Rattle.seize.specs.Told.{told_of}
+use Rattle.seize.specs.Waiting.Lists.{Call, Register, EnterOwned, Enter, Leave, End, Refresh, Flush, Retire, Protect, Swap, Reply, step, run, swapped, Answered, Replied, wants_memory, AmpleLaw}
+use Rattle.seize.specs.Told.{told_of, Did}
 use Rattle.seize.specs.Alone.{call_of, reply_of, InRange, AllInRange, Stepped, Ran}
 use Rattle.seize.specs.declared.collector.alone.Call.{Call as CodeCall}
 use Rattle.seize.specs.declared.collector.alone.Reply.{Reply as CodeReply}
@@ -105,100 +106,112 @@ step_kept puts weight st (Swap s l new r) n e =
     swapped_kept puts weight s new r (calls.swap st s l new).0 (calls.swap st s l new).1 n
     (unless_kept (calls.no_guard st s) st _ n e (length-set st.links l new ∙ e))
 
--- what is still to come from here is what was to come from the start, or a growth was refused
-abbrev pub Left : {T R Seen : Type 0} → (R → T → List T) → (T → ℕ) → (Seen → T → Seen)
-    → State T R → List (CodeCall T R) → List (CodeReply T R) → Seen → Bool
-    → State T R → List (CodeCall T R) → List (CodeReply T R) → Seen → Bool → Type 0
-Left puts weight told st0 calls0 replies0 seen0 short0 st calls replies seen short =
-    let whole = run puts weight st0 (map call_of calls0) in
-    let rest = run puts weight st (map call_of calls) in
-    (short ≡ true)
-    ⊎ ((short0 ≡ false)
-    × AllInRange (length st.links) (map call_of calls)
-    × (rest.1.0 ≡ whole.1.0)
-    × (map reply_of replies ++ rest.0 ≡ map reply_of replies0 ++ whole.0)
-    × (told_of told seen rest.1.1 ≡ told_of told seen0 whole.1.1))
+-- a call more at the end
+pub replied_more : {T R : Type 0} (puts : R → T → List T) (weight : T → ℕ) (st : State T R) (calls : List (Call T R)) (answers : List (Reply T)) (o : Outcome T R) (call : Call T R) (answer : Reply T) (last : Outcome T R)
+    → Replied puts weight st calls answers o
+    → Answered puts weight o.0 call answer last
+    → Replied puts weight st (calls ++ call ∷ []) (answers ++ answer ∷ []) (after o.1 last)
+replied_more puts weight st calls answers o call answer last (Replied.no_call _) done =
+    subst (λ gone. Replied puts weight st (call ∷ []) (answer ∷ []) (last.0, gone)) (append-nil last.1)
+    (Replied.first_call st call answer last [] [] (last.0, []) done (Replied.no_call last.0))
+replied_more puts weight st calls answers o call answer last (Replied.first_call _ c a first cs said rest is more) done =
+    subst (λ gone. Replied puts weight st (c ∷ cs ++ call ∷ []) (a ∷ said ++ answer ∷ []) (last.0, gone)) (sym (append_assoc first.1 rest.1 last.1))
+    (Replied.first_call st c a first (cs ++ call ∷ []) (said ++ answer ∷ []) (after rest.1 last) is
+    (replied_more puts weight first.0 cs said rest call answer last more done))
 
-pub left_first : {T R Seen : Type 0} (puts : R → T → List T) (weight : T → ℕ) (told : Seen → T → Seen) (st : State T R) (calls : List (CodeCall T R)) (replies start : List (CodeReply T R)) (seen : Seen) (short : Bool)
+-- what was done so far, or a growth was refused
+abbrev pub Made : {T R Seen : Type 0} → (R → T → List T) → (T → ℕ) → (Seen → T → Seen)
+    → State T R → List (CodeCall T R) → List (CodeReply T R) → Seen
+    → State T R → List (CodeCall T R) → List (CodeReply T R) → Seen → Bool → Type 0
+Made {T} {R} puts weight told st0 calls0 replies0 seen0 st calls replies seen short =
+    (short ≡ true)
+    ⊎ ((made : List (Call T R)) × (answers : List (Reply T)) × (o : Outcome T R)
+    × Replied puts weight st0 made answers o
+    × (made ++ map call_of calls ≡ map call_of calls0)
+    × AllInRange (length st.links) (map call_of calls)
+    × (map reply_of replies ≡ map reply_of replies0 ++ answers)
+    × Did told o st seen0 seen)
+
+pub made_none_yet : {T R Seen : Type 0} (puts : R → T → List T) (weight : T → ℕ) (told : Seen → T → Seen) (st : State T R) (calls : List (CodeCall T R)) (replies start : List (CodeReply T R)) (seen : Seen) (short : Bool)
     → AllInRange (length st.links) (map call_of calls)
     → start ≡ replies
-    → Left puts weight told st calls replies seen short st calls start seen short
-left_first puts weight told st calls replies start seen true h e = inl refl
-left_first puts weight told st calls replies start seen false h e =
-    inr (refl, h, refl, ap (λ rs. map reply_of rs ++ (run puts weight st (map call_of calls)).0) e, refl)
+    → Made puts weight told st calls replies seen st calls start seen short
+made_none_yet puts weight told st calls replies start seen short h e =
+    inr ([], [], (st, []), Replied.no_call st, refl, h, ap (map reply_of) e ∙ sym (append-nil (map reply_of replies)), (refl, refl))
 
 -- the call in turn names a link in range
-pub left_in_range : {T R Seen : Type 0} (puts : R → T → List T) (weight : T → ℕ) (told : Seen → T → Seen) (st0 : State T R) (calls0 : List (CodeCall T R)) (replies0 : List (CodeReply T R)) (seen0 : Seen) (short0 : Bool) (st : State T R) (calls : List (CodeCall T R)) (replies : List (CodeReply T R)) (seen : Seen) (short : Bool) (call : CodeCall T R) (rest : List (CodeCall T R))
-    → Left puts weight told st0 calls0 replies0 seen0 short0 st calls replies seen short
+pub made_in_range : {T R Seen : Type 0} (puts : R → T → List T) (weight : T → ℕ) (told : Seen → T → Seen) (st0 : State T R) (calls0 : List (CodeCall T R)) (replies0 : List (CodeReply T R)) (seen0 : Seen) (st : State T R) (calls : List (CodeCall T R)) (replies : List (CodeReply T R)) (seen : Seen) (short : Bool) (call : CodeCall T R) (rest : List (CodeCall T R))
+    → Made puts weight told st0 calls0 replies0 seen0 st calls replies seen short
     → short ≡ false → calls ≡ call ∷ rest → InRange (length st.links) (call_of call)
-left_in_range {T} {R} puts weight told st0 calls0 replies0 seen0 short0 st calls replies seen short call rest (inl t) f e = absurd cc
-left_in_range {T} {R} puts weight told st0 calls0 replies0 seen0 short0 st calls replies seen short call rest (inr left) f e =
-    let both : AllInRange (length st.links) (map call_of (call ∷ rest)) = subst (λ (cs : List (CodeCall T R)). AllInRange (length st.links) (map call_of cs)) e left.1 in
+made_in_range puts weight told st0 calls0 replies0 seen0 st calls replies seen short call rest (inl t) f e = absurd cc
+made_in_range {T} {R} puts weight told st0 calls0 replies0 seen0 st calls replies seen short call rest (inr made) f e =
+    let both : AllInRange (length st.links) (map call_of (call ∷ rest)) = subst (λ (cs : List (CodeCall T R)). AllInRange (length st.links) (map call_of cs)) e made.5 in
     both.0
 
+-- one call after these
+one_more : {T R Seen : Type 0} (puts : R → T → List T) (weight : T → ℕ) (told : Seen → T → Seen) (st0 : State T R) (calls0 : List (CodeCall T R)) (replies0 : List (CodeReply T R)) (seen0 : Seen) (st next : State T R) (calls : List (CodeCall T R)) (replies more : List (CodeReply T R)) (seen heard : Seen) (later : Bool) (call : CodeCall T R) (rest : List (CodeCall T R)) (reply : CodeReply T R) (last : Outcome T R)
+    → Made puts weight told st0 calls0 replies0 seen0 st calls replies seen false
+    → calls ≡ call ∷ rest
+    → Answered puts weight st (call_of call) (reply_of reply) last
+    → Did told last next seen heard
+    → length next.links ≡ length st.links
+    → more ≡ replies ++ reply ∷ []
+    → Made puts weight told st0 calls0 replies0 seen0 next rest more heard later
+one_more puts weight told st0 calls0 replies0 seen0 st next calls replies more seen heard later call rest reply last (inl t) e answered did links pushed = absurd cc
+one_more {T} {R} {Seen} puts weight told st0 calls0 replies0 seen0 st next calls replies more seen heard later call rest reply last (inr (made, answers, o, replied, split, ranges, texts, before)) e answered did links pushed =
+    inr (
+      made ++ call_of call ∷ [],
+      answers ++ reply_of reply ∷ [],
+      after o.1 last,
+      replied_more puts weight st0 made answers o (call_of call) (reply_of reply) last replied
+          (subst (λ k. Answered puts weight k (call_of call) (reply_of reply) last) before.0 answered),
+      append_assoc made (call_of call ∷ []) (map call_of rest) ∙ ap (λ cs. made ++ map call_of cs) (sym e) ∙ split,
+      subst (λ n. AllInRange n (map call_of rest)) (sym links) both.1,
+      ap (map reply_of) pushed ∙ map-append reply_of replies (reply ∷ []) ∙ ap (λ rs. rs ++ reply_of reply ∷ []) texts ∙ append_assoc (map reply_of replies0) answers (reply_of reply ∷ []),
+      (did.0, did.1 ∙ ap (λ s. told_of told s last.1) before.1 ∙ sym (fold-append (λ s v. told s v.0) seen0 o.1 last.1)),
+    )
+  where
+    both : AllInRange (length st.links) (call_of call ∷ map call_of rest)
+    both = subst (λ (cs : List (CodeCall T R)). AllInRange (length st.links) (map call_of cs)) e ranges
+
 -- one turn of the loop
-pub left_next : {T R Seen : Type 0} (puts : R → T → List T) (weight : T → ℕ) (told : Seen → T → Seen) (st0 : State T R) (calls0 : List (CodeCall T R)) (replies0 : List (CodeReply T R)) (seen0 : Seen) (short0 : Bool) (st next : State T R) (calls : List (CodeCall T R)) (replies more : List (CodeReply T R)) (seen heard : Seen) (short later : Bool) (call : CodeCall T R) (rest : List (CodeCall T R)) (reply : CodeReply T R)
-    → Left puts weight told st0 calls0 replies0 seen0 short0 st calls replies seen short
+pub made_next : {T R Seen : Type 0} (puts : R → T → List T) (weight : T → ℕ) (told : Seen → T → Seen) (st0 : State T R) (calls0 : List (CodeCall T R)) (replies0 : List (CodeReply T R)) (seen0 : Seen) (st next : State T R) (calls : List (CodeCall T R)) (replies more : List (CodeReply T R)) (seen heard : Seen) (short later : Bool) (call : CodeCall T R) (rest : List (CodeCall T R)) (reply : CodeReply T R)
+    → Made puts weight told st0 calls0 replies0 seen0 st calls replies seen short
     → short ≡ false → calls ≡ call ∷ rest
     → Stepped puts weight told st call reply next later seen heard
     → more ≡ replies ++ reply ∷ []
-    → Left puts weight told st0 calls0 replies0 seen0 short0 next rest more heard later
-left_next {T} {R} {Seen} puts weight told st0 calls0 replies0 seen0 short0 st next calls replies more seen heard short later call rest reply (inl t) f e stepped pushed = absurd cc
-left_next {T} {R} {Seen} puts weight told st0 calls0 replies0 seen0 short0 st next calls replies more seen heard short later call rest reply (inr left) f e (inl t) pushed = inl t
-left_next {T} {R} {Seen} puts weight told st0 calls0 replies0 seen0 short0 st next calls replies more seen heard short later call rest reply (inr left) f e (inr did) pushed =
-    inr (left.0, ranges, states ∙ left.2, texts ∙ left.3, tells ∙ left.4)
-  where
-    a : Reply T × Outcome T R
-    a = step puts weight st (call_of call)
-
-    cs : List (Call T R)
-    cs = map call_of rest
-
-    all : map call_of calls ≡ call_of call ∷ cs
-    all = ap (map call_of) e
-
-    both : AllInRange (length st.links) (call_of call ∷ cs)
-    both = subst (AllInRange (length st.links)) all left.1
-
-    as_many : length next.links ≡ length st.links
-    as_many = ap (λ (k : State T R). length k.links) did.1.0 ∙ step_kept puts weight st (call_of call) (length st.links) refl
-
-    ranges : AllInRange (length next.links) cs
-    ranges = subst (λ n. AllInRange n cs) (sym as_many) both.1
-
-    now : next ≡ a.1.0
-    now = did.1.0
-
-    states : (run puts weight next cs).1.0 ≡ (run puts weight st (map call_of calls)).1.0
-    states = ap (λ k. (run puts weight k cs).1.0) now ∙ sym (ap (λ l. (run puts weight st l).1.0) all)
-
-    texts : map reply_of more ++ (run puts weight next cs).0 ≡ map reply_of replies ++ (run puts weight st (map call_of calls)).0
-    texts =
-        ap (λ rs. map reply_of rs ++ (run puts weight next cs).0) pushed
-        ∙ ap (λ rs. rs ++ (run puts weight next cs).0) (map-append reply_of replies (reply ∷ []))
-        ∙ append_assoc (map reply_of replies) (reply_of reply ∷ []) (run puts weight next cs).0
-        ∙ ap (λ r. map reply_of replies ++ r ∷ (run puts weight next cs).0) did.0
-        ∙ ap (λ k. map reply_of replies ++ a.0 ∷ (run puts weight k cs).0) now
-        ∙ sym (ap (λ l. map reply_of replies ++ (run puts weight st l).0) all)
-
-    tells : told_of told heard (run puts weight next cs).1.1 ≡ told_of told seen (run puts weight st (map call_of calls)).1.1
-    tells =
-        ap (λ s. told_of told s (run puts weight next cs).1.1) did.1.1
-        ∙ ap (λ k. told_of told (told_of told seen a.1.1) (run puts weight k cs).1.1) now
-        ∙ sym (fold-append (λ s v. told s v.0) seen a.1.1 (run puts weight a.1.0 cs).1.1)
-        ∙ sym (ap (λ l. told_of told seen (run puts weight st l).1.1) all)
+    → Made puts weight told st0 calls0 replies0 seen0 next rest more heard later
+made_next puts weight told st0 calls0 replies0 seen0 st next calls replies more seen heard short later call rest reply made f e (inl t) pushed = inl t
+made_next puts weight told st0 calls0 replies0 seen0 st next calls replies more seen heard short later call rest reply made f e (inr (inl did)) pushed =
+    one_more puts weight told st0 calls0 replies0 seen0 st next calls replies more seen heard later call rest reply (step puts weight st (call_of call)).1
+    (subst (Made puts weight told st0 calls0 replies0 seen0 st calls replies seen) f made) e (inl (did.0, refl)) did.1
+    (ap (λ k. length k.links) did.1.0 ∙ step_kept puts weight st (call_of call) (length st.links) refl) pushed
+made_next puts weight told st0 calls0 replies0 seen0 st next calls replies more seen heard short later call rest reply made f e (inr (inr (number, refused, same, unheard))) pushed =
+    one_more puts weight told st0 calls0 replies0 seen0 st next calls replies more seen heard later call rest reply (st, [])
+    (subst (Made puts weight told st0 calls0 replies0 seen0 st calls replies seen) f made) e (inr (number, refused, refl)) (same, unheard)
+    (ap (λ k. length k.links) same) pushed
 
 -- no call is left
-pub left_none : {T R Seen : Type 0} (puts : R → T → List T) (weight : T → ℕ) (told : Seen → T → Seen) (st0 : State T R) (calls0 : List (CodeCall T R)) (replies0 : List (CodeReply T R)) (seen0 : Seen) (short0 : Bool) (st : State T R) (calls last : List (CodeCall T R)) (replies : List (CodeReply T R)) (seen : Seen) (short : Bool)
-    → Left puts weight told st0 calls0 replies0 seen0 short0 st calls replies seen short
-    → short ≡ false → calls ≡ [] → last ≡ []
-    → Ran puts weight told st0 calls0 replies0 st last replies short0 short seen0 seen
-left_none {T} {R} {Seen} puts weight told st0 calls0 replies0 seen0 short0 st calls last replies seen short (inl t) f e e2 = absurd cc
-left_none {T} {R} {Seen} puts weight told st0 calls0 replies0 seen0 short0 st calls last replies seen short (inr left) f e e2 =
-    let none : map call_of calls ≡ [] = ap (map call_of) e in
-    inr (
-      left.0,
-      e2,
-      sym (append-nil (map reply_of replies)) ∙ sym (ap (λ (l : List (Call T R)). map reply_of replies ++ (run puts weight st l).0) none) ∙ left.3,
-      (sym (ap (λ (l : List (Call T R)). (run puts weight st l).1.0) none) ∙ left.2, sym (ap (λ (l : List (Call T R)). told_of told seen (run puts weight st l).1.1) none) ∙ left.4),
-    )
+pub made_all : {T R Seen : Type 0} (puts : R → T → List T) (weight : T → ℕ) (told : Seen → T → Seen) (st0 : State T R) (calls0 : List (CodeCall T R)) (replies0 : List (CodeReply T R)) (seen0 : Seen) (st : State T R) (calls last : List (CodeCall T R)) (replies : List (CodeReply T R)) (seen : Seen) (short : Bool)
+    → Made puts weight told st0 calls0 replies0 seen0 st calls replies seen short
+    → calls ≡ [] → last ≡ []
+    → Ran puts weight told st0 calls0 replies0 st last replies short seen0 seen
+made_all puts weight told st0 calls0 replies0 seen0 st calls last replies seen short (inl t) e e2 = inl t
+made_all puts weight told st0 calls0 replies0 seen0 st calls last replies seen short (inr (made, answers, o, replied, split, ranges, texts, did)) e e2 =
+    inr (answers, o, subst (λ cs. Replied puts weight st0 cs answers o) (sym (append-nil made) ∙ ap (λ cs. made ++ map call_of cs) (sym e) ∙ split) replied, e2, texts, did)
+
+or_false : (a b : Bool) → (a || b) ≡ false → (a ≡ false) × (b ≡ false)
+or_false false false e = (refl, refl)
+or_false false true e = absurd (cc)
+or_false true b e = absurd (cc)
+
+-- where no reply is that memory was refused, the calls did what `run` says
+pub ample : {T R : Type 0} (puts : R → T → List T) (weight : T → ℕ) → AmpleLaw puts weight
+ample puts weight st calls answers o (Replied.no_call _) e = refl
+ample puts weight st calls answers o (Replied.first_call _ c a first cs said rest (inl did) more) e =
+    let later : (said, rest) ≡ run puts weight first.0 cs = ample puts weight first.0 cs said rest more (or_false (wants_memory a) (list_any wants_memory said) e).1 in
+    ap (λ r. (a ∷ r.0, after first.1 r.1)) later
+    ∙ ap (λ k. (a ∷ (run puts weight k.0 cs).0, after k.1 (run puts weight k.0 cs).1)) did.1
+    ∙ ap (λ k. (k ∷ (run puts weight (step puts weight st c).1.0 cs).0, after (step puts weight st c).1.1 (run puts weight (step puts weight st c).1.0 cs).1)) did.0
+ample puts weight st calls answers o (Replied.first_call _ c a first cs said rest (inr did) more) e =
+    absurd (true≢false (sym (ap wants_memory did.1) ∙ (or_false (wants_memory a) (list_any wants_memory said) e).0))

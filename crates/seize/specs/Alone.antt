@@ -1,5 +1,5 @@
 -- Lists of calls as the code has them, and what running one does.
-use Rattle.std.specs.Prelude.{◌≡◌, ℕ, ◌<◌, Bool, true, false, List, [], ◌∷◌, ◌++◌, map, option_map, ◌⊎◌}
+use Rattle.std.specs.Prelude.{◌≡◌, ℕ, ◌<◌, Bool, true, List, [], ◌∷◌, ◌++◌, None, map, option_map, ◌⊎◌}
 use Rattle.seize.specs.declared.collector.alone.Call.{Call as CodeCall}
 use Rattle.seize.specs.declared.collector.alone.Call.TheVariants.{Register as CodeRegister, EnterOwned as CodeEnterOwned, Enter as CodeEnter, Leave as CodeLeave, End as CodeEnd, Refresh as CodeRefresh, Flush as CodeFlush, Retire as CodeRetire, Protect as CodeProtect, Swap as CodeSwap}
 use Rattle.seize.specs.declared.collector.alone.Reply.{Reply as CodeReply}
@@ -7,7 +7,9 @@ use Rattle.seize.specs.declared.collector.alone.Reply.TheVariants.{Done as CodeD
 use Rattle.seize.specs.Blocks.{content}
 use Rattle.seize.specs.Told.{Did}
 use Rattle.seize.specs.Waiting.State.{State}
-use Rattle.seize.specs.Waiting.Lists.{Call, Register, EnterOwned, Enter, Leave, End, Refresh, Flush, Retire, Protect, Swap, Reply, Done, Number, Kept, Found, Refused, step, run}
+use Rattle.seize.specs.Waiting.Attempt.{Outcome}
+use Rattle.seize.specs.Waiting.Lists.{Call, Register, EnterOwned, Enter, Leave, End, Refresh, Flush, Retire, Protect, Swap, Reply, Done, Number, Kept, Found, Refused, step, takes_number, Replied}
+use Rattle.seize_table.specs.declared.refusal.Refusal.TheVariants.{NoMemory}
 
 -- a call, with values in the place of blocks
 abbrev pub call_of : {T R : Type 0} → CodeCall T R → Call T R
@@ -52,10 +54,11 @@ abbrev pub Stepped : {T R Seen : Type 0} → (R → T → List T) → (T → ℕ
 Stepped puts weight told old call result new short seen_old seen_new =
     (short ≡ true)
     ⊎ ((reply_of result ≡ (step puts weight old (call_of call)).0) × Did told (step puts weight old (call_of call)).1 new seen_old seen_new)
+    ⊎ ((takes_number (call_of call) ≡ true) × (reply_of result ≡ Refused NoMemory None) × (new ≡ old) × (seen_new ≡ seen_old))
 
 -- all calls were done and replied to, in order, or a growth was refused, of which the collector takes note
-abbrev pub Ran : {T R Seen : Type 0} → (R → T → List T) → (T → ℕ) → (Seen → T → Seen) → State T R → List (CodeCall T R) → List (CodeReply T R) → State T R → List (CodeCall T R) → List (CodeReply T R) → Bool → Bool → Seen → Seen → Type 0
-Ran puts weight told old calls_old replies_old new calls_new replies_new short_old short_new seen_old seen_new =
-    let r = run puts weight old (map call_of calls_old) in
-    (short_new ≡ true)
-    ⊎ ((short_old ≡ false) × (calls_new ≡ []) × (map reply_of replies_new ≡ map reply_of replies_old ++ r.0) × Did told r.1 new seen_old seen_new)
+abbrev pub Ran : {T R Seen : Type 0} → (R → T → List T) → (T → ℕ) → (Seen → T → Seen) → State T R → List (CodeCall T R) → List (CodeReply T R) → State T R → List (CodeCall T R) → List (CodeReply T R) → Bool → Seen → Seen → Type 0
+Ran {T} {R} puts weight told old calls_old replies_old new calls_new replies_new short seen_old seen_new =
+    (short ≡ true)
+    ⊎ ((answers : List (Reply T)) × (o : Outcome T R) × Replied puts weight old (map call_of calls_old) answers o
+    × (calls_new ≡ []) × (map reply_of replies_new ≡ map reply_of replies_old ++ answers) × Did told o new seen_old seen_new)

@@ -1,5 +1,5 @@
 -- What a watch is told, and what a call answered and did.
-use Rattle.std.specs.Prelude.{◌≡◌, Bool, true, false, List, ◌++◌, Result, Ok, Err, ◌⊎◌}
+use Rattle.std.specs.Prelude.{◌≡◌, Bool, true, List, ◌++◌, Result, Ok, Err, ◌⊎◌}
 use Rattle.std.specs.List.{fold}
 use Rattle.seize.specs.Waiting.State.{State}
 use Rattle.seize.specs.Waiting.Attempt.{Outcome}

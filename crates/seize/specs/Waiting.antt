@@ -5,4 +5,5 @@ pub mod Attempt
 pub mod Further
 pub mod Calls
 pub mod Lists
+pub mod Reached
 pub mod Runs

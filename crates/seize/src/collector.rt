@@ -4,6 +4,7 @@ ghost use Rattle.std.specs.Prelude.{◌≡◌, ◌⊎◌, ℕ, ◌+◌, ◌==◌
 ghost use Rattle.std.specs.Int.{IsNextPowerOfTwo};
 ghost use Rattle.seize.specs.Making.{refusal_for};
 ghost use Rattle.seize.specs.Waiting.State as waiting;
+ghost use Rattle.seize.specs.Waiting.Reached.{IsReached};
 ghost use Rattle.seize_table.specs.declared.refusal.Refusal.TheVariants.{NoMemory as no_memory};
 
 mod alone;
@@ -11,8 +12,8 @@ mod alone;
 use crate::block::Weigh;
 use crate::plain::Plain;
 use crate::reclaim::{Boxed, Reclaim};
-use seize_table::Refusal;
 pub use alone::{Alone, Call, Reply};
+use seize_table::Refusal;
 use std::alloc::Global;
 use std::cmp::max;
 use std::fmt;
@@ -80,6 +81,7 @@ pub struct Collector<T: Weigh + Drop, R: Reclaim<T> = Boxed> {
     // a growth was refused in a call that answers no refusal
     is_short: bool,
     id: u64,
+    ghost reached: { IsReached R.puts T.weight is_short state },
 }
 
 impl<T: Weigh + Drop, R: Reclaim<T>> Collector<T, R> {
@@ -143,6 +145,15 @@ impl<T: Weigh + Drop, R: Reclaim<T>> Collector<T, R> {
         self.id
     }
 
+    /// Whether a growth was refused in a call that answers no refusal for it. From then on nothing is said of its state.
+    ///
+    /// Only a collector that stands on plain lists has such calls.
+    pub fn is_short(&self) -> bool
+        ensures { result ≡ self.now.is_short }
+    {
+        self.is_short
+    }
+
     pub(crate) fn allocator(&self) -> Global {
         self.state.allocator()
     }
@@ -151,6 +162,7 @@ impl<T: Weigh + Drop, R: Reclaim<T>> Collector<T, R> {
     pub fn alone(&mut self) -> Alone<'_, T, R>
         ensures size { result.collector.now.state.size ≡ self.old.state.size }
         ensures links { length result.collector.now.state.links ≡ length self.old.state.links }
+        ensures reached { IsReached R.puts T.weight result.collector.now.is_short result.collector.now.state }
     {
         Alone::of(self)
     }

@@ -4,6 +4,7 @@
 ghost use Rattle.std.specs.Prelude.{◌≡◌, ◌∷◌, [], true};
 ghost use Rattle.seize.specs.Waiting.State as state;
 ghost use Rattle.seize.specs.Waiting.Further.{AfterwardsLaws, DrainedLaws};
+ghost use Rattle.seize.specs.Waiting.Lists.{AmpleLaw};
 ghost use Rattle.seize.specs.Waiting.Runs as runs;
 
 use crate::block::Weigh;
@@ -38,4 +39,9 @@ pub fn calls_in_turn()
 pub fn further_values<T: Weigh + Drop, R: Reclaim<T>>()
     ensures afterwards { AfterwardsLaws R.puts T.weight }
     ensures drained { DrainedLaws R.puts T.weight }
+{}
+
+/// How lists of calls go where memory may be refused: where no reply is that it was, the calls did what the model says of the list.
+pub fn lists_in_turn<T: Weigh + Drop, R: Reclaim<T>>()
+    ensures { AmpleLaw R.puts T.weight }
 {}

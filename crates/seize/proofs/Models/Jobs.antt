@@ -18,7 +18,7 @@ use Rattle.seize.specs.Agreement.Shows.{Stand, ShowsSlot, Shows, head_of}
 use Rattle.seize.specs.Agreement.Statement.{HasNames, Lighter, IsRun, IsReply}
 use Rattle.seize.proofs.Models.Leads.{Leads, and_then, by_one}
 use Rattle.seize.proofs.Models.Busy.{busy, rested, set_twice, if_yes, put_step, out_step}
-use Rattle.seize.proofs.Models.Near.{Near, NearAt, near_of, near_set, near_out, shows_of}
+use Rattle.seize.proofs.Models.Near.{Near, NearAt, near_of, near_out, shows_of}
 use Rattle.seize.proofs.Models.Puts.{Does, nothing_done, attempt_does, own_slot, in_slots}
 use Rattle.seize.proofs.Models.Walks.{walk_does, after_put}
 use Rattle.seize.proofs.Models.Settles.{settled_ends}

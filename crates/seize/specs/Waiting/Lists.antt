@@ -1,7 +1,9 @@
 -- Lists of calls: each call gives its reply, and the whole list its replies, the state after it and the values gone.
-use Rattle.std.specs.Prelude.{ℕ, Bool, if◌then◌else◌, List, [], ◌∷◌, Option, Some, None, Result, Ok, Err, is_some}
+use Rattle.std.specs.Prelude.{◌≡◌, ◌⊎◌, ℕ, Bool, true, false, if◌then◌else◌, List, [], ◌∷◌, Option, Some, None, Result, Ok, Err, is_some}
+use Rattle.std.specs.List.{list_any}
 use Rattle.seize.specs.declared.usage.Kind.TheVariants.{Registered, Owned}
 use Rattle.seize_table.specs.declared.refusal.Refusal.{Refusal}
+use Rattle.seize_table.specs.declared.refusal.Refusal.TheVariants.{NoMemory}
 use Rattle.seize.specs.Waiting.State.{State}
 use Rattle.seize.specs.Waiting.Attempt.{Outcome, after}
 use Rattle.seize.specs.Waiting.Calls.{Answer, take_number, enter, leave, end_slot, refresh, flush, retire, protect, swap}
@@ -71,3 +73,36 @@ run puts weight st (c ∷ cs) =
     let a = step puts weight st c in
     let r = run puts weight a.1.0 cs in
     (a.0 ∷ r.0, after a.1.1 r.1)
+
+-- the call takes a number
+abbrev pub takes_number : {T R : Type 0} → Call T R → Bool
+takes_number Register = true
+takes_number EnterOwned = true
+takes_number _ = false
+
+-- one call where memory may be refused: a call that takes a number then does nothing
+abbrev pub Answered : {T R : Type 0} → (R → T → List T) → (T → ℕ) → State T R → Call T R → Reply T → Outcome T R → Type 0
+Answered puts weight st call answer o =
+    ((answer ≡ (step puts weight st call).0) × (o ≡ (step puts weight st call).1))
+    ⊎ ((takes_number call ≡ true) × (answer ≡ Refused NoMemory None) × (o ≡ (st, [])))
+
+-- **A list of calls where memory may be refused**: these calls were made one after another, with these replies and this outcome.
+pub data Replied {T R : Type 0} (puts : R → T → List T) (weight : T → ℕ) : State T R → List (Call T R) → List (Reply T) → Outcome T R → Type 0 where
+  no_call : (st : State T R) → Replied puts weight st [] [] (st, [])
+  first_call : (st : State T R) (call : Call T R) (answer : Reply T) (o : Outcome T R) (calls : List (Call T R)) (answers : List (Reply T)) (rest : Outcome T R)
+      → Answered puts weight st call answer o
+      → Replied puts weight o.0 calls answers rest
+      → Replied puts weight st (call ∷ calls) (answer ∷ answers) (after o.1 rest)
+
+-- the reply is that memory was refused
+abbrev pub wants_memory : {T : Type 0} → Reply T → Bool
+wants_memory (Refused NoMemory back) = true
+wants_memory _ = false
+
+-- Where no reply is that memory was refused, the calls did what `run` says.
+abbrev pub AmpleLaw : {T R : Type 0} → (R → T → List T) → (T → ℕ) → Type 0
+AmpleLaw {T} {R} puts weight =
+    (st : State T R) (calls : List (Call T R)) (answers : List (Reply T)) (o : Outcome T R)
+    → Replied puts weight st calls answers o
+    → list_any wants_memory answers ≡ false
+    → (answers, o) ≡ run puts weight st calls

@@ -12,8 +12,8 @@ ghost use Rattle.seize_table.specs.declared.refusal.Refusal.TheVariants.{NoMemor
 use crate::block::{Owned, Shared, Unlinked, Weigh};
 use crate::collector::{Collector, Watch};
 use crate::reclaim::{Boxed, Reclaim};
-use seize_table::Refusal;
 use crate::usage::Kind;
+use seize_table::Refusal;
 use std::collections::VecDeque;
 
 /// One call of a list, with the slot that makes it.
@@ -69,16 +69,6 @@ impl<'c, T: Weigh + Drop, R: Reclaim<T>> Alone<'c, T, R> {
         Alone { collector }
     }
 
-    /// Takes note of a growth that was refused in a call that answers no refusal for it.
-    fn note(&mut self, answer: Result<(), Refusal>)
-        ensures state { self.new.collector.now.state ≡ self.old.collector.now.state }
-        ensures short { (self.new.collector.now.is_short ≡ true) ⊎ (answer ≡ Ok tt) }
-    {
-        if answer.is_err() {
-            self.collector.is_short = true;
-        }
-    }
-
     /// Takes the least number not in use, for a registered slot without a guard.
     ///
     /// # Errors
@@ -87,7 +77,8 @@ impl<'c, T: Weigh + Drop, R: Reclaim<T>> Alone<'c, T, R> {
     pub fn register(&mut self) -> Result<usize, Refusal>
         ensures { Grew (calls.take_number self.old.collector.now.state registered 0) result self.old.collector.now.state self.new.collector.now.state }
     {
-        self.collector.state.take_number(Kind::Registered, 0)
+        let collector = &mut *self.collector;
+        collector.state.take_number(Kind::Registered, 0)
     }
 
     /// Takes the least number not in use, for an owned slot, which has one guard.
@@ -98,7 +89,8 @@ impl<'c, T: Weigh + Drop, R: Reclaim<T>> Alone<'c, T, R> {
     pub fn enter_owned(&mut self) -> Result<usize, Refusal>
         ensures { Grew (calls.take_number self.old.collector.now.state owned_slot 1) result self.old.collector.now.state self.new.collector.now.state }
     {
-        self.collector.state.take_number(Kind::Owned, 1)
+        let collector = &mut *self.collector;
+        collector.state.take_number(Kind::Owned, 1)
     }
 
     /// Gives the registered slot one guard more. It takes no memory.
@@ -109,7 +101,8 @@ impl<'c, T: Weigh + Drop, R: Reclaim<T>> Alone<'c, T, R> {
     pub fn enter(&mut self, s: usize) -> Result<(), Refusal>
         ensures { Said (calls.enter self.old.collector.now.state s) result self.new.collector.now.state }
     {
-        self.collector.state.enter(s)
+        let collector = &mut *self.collector;
+        collector.state.enter(s)
     }
 
     /// Gives the slot one guard less. With its last guard it parts from the batches that wait for it, and what is then waited for by no
@@ -122,11 +115,12 @@ impl<'c, T: Weigh + Drop, R: Reclaim<T>> Alone<'c, T, R> {
         ensures { Answers W.told (calls.leave R.puts T.weight self.old.collector.now.state s) result self.new.collector.now.state
             self.new.collector.now.is_short (W.seen watch.old) (W.seen watch.new) }
     {
-        if let Some(refusal) = self.collector.state.no_guard(s) {
+        let collector = &mut *self.collector;
+        if let Some(refusal) = collector.state.no_guard(s) {
             return Err(refusal);
         }
-        let answer = self.collector.state.leave(s, watch);
-        self.note(answer);
+        let answer = collector.state.leave(s, watch);
+        note(&mut collector.is_short, answer);
         Ok(())
     }
 
@@ -138,7 +132,8 @@ impl<'c, T: Weigh + Drop, R: Reclaim<T>> Alone<'c, T, R> {
     pub fn end(&mut self, s: usize) -> Result<bool, Refusal>
         ensures { Said (calls.end_slot self.old.collector.now.state s) result self.new.collector.now.state }
     {
-        self.collector.state.end(s)
+        let collector = &mut *self.collector;
+        collector.state.end(s)
     }
 
     /// Parts from the batches that wait for the slot and stays active, if the slot is owned or has one guard; else does nothing.
@@ -150,11 +145,12 @@ impl<'c, T: Weigh + Drop, R: Reclaim<T>> Alone<'c, T, R> {
         ensures { Answers W.told (calls.refresh R.puts T.weight self.old.collector.now.state s) result self.new.collector.now.state
             self.new.collector.now.is_short (W.seen watch.old) (W.seen watch.new) }
     {
-        if let Some(refusal) = self.collector.state.no_guard(s) {
+        let collector = &mut *self.collector;
+        if let Some(refusal) = collector.state.no_guard(s) {
             return Err(refusal);
         }
-        let answer = self.collector.state.refresh(s, watch);
-        self.note(answer);
+        let answer = collector.state.refresh(s, watch);
+        note(&mut collector.is_short, answer);
         Ok(())
     }
 
@@ -167,11 +163,12 @@ impl<'c, T: Weigh + Drop, R: Reclaim<T>> Alone<'c, T, R> {
         ensures { Answers W.told (calls.flush R.puts T.weight self.old.collector.now.state s) result self.new.collector.now.state
             self.new.collector.now.is_short (W.seen watch.old) (W.seen watch.new) }
     {
-        if let Some(refusal) = self.collector.state.no_guard(s) {
+        let collector = &mut *self.collector;
+        if let Some(refusal) = collector.state.no_guard(s) {
             return Err(refusal);
         }
-        let answer = self.collector.state.flush(s, watch);
-        self.note(answer);
+        let answer = collector.state.flush(s, watch);
+        note(&mut collector.is_short, answer);
         Ok(())
     }
 
@@ -201,12 +198,13 @@ impl<'c, T: Weigh + Drop, R: Reclaim<T>> Alone<'c, T, R> {
             self.new.collector.now.is_short (W.seen watch.old) (W.seen watch.new) }
         ensures back { IfErr result (λ e. e.1 ≡ value.entry) }
     {
-        if let Some(refusal) = self.collector.state.unused(s) {
+        let collector = &mut *self.collector;
+        if let Some(refusal) = collector.state.unused(s) {
             return Err((refusal, value));
         }
         let value = value.into_owned().into_value();
-        let answer = self.collector.state.retire(s, value, reclaim, watch);
-        self.note(answer);
+        let answer = collector.state.retire(s, value, reclaim, watch);
+        note(&mut collector.is_short, answer);
         Ok(())
     }
 
@@ -241,12 +239,13 @@ impl<'c, T: Weigh + Drop, R: Reclaim<T>> Alone<'c, T, R> {
             (λ e. (calls.no_guard self.old.collector.now.state s ≡ Some e.0) × (e.1 ≡ new)) }
         ensures state { self.new.collector.now.state ≡ (calls.swap self.old.collector.now.state s link (option_map content new)).1.0 }
     {
-        if let Some(refusal) = self.collector.state.no_guard(s) {
+        let collector = &mut *self.collector;
+        if let Some(refusal) = collector.state.no_guard(s) {
             return Err((refusal, new));
         }
-        match self.collector.state.swap(link, new) {
+        match collector.state.swap(link, new) {
             None => Ok(None),
-            Some(owned) => Ok(Some(Unlinked::of(owned, self.collector.id))),
+            Some(owned) => Ok(Some(Unlinked::of(owned, collector.id))),
         }
     }
 
@@ -256,23 +255,9 @@ impl<'c, T: Weigh + Drop, R: Reclaim<T>> Alone<'c, T, R> {
         ensures { AllDone W.told (calls.reclaim_all R.puts T.weight self.old.collector.now.state) self.new.collector.now.state
             self.new.collector.now.is_short (W.seen watch.old) (W.seen watch.new) }
     {
-        if self.collector.state.reclaim_all(watch).is_err() {
-            self.collector.is_short = true;
-        }
-    }
-
-    /// Takes note of a slot's number that was refused for want of memory.
-    fn numbered(&mut self, answer: Result<usize, Refusal>) -> Reply<T, R>
-        ensures state { self.new.collector.now.state ≡ self.old.collector.now.state }
-        ensures short { (self.new.collector.now.is_short ≡ true) ⊎ ((reply_of result ≡ lists.reply_of lists.Number None answer) × ¬ answer ≡ Err no_memory) }
-    {
-        match answer {
-            Ok(n) => Reply::Slot(n),
-            Err(Refusal::NoMemory) => {
-                self.collector.is_short = true;
-                Reply::Refused(Refusal::NoMemory, None)
-            }
-            Err(refusal) => Reply::Refused(refusal, None),
+        let collector = &mut *self.collector;
+        if collector.state.reclaim_all(watch).is_err() {
+            collector.is_short = true;
         }
     }
 
@@ -307,14 +292,8 @@ impl<'c, T: Weigh + Drop, R: Reclaim<T>> Alone<'c, T, R> {
             self.new.collector.now.is_short (W.seen watch.old) (W.seen watch.new) }
     {
         match call {
-            Call::Register => {
-                let answer = self.register();
-                self.numbered(answer)
-            }
-            Call::EnterOwned => {
-                let answer = self.enter_owned();
-                self.numbered(answer)
-            }
+            Call::Register => numbered(self.register()),
+            Call::EnterOwned => numbered(self.enter_owned()),
             Call::Enter(s) => done(self.enter(s)),
             Call::Leave(s) => done(self.leave(s, watch)),
             Call::End(s) => match self.end(s) {
@@ -341,12 +320,13 @@ impl<'c, T: Weigh + Drop, R: Reclaim<T>> Alone<'c, T, R> {
 
     /// Takes the calls from the front, one reply each. Every link that they name is below `links()`.
     ///
-    /// It first makes room for all replies. It stops early only where a growth is refused in a call that answers no refusal for it; the
-    /// calls after that one stay in the list.
+    /// It first makes room for all replies. Where the memory for a number is refused, that call's reply says so, and the next calls
+    /// follow. It stops early only where a growth is refused in a call that answers no refusal for it (`is_short`); the calls after
+    /// that one stay in the list.
     ///
     /// # Errors
     ///
-    /// `NoMemory` where there is no room for all replies. Nothing was done then.
+    /// `NoMemory` where there is no room for all replies, or the collector was short before. Nothing was done then.
     pub fn run<W: Watch<T>>(
         &mut self,
         calls: &mut VecDeque<Call<T, R>>,
@@ -355,10 +335,13 @@ impl<'c, T: Weigh + Drop, R: Reclaim<T>> Alone<'c, T, R> {
     ) -> Result<(), Refusal>
         requires { AllInRange (length self.old.collector.now.state.links) (map call_of calls.old.items) }
         ensures ran { IfOk result (λ _. Ran R.puts T.weight W.told self.old.collector.now.state calls.old.items replies.old.items self.new.collector.now.state calls.new.items replies.new.items
-            self.old.collector.now.is_short self.new.collector.now.is_short (W.seen watch.old) (W.seen watch.new)) }
+            self.new.collector.now.is_short (W.seen watch.old) (W.seen watch.new)) }
         ensures refused { IfErr result (λ refusal. (refusal ≡ no_memory) × (self.new.collector.now.state ≡ self.old.collector.now.state)
             × (calls.new.items ≡ calls.old.items) × (replies.new.items ≡ replies.old.items) × (W.seen watch.new ≡ W.seen watch.old)) }
     {
+        if self.collector.is_short {
+            return Err(Refusal::NoMemory);
+        }
         replies.reserve(calls.len())?;
         while !self.collector.is_short {
             let Some(call) = calls.pop_front() else {
@@ -368,6 +351,33 @@ impl<'c, T: Weigh + Drop, R: Reclaim<T>> Alone<'c, T, R> {
             replies.push_reserved(reply);
         }
         Ok(())
+    }
+
+    /// Whether a growth was refused in a call that answers no refusal for it, of this collector or an earlier one of its calls. From
+    /// then on nothing is said of its state. It costs nothing to ask.
+    pub fn is_short(&self) -> bool
+        ensures { result ≡ self.now.collector.now.is_short }
+    {
+        self.collector.is_short
+    }
+}
+
+/// Takes note of a growth that was refused in a call that answers no refusal for it.
+fn note(is_short: &mut bool, answer: Result<(), Refusal>)
+    ensures { (is_short.new ≡ true) ⊎ ((answer ≡ Ok tt) × (is_short.new ≡ is_short.old)) }
+{
+    if answer.is_err() {
+        *is_short = true;
+    }
+}
+
+/// The reply to a call that takes a number.
+fn numbered<T, R: Copy>(answer: Result<usize, Refusal>) -> Reply<T, R>
+    ensures { reply_of result ≡ lists.reply_of lists.Number None answer }
+{
+    match answer {
+        Ok(n) => Reply::Slot(n),
+        Err(refusal) => Reply::Refused(refusal, None),
     }
 }
 

@@ -8,8 +8,8 @@ ghost use Rattle.seize.specs.Told.{Grew, Said};
 use crate::block::Owned;
 use crate::plain::slot::Slot;
 use crate::plain::{NUMBERS, Plain, least_unused};
-use seize_table::Refusal;
 use crate::usage::Kind;
+use seize_table::Refusal;
 use std::alloc::AllocError;
 
 impl<T: Drop, R: Copy> Plain<T, R> {

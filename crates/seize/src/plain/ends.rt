@@ -11,8 +11,8 @@ use crate::block::Weigh;
 use crate::collector::Watch;
 use crate::plain::Plain;
 use crate::reclaim::Reclaim;
-use seize_table::Refusal;
 use crate::usage::Kind;
+use seize_table::Refusal;
 use std::alloc::AllocError;
 use std::collections::VecDeque;
 

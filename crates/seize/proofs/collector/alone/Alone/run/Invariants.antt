@@ -1,11 +1,11 @@
 use Rattle.std.proofs.Common.{◌≤◌, ◌+◌, vec_len, vec_capacity, deque_len}
-use Rattle.seize.proofs.Running.{Left}
+use Rattle.seize.proofs.Running.{Made}
 use Rattle.seize.proofs.collector.alone.Alone.run.Given as goal
 
 abbrev pub invariant-loop-self : goal.invariant-loop-self
 invariant-loop-self g l = record {
-  left : Left g.R.Reclaim.puts g.T.Weigh.weight g.W.Watch.told
-      l.fn.self.collector.now.state l.fn.calls.items l.fn.replies.items (g.W.Watch.seen l.fn.watch) l.fn.self.collector.now.is_short
+  made : Made g.R.Reclaim.puts g.T.Weigh.weight g.W.Watch.told
+      l.fn.self.collector.now.state l.fn.calls.items l.fn.replies.items (g.W.Watch.seen l.fn.watch)
       l.self.collector.now.state l.calls.items l.replies.items (g.W.Watch.seen l.watch) l.self.collector.now.is_short;
   room : vec_len l.replies + deque_len l.calls ≤ vec_capacity l.replies;
 }
