@@ -5,6 +5,10 @@
 #[cfg(test)]
 mod alone;
 #[cfg(test)]
+mod items;
+#[cfg(test)]
+mod links;
+#[cfg(test)]
 mod machine;
 #[cfg(test)]
 mod table;

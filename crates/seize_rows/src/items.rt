@@ -1,0 +1,106 @@
+//! What the tests of collectors share: values that count their ends, a reclaimer that counts its calls, and a watch that keeps names.
+
+use seize::reclaim::{Reclaim, boxed};
+use seize::{Alone, Collector, Further, IdSource, Owned, Refusal, Unlinked, Watch, Weigh};
+use std::alloc::Global;
+use std::cell::Cell;
+use std::process::Abort;
+
+/// A value that counts its end.
+pub struct Item<'a> {
+    pub name: u64,
+    pub ended: &'a Cell<u64>,
+}
+
+impl Drop for Item<'_> {
+    fn drop(self) {
+        let Item { name: _, ended } = self;
+        ended.set(ended.get().saturating_add(1));
+    }
+}
+
+impl Weigh for Item<'_> {
+    ghost use Rattle.std.proofs.Common.{lit≤};
+
+    ghost weight = { λ _. 1 };
+
+    ghost at_least_one = { λ _. lit≤ tt };
+}
+
+/// A reclaimer that counts its calls.
+#[derive(Clone, Copy)]
+pub struct Counting<'a> {
+    pub calls: &'a Cell<u64>,
+}
+
+impl<'a> Reclaim<Item<'a>> for Counting<'a> {
+    ghost use Rattle.std.specs.Prelude.{[]};
+    ghost use Rattle.std.proofs.Common.{lit<};
+
+    ghost puts = { λ _ _. [] };
+
+    ghost lighter = { λ _ _. lit< tt };
+
+    fn reclaim(self, value: Item<'a>, further: &mut Further<Item<'a>, Counting<'a>>) {
+        self.calls.set(self.calls.get().saturating_add(1));
+        boxed(value, further);
+    }
+}
+
+/// Keeps the names of the values gone.
+#[derive(Drop)]
+pub struct Names {
+    pub names: Vec<u64>,
+}
+
+impl<'a> Watch<Item<'a>> for Names {
+    ghost Seen = { Unit {0} };
+
+    ghost seen = { λ _. tt };
+
+    ghost told = { λ _ _. tt };
+
+    fn gone(&mut self, value: &Item<'a>) {
+        let _ = self.names.push(value.name);
+    }
+}
+
+pub type Items<'a> = Collector<Item<'a>, Counting<'a>>;
+
+pub fn items<'a>(
+    alloc: Global,
+    ids: &mut IdSource,
+    size: usize,
+    links: usize,
+) -> Result<Items<'a>, Refusal> {
+    Ok(Collector::new(alloc, ids, 1, links)?.batch_size(size))
+}
+
+pub fn block<'a>(
+    collector: &Items<'a>,
+    name: u64,
+    ended: &'a Cell<u64>,
+) -> Result<Owned<Item<'a>, Counting<'a>>, Refusal> {
+    match Owned::new(collector, Item { name, ended }) {
+        Ok(block) => Ok(block),
+        Err((refusal, item)) => {
+            drop(item);
+            Err(refusal)
+        }
+    }
+}
+
+/// Retires a value by a slot that is in use.
+pub fn retire<'c, 'a>(
+    rt: &impl Abort,
+    alone: &mut Alone<'c, Item<'a>, Counting<'a>>,
+    s: usize,
+    value: Unlinked<'c, Item<'a>, Counting<'a>>,
+    by: Counting<'a>,
+    watch: &mut Names,
+) {
+    match alone.retire(s, value, by, watch) {
+        Ok(()) => {}
+        Err((_, _value)) => panic!(rt; "refused"),
+    }
+}

@@ -1,0 +1,143 @@
+//! Links, and guards that refresh and flush: calls of `Alone` one after another, and what the drop ends.
+
+use crate::items::{Counting, Item, Items, Names, block, items, retire};
+use seize::{IdSource, Owned, Refusal};
+use std::cell::Cell;
+use std::process::Abort;
+use std::test::Fail;
+
+/// The name that slot 0 finds in the link.
+fn found(collector: &mut Items<'_>, link: usize) -> Result<Option<u64>, Refusal> {
+    if collector.links() <= link {
+        return Ok(None);
+    }
+    match collector.alone().protect(0, link)? {
+        Some(shared) => Ok(Some(shared.name)),
+        None => Ok(None),
+    }
+}
+
+/// Whether slot 0 finds one block in both links.
+fn are_same(collector: &mut Items<'_>, a: usize, b: usize) -> bool {
+    if collector.links() <= a || collector.links() <= b {
+        return false;
+    }
+    let alone = collector.alone();
+    match (alone.protect(0, a), alone.protect(0, b)) {
+        (Ok(Some(a)), Ok(Some(b))) => a.same(&b),
+        _ => false,
+    }
+}
+
+/// Slot 0 swaps the block in, and retires what the link held: its name is answered.
+fn exchange<'a>(
+    rt: &impl Abort,
+    collector: &mut Items<'a>,
+    link: usize,
+    new: Option<Owned<Item<'a>, Counting<'a>>>,
+    by: Counting<'a>,
+    names: &mut Names,
+) -> Result<Option<u64>, Refusal> {
+    if collector.links() <= link {
+        return Ok(None);
+    }
+    let mut alone = collector.alone();
+    match alone.swap(0, link, new) {
+        Ok(None) => Ok(None),
+        Ok(Some(old)) => {
+            let name = old.name;
+            retire(rt, &mut alone, 0, old, by, names);
+            Ok(Some(name))
+        }
+        Err((refusal, _)) => Err(refusal),
+    }
+}
+
+/// A link holds its block until it is swapped out. What was swapped out still reads, and is gone once its slot refreshes. What is
+/// linked at the end ends with the collector, and goes to no reclaimer.
+#[test]
+fn swapped_out_and_left_linked(rt: HostRuntime) -> Result<(), Fail> {
+    let ended = Cell::new(0);
+    let calls = Cell::new(0);
+    linked(&rt, &ended, Counting { calls: &calls })
+}
+
+fn linked<'a>(
+    rt: &(impl AllocGlobal + Abort),
+    ended: &'a Cell<u64>,
+    by: Counting<'a>,
+) -> Result<(), Fail> {
+    let mut ids = IdSource::new();
+    let mut collector = items(rt.alloc(), &mut ids, 1, 2)?;
+    let mut names = Names {
+        names: Vec::new(rt.alloc()),
+    };
+    assert_eq!(rt; collector.alone().register(), Ok(0));
+    assert_eq!(rt; found(&mut collector, 0), Err(Refusal::NotActive));
+    assert_eq!(rt; collector.alone().enter(0), Ok(()));
+    assert_eq!(rt; found(&mut collector, 0), Ok(None));
+    for link in 0..2 {
+        let new = Some(block(&collector, 7, ended)?);
+        assert_eq!(rt;
+            exchange(rt, &mut collector, link, new, by, &mut names),
+            Ok(None)
+        );
+    }
+    assert_eq!(rt; found(&mut collector, 0), Ok(Some(7)));
+    assert!(rt; are_same(&mut collector, 0, 0));
+    assert!(rt; !are_same(&mut collector, 0, 1));
+    let new = Some(block(&collector, 8, ended)?);
+    assert_eq!(rt;
+        exchange(rt, &mut collector, 0, new, by, &mut names),
+        Ok(Some(7))
+    );
+    assert_eq!(rt; found(&mut collector, 0), Ok(Some(8)));
+    assert_eq!(rt; ended.get(), 0);
+    assert_eq!(rt; collector.alone().refresh(0, &mut names), Ok(()));
+    assert_eq!(rt; names.names.as_slice(), [7].as_slice());
+    assert_eq!(rt; ended.get(), 1);
+    drop(collector);
+    assert_eq!(rt; ended.get(), 3);
+    assert_eq!(rt; by.calls.get(), 1);
+    Ok(())
+}
+
+/// A flush retires a batch that is not yet full, which is gone when its slot leaves. Without one it stays in the slot's batch.
+#[test]
+fn flushed(rt: HostRuntime) -> Result<(), Fail> {
+    let ended = Cell::new(0);
+    let calls = Cell::new(0);
+    for flushes in [true, false] {
+        ended.set(0);
+        flushed_or_not(&rt, flushes, &ended, Counting { calls: &calls })?;
+    }
+    Ok(())
+}
+
+fn flushed_or_not<'a>(
+    rt: &(impl AllocGlobal + Abort),
+    flushes: bool,
+    ended: &'a Cell<u64>,
+    by: Counting<'a>,
+) -> Result<(), Fail> {
+    let mut ids = IdSource::new();
+    let mut collector = items(rt.alloc(), &mut ids, 9, 0)?;
+    let mut names = Names {
+        names: Vec::new(rt.alloc()),
+    };
+    assert_eq!(rt; collector.alone().enter_owned(), Ok(0));
+    let block = block(&collector, 7, ended)?;
+    let mut alone = collector.alone();
+    let value = alone.unlinked(block);
+    retire(rt, &mut alone, 0, value, by, &mut names);
+    if flushes {
+        assert_eq!(rt; alone.flush(0, &mut names), Ok(()));
+    }
+    assert_eq!(rt; ended.get(), 0);
+    assert_eq!(rt; alone.leave(0, &mut names), Ok(()));
+    assert_eq!(rt; ended.get(), u64::from(flushes));
+    assert!(rt; !collector.is_short());
+    drop(collector);
+    assert_eq!(rt; ended.get(), 1);
+    Ok(())
+}
