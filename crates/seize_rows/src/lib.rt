@@ -5,10 +5,13 @@
 #[cfg(test)]
 mod alone;
 #[cfg(test)]
+mod further;
+#[cfg(test)]
 mod items;
 #[cfg(test)]
 mod links;
 #[cfg(test)]
 mod machine;
+mod nest;
 #[cfg(test)]
 mod table;

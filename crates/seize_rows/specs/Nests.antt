@@ -1,0 +1,18 @@
+-- What a value holds, and what it weighs: 1, and what the values inside it weigh.
+use Rattle.std.specs.Prelude.{ℕ, ◌+◌, List, map, sum}
+use Rattle.seize.specs.Blocks.{content}
+use Rattle.seize_rows.specs.declared.nest.Nest.{Nest}
+use Rattle.seize_rows.specs.declared.nest.Nest.TheOpen.{Nest-F}
+use Rattle.seize_rows.specs.declared.nest.Nest.TheViews.{out-Nest}
+use Rattle.seize_rows.specs.declared.nest.Nest.TheFolds.{fold-Nest}
+
+-- the values inside, in their order
+abbrev pub inside_of : Nest → List Nest
+inside_of value = map content (out-Nest value).inside.items
+
+-- one value, with the weight of each value inside in its place
+abbrev pub weight_step : Nest-F ℕ → ℕ
+weight_step value = sum (map content value.inside.items) + 1
+
+abbrev pub weight_of : Nest → ℕ
+weight_of = fold-Nest ℕ weight_step

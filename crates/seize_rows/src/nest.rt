@@ -1,0 +1,40 @@
+//! Values that hold blocks of their own type, and the reclaimer that puts these: what the tests of further values share.
+ghost use Rattle.seize_rows.specs.Nests.{inside_of, weight_of};
+ghost use Rattle.seize_rows.specs.Weights.{weight_at_least_one, inside_lighter};
+
+use seize::reclaim::Reclaim;
+use seize::{Further, Owned, Weigh};
+use std::cell::Cell;
+
+/// A name, and the blocks of further values.
+#[derive(Drop)]
+pub struct Nest<'a> {
+    pub name: u64,
+    pub inside: Vec<Owned<Nest<'a>, PutInside<'a>>>,
+}
+
+impl Weigh for Nest<'_> {
+    ghost weight = { weight_of };
+
+    ghost at_least_one = { weight_at_least_one };
+}
+
+/// Puts the values inside, in their order, and counts its calls.
+#[derive(Clone, Copy)]
+pub struct PutInside<'a> {
+    pub calls: &'a Cell<u64>,
+}
+
+impl<'a> Reclaim<Nest<'a>> for PutInside<'a> {
+    ghost puts = { λ _ value. inside_of value };
+
+    ghost lighter = { λ _ value. inside_lighter value };
+
+    fn reclaim(self, value: Nest<'a>, further: &mut Further<Nest<'a>, PutInside<'a>>) {
+        self.calls.set(self.calls.get().saturating_add(1));
+        let Nest { name: _, inside } = value;
+        for block in inside {
+            further.put(block);
+        }
+    }
+}
