@@ -143,6 +143,13 @@ impl<T: Weigh + Drop, R: Reclaim<T>> Collector<T, R> {
         self.id
     }
 
+    /// Whether a growth was refused in a call that answers no refusal for it. The contracts say nothing of the state from then on.
+    pub fn is_short(&self) -> bool
+        ensures { result ≡ self.now.is_short }
+    {
+        self.is_short
+    }
+
     pub(crate) fn allocator(&self) -> Global {
         self.state.allocator()
     }

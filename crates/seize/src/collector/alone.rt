@@ -79,6 +79,13 @@ impl<'c, T: Weigh + Drop, R: Reclaim<T>> Alone<'c, T, R> {
         }
     }
 
+    /// Whether a growth was refused in a call that answers no refusal for it. The contracts say nothing of the state from then on.
+    pub fn is_short(&self) -> bool
+        ensures { result ≡ self.now.collector.now.is_short }
+    {
+        self.collector.is_short
+    }
+
     /// Takes the least number not in use, for a registered slot without a guard.
     ///
     /// # Errors
