@@ -10,8 +10,8 @@ use Rattle.seize_run.proofs.value.PutInsideReclaimValue.reclaim.Goals as goal
 pub returns : goal.returns
 returns c =
     let end = YieldsList-end
-        (YieldsList-from_vec {s = c.into_iter-block-iterator.result} (out-Value c.args.value).inside.items (search rules) (search rules))
-        c.loop-block.yielded c.loop-block.block-iterator c.loop-block.yielded_by c.next.result c.next.new.self c.in-None.is c.next.ensures.steps in
+    (YieldsList-from_vec {s = c.into_iter-block-iterator.result} (out-Value c.args.value).inside.items (search rules) (search rules))
+    c.loop-block.yielded c.loop-block.block-iterator c.loop-block.yielded_by c.next.result c.next.new.self c.in-None.is c.next.ensures.steps in
     subst (λ blocks. Joined (map content blocks) c.args.further.now c.loop-block.further) (sym (map-id c.loop-block.yielded) ∙ end.0) c.loop-block.invariant
 
 pub loop-block-preserved : goal.loop-block-preserved

@@ -1,0 +1,33 @@
+//! A script that was read whole: the collector that its first line asks for, and the calls on it.
+ghost use Rattle.std.specs.Prelude.{◌≡◌};
+
+use crate::value::{PutInside, Value};
+use seize::{Call, Collector};
+use std::collections::VecDeque;
+
+/// What a script asks for.
+#[derive(Drop)]
+pub struct Script {
+    pub collector: Collector<Value, PutInside>,
+    pub groups: Vec<Group>,
+    /// How many values stand in the script.
+    pub values: usize,
+}
+
+/// Calls that are run together, and what follows them.
+#[derive(Drop)]
+pub struct Group {
+    pub calls: VecDeque<Call<Value, PutInside>>,
+    pub end: GroupEnd,
+}
+
+/// What ends a group.
+#[derive(Clone, Copy, Debug, PartialEq, Eq)]
+pub enum GroupEnd {
+    /// A line is printed.
+    Tick,
+    /// All is reclaimed.
+    All,
+    /// The script ends.
+    Script,
+}
