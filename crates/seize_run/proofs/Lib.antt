@@ -1,1 +1,4 @@
 pub mod Joining
+pub mod LinksKept
+pub mod Prefixes
+pub mod Ranging

@@ -1,6 +1,7 @@
 //! Runs scripts of calls on a collector in one caller's hands, and prints which values are gone, and what the calls answer.
 #![tactic(auto)]
 
+mod call;
 mod failure;
 mod line;
 mod name;

@@ -1,15 +1,18 @@
 //! The program between its arguments and its status: which script it runs, and what it prints. It is over any reader and writers.
-ghost use Rattle.std.specs.Prelude.{◌≡◌, ◌≤◌};
+ghost use Rattle.std.specs.Prelude.{◌≡◌, ◌≤◌, length, map, OnOk};
+ghost use Rattle.seize.specs.Alone.{call_of, AllInRange};
+ghost use Rattle.seize_run.specs.Ranges.{IsGroupInRange, IsInRange};
 ghost use Rattle.seize_run.specs.Statuses.{status_of};
 
 use crate::failure::Failure;
 use crate::names::Names;
 use crate::parser::parse;
 use crate::row;
-use crate::script::{Group, GroupEnd, Script};
+use crate::script::{Calls, Group, GroupEnd, Script};
 use crate::value::{PutInside, Value};
-use seize::{Alone, Refusal, Reply};
+use seize::{Alone, Call, Refusal, Reply};
 use std::alloc::Global;
+use std::collections::VecDeque;
 use std::io;
 use std::io::{ErrorKind, Read, Write};
 
@@ -24,7 +27,9 @@ pub fn run_program<I: Read + Drop, O: Write + Drop, E: Write + Drop>(
     mut output: O,
     mut errors: E,
     reclaim: PutInside,
-) -> u8 {
+) -> u8
+    ensures { result ≤ 5 }
+{
     match run(alloc, args, input, &mut output, reclaim) {
         Ok(()) => 0,
         Err(failure) => report(&failure, &mut errors),
@@ -87,55 +92,74 @@ fn run_script<'a, O: Write>(
     alloc: Global,
     script: Script,
     output: &mut O,
-) -> Result<(), Failure<'a>> {
+) -> Result<(), Failure<'a>>
+    requires { IsInRange script }
+{
     let Script {
         mut collector,
-        groups,
-        values,
+        calls: Calls { groups, values },
     } = script;
     let mut names = Names::with_room(alloc, values)?;
     let mut alone = collector.alone();
     for group in groups {
-        let end = group.end;
         run_group(alloc, &mut alone, group, &mut names, output)?;
-        match end {
-            GroupEnd::Tick => writeln!(output, "--").map_err(|_| Failure::CannotWrite)?,
-            GroupEnd::All => reclaim_all(&mut alone, &mut names, output)?,
-            GroupEnd::Script => {}
-        }
     }
     Ok(())
 }
 
-/// Runs a group, and prints the names of the values gone and then the replies.
 fn run_group<'a, O: Write>(
     alloc: Global,
     alone: &mut Alone<'_, Value, PutInside>,
     group: Group,
     names: &mut Names,
     output: &mut O,
-) -> Result<(), Failure<'a>> {
-    let mut calls = group.calls;
-    let mut replies = Vec::new(alloc);
-    alone.run(&mut calls, &mut replies, names)?;
-    let is_refused = replies.iter().any(is_no_memory);
-    if alone.is_short() && !is_refused {
-        return Err(Failure::NoMemory);
-    }
-    print_group(names, replies.as_slice(), output).map_err(|_| Failure::CannotWrite)?;
-    names.clear();
-    if is_refused {
-        Err(Failure::NoMemory)
-    } else {
-        Ok(())
+) -> Result<(), Failure<'a>>
+    requires { IsGroupInRange (length alone.old.collector.now.state.links) group }
+    ensures { OnOk result (length alone.new.collector.now.state.links ≡ length alone.old.collector.now.state.links) }
+{
+    let Group { calls, end } = group;
+    run_calls(alloc, alone, calls, names, output)?;
+    match end {
+        GroupEnd::Tick => writeln!(output, "--").map_err(|_| Failure::CannotWrite),
+        GroupEnd::All => reclaim_all(alone, names, output),
+        GroupEnd::Script => Ok(()),
     }
 }
 
+/// Runs calls, and prints the names of the values gone and then the replies.
+///
+/// Where the allocator refused, the replies are printed only if one of them says so: else what was done is not known.
+fn run_calls<'a, O: Write>(
+    alloc: Global,
+    alone: &mut Alone<'_, Value, PutInside>,
+    mut calls: VecDeque<Call<Value, PutInside>>,
+    names: &mut Names,
+    output: &mut O,
+) -> Result<(), Failure<'a>>
+    requires { AllInRange (length alone.old.collector.now.state.links) (map call_of calls.items) }
+    ensures { OnOk result (length alone.new.collector.now.state.links ≡ length alone.old.collector.now.state.links) }
+{
+    let mut replies = Vec::new(alloc);
+    alone.run(&mut calls, &mut replies, names)?;
+    let is_refused = replies.iter().any(is_no_memory);
+    if is_refused || !alone.is_short() {
+        print_group(names, replies.as_slice(), output).map_err(|_| Failure::CannotWrite)?;
+    }
+    if is_refused || alone.is_short() {
+        return Err(Failure::NoMemory);
+    }
+    names.clear();
+    Ok(())
+}
+
+/// Reclaims all, and prints the names of the values gone.
 fn reclaim_all<'a, O: Write>(
     alone: &mut Alone<'_, Value, PutInside>,
     names: &mut Names,
     output: &mut O,
-) -> Result<(), Failure<'a>> {
+) -> Result<(), Failure<'a>>
+    ensures { OnOk result (length alone.new.collector.now.state.links ≡ length alone.old.collector.now.state.links) }
+{
     alone.reclaim_all(names);
     if alone.is_short() {
         return Err(Failure::NoMemory);

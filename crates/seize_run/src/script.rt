@@ -1,6 +1,4 @@
 //! A script that was read whole: the collector that its first line asks for, and the calls on it.
-ghost use Rattle.std.specs.Prelude.{◌≡◌};
-
 use crate::value::{PutInside, Value};
 use seize::{Call, Collector};
 use std::collections::VecDeque;
@@ -9,8 +7,14 @@ use std::collections::VecDeque;
 #[derive(Drop)]
 pub struct Script {
     pub collector: Collector<Value, PutInside>,
+    pub calls: Calls,
+}
+
+/// The calls of a script.
+#[derive(Drop)]
+pub struct Calls {
     pub groups: Vec<Group>,
-    /// How many values stand in the script.
+    /// How many values stand in them.
     pub values: usize,
 }
 
@@ -30,4 +34,15 @@ pub enum GroupEnd {
     All,
     /// The script ends.
     Script,
+}
+
+impl GroupEnd {
+    /// What a line with this word ends a group with, if it ends one.
+    pub fn named(word: &[u8]) -> Option<GroupEnd> {
+        match word {
+            b"tick" => Some(GroupEnd::Tick),
+            b"all" => Some(GroupEnd::All),
+            _ => None,
+        }
+    }
 }
