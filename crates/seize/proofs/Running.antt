@@ -28,7 +28,7 @@ release_all_kept : {T R : Type 0} (bs : List ℕ) (st : State T R) (n : ℕ) →
 release_all_kept [] st n e = e
 release_all_kept (b ∷ bs) st n e = release_all_kept bs (release st b).0 n (release_kept st b n e)
 
-part_kept : {T R : Type 0} (st : State T R) (s n : ℕ) → length st.links ≡ n → Kept n (part st s)
+pub part_kept : {T R : Type 0} (st : State T R) (s n : ℕ) → length st.links ≡ n → Kept n (part st s)
 part_kept st s n e = release_all_kept (slot_at st s).order (set_slot st s (record (slot_at st s) { order = [] })) n e
 
 attempt_kept : {T R : Type 0} (st : State T R) (s n : ℕ) → length st.links ≡ n → Kept n (attempt st s)

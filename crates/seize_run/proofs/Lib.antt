@@ -1,0 +1,3 @@
+pub mod LinksKept
+pub mod Prefixes
+pub mod Ranging

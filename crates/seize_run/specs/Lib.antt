@@ -1,0 +1,4 @@
+pub mod Ranges
+pub mod Statuses
+pub mod Values
+pub mod Weights
