@@ -5,6 +5,7 @@ pub mod Attempts
 pub mod Near
 pub mod Released
 pub mod Waits
+pub mod Holding
 pub mod Puts
 pub mod Walks
 pub mod Falls
