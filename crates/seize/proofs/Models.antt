@@ -16,4 +16,6 @@ pub mod Guards
 pub mod Links
 pub mod Takes
 pub mod Agrees
+pub mod Pairs
+pub mod Renamed
 pub mod Openings
