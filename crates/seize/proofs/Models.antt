@@ -18,4 +18,6 @@ pub mod Takes
 pub mod Agrees
 pub mod Pairs
 pub mod Renamed
+pub mod Comes
+pub mod Anew
 pub mod Openings
