@@ -1,6 +1,6 @@
 -- Each list of calls has a naming under which each call in turn is a list of events, whatever the values are.
-use Rattle.std.proofs.Common.{◌≡◌, ℕ, zero, suc, ◌+◌, ◌<◌, ◌≤◌, List, [], ◌∷◌, ◌++◌, map, Option, Some, None, refl, sym, ◌∙◌, ap, arith}
-use Rattle.std.specs.List.{AllByRecursion, slice_get}
+use Rattle.std.proofs.Common.{◌≡◌, ℕ, zero, suc, ◌+◌, ◌<◌, ◌≤◌, List, [], ◌∷◌, ◌++◌, length, map, get_or, Option, Some, None, refl, sym, ◌∙◌, ap, arith}
+use Rattle.std.specs.List.{All, slice_get}
 use Rattle.seize_machine.specs.Machine.State as machine
 use Rattle.seize.specs.Waiting.State as waiting
 use Rattle.seize.specs.Waiting.State.{slot_at, retired_at}
@@ -8,7 +8,8 @@ use Rattle.seize.specs.Waiting.Calls.{link_at}
 use Rattle.seize.specs.Waiting.Lists.{Call, Register, EnterOwned, Enter, Leave, End, Refresh, Flush, Retire, Protect, Swap, step}
 use Rattle.seize.specs.Agreement.Shows.{Shows}
 use Rattle.seize.specs.Agreement.Play.{handed}
-use Rattle.seize.specs.Agreement.Statement.{Lighter, HasLink, HaveLinks, IsRun, AreRuns, AgreementAnew}
+use Rattle.seize.specs.Agreement.Statement.{Lighter, HasLink, IsRun, AreRuns, AgreementAnew}
+use Rattle.seize.proofs.Running.{step_kept}
 use Rattle.seize.proofs.Models.Holding.{Holds}
 use Rattle.seize.proofs.Models.Agrees.{HoldsOwn, agrees_where}
 use Rattle.seize.proofs.Models.Pairs.{pair_of, number_of}
@@ -81,17 +82,32 @@ call_anew {T} {R} puts weight lighter bound of st before call link shows h =
           (roots_hold puts st (own_values st call)) (own_holds puts st call) (shows_same bound of (renamed puts (roots st (own_values st call)) bound of) st before same h shows),
     )
 
-pub calls_anew : {T R : Type 0} (puts : R → T → List T) (weight : T → ℕ) → Lighter puts weight → (bound : ℕ) (of : ℕ → T) (st : waiting.State T R) (before : machine.State) (calls : List (Call T R)) → HaveLinks puts weight st calls → Shows T R of st before
+still_linked : {T R : Type 0} (st later : waiting.State T R) (call : Call T R) → length later.links ≡ length st.links → HasLink st call → HasLink later call
+still_linked st later Register e h = tt
+still_linked st later EnterOwned e h = tt
+still_linked st later (Enter s) e h = tt
+still_linked st later (Leave s) e h = tt
+still_linked st later (End s) e h = tt
+still_linked st later (Refresh s) e h = tt
+still_linked st later (Flush s) e h = tt
+still_linked st later (Retire s v r) e h = tt
+still_linked st later (Protect s l) e h = omega arith
+still_linked st later (Swap s l new r) e h = omega arith
+
+-- each call of a list is one, under one naming, since the naming of a call may be any that is as before on what the calls before it
+-- named, showed and handed
+pub calls_anew : {T R : Type 0} (puts : R → T → List T) (weight : T → ℕ) → Lighter puts weight → (bound : ℕ) (of : ℕ → T) (st : waiting.State T R) (before : machine.State) (calls : List (Call T R)) → All (HasLink st) calls → Shows T R of st before
     → (other : ℕ → T) × AgreeBelow bound of other × Shows T R other st before × AreRuns puts weight other st before calls
 calls_anew puts weight lighter bound of st before [] links shows = (of, λ n h. refl, shows, tt)
 calls_anew {T} {R} puts weight lighter bound of st before (call ∷ calls) links shows =
     let wide : ℕ = bound + past_state before in
     let one : (other : ℕ → T) × AgreeBelow (bound + past_state before) of other × IsRun T R other call st.size before (step puts weight st call)
-    = call_anew puts weight lighter (bound + past_state before) of st before call links.0 shows (omega arith) in
+    = call_anew puts weight lighter (bound + past_state before) of st before call (links 0 call (omega arith)) shows (omega arith) in
     let run : IsRun T R one.0 call st.size before (step puts weight st call) = one.2 in
     let wider : ℕ = bound + past_state before + past (handed run.answers) in
     let rest : (other : ℕ → T) × AgreeBelow (bound + past_state before + past (handed run.answers)) one.0 other × Shows T R other (step puts weight st call).1.0 run.later × AreRuns puts weight other (step puts weight st call).1.0 run.later calls
-    = calls_anew puts weight lighter (bound + past_state before + past (handed run.answers)) one.0 (step puts weight st call).1.0 run.later calls links.1 run.shows in
+    = calls_anew puts weight lighter (bound + past_state before + past (handed run.answers)) one.0 (step puts weight st call).1.0 run.later calls
+    (λ k d h. still_linked st (step puts weight st call).1.0 (get_or calls k d) (step_kept puts weight st call (length st.links) refl) (links (suc k) d (omega arith))) run.shows in
     let same : AgreeBelow (bound + past_state before) of rest.0 = λ n h. rest.1 n (omega arith) ∙ one.1 n h in (
       rest.0,
       λ n h. same n (omega arith),

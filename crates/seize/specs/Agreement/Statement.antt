@@ -1,6 +1,6 @@
 -- What it means that the two models agree.
 use Rattle.std.specs.Prelude.{◌≡◌, ℕ, ◌<◌, false, List, [], ◌∷◌, length, map, Some}
-use Rattle.std.specs.List.{sum_by}
+use Rattle.std.specs.List.{sum_by, All}
 use Rattle.seize_machine.specs.Machine.State as machine
 use Rattle.seize_machine.specs.Machine.State.{has}
 use Rattle.seize_machine.specs.Machine.Event.{Event}
@@ -47,11 +47,6 @@ Agreement {T} {R} puts weight of =
     (st : waiting.State T R) (before : machine.State) (call : Call T R) → HasLink st call → Shows T R of st before
     → IsRun T R of call st.size before (step puts weight st call)
 
--- each call of links is for one that is there when the call is made
-abbrev pub HaveLinks : {T R : Type 0} → (R → T → List T) → (T → ℕ) → waiting.State T R → List (Call T R) → Type 0
-HaveLinks puts weight st [] = Unit {0}
-HaveLinks puts weight st (call ∷ calls) = HasLink st call × HaveLinks puts weight (step puts weight st call).1.0 calls
-
 -- each call is such a list of events, from where those of the call before it ended, and one naming serves them all
 abbrev pub AreRuns : {T R : Type 0} → (R → T → List T) → (T → ℕ) → (ℕ → T) → waiting.State T R → machine.State → List (Call T R) → Type 0
 AreRuns puts weight of st before [] = Unit {0}
@@ -64,5 +59,5 @@ AreRuns {T} {R} puts weight of st before (call ∷ calls) =
 -- that were ever named.
 abbrev pub AgreementAnew : {T R : Type 0} → (R → T → List T) → (T → ℕ) → Type 0
 AgreementAnew {T} {R} puts weight =
-    (of : ℕ → T) (kept : List ℕ) (st : waiting.State T R) (before : machine.State) (calls : List (Call T R)) → HaveLinks puts weight st calls → Shows T R of st before
+    (of : ℕ → T) (kept : List ℕ) (st : waiting.State T R) (before : machine.State) (calls : List (Call T R)) → All (HasLink st) calls → Shows T R of st before
     → (other : ℕ → T) × (map other kept ≡ map of kept) × Shows T R other st before × AreRuns puts weight other st before calls
