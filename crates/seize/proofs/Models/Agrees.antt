@@ -1,5 +1,5 @@
 -- The two models agree.
-use Rattle.std.proofs.Common.{◌≡◌, ℕ, List, [], ◌∷◌, Option, Some}
+use Rattle.std.proofs.Common.{◌≡◌, ℕ, List, [], ◌∷◌, Some}
 use Rattle.std.specs.List.{AllByRecursion}
 use Rattle.seize_machine.specs.Machine.State as machine
 use Rattle.seize.specs.Waiting.State as waiting
@@ -34,28 +34,28 @@ agrees_where puts weight of P lighter names st before (Retire s v r) link holds 
 agrees_where puts weight of P lighter names st before (Protect s l) link holds own shows = protect_run puts weight of st before s l link shows
 agrees_where puts weight of P lighter names st before (Swap s l new r) link holds own shows = swap_run puts weight lighter of P names st before s l new r link holds own.0 own.1 shows
 
--- a property of every value
-abbrev pub Any : {X : Type 0} → X → Type 0
-Any x = Unit {0}
+-- a property that every value has
+abbrev pub Always : {X : Type 0} → X → Type 0
+Always x = Unit {0}
 
-all_any : {X : Type 0} (xs : List X) → AllByRecursion Any xs
-all_any [] = tt
-all_any (x ∷ xs) = (tt, all_any xs)
+all_always : {X : Type 0} (xs : List X) → AllByRecursion Always xs
+all_always [] = tt
+all_always (x ∷ xs) = (tt, all_always xs)
 
-own_any : {T R : Type 0} (st : waiting.State T R) (call : Call T R) → HoldsOwn Any st call
-own_any st Register = tt
-own_any st EnterOwned = tt
-own_any st (Enter s) = tt
-own_any st (Leave s) = tt
-own_any st (End s) = tt
-own_any st (Refresh s) = tt
-own_any st (Flush s) = tt
-own_any st (Retire s v r) = tt
-own_any st (Protect s l) = tt
-own_any st (Swap s l new r) = (λ v e. tt, λ v e. tt)
+own_always : {T R : Type 0} (st : waiting.State T R) (call : Call T R) → HoldsOwn Always st call
+own_always st Register = tt
+own_always st EnterOwned = tt
+own_always st (Enter s) = tt
+own_always st (Leave s) = tt
+own_always st (End s) = tt
+own_always st (Refresh s) = tt
+own_always st (Flush s) = tt
+own_always st (Retire s v r) = tt
+own_always st (Protect s l) = tt
+own_always st (Swap s l new r) = (λ v e. tt, λ v e. tt)
 
 pub agrees : {T R : Type 0} (puts : R → T → List T) (weight : T → ℕ) (of : ℕ → T) → Lighter puts weight → HasNames of → Agreement puts weight of
 agrees {T} {R} puts weight of lighter names st before call link shows =
-    agrees_where puts weight of Any lighter
-    (record { number = λ v k named. names v.0 named; closed = λ v k. all_any (put_by puts v) })
-    st before call link (record { batches = λ s. all_any _; retired = λ b. all_any _ }) (own_any st call) shows
+    agrees_where puts weight of Always lighter
+    (record { number = λ v k named. names v.0 named; closed = λ v k. all_always (put_by puts v) })
+    st before call link (record { batches = λ s. all_always _; retired = λ b. all_always _ }) (own_always st call) shows

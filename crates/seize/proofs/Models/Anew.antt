@@ -1,5 +1,5 @@
 -- Each list of calls has a naming under which each call in turn is a list of events, whatever the values are.
-use Rattle.std.proofs.Common.{◌≡◌, ℕ, zero, suc, ◌+◌, ◌<◌, ◌≤◌, List, [], ◌∷◌, ◌++◌, length, map, get_or, Option, Some, None, refl, sym, ◌∙◌, ap, arith}
+use Rattle.std.proofs.Common.{◌≡◌, ℕ, zero, suc, ◌+◌, ◌≤◌, List, [], ◌∷◌, ◌++◌, length, get_or, Option, Some, None, refl, ◌∙◌, ap, arith}
 use Rattle.std.specs.List.{All, slice_get}
 use Rattle.seize_machine.specs.Machine.State as machine
 use Rattle.seize.specs.Waiting.State as waiting
@@ -18,15 +18,18 @@ use Rattle.seize.proofs.Models.Comes.{Comes, all_at, renamed, renamed_below, ren
 
 -- The roots of a call: the values that wait or are retired, and those that the call retires or puts into a link.
 
+-- what a link holds, to be reclaimed by this reclaimer
 abbrev pub with_reclaimer : {T R : Type 0} → R → Option T → List (T × R)
 with_reclaimer r None = []
 with_reclaimer r (Some v) = (v, r) ∷ []
 
+-- what a call retires or puts into a link, or takes out of one
 abbrev pub own_values : {T R : Type 0} → waiting.State T R → Call T R → List (T × R)
 own_values st (Retire s v r) = (v, r) ∷ []
 own_values st (Swap s l new r) = with_reclaimer r new ++ with_reclaimer r (link_at st l)
 own_values st _ = []
 
+-- the roots of three kinds: the call's own, those of a slot's batch and those of a retired batch
 abbrev pub root_of : {T R : Type 0} → waiting.State T R → List (T × R) → ℕ → ℕ → Option (T × R)
 root_of st own zero i = slice_get own i
 root_of st own (suc zero) i = slice_get (slot_at st (pair_of i).0).batch (pair_of i).1
@@ -74,7 +77,6 @@ own_holds {T} {R} puts st (Swap s l new r) = (
 pub call_anew : {T R : Type 0} (puts : R → T → List T) (weight : T → ℕ) → Lighter puts weight → (bound : ℕ) (of : ℕ → T) (st : waiting.State T R) (before : machine.State) (call : Call T R) → HasLink st call → Shows T R of st before → past_state before ≤ bound
     → (other : ℕ → T) × AgreeBelow bound of other × IsRun T R other call st.size before (step puts weight st call)
 call_anew {T} {R} puts weight lighter bound of st before call link shows h =
-    let own : List (T × R) = own_values st call in
     let same : AgreeBelow bound of (renamed puts (roots st (own_values st call)) bound of) = renamed_below puts (roots st (own_values st call)) bound of in (
       renamed puts (roots st (own_values st call)) bound of,
       same,
@@ -82,6 +84,7 @@ call_anew {T} {R} puts weight lighter bound of st before call link shows h =
           (roots_hold puts st (own_values st call)) (own_holds puts st call) (shows_same bound of (renamed puts (roots st (own_values st call)) bound of) st before same h shows),
     )
 
+-- a link that is there stays there
 still_linked : {T R : Type 0} (st later : waiting.State T R) (call : Call T R) → length later.links ≡ length st.links → HasLink st call → HasLink later call
 still_linked st later Register e h = tt
 still_linked st later EnterOwned e h = tt
@@ -94,17 +97,15 @@ still_linked st later (Retire s v r) e h = tt
 still_linked st later (Protect s l) e h = omega arith
 still_linked st later (Swap s l new r) e h = omega arith
 
--- each call of a list is one, under one naming, since the naming of a call may be any that is as before on what the calls before it
--- named, showed and handed
+-- Each call of a list is a run, all under one naming: a later naming is as before on the numbers that stand in the state at which a
+-- call was made and on those that it handed.
 pub calls_anew : {T R : Type 0} (puts : R → T → List T) (weight : T → ℕ) → Lighter puts weight → (bound : ℕ) (of : ℕ → T) (st : waiting.State T R) (before : machine.State) (calls : List (Call T R)) → All (HasLink st) calls → Shows T R of st before
     → (other : ℕ → T) × AgreeBelow bound of other × Shows T R other st before × AreRuns puts weight other st before calls
 calls_anew puts weight lighter bound of st before [] links shows = (of, λ n h. refl, shows, tt)
 calls_anew {T} {R} puts weight lighter bound of st before (call ∷ calls) links shows =
-    let wide : ℕ = bound + past_state before in
     let one : (other : ℕ → T) × AgreeBelow (bound + past_state before) of other × IsRun T R other call st.size before (step puts weight st call)
     = call_anew puts weight lighter (bound + past_state before) of st before call (links 0 call (omega arith)) shows (omega arith) in
     let run : IsRun T R one.0 call st.size before (step puts weight st call) = one.2 in
-    let wider : ℕ = bound + past_state before + past (handed run.answers) in
     let rest : (other : ℕ → T) × AgreeBelow (bound + past_state before + past (handed run.answers)) one.0 other × Shows T R other (step puts weight st call).1.0 run.later × AreRuns puts weight other (step puts weight st call).1.0 run.later calls
     = calls_anew puts weight lighter (bound + past_state before + past (handed run.answers)) one.0 (step puts weight st call).1.0 run.later calls
     (λ k d h. still_linked st (step puts weight st call).1.0 (get_or calls k d) (step_kept puts weight st call (length st.links) refl) (links (suc k) d (omega arith))) run.shows in
@@ -126,6 +127,7 @@ calls_anew {T} {R} puts weight lighter bound of st before (call ∷ calls) links
       ),
     )
 
+-- the same of any numbers that are to be kept
 pub agrees_anew : {T R : Type 0} (puts : R → T → List T) (weight : T → ℕ) → Lighter puts weight → AgreementAnew puts weight
 agrees_anew {T} {R} puts weight lighter of kept st before calls links shows =
     let found : (other : ℕ → T) × AgreeBelow (past kept) of other × Shows T R other st before × AreRuns puts weight other st before calls = calls_anew puts weight lighter (past kept) of st before calls links shows in

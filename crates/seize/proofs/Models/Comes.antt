@@ -1,5 +1,5 @@
 -- What comes from some values by what reclaimers put: each has a number, and there are names for them all.
-use Rattle.std.proofs.Common.{◌≡◌, ℕ, zero, suc, ◌+◌, ◌<◌, ◌≤◌, Bool, true, false, if◌then◌else◌, nat_lt, List, [], ◌∷◌, Option, Some, None, refl, ◌∙◌, ap, arith}
+use Rattle.std.proofs.Common.{◌≡◌, ℕ, zero, suc, ◌+◌, ◌≤◌, false, if◌then◌else◌, nat_lt, List, [], ◌∷◌, Option, Some, None, refl, ◌∙◌, ap, arith}
 use Rattle.std.specs.List.{AllByRecursion, slice_get}
 use Rattle.std.proofs.lemmas.Grind.{common_steps}
 use Rattle.seize_machine.specs.Machine.State.{has}
@@ -19,14 +19,16 @@ abbrev pub stage : {T R : Type 0} → (R → T → List T) → (ℕ → Option (
 stage puts roots zero n = roots n
 stage puts roots (suc steps) n = put_at puts (stage puts roots steps (pair_of n).0) (pair_of n).1
 
+-- a value comes from the roots in some number of steps
 abbrev pub Comes : {T R : Type 0} → (R → T → List T) → (ℕ → Option (T × R)) → T × R → Type 0
 Comes puts roots v = (steps : ℕ) × (n : ℕ) × (stage puts roots steps n ≡ Some v)
 
+-- what holds at each place holds of each element
 pub all_at : {X : Type 0} (P : X → Type 0) (xs : List X) → ((i : ℕ) (x : X) → slice_get xs i ≡ Some x → P x) → AllByRecursion P xs
 all_at P [] h = tt
 all_at P (x ∷ xs) h = (h 0 x refl, all_at P xs (λ i y e. h (suc i) y e))
 
--- and so does what such a value puts
+-- and so does each value that it puts
 comes_on : {T R : Type 0} (puts : R → T → List T) (roots : ℕ → Option (T × R)) (v : T × R) → Comes puts roots v → AllByRecursion (Comes puts roots) (put_by puts v)
 comes_on {T} {R} puts roots v c =
     all_at (Comes puts roots) (put_by puts v) (λ k x e.
@@ -34,16 +36,19 @@ comes_on {T} {R} puts roots v c =
 
 -- The naming: numbers below a bound are as before, and each value that comes from the roots has numbers past every bound.
 
+-- what the value holds, or this where there is none
 abbrev pub value_or : {T R : Type 0} → T → Option (T × R) → T
 value_or d None = d
 value_or d (Some v) = v.0
 
+-- Past the bound a number stands for a value by the second part of its pair; the first part makes it as large as is wanted.
 abbrev pub renamed : {T R : Type 0} → (R → T → List T) → (ℕ → Option (T × R)) → ℕ → (ℕ → T) → ℕ → T
 renamed puts roots bound of n = if nat_lt n bound then of n else value_or (of n) (stage puts roots (pair_of (pair_of n).1).0 (pair_of (pair_of n).1).1)
 
 pub renamed_below : {T R : Type 0} (puts : R → T → List T) (roots : ℕ → Option (T × R)) (bound : ℕ) (of : ℕ → T) → AgreeBelow bound of (renamed puts roots bound of)
 renamed_below puts roots bound of n h = if_yes (nat_lt n bound) _ _ (lt_yes n bound h)
 
+-- a number past a list is not in it
 has_past : (n : ℕ) (ns : List ℕ) → past ns ≤ n → has n ns ≡ false
 has_past n [] h = refl
 has_past n (m ∷ ns) h = let rest : has n ns ≡ false = has_past n ns (omega arith) in grind (arith, common_steps)

@@ -1,11 +1,11 @@
 -- Where each value that waits or is retired has a property that passes from a value to what its reclaimer puts, each call keeps it so.
-use Rattle.std.proofs.Common.{◌≡◌, ℕ, zero, suc, Bool, true, false, if◌then◌else◌, List, [], ◌∷◌, ◌++◌, length, map, get_or, set, refl, sym, ap, subst}
-use Rattle.std.specs.List.{AllByRecursion, flat_map}
+use Rattle.std.proofs.Common.{◌≡◌, ℕ, zero, suc, Bool, true, false, if◌then◌else◌, List, [], ◌∷◌, ◌++◌, length, get_or, set, refl, sym, subst}
+use Rattle.std.specs.List.{AllByRecursion}
 use Rattle.std.proofs.lemmas.List.Concat.{flat_map-cons}
 use Rattle.std.proofs.Math.ListN.{get_or-map}
 use Rattle.seize_machine.specs.Machine.State.{has}
 use Rattle.seize.specs.Waiting.State.{Slot, State, slot_at, retired_at, set_slot, no_slot, is_kept}
-use Rattle.seize.specs.Waiting.Attempt.{Outcome, after, release, release_all, wait_if_active, detached, gives_up, attempt, appended, put, part}
+use Rattle.seize.specs.Waiting.Attempt.{Outcome, release, release_all, wait_if_active, detached, gives_up, attempt, appended, put, part}
 use Rattle.seize.specs.Waiting.Further.{put_by, further}
 use Rattle.seize.proofs.Models.Waits.{by_active}
 
@@ -35,6 +35,7 @@ all_further puts of P names (v ∷ gone) h =
     subst (λ l. AllByRecursion P l) (sym (flat_map-cons (put_by puts) v gone))
     (all_append P (put_by puts v) (further puts gone) (names.closed v h.0) (all_further puts of P names gone h.1))
 
+-- what holds of an element and of those before holds in a list where it was written, or pushed
 at_set : {X : Type 0} (Q : X → Type 0) (xs : List X) (s : ℕ) (y : X) (i : ℕ) (d : X) → Q y → Q (get_or xs i d) → Q (get_or (set xs s y) i d)
 at_set Q [] s y i d h k = k
 at_set Q (x ∷ xs) zero y zero d h k = h
@@ -68,6 +69,7 @@ holds_release {T} {R} P st b h =
 waits_batch : {T R : Type 0} (b : ℕ) (slot : Slot T R) → (wait_if_active b slot).batch ≡ slot.batch
 waits_batch b slot = by_active (λ x t. x.batch ≡ slot.batch) b slot (λ e. refl) (λ e. refl)
 
+-- a batch that was detached, and one that was detached and released
 holds_detached : {T R : Type 0} (P : T × R → Type 0) (st : State T R) (s : ℕ) → Holds T R P st → Holds T R P (detached st s)
 holds_detached {T} {R} P st s h =
     let emptied : Holds T R P (set_slot st s (record (slot_at st s) { batch = [] })) = holds_set P st s (record (slot_at st s) { batch = [] }) h tt in

@@ -33,6 +33,7 @@ or_false false false e = (refl, refl)
 or_false false true e = absurd (cc)
 or_false true b e = absurd (cc)
 
+-- each of these values has a name of its own
 pub fresh_names : {T R : Type 0} (puts : R → T → List T) (of : ℕ → T) (P : T × R → Type 0) → Names T R puts of P → (named : List ℕ) (vs : List (T × R)) → AllByRecursion P vs
     → (ns : List ℕ) × (are_fresh named ns ≡ true) × Stand of ns vs
 fresh_names puts of P names named [] k = ([], refl, refl)

@@ -1,5 +1,5 @@
 -- A state of the machine that shows one of waiting sets shows it under every naming that agrees on the numbers that stand in it.
-use Rattle.std.proofs.Common.{◌≡◌, ℕ, zero, suc, ◌+◌, ◌<◌, ◌≤◌, List, [], ◌∷◌, length, map, get_or, Option, Some, None, option_to_list, refl, ◌∙◌, ap, arith}
+use Rattle.std.proofs.Common.{◌≡◌, ℕ, zero, suc, ◌+◌, ◌<◌, ◌≤◌, List, [], ◌∷◌, map, get_or, Option, Some, None, option_to_list, refl, ◌∙◌, ap, arith}
 use Rattle.seize_machine.specs.Machine.State as machine
 use Rattle.seize.specs.Waiting.State as waiting
 use Rattle.seize.specs.Agreement.Shows.{Stand, held, ShowsSlot, Shows}
@@ -18,6 +18,7 @@ past_by f (x ∷ xs) = past (f x) + past_by f xs
 abbrev pub past_state : machine.State → ℕ
 past_state ms = past_by (λ (slot : machine.Slot). slot.batch) ms.slots + past_by (λ (b : machine.Batch). b.values) ms.batches + past_by (λ (x : Option ℕ). option_to_list x) ms.links
 
+-- what an element holds is below what is past all
 past_at : {X : Type 0} (f : X → List ℕ) (xs : List X) (i : ℕ) (d : X) → f d ≡ [] → past (f (get_or xs i d)) ≤ past_by f xs
 past_at f [] i d e = let none : past (f d) ≡ 0 = ap past e in omega arith
 past_at f (x ∷ xs) zero d e = omega arith
@@ -27,6 +28,7 @@ past_at f (x ∷ xs) (suc i) d e = let rest : past (f (get_or xs i d)) ≤ past_
 abbrev pub AgreeBelow : {T : Type 0} → ℕ → (ℕ → T) → (ℕ → T) → Type 0
 AgreeBelow bound of other = (n : ℕ) → n < bound → other n ≡ of n
 
+-- numbers below the bound stand for the same
 pub map_same : {T : Type 0} (bound : ℕ) (of other : ℕ → T) (ns : List ℕ) → AgreeBelow bound of other → past ns ≤ bound → map other ns ≡ map of ns
 map_same bound of other [] same h = refl
 map_same bound of other (n ∷ ns) same h = ap (λ x. x ∷ map other ns) (same n (omega arith)) ∙ ap (λ l. of n ∷ l) (map_same bound of other ns same (omega arith))
