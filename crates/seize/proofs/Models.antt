@@ -5,6 +5,7 @@ pub mod Attempts
 pub mod Near
 pub mod Released
 pub mod Waits
+pub mod Holding
 pub mod Puts
 pub mod Walks
 pub mod Falls
@@ -15,4 +16,8 @@ pub mod Guards
 pub mod Links
 pub mod Takes
 pub mod Agrees
+pub mod Pairs
+pub mod Renamed
+pub mod Comes
+pub mod Anew
 pub mod Openings

@@ -6,7 +6,7 @@ ghost use Rattle.seize_machine.specs.Machine.State.{opening};
 ghost use Rattle.seize.specs.Waiting.State.{new};
 ghost use Rattle.seize.specs.Waiting.Runs as runs;
 ghost use Rattle.seize.specs.Agreement.Shows.{Shows};
-ghost use Rattle.seize.specs.Agreement.Statement.{Lighter, HasNames, Agreement};
+ghost use Rattle.seize.specs.Agreement.Statement.{Lighter, HasNames, Agreement, AgreementAnew};
 ghost use Rattle.seize.specs.Agreement.Runs.{by_events, by_sets};
 
 /// The worked runs of waiting sets, each from a collector just made of the given size and number of links, up to its first reclaim
@@ -28,8 +28,10 @@ pub fn runs_agree()
 
 /// A machine just opened shows a collector just made; and from every two states that show each other, each call but a reclaim of all
 /// is a list of legal events of the machine, where what a reclaimer puts weighs less than its value and there is always a fresh
-/// number for a value.
+/// number for a value. For values of any type, which may have no such numbers, each list of calls has some: a function from numbers
+/// to values that is as before at any numbers that are to be kept, and under which each call in turn is a list of legal events.
 pub fn models_agree<T, R>()
     ensures made { (of : ℕ → T) (size links : ℕ) → Shows T R of (new size links) (opening 0 (replicate links None)) }
     ensures call { (puts : R → T → List T) (weight : T → ℕ) (of : ℕ → T) → Lighter puts weight → HasNames of → Agreement puts weight of }
+    ensures any { (puts : R → T → List T) (weight : T → ℕ) → Lighter puts weight → AgreementAnew puts weight }
 {}

@@ -67,6 +67,7 @@ impl<'a> Watch<Item<'a>> for Names {
 
 pub type Items<'a> = Collector<Item<'a>, Counting<'a>>;
 
+/// A collector of such values with this batch size and number of links.
 pub fn items<'a>(
     alloc: Global,
     ids: &mut IdSource,
@@ -76,6 +77,7 @@ pub fn items<'a>(
     Ok(Collector::new(alloc, ids, 1, links)?.batch_size(size))
 }
 
+/// A block of the collector with a value of this name; where it is refused the value is dropped.
 pub fn block<'a>(
     collector: &Items<'a>,
     name: u64,

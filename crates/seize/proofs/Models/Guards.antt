@@ -17,11 +17,12 @@ use Rattle.seize.specs.Waiting.Further.{settled}
 use Rattle.seize.specs.Waiting.Calls.{first, no_guard, not_registered, too_many, is_free, is_owned, left_by, freed, freed_if, set_guards}
 use Rattle.seize.specs.Waiting.Lists.{Leave, Enter, Done, done, step}
 use Rattle.seize.specs.Agreement.Shows.{ShowsSlot, Shows, head_of}
-use Rattle.seize.specs.Agreement.Statement.{HasNames, Lighter, IsRun}
+use Rattle.seize.specs.Agreement.Statement.{Lighter, IsRun}
 use Rattle.seize.proofs.Models.Leads.{Leads, and_then, by_one}
 use Rattle.seize.proofs.Models.Busy.{busy, rested, set_twice, if_yes, return_step}
 use Rattle.seize.proofs.Models.Near.{Near, NearAt, near_of, near_set, near_out}
 use Rattle.seize.proofs.Models.Puts.{Does, own_slot}
+use Rattle.seize.proofs.Models.Holding.{Names, Holds, holds_same, holds_part}
 use Rattle.seize.proofs.Models.Settles.{Ends, settled_ends}
 use Rattle.seize.proofs.Models.Begins.{begin_leave, give_step, in_use, in_machine, near_rested, run_of, run_unless, returned}
 use Rattle.seize.proofs.Models.Jobs.{guard_of, active_head, from_idle, out_does, settled_nothing, no_events}
@@ -91,9 +92,9 @@ gives_back {T} {R} of size s before start true o l d h =
     (ap (λ (hs : List ℕ). map of hs) (append-nil d.handed) ∙ d.gone)
     (λ events answers. refl)
 
-pub leave_run : {T R : Type 0} (puts : R → T → List T) (weight : T → ℕ) → Lighter puts weight → (of : ℕ → T) → HasNames of → (st : waiting.State T R) (before : State) (s : ℕ) → Shows T R of st before
+pub leave_run : {T R : Type 0} (puts : R → T → List T) (weight : T → ℕ) → Lighter puts weight → (of : ℕ → T) (P : T × R → Type 0) → Names T R puts of P → (st : waiting.State T R) (before : State) (s : ℕ) → Holds T R P st → Shows T R of st before
     → IsRun T R of (Leave s) st.size before (step puts weight st (Leave s))
-leave_run {T} {R} puts weight lighter of names st before s shows =
+leave_run {T} {R} puts weight lighter of P names st before s holds shows =
     run_unless of (Leave s) st before done None (no_guard st s) tt (freed_if (is_owned (slot_at st s).kind) s (settled puts weight s (left_by st s))) shows (λ e. go ((slot_at st s).guards == 1) refl (guard_of st s e))
   where
     parts : (is_free (slot_at st s).kind ≡ false) × (waiting.is_active (slot_at st s) ≡ true) → IsRun T R of (Leave s) st.size before (Done, freed_if (is_owned (slot_at st s).kind) s (settled puts weight s (part (set_guards st s 0) s)))
@@ -106,9 +107,10 @@ leave_run {T} {R} puts weight lighter of names st before s shows =
         let own : ShowsSlot T R of (slot_at st s) (record { used = true; batch = batch; call = None }) = own_slot of st before s batch rest h in
         let does : Does T R puts of st.size s 0 (busy before s batch (Out false) []) [] (part (set_guards st s 0) s)
         = subst (λ o. Does T R puts of st.size s 0 (busy before s batch (Out false) []) [] o) (sym (left_is st s within))
-        (out_does puts of names st before s false batch (record (slot_at st s) { guards = 0; order = [] }) rest h g.1 refl refl
+        (out_does puts of P names st before s false batch (record (slot_at st s) { guards = 0; order = [] }) holds refl rest h g.1 refl refl
         (record { used = own.used; idle = refl; batch = own.batch; free = λ e. refl; owned = λ e. omega arith; inactive = λ e. refl; once = refl })) in
-        let ends : Ends T R of st.size s 0 (busy before s batch (Out false) []) (settled puts weight s (part (set_guards st s 0) s)) = settled_ends puts weight lighter of names st.size s 0 _ (part (set_guards st s 0) s) does in
+        let ends : Ends T R of st.size s 0 (busy before s batch (Out false) []) (settled puts weight s (part (set_guards st s 0) s)) = settled_ends puts weight lighter of P names st.size s 0 _ (part (set_guards st s 0) s)
+        (holds_part P (set_guards st s 0) s (holds_same P st s (record (slot_at st s) { guards = 0 }) refl holds)) does in
         gives_back of st.size s before _ (is_owned (slot_at st s).kind) (settled puts weight s (part (set_guards st s 0) s))
         (from_idle of st before _ st.size s near g.0 (by_one st.size _ _ (Begin s job.TheVariants.Leave) DoneEvent (begin_leave st.size before s batch h (active_head of st before s true near g.1)) refl))
         ends

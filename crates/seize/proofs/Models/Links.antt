@@ -20,10 +20,11 @@ use Rattle.seize.specs.Waiting.Calls.{no_guard, not_registered, unless, is_free,
 use Rattle.seize.specs.Waiting.Lists.{Call, End, Protect, Swap, Reply, Done, Kept, Found, done, ended, reply, swapped, step}
 use Rattle.seize.specs.Agreement.Shows.{held, Shows}
 use Rattle.seize.specs.Agreement.Play.{handed}
-use Rattle.seize.specs.Agreement.Statement.{HasNames, Lighter, IsRun, IsReply}
+use Rattle.seize.specs.Agreement.Statement.{Lighter, IsRun, IsReply}
 use Rattle.seize.proofs.Models.Leads.{by_one, play_first}
 use Rattle.seize.proofs.Models.Busy.{if_yes, lt_yes}
 use Rattle.seize.proofs.Models.Near.{NearAt, near_of, shows_of}
+use Rattle.seize.proofs.Models.Holding.{Names, Holds}
 use Rattle.seize.proofs.Models.Begins.{give_step, in_use, in_machine, is_rested, near_rested, run_unless}
 use Rattle.seize.proofs.Models.Jobs.{guard_of, active_head, no_events, retire_ends}
 use Rattle.seize.proofs.Models.Guards.{registered_of, near_freed}
@@ -84,19 +85,20 @@ protect_run {T} {R} puts weight of st before s l h shows =
     found (Some v) = refl
 
 -- a fresh number for what a link is to hold
-new_number : {T : Type 0} (of : ℕ → T) → HasNames of → (ms : State) (new : Option T) → (n : Option ℕ) × (is_none_or_fresh ms n ≡ true) × (held of n ≡ new)
-new_number of names ms None = (None, refl, refl)
-new_number {T} of names ms (Some v) =
-    let name : (n : ℕ) × (has n ms.named ≡ false) × (of n ≡ v) = names v ms.named in
+new_number : {T R : Type 0} (puts : R → T → List T) (of : ℕ → T) (P : T × R → Type 0) → Names T R puts of P → (ms : State) (new : Option T) (r : R) → ((v : T) → new ≡ Some v → P (v, r)) → (n : Option ℕ) × (is_none_or_fresh ms n ≡ true) × (held of n ≡ new)
+new_number puts of P names ms None r holds = (None, refl, refl)
+new_number {T} {R} puts of P names ms (Some v) r holds =
+    let name : (n : ℕ) × (has n ms.named ≡ false) × (of n ≡ v) = names.number (v, r) (holds v refl) ms.named in
     (Some name.0, ap (λ (t : Bool). not t) name.1, ap (λ (x : T). Option.Some x) name.2)
 
 has_last : (v : ℕ) (xs : List ℕ) → has v (xs ++ v ∷ []) ≡ true
 has_last v [] = grind arith
 has_last v (x ∷ xs) = grind (arith, has_last v xs)
 
-pub swap_run : {T R : Type 0} (puts : R → T → List T) (weight : T → ℕ) → Lighter puts weight → (of : ℕ → T) → HasNames of → (st : waiting.State T R) (before : State) (s l : ℕ) (new : Option T) (r : R) → l < length st.links → Shows T R of st before
+pub swap_run : {T R : Type 0} (puts : R → T → List T) (weight : T → ℕ) → Lighter puts weight → (of : ℕ → T) (P : T × R → Type 0) → Names T R puts of P → (st : waiting.State T R) (before : State) (s l : ℕ) (new : Option T) (r : R) → l < length st.links → Holds T R P st
+    → ((v : T) → new ≡ Some v → P (v, r)) → ((v : T) → link_at st l ≡ Some v → P (v, r)) → Shows T R of st before
     → IsRun T R of (Swap s l new r) st.size before (step puts weight st (Swap s l new r))
-swap_run {T} {R} puts weight lighter of names st before s l new r h shows = go (no_guard st s) refl
+swap_run {T} {R} puts weight lighter of P names st before s l new r h holds new_holds old_holds shows = go (no_guard st s) refl
   where
     next_st : waiting.State T R
     next_st = record st { links = set st.links l new }
@@ -127,7 +129,8 @@ swap_run {T} {R} puts weight lighter of names st before s l new r h shows = go (
         let loose : has old (machine_next.swapped before l name.0).loose ≡ true = ap (λ (x : Option ℕ). has old (before.loose ++ option_to_list x)) is ∙ has_last old before.loose in
         subst (λ (x : Option Refusal). IsRun T R of (Swap s l new r) st.size before (reply done (Some (of old)) (unless x (record st { links = set st.links l new }) (Ok tt, settled puts weight s (put (record st { links = set st.links l new }) s (of old, r))))))
         (sym (ap (λ (t : Bool). if t then Some NotInUse else None) used))
-        (retire_ends puts weight lighter of names (record st { links = set st.links l new }) (machine_next.swapped before l name.0) s old (of old, r) (near name.0 name.2) used
+        (retire_ends puts weight lighter of P names (record st { links = set st.links l new }) (machine_next.swapped before l name.0) s old (of old, r)
+        (record { batches = holds.batches; retired = holds.retired }) (old_holds (of old) (same_link of st before l (near_of of st before shows) ∙ ap (held of) is)) (near name.0 name.2) used
         (is_free_name (has old (machine_next.swapped before l name.0).named) _ loose) refl (Swap s l new r) before
         (by_one st.size before _ (ExchangeLink s l (SwapLink name.0)) (Link (machine.link_at before l)) (swaps name.0 name.1 e) refl)
         (λ events answers. refl))
@@ -139,5 +142,5 @@ swap_run {T} {R} puts weight lighter of names st before s l new r h shows = go (
     go : (refusal : Option Refusal) → no_guard st s ≡ refusal
         → (let a = unless refusal st (Ok (link_at st l), (record st { links = set st.links l new }, [])) in IsRun T R of (Swap s l new r) st.size before (swapped puts weight s new r a.0 a.1))
     go None e = subst (λ x. IsRun T R of (Swap s l new r) st.size before (swapped puts weight s new r (Ok x) (record st { links = set st.links l new }, []))) (sym (same_link of st before l (near_of of st before shows)))
-        (after_swap (machine.link_at before l) refl (new_number of names before new) e)
+        (after_swap (machine.link_at before l) refl (new_number puts of P names before new r new_holds) e)
     go (Some f) e = record { events = []; answers = []; later = before; legal = refl; shows = shows; gone = refl; reply = refl }

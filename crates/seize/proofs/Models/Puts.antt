@@ -1,6 +1,6 @@
 -- Hands, attempts and retirements within a call, on both sides.
 use Rattle.std.proofs.Common.{◌≡◌, ℕ, ◌<◌, ◌≤◌, pos, Bool, true, false, not, ◌&&◌, ◌||◌, ◌==◌, if◌then◌else◌, nat_lt, List, [], ◌∷◌, ◌++◌, length, map, get_or, set, None, refl, sym, ◌∙◌, ap, subst, arith, length-append, append_assoc, append-nil}
-use Rattle.std.specs.List.{count_by, list_all}
+use Rattle.std.specs.List.{count_by, list_all, AllByRecursion}
 use Rattle.std.proofs.lemmas.List.Concat.{flat_map-cons}
 use Rattle.std.proofs.lemmas.List.{get_or-set_same, length-set, length-map, map-append}
 use Rattle.std.proofs.Math.ListN.{get_or-map}
@@ -14,13 +14,13 @@ use Rattle.seize.specs.Waiting.State.{slot_at, keeps}
 use Rattle.seize.specs.Waiting.Attempt.{Outcome, release, wait_if_active, attempt, gives_up, detached, active_slots}
 use Rattle.seize.specs.Waiting.Further.{further, put_by}
 use Rattle.seize.specs.Agreement.Shows.{Stand, ShowsSlot, head_of}
-use Rattle.seize.specs.Agreement.Statement.{HasNames}
 use Rattle.seize.proofs.Models.Leads.{Leads, and_then}
 use Rattle.seize.proofs.Models.Busy.{busy, rested, set_twice, hand_step}
 use Rattle.seize.proofs.Models.Attempts.{actives, with_front, set_seam, same_state, waited, attempts_on, attempts_stop, waited_place}
 use Rattle.seize.proofs.Models.Near.{Near, NearAt, near_set}
 use Rattle.seize.proofs.Models.Released.{near_release, BothGone, batch_with}
 use Rattle.seize.proofs.Models.Waits.{by_active, actives_count, near_waits}
+use Rattle.seize.proofs.Models.Holding.{Names, Holds, holds_detach}
 
 -- Fresh numbers.
 
@@ -33,11 +33,13 @@ or_false false false e = (refl, refl)
 or_false false true e = absurd (cc)
 or_false true b e = absurd (cc)
 
-pub fresh_names : {T : Type 0} (of : ℕ → T) → HasNames of → (named : List ℕ) (vs : List T) → (ns : List ℕ) × (are_fresh named ns ≡ true) × (map of ns ≡ vs)
-fresh_names of names named [] = ([], refl, refl)
-fresh_names {T} of names named (v ∷ vs) =
-    let more : (ns : List ℕ) × (are_fresh named ns ≡ true) × (map of ns ≡ vs) = fresh_names of names named vs in
-    let one : (n : ℕ) × (has n (more.0 ++ named) ≡ false) × (of n ≡ v) = names v (more.0 ++ named) in
+-- each of these values has a name of its own
+pub fresh_names : {T R : Type 0} (puts : R → T → List T) (of : ℕ → T) (P : T × R → Type 0) → Names T R puts of P → (named : List ℕ) (vs : List (T × R)) → AllByRecursion P vs
+    → (ns : List ℕ) × (are_fresh named ns ≡ true) × Stand of ns vs
+fresh_names puts of P names named [] k = ([], refl, refl)
+fresh_names {T} {R} puts of P names named (v ∷ vs) k =
+    let more : (ns : List ℕ) × (are_fresh named ns ≡ true) × Stand of ns vs = fresh_names puts of P names named vs k.1 in
+    let one : (n : ℕ) × (has n (more.0 ++ named) ≡ false) × (of n ≡ v.0) = names.number v k.0 (more.0 ++ named) in
     let new : (has one.0 more.0 ≡ false) × (has one.0 named ≡ false) = or_false _ _ (sym (has_append one.0 more.0 named) ∙ one.1) in
     (one.0 ∷ more.0, all_fresh (has one.0 named) (has one.0 more.0) (list_all (λ v. not (has v named)) more.0) (are_distinct more.0) new.1 new.0 more.1, cc)
   where
@@ -55,37 +57,32 @@ pub record Handing (T R : Type 0) (puts : R → T → List T) (of : ℕ → T) (
   pub leads : Leads size (busy base s batch (Rest given walk) queue) given (busy (record base { gone = gone; named = named }) s batch (Rest [] walk) (queue ++ more))
   pub stand : Stand of more (further puts values)
 
-put_by_is : {T R : Type 0} (r : R) (xs : List T) → map (λ (v : T × R). v.0) (map (λ x. (x, r)) xs) ≡ xs
-put_by_is r [] = refl
-put_by_is r (x ∷ xs) = ap (λ l. x ∷ l) (put_by_is r xs)
-
 pub stand_append : {T R : Type 0} (of : ℕ → T) (ns ms : List ℕ) (xs ys : List (T × R)) → Stand of ns xs → Stand of ms ys → Stand of (ns ++ ms) (xs ++ ys)
 stand_append {T} {R} of ns ms xs ys e f = map-append of ns ms ∙ ap (λ l. l ++ map of ms) e ∙ ap (λ l. map (λ (v : T × R). v.0) xs ++ l) f ∙ sym (map-append (λ (v : T × R). v.0) xs ys)
 
-pub hands_on : {T R : Type 0} (puts : R → T → List T) (of : ℕ → T) → HasNames of → (size : ℕ) (base : State) (s : ℕ) (batch given walk queue : List ℕ) (values : List (T × R)) → s < length base.slots → Stand of given values
-    → Handing T R puts of size base s batch given walk queue values
-hands_on puts of names size base s batch [] walk queue [] h e = record {
+pub hands_on : {T R : Type 0} (puts : R → T → List T) (of : ℕ → T) (P : T × R → Type 0) → Names T R puts of P → (size : ℕ) (base : State) (s : ℕ) (batch given walk queue : List ℕ) (values : List (T × R)) → s < length base.slots → Stand of given values
+    → AllByRecursion P values → Handing T R puts of size base s batch given walk queue values
+hands_on puts of P names size base s batch [] walk queue [] h e k = record {
   gone = base.gone;
   named = base.named;
   more = [];
   leads = same_state size _ _ (ap (λ (l : List ℕ). busy base s batch (Rest [] walk) l) (sym (append-nil queue)));
   stand = refl;
 }
-hands_on puts of names size base s batch [] walk queue (x ∷ values) h e = absurd (cc)
-hands_on puts of names size base s batch (v ∷ given) walk queue [] h e = absurd (cc)
-hands_on {T} {R} puts of names size base s batch (v ∷ given) walk queue (x ∷ values) h e =
-    let ns : (ns : List ℕ) × (are_fresh base.named ns ≡ true) × (map of ns ≡ puts x.1 x.0) = fresh_names of names base.named (puts x.1 x.0) in
+hands_on puts of P names size base s batch [] walk queue (x ∷ values) h e k = absurd (cc)
+hands_on puts of P names size base s batch (v ∷ given) walk queue [] h e k = absurd (cc)
+hands_on {T} {R} puts of P names size base s batch (v ∷ given) walk queue (x ∷ values) h e k =
+    let ns : (ns : List ℕ) × (are_fresh base.named ns ≡ true) × Stand of ns (put_by puts x) = fresh_names puts of P names base.named (put_by puts x) (names.closed x k.0) in
     let rest_stands : Stand of given values = cc in
     let on : Handing T R puts of size (record base { gone = base.gone ++ v ∷ []; named = base.named ++ ns.0 }) s batch given walk (queue ++ ns.0) values
-    = hands_on puts of names size (record base { gone = base.gone ++ v ∷ []; named = base.named ++ ns.0 }) s batch given walk (queue ++ ns.0) values h rest_stands in
-    let first : Stand of ns.0 (put_by puts x) = ns.2 ∙ sym (put_by_is x.1 (puts x.1 x.0)) in
+    = hands_on puts of P names size (record base { gone = base.gone ++ v ∷ []; named = base.named ++ ns.0 }) s batch given walk (queue ++ ns.0) values h rest_stands k.1 in
     record {
       gone = on.gone;
       named = on.named;
       more = ns.0 ++ on.more;
       leads = Leads.hands _ (Hand s ns.0) _ _ v given (hand_step size base s v ns.0 batch given walk queue h ns.1)
           (subst (λ (l : List ℕ). Leads size (busy (record base { gone = base.gone ++ v ∷ []; named = base.named ++ ns.0 }) s batch (Rest given walk) (queue ++ ns.0)) given (busy (record base { gone = on.gone; named = on.named }) s batch (Rest [] walk) l)) (append_assoc queue ns.0 on.more) on.leads);
-      stand = stand_append of ns.0 on.more (put_by puts x) (further puts values) first on.stand ∙ ap (λ l. map (λ (v : T × R). v.0) l) (sym (flat_map-cons (put_by puts) x values));
+      stand = stand_append of ns.0 on.more (put_by puts x) (further puts values) ns.2 on.stand ∙ ap (λ l. map (λ (v : T × R). v.0) l) (sym (flat_map-cons (put_by puts) x values));
     }
 
 -- A piece of the work of a call of s, from here to where the call goes on with its queue.
@@ -144,9 +141,10 @@ detached_guards {T} {R} st s h =
     ∙ waits_guards (length st.retired) _
     ∙ ap (λ (x : waiting.Slot T R). x.guards) (get_or-set_same st.slots s (record (slot_at st s) { batch = [] }) waiting.no_slot h)
 
-pub attempt_does : {T R : Type 0} (puts : R → T → List T) (of : ℕ → T) → HasNames of → (st : waiting.State T R) (base : State) (s : ℕ) (batch queue : List ℕ) → NearAt of [] st (rested base s batch) → s < length base.slots → 1 ≤ length batch
+pub attempt_does : {T R : Type 0} (puts : R → T → List T) (of : ℕ → T) (P : T × R → Type 0) → Names T R puts of P → (st : waiting.State T R) (base : State) (s : ℕ) (batch queue : List ℕ) → Holds T R P st → NearAt of [] st (rested base s batch) → s < length base.slots
+    → 1 ≤ length batch
     → Does T R puts of st.size s (slot_at st s).guards (busy base s batch (Mark 0 (length base.slots) []) queue) queue (attempt st s)
-attempt_does {T} {R} puts of names st base s batch queue n h some =
+attempt_does {T} {R} puts of P names st base s batch queue holds n h some =
     go (gives_up st s) refl
   where
     own : ShowsSlot T R of (slot_at st s) (record { used = true; batch = batch; call = None })
@@ -201,7 +199,7 @@ attempt_does {T} {R} puts of names st base s batch queue n h some =
         let stand : Stand of (if won == 0 then batch else []) (release (detached st s) b).1
         = subst (λ (x : Batch). Stand of (if won == 0 then x.values else []) (release (detached st s) b).1) own_batch gone.1 in
         let handing : Handing T R puts of st.size (waited base batch) s [] (if won == 0 then batch else []) [] queue (release (detached st s) b).1
-        = hands_on puts of names st.size (waited base batch) s [] (if won == 0 then batch else []) [] queue (release (detached st s) b).1 h stand in
+        = hands_on puts of P names st.size (waited base batch) s [] (if won == 0 then batch else []) [] queue (release (detached st s) b).1 h stand (holds_detach P st s holds).1 in
         record {
           base = record (waited base batch) { gone = handing.gone; named = handing.named };
           batch = [];

@@ -1,5 +1,6 @@
 -- The further values within a call, on both sides, to the end of the call's queue.
 use Rattle.std.proofs.Common.{◌≡◌, ℕ, zero, suc, ◌<◌, ◌≤◌, List, [], ◌∷◌, ◌++◌, length, refl, ◌∙◌, subst, arith}
+use Rattle.std.specs.List.{AllByRecursion}
 use Rattle.seize_machine.specs.Machine.State.{State, Rest}
 use Rattle.seize_machine.specs.Machine.Event.{Put}
 use Rattle.seize.specs.Waiting.State as waiting
@@ -7,10 +8,11 @@ use Rattle.seize.specs.Waiting.State.{slot_at}
 use Rattle.seize.specs.Waiting.Attempt.{Outcome, after, put}
 use Rattle.seize.specs.Waiting.Further.{further, settle, settled, still_to_come}
 use Rattle.seize.specs.Agreement.Shows.{Stand}
-use Rattle.seize.specs.Agreement.Statement.{HasNames, Lighter}
+use Rattle.seize.specs.Agreement.Statement.{Lighter}
 use Rattle.seize.proofs.Models.Leads.{Leads, and_then}
 use Rattle.seize.proofs.Models.Busy.{busy, rested, put_next_step}
 use Rattle.seize.proofs.Models.Near.{NearAt}
+use Rattle.seize.proofs.Models.Holding.{Names, Holds, HoldsAfter, all_append, all_further, holds_put}
 use Rattle.seize.proofs.Models.Puts.{Does, stand_append}
 use Rattle.seize.proofs.Models.Walks.{after_put}
 use Rattle.seize.proofs.Models.Falls.{falls}
@@ -56,22 +58,24 @@ at_once of size guards st base s batch n h e g = record {
   same_guards = g;
 }
 
-pub settle_ends : {T R : Type 0} (puts : R → T → List T) (weight : T → ℕ) → Lighter puts weight → (of : ℕ → T) → HasNames of → (n size guards : ℕ) (st : waiting.State T R) (base : State) (s : ℕ) (batch queue : List ℕ) (values : List (T × R))
-    → NearAt of [] st (rested base s batch) → s < length base.slots → Stand of queue values → st.size ≡ size → (slot_at st s).guards ≡ guards → still_to_come weight (slot_at st s).batch values ≤ n
+pub settle_ends : {T R : Type 0} (puts : R → T → List T) (weight : T → ℕ) → Lighter puts weight → (of : ℕ → T) (P : T × R → Type 0) → Names T R puts of P → (n size guards : ℕ) (st : waiting.State T R) (base : State) (s : ℕ) (batch queue : List ℕ) (values : List (T × R))
+    → Holds T R P st → AllByRecursion P values → NearAt of [] st (rested base s batch) → s < length base.slots → Stand of queue values → st.size ≡ size → (slot_at st s).guards ≡ guards → still_to_come weight (slot_at st s).batch values ≤ n
     → Ends T R of size s guards (busy base s batch (Rest [] []) queue) (settle puts n st s values)
-settle_ends puts weight lighter of names zero size guards st base s batch [] [] near h e same g le = at_once of size guards st base s batch near h same g
-settle_ends puts weight lighter of names (suc n) size guards st base s batch [] [] near h e same g le = at_once of size guards st base s batch near h same g
-settle_ends puts weight lighter of names n size guards st base s batch [] (v ∷ values) near h e same g le = absurd (cc)
-settle_ends puts weight lighter of names n size guards st base s batch (q ∷ queue) [] near h e same g le = absurd (cc)
-settle_ends puts weight lighter of names zero size guards st base s batch (q ∷ queue) (v ∷ values) near h e same g le = absurd (omega (arith, falls puts weight lighter st s v values))
-settle_ends {T} {R} puts weight lighter of names (suc n) size guards st base s batch (q ∷ queue) (v ∷ values) near h e same g le =
+settle_ends puts weight lighter of P names zero size guards st base s batch [] [] holds all near h e same g le = at_once of size guards st base s batch near h same g
+settle_ends puts weight lighter of P names (suc n) size guards st base s batch [] [] holds all near h e same g le = at_once of size guards st base s batch near h same g
+settle_ends puts weight lighter of P names n size guards st base s batch [] (v ∷ values) holds all near h e same g le = absurd (cc)
+settle_ends puts weight lighter of P names n size guards st base s batch (q ∷ queue) [] holds all near h e same g le = absurd (cc)
+settle_ends puts weight lighter of P names zero size guards st base s batch (q ∷ queue) (v ∷ values) holds all near h e same g le = absurd (omega (arith, falls puts weight lighter st s v values))
+settle_ends {T} {R} puts weight lighter of P names (suc n) size guards st base s batch (q ∷ queue) (v ∷ values) holds all near h e same g le =
+    let held : HoldsAfter P (put st s v) = holds_put P st s v holds all.0 in
     let first : of q ≡ v.0 = cc in
     let rest : Stand of queue values = cc in
-    let does : Does T R puts of st.size s (slot_at st s).guards _ queue (put st s v) = after_put puts of names st base s q v batch queue near h first in
+    let does : Does T R puts of st.size s (slot_at st s).guards _ queue (put st s v) = after_put puts of P names st base s q v batch queue holds all.0 near h first in
     let falls_here : still_to_come weight (slot_at (put st s v).0 s).batch (values ++ further puts (put st s v).1) < still_to_come weight (slot_at st s).batch (v ∷ values) = falls puts weight lighter st s v values in
     let fuel : still_to_come weight (slot_at (put st s v).0 s).batch (values ++ further puts (put st s v).1) ≤ n = omega arith in
     let later : Ends T R of size s guards (busy does.base s does.batch (Rest [] []) (queue ++ does.more)) (settle puts n (put st s v).0 s (values ++ further puts (put st s v).1))
-    = settle_ends puts weight lighter of names n size guards (put st s v).0 does.base s does.batch (queue ++ does.more) (values ++ further puts (put st s v).1) does.near does.within
+    = settle_ends puts weight lighter of P names n size guards (put st s v).0 does.base s does.batch (queue ++ does.more) (values ++ further puts (put st s v).1) held.0
+    (all_append P values (further puts (put st s v).1) all.1 (all_further puts of P names (put st s v).1 held.1)) does.near does.within
     (stand_append of queue does.more values (further puts (put st s v).1) rest does.further_stand) (does.same_size ∙ same) (does.same_guards ∙ g) fuel in
     let leads : Leads size (busy base s batch (Rest [] []) (q ∷ queue)) does.handed (busy does.base s does.batch (Rest [] []) (queue ++ does.more))
     = subst (λ k. Leads k (busy base s batch (Rest [] []) (q ∷ queue)) does.handed (busy does.base s does.batch (Rest [] []) (queue ++ does.more))) same
@@ -79,8 +83,8 @@ settle_ends {T} {R} puts weight lighter of names (suc n) size guards st base s b
     ends_after of size s guards _ _ does.handed (put st s v).1 (settle puts n (put st s v).0 s (values ++ further puts (put st s v).1)) leads does.gone later
 
 -- a call's own work, and then what the values gone put
-pub settled_ends : {T R : Type 0} (puts : R → T → List T) (weight : T → ℕ) → Lighter puts weight → (of : ℕ → T) → HasNames of → (size s guards : ℕ) (before : State) (o : Outcome T R)
-    → Does T R puts of size s guards before [] o → Ends T R of size s guards before (settled puts weight s o)
-settled_ends {T} {R} puts weight lighter of names size s guards before o d =
+pub settled_ends : {T R : Type 0} (puts : R → T → List T) (weight : T → ℕ) → Lighter puts weight → (of : ℕ → T) (P : T × R → Type 0) → Names T R puts of P → (size s guards : ℕ) (before : State) (o : Outcome T R)
+    → HoldsAfter P o → Does T R puts of size s guards before [] o → Ends T R of size s guards before (settled puts weight s o)
+settled_ends {T} {R} puts weight lighter of P names size s guards before o held d =
     ends_after of size s guards before (busy d.base s d.batch (Rest [] []) d.more) d.handed o.1 (settle puts (still_to_come weight (slot_at o.0 s).batch (further puts o.1)) o.0 s (further puts o.1)) d.leads d.gone
-    (settle_ends puts weight lighter of names (still_to_come weight (slot_at o.0 s).batch (further puts o.1)) size guards o.0 d.base s d.batch d.more (further puts o.1) d.near d.within d.further_stand d.same_size d.same_guards (omega arith))
+    (settle_ends puts weight lighter of P names (still_to_come weight (slot_at o.0 s).batch (further puts o.1)) size guards o.0 d.base s d.batch d.more (further puts o.1) held.0 (all_further puts of P names o.1 held.1) d.near d.within d.further_stand d.same_size d.same_guards (omega arith))

@@ -11,12 +11,12 @@ use Rattle.seize.specs.Waiting.State.{slot_at, keeps, is_kept}
 use Rattle.seize.specs.Waiting.Attempt.{Outcome, after, release, release_all, attempt, put, appended}
 use Rattle.seize.specs.Waiting.Further.{further, put_by}
 use Rattle.seize.specs.Agreement.Shows.{Stand, ShowsSlot}
-use Rattle.seize.specs.Agreement.Statement.{HasNames}
 use Rattle.seize_machine.proofs.Laws.Steps.{and_true, not_true}
 use Rattle.seize.proofs.Models.Leads.{Leads, and_then}
 use Rattle.seize.proofs.Models.Busy.{busy, rested, set_twice, sub_step, put_place, with_count}
 use Rattle.seize.proofs.Models.Near.{Near, NearAt, near_set}
 use Rattle.seize.proofs.Models.Released.{near_less, near_release, BothGone, batch_with}
+use Rattle.seize.proofs.Models.Holding.{Names, Holds, HoldsAfter, holds_release, holds_appended}
 use Rattle.seize.proofs.Models.Puts.{Handing, hands_on, Does, nothing_done, attempt_does, own_slot, in_slots, either, stand_append}
 
 pub further_append : {T R : Type 0} (puts : R → T → List T) (xs ys : List (T × R)) → further puts (xs ++ ys) ≡ further puts xs ++ further puts ys
@@ -44,14 +44,16 @@ does_after puts of size s guards before middle queue more hs gone o l e f d = re
   same_guards = d.same_guards;
 }
 
-pub walk_does : {T R : Type 0} (puts : R → T → List T) (of : ℕ → T) → HasNames of → (size guards : ℕ) (st : waiting.State T R) (base : State) (s : ℕ) (batch walk queue : List ℕ) → NearAt of walk st (rested base s batch) → s < length base.slots
+pub walk_does : {T R : Type 0} (puts : R → T → List T) (of : ℕ → T) (P : T × R → Type 0) → Names T R puts of P → (size guards : ℕ) (st : waiting.State T R) (base : State) (s : ℕ) (batch walk queue : List ℕ) → Holds T R P st → NearAt of walk st (rested base s batch)
+    → s < length base.slots
     → are_distinct walk ≡ true → st.size ≡ size → (slot_at st s).guards ≡ guards
     → Does T R puts of size s guards (busy base s batch (Rest [] walk) queue) queue (release_all st walk)
-walk_does {T} {R} puts of names size guards st base s batch [] queue n h distinct e g =
+walk_does {T} {R} puts of P names size guards st base s batch [] queue holds n h distinct e g =
     subst (λ k. Does T R puts of k s guards (busy base s batch (Rest [] []) queue) queue (st, [])) e
     (subst (λ k. Does T R puts of st.size s k (busy base s batch (Rest [] []) queue) queue (st, [])) g
     (nothing_done puts of st base s batch queue _ n h (Leads.stays _)))
-walk_does {T} {R} puts of names size guards st base s batch (b ∷ walk) queue n h distinct e g =
+walk_does {T} {R} puts of P names size guards st base s batch (b ∷ walk) queue holds n h distinct e g =
+    let held : HoldsAfter P (release st b) = holds_release P st b holds in
     let d : (not (has b walk) ≡ true) × (are_distinct walk ≡ true) = and_true _ _ distinct in
     let first : has b walk ≡ false = not_true _ d.0 in
     let k : ℕ = count_by (keeps b) st.slots in
@@ -71,10 +73,10 @@ walk_does {T} {R} puts of names size guards st base s batch (b ∷ walk) queue n
     let stand : Stand of (if k == 0 then (get_or base.batches b no_batch).values else []) (release st b).1
     = subst (λ (x : Batch). Stand of (if k == 0 then x.values else []) (release st b).1) own gone.1 in
     let handing : Handing T R puts of size (with_count base b (pos k)) s batch given walk queue (release st b).1
-    = hands_on puts of names size (with_count base b (pos k)) s batch given walk queue (release st b).1 h stand in
+    = hands_on puts of P names size (with_count base b (pos k)) s batch given walk queue (release st b).1 h stand held.1 in
     let later : State = record (with_count base b (pos k)) { gone = handing.gone; named = handing.named } in
     let rest : Does T R puts of size s guards (busy later s batch (Rest [] walk) (queue ++ handing.more)) (queue ++ handing.more) (release_all (release st b).0 walk)
-    = walk_does puts of names size guards (release st b).0 later s batch walk (queue ++ handing.more) near h d.1
+    = walk_does puts of P names size guards (release st b).0 later s batch walk (queue ++ handing.more) held.0 near h d.1
     (either (λ (o : Outcome T R). o.0.size ≡ size) (is_kept st b) _ _ e e)
     (either (λ (o : Outcome T R). (slot_at o.0 s).guards ≡ guards) (is_kept st b) _ _ g g) in
     does_after puts of size s guards (busy base s batch (Rest [] (b ∷ walk)) queue) (busy later s batch (Rest [] walk) (queue ++ handing.more)) queue handing.more given (release st b).1 (release_all (release st b).0 walk)
@@ -83,9 +85,10 @@ walk_does {T} {R} puts of names size guards st base s batch (b ∷ walk) queue n
 
 -- Retirements.
 
-pub after_put : {T R : Type 0} (puts : R → T → List T) (of : ℕ → T) → HasNames of → (st : waiting.State T R) (base : State) (s n : ℕ) (v : T × R) (batch queue : List ℕ) → NearAt of [] st (rested base s batch) → s < length base.slots → of n ≡ v.0
+pub after_put : {T R : Type 0} (puts : R → T → List T) (of : ℕ → T) (P : T × R → Type 0) → Names T R puts of P → (st : waiting.State T R) (base : State) (s n : ℕ) (v : T × R) (batch queue : List ℕ) → Holds T R P st → P v → NearAt of [] st (rested base s batch)
+    → s < length base.slots → of n ≡ v.0
     → Does T R puts of st.size s (slot_at st s).guards (busy base s (batch ++ n ∷ []) (put_place st.size (length base.slots) (batch ++ n ∷ [])) queue) queue (put st s v)
-after_put {T} {R} puts of names st base s n v batch queue near h stands =
+after_put {T} {R} puts of P names st base s n v batch queue holds own_holds near h stands =
     subst (λ k. Does T R puts of st.size s (slot_at st s).guards (busy base s (batch ++ n ∷ []) (if nat_le (max 1 st.size) k then Mark 0 (length base.slots) [] else Rest [] []) queue) queue (put st s v)) (sym long)
     (go (nat_le (max 1 st.size) (length (slot_at (appended st s v) s).batch)) refl)
   where
@@ -117,7 +120,7 @@ after_put {T} {R} puts of names st base s n v batch queue near h stands =
     go true e =
         let some : 1 ≤ length (batch ++ n ∷ []) = omega (arith, length-append batch (n ∷ [])) in
         subst (λ g. Does T R puts of st.size s g (busy base s (batch ++ n ∷ []) (Mark 0 (length base.slots) []) queue) queue (attempt (appended st s v) s)) guards
-        (attempt_does puts of names (appended st s v) base s (batch ++ n ∷ []) queue next_near h some)
+        (attempt_does puts of P names (appended st s v) base s (batch ++ n ∷ []) queue (holds_appended P st s v holds own_holds) next_near h some)
     go false e =
         subst (λ g. Does T R puts of st.size s g (busy base s (batch ++ n ∷ []) (Rest [] []) queue) queue (appended st s v, [])) guards
         (nothing_done puts of (appended st s v) base s (batch ++ n ∷ []) queue _ next_near h (Leads.stays _))

@@ -1,6 +1,6 @@
 -- What it means that the two models agree.
-use Rattle.std.specs.Prelude.{◌≡◌, ℕ, ◌<◌, false, List, [], length, Some}
-use Rattle.std.specs.List.{sum_by}
+use Rattle.std.specs.Prelude.{◌≡◌, ℕ, ◌<◌, false, List, [], ◌∷◌, length, map, Some}
+use Rattle.std.specs.List.{sum_by, All}
 use Rattle.seize_machine.specs.Machine.State as machine
 use Rattle.seize_machine.specs.Machine.State.{has}
 use Rattle.seize_machine.specs.Machine.Event.{Event}
@@ -46,3 +46,18 @@ abbrev pub Agreement : {T R : Type 0} → (R → T → List T) → (T → ℕ) �
 Agreement {T} {R} puts weight of =
     (st : waiting.State T R) (before : machine.State) (call : Call T R) → HasLink st call → Shows T R of st before
     → IsRun T R of call st.size before (step puts weight st call)
+
+-- each call is such a list of events, from where those of the call before it ended, and one naming serves them all
+abbrev pub AreRuns : {T R : Type 0} → (R → T → List T) → (T → ℕ) → (ℕ → T) → waiting.State T R → machine.State → List (Call T R) → Type 0
+AreRuns puts weight of st before [] = Unit {0}
+AreRuns {T} {R} puts weight of st before (call ∷ calls) =
+    (first : IsRun T R of call st.size before (step puts weight st call)) × AreRuns puts weight of (step puts weight st call).1.0 first.later calls
+
+-- **The two models agree on values of every type**, also where no naming has fresh numbers for all of them. From each two states
+-- that show each other under a naming, each list of calls has a naming under which these states show each other and each call in
+-- turn is a list of events. It differs from the first naming at none of the numbers `kept`, which may be any list, such as all
+-- that were ever named.
+abbrev pub AgreementAnew : {T R : Type 0} → (R → T → List T) → (T → ℕ) → Type 0
+AgreementAnew {T} {R} puts weight =
+    (of : ℕ → T) (kept : List ℕ) (st : waiting.State T R) (before : machine.State) (calls : List (Call T R)) → All (HasLink st) calls → Shows T R of st before
+    → (other : ℕ → T) × (map other kept ≡ map of kept) × Shows T R other st before × AreRuns puts weight other st before calls
