@@ -4,7 +4,7 @@ use super::*;
 const SCRIPT: [&str; 1] = ["script"];
 
 /// Scripts that run, as lines, and what they print.
-const GOOD: [(&str, &str); 9] = [
+const GOOD: [(&str, &str); 11] = [
     ("size 1 links 0", ""),
     ("size 18446744073709551615 links 1024", ""),
     ("; ; size 1 links 0; ; register", "slot 0"),
@@ -28,6 +28,17 @@ const GOOD: [(&str, &str); 9] = [
     (
         "size 1 links 1024; register; protect 0 1023",
         "slot 0; refused 6 NotActive",
+    ),
+    // what a slot retired under earlier guards stays in its batch
+    (
+        "size 3 links 0; register; register; enter 0; retire 0 b1; leave 0; enter 0; retire 0 b2; leave 0; \
+        enter 1; enter 0; retire 0 a; leave 1; tick; leave 0",
+        "slot 0; slot 1; --; gone b1; gone b2; gone a",
+    ),
+    // the number of a forgotten guard is free once all is reclaimed
+    (
+        "size 4 links 0; owned; register; end 1; register; end 1; all; register",
+        "slot 0; slot 1; slot 1; slot 0",
     ),
 ];
 
