@@ -70,7 +70,7 @@ impl<'a, T: Drop> Iter<'a, T> {
 impl<'a, T: Drop> Iterator for Iter<'a, T> {
     type Item = &'a T;
 
-    ghost next_gives = { λ old item new. (new.table ≡ old.table) × (number_at old.bucket old.entry ≤ number_at new.bucket new.entry) × IfSome item (λ _. (number_at old.bucket old.entry < number_at new.bucket new.entry) × (number_at new.bucket new.entry ≤ 18446744073709551584)) };
+    ghost next_gives = { λ old item new. (new.table ≡ old.table) × (number_at old.bucket old.entry ≤ number_at new.bucket new.entry) × IfSome item (λ _. (number_at old.bucket old.entry < number_at new.bucket new.entry) × (number_at new.bucket new.entry ≤ 18446744073709551584)) × IfNone item (number_at new.bucket new.entry ≡ 18446744073709551584) };
 
     ghost remaining = { λ it. at_most (18446744073709551584 - number_at it.bucket it.entry) };
 
