@@ -3,6 +3,7 @@ use seize::Refusal;
 use seize::thread_id::{BUCKETS, MAX_INDEX, Numbers, Thread};
 use seize::tls::ThreadLocal;
 use std::alloc::Global;
+use std::cell::Cell;
 use std::process::Abort;
 use std::sync::atomic::{AtomicU64, Ordering};
 use std::sync::{Arc, Wait};
@@ -226,5 +227,121 @@ fn threads_fill_a_table_side_by_side(rt: HostRuntime) -> Result<(), Fail> {
     }
     assert_eq!(rt; table.iter().count(), 64);
     assert!(rt; table.iter().map(|x| *x).eq(0..64));
+    Ok(())
+}
+
+fn is_sent<T: Send>(value: T) -> T {
+    value
+}
+
+fn is_shared<T: Sync>(value: &T) -> &T {
+    value
+}
+
+// A table is `Send` for every `T: Send`, and `Sync` for every `T: Send + Sync`: these two are refused where it isn't.
+fn sends<T: Drop + Send>(table: ThreadLocal<T>) -> ThreadLocal<T> {
+    is_sent(table)
+}
+
+fn shares<T: Drop + Send + Sync>(table: &ThreadLocal<T>) -> &ThreadLocal<T> {
+    is_shared(table)
+}
+
+#[test]
+fn a_table_is_sent_and_shared(rt: HostRuntime) -> Result<(), Fail> {
+    let table: ThreadLocal<u64> = sends(ThreadLocal::with_capacity(rt.alloc(), 0)?);
+    assert_eq!(rt; shares(&table).buckets(), 1);
+    Ok(())
+}
+
+// The tests from here on are run with each of their requests for memory refused in turn. A call that is refused is made again,
+// and then answers what it would have answered first.
+
+#[test]
+fn a_refused_table_is_made_again(rt: HostRuntime) -> Result<(), Fail> {
+    let table: ThreadLocal<u64> = match ThreadLocal::with_capacity(rt.alloc(), 96) {
+        Ok(table) => table,
+        Err(refusal) => {
+            assert_eq!(rt; refusal, Refusal::NoMemory);
+            ThreadLocal::with_capacity(rt.alloc(), 96)?
+        }
+    };
+    assert_eq!(rt; table.buckets(), 3);
+    assert_eq!(rt; table.iter().count(), 0);
+    Ok(())
+}
+
+// Fills the entry with `value`, counting the calls of the closure.
+fn fill(
+    table: &ThreadLocal<u64>,
+    calls: &Cell<u64>,
+    value: u64,
+    thread: Thread,
+) -> Result<u64, Refusal> {
+    let filled = table.load_or(
+        || {
+            calls.set(calls.get().wrapping_add(1));
+            value
+        },
+        thread,
+    )?;
+    Ok(*filled)
+}
+
+#[test]
+fn a_refused_fill_has_not_called_its_closure(rt: HostRuntime) -> Result<(), Fail> {
+    let table = ThreadLocal::with_capacity(rt.alloc(), 0)?;
+    let calls = Cell::new(0);
+    for (done, id) in [0, 1, 40, 41, 500].into_iter().enumerate() {
+        let thread = at(&rt, id);
+        let before = table.buckets();
+        let mut want = 1;
+        if let Err(refusal) = fill(&table, &calls, 1, thread) {
+            assert_eq!(rt; refusal, Refusal::NoMemory);
+            assert_eq!(rt; calls.get(), done as u64);
+            assert!(rt; table.try_load(thread).is_none());
+            assert_eq!(rt; table.iter().count(), done);
+            assert!(rt; table.buckets() <= before.saturating_add(1));
+            want = 2;
+        }
+        assert_eq!(rt; fill(&table, &calls, 2, thread)?, want);
+        assert_eq!(rt; calls.get(), (done as u64).wrapping_add(1));
+        assert_eq!(rt; fill(&table, &calls, 3, thread)?, want);
+        assert_eq!(rt; calls.get(), (done as u64).wrapping_add(1));
+    }
+    assert_eq!(rt; table.buckets(), 3);
+    Ok(())
+}
+
+#[test]
+fn a_refused_load_fills_nothing(rt: HostRuntime) -> Result<(), Fail> {
+    let table: ThreadLocal<u64> = ThreadLocal::with_capacity(rt.alloc(), 0)?;
+    for (done, id) in [0, 40, 500].into_iter().enumerate() {
+        let thread = at(&rt, id);
+        if let Err(refusal) = table.load(thread) {
+            assert_eq!(rt; refusal, Refusal::NoMemory);
+            assert!(rt; table.try_load(thread).is_none());
+            assert_eq!(rt; table.iter().count(), done);
+        }
+        assert_eq!(rt; *table.load(thread)?, 0);
+        assert_eq!(rt; table.iter().count(), done.saturating_add(1));
+    }
+    assert_eq!(rt; table.buckets(), 3);
+    Ok(())
+}
+
+#[test]
+fn a_refused_number_is_taken_again(rt: HostRuntime) -> Result<(), Fail> {
+    let mut numbers = Numbers::new(rt.alloc());
+    for want in 0..100 {
+        let number = match numbers.take() {
+            Ok(number) => number,
+            Err(refusal) => {
+                assert_eq!(rt; refusal, Refusal::NoMemory);
+                numbers.take()?
+            }
+        };
+        assert_eq!(rt; number, want);
+    }
     Ok(())
 }

@@ -4,6 +4,7 @@
 --     Shows bs b e f x       the token f shows that entry e of bucket b holds x, in the table of the buckets bs
 --     IsOf bs b e f          the token f shows some value there
 use Rattle.std.specs.Prelude.{◌≡◌, ℕ, ◌+◌, ◌-◌, ◌^◌, List, slice_get}
+use Rattle.std.specs.declared.option.Option.{Option}
 use Rattle.std.specs.declared.option.Option.TheVariants.{Some}
 use Rattle.std.specs.declared.alloc.Global.{Global}
 use Rattle.std.specs.declared.vec.Vec.{Vec}
@@ -29,12 +30,12 @@ IsCell note entry cell = (row : Row) × (note.known ≡ Some row) × (slice_get 
 pub record Shows {T : Type 0} (buckets : List Cell) (bucket entry : ℕ) (filled : Filled T) (value : T) : Type 0 where
   pub bucket_is : IsBucket buckets bucket filled.row.cell
   pub entry_is : (cell : Cell) × IsCell filled.row entry cell × (filled.item.cell ≡ cell.1)
-  pub value_is : filled.item.known ≡ Some value
+  pub value_is : filled.item.known ≡ Some (Some value)
 
 -- the token is of that entry
 abbrev pub IsOf : {T : Type 0} → List Cell → ℕ → ℕ → Filled T → Type 0
 IsOf {T} buckets bucket entry filled = (value : T) × Shows buckets bucket entry filled value
 
 -- the note shows that entry e of the row holds x
-abbrev pub HasCell : {T : Type 0} → List Cell → ℕ → Note T → T → Type 0
-HasCell items entry note value = (cell : Cell) × (slice_get items entry ≡ Some cell) × (note.cell ≡ cell.1) × (note.known ≡ Some value)
+abbrev pub HasCell : {T : Type 0} → List Cell → ℕ → Note (Option T) → T → Type 0
+HasCell items entry note value = (cell : Cell) × (slice_get items entry ≡ Some cell) × (note.cell ≡ cell.1) × (note.known ≡ Some (Some value))

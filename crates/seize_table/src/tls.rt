@@ -16,13 +16,14 @@ pub use filled::Filled;
 pub use iter::Iter;
 use iter::first_filled;
 use once_cell::race::{Note, OnceBox};
+use room::{Cell, Row};
 use std::alloc::Global;
 use std::array;
 
 /// A table with an entry for each number from 0 to `MAX_INDEX`. An entry is filled at most once.
 #[derive(Drop)]
 pub struct ThreadLocal<T> {
-    buckets: [OnceBox<Vec<OnceBox<T>>>; 59],
+    buckets: [OnceBox<Row<T>>; 59],
     alloc: Global,
     ghost all_there: { 59 ≡ length buckets },
 }
@@ -82,11 +83,7 @@ impl<T: Drop> ThreadLocal<T> {
     }
 
     // The bucket, which is made where it isn't yet. A bucket that another thread makes first is kept in place of this one.
-    fn row<'a>(
-        &'a self,
-        bucket: usize,
-        note: &mut Note<Vec<OnceBox<T>>>,
-    ) -> Result<&'a Vec<OnceBox<T>>, Refusal>
+    fn row<'a>(&'a self, bucket: usize, note: &mut Note<Row<T>>) -> Result<&'a Row<T>, Refusal>
         requires bucket { bucket < BUCKETS }
         requires cell { IsBucket self.now.buckets bucket note.old.cell }
         ensures cell { note.new.cell ≡ note.old.cell }
@@ -107,17 +104,14 @@ impl<T: Drop> ThreadLocal<T> {
             .get_as(&mut row)?
             .get(thread.entry)?;
         let mut item = cell.note();
-        let value = cell.get_as(&mut item)?;
+        let entry = cell.get_as(&mut item)?;
+        let value = entry.as_ref()?;
         Some((value, Filled { row, item }))
     }
 
     // The entry's cell, in its bucket, which is made where it isn't yet. A bucket is made with a cell for each of its entries,
     // so the refusal below is only that of memory: the bucket's own cell does not say how many entries the bucket has.
-    fn cell<'a>(
-        &'a self,
-        thread: Thread,
-        note: &mut Note<Vec<OnceBox<T>>>,
-    ) -> Result<&'a OnceBox<T>, Refusal>
+    fn cell<'a>(&'a self, thread: Thread, note: &mut Note<Row<T>>) -> Result<&'a Cell<T>, Refusal>
         requires { IsBucket self.now.buckets thread.bucket note.old.cell }
         ensures bucket { note.new.cell ≡ note.old.cell }
         ensures cell { IfOk result (λ cell. IsCell note.new thread.entry cell.now) }
@@ -129,11 +123,12 @@ impl<T: Drop> ThreadLocal<T> {
         }
     }
 
-    // Fills the entry where it isn't filled yet.
-    fn fill<F: Fn() -> T>(&self, create: F, thread: Thread) -> Result<(&T, Filled<T>), Refusal>
+    // Fills the entry where it isn't filled yet. All memory comes before `create` is called. An entry that is in its cell has a
+    // value, so the last refusal is that of no call: the cell does not tell a proof what another thread put in.
+    fn fill<F: FnOnce() -> T>(&self, create: F, thread: Thread) -> Result<(&T, Filled<T>), Refusal>
     where
         F: Drop,
-        requires { F.IsAlwaysCallable create }
+        requires { F.pre create }
         ensures shown { IfOk result (λ found. Shows self.now.buckets thread.bucket thread.entry found.1 found.0.now) }
         ensures refusal { IfErr result (λ e. e ≡ NoMemory) }
     {
@@ -141,8 +136,14 @@ impl<T: Drop> ThreadLocal<T> {
         let mut row = self.buckets[thread.bucket].note();
         let cell = self.cell(thread, &mut row)?;
         let mut item = cell.note();
-        let value = cell.get_or_try_init_as(|| room::filled(alloc, &create), &mut item)?;
-        Ok((value, Filled { row, item }))
+        let Ok(entry) = cell.get_or_try_init_as(move || room::filled(alloc, create), &mut item)
+        else {
+            return Err(Refusal::NoMemory);
+        };
+        match entry {
+            Some(value) => Ok((value, Filled { row, item })),
+            None => Err(Refusal::NoMemory),
+        }
     }
 
     /// The entry's value, if it is filled. It takes no memory, changes nothing: three loads, of which two depend on one
@@ -162,8 +163,8 @@ impl<T: Drop> ThreadLocal<T> {
     /// The entry's value. Where the entry isn't filled, it is filled with what `create` answers; where another thread fills it
     /// first, that thread's value stays, this one's is ended, and both calls answer the value that stays.
     ///
-    /// `NoMemory` where a growth was refused; then no entry is filled, and what `create` answered, if it was called, is ended.
-    /// The bucket of the entry and the entry's own memory are made here, where they aren't yet, and stay until the table ends.
+    /// `NoMemory` where a growth was refused; then no entry is filled, and `create` was not called. The bucket of the entry and
+    /// the entry's own memory are made here, where they aren't yet, before `create` is called, and stay until the table ends.
     pub fn load_or<F: Fn() -> T>(&self, create: F, thread: Thread) -> Result<&T, Refusal>
     where
         F: Drop,
@@ -208,7 +209,7 @@ impl<T: Drop> ThreadLocal<T> {
         let Some(row) = self.buckets[thread.bucket].get_as(&mut filled.row) else {
             unreachable!()
         };
-        let Some(value) = row[thread.entry].get_as(&mut filled.item) else {
+        let Some(Some(value)) = row[thread.entry].get_as(&mut filled.item) else {
             unreachable!()
         };
         value
@@ -227,25 +228,10 @@ impl<T: Drop> ThreadLocal<T> {
 }
 
 impl<T: Drop + Default> ThreadLocal<T> {
-    /// As `load_or`, with the default value of `T`, which is made only where the entry isn't filled.
+    /// As `load_or`, with the default value of `T`, which is made only where the entry isn't filled and its memory is there.
     pub fn load(&self, thread: Thread) -> Result<&T, Refusal>
         ensures { IfErr result (λ e. e ≡ NoMemory) }
     {
-        let mut row = self.buckets[thread.bucket].note();
-        let cell = self.cell(thread, &mut row)?;
-        match cell.get() {
-            Some(value) => Ok(value),
-            None => Ok(keep(cell, room::defaulted(self.alloc)?)),
-        }
-    }
-}
-
-// The value that the cell holds once this one was offered: this one, or another thread's that came first.
-fn keep<T: Drop>(cell: &OnceBox<T>, value: Box<T>) -> &T {
-    let mut note = cell.note();
-    drop(cell.set_as(value, &mut note));
-    match cell.get_as(&mut note) {
-        Some(value) => value,
-        None => unreachable!(),
+        self.load_or(|| T::default(), thread)
     }
 }

@@ -1,13 +1,14 @@
 // What shows that an entry of a table is filled.
 ghost use Rattle.std.specs.Prelude.{◌≡◌};
 
-use once_cell::race::{Note, OnceBox};
+use super::room::Row;
+use once_cell::race::Note;
 
 /// What shows that one entry of one table holds one value, for good. It takes no bytes.
 #[derive(Drop)]
 pub struct Filled<T> {
-    pub(super) row: Note<Vec<OnceBox<T>>>,
-    pub(super) item: Note<T>,
+    pub(super) row: Note<Row<T>>,
+    pub(super) item: Note<Option<T>>,
 }
 
 impl<T> Filled<T> {

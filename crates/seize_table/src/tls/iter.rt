@@ -3,9 +3,10 @@ ghost use Rattle.std.specs.Prelude.{◌≡◌, ◌+◌, ◌-◌, ◌^◌, ◌<�
 ghost use Rattle.std.specs.Iterator.{at_most};
 ghost use Rattle.seize_table.specs.Table.{Shows, number_at, HasCell};
 
+use super::room::Cell;
 use super::{Filled, ThreadLocal};
 use crate::thread_id::{BUCKETS, MAX_INDEX, Thread};
-use once_cell::race::{Note, OnceBox};
+use once_cell::race::Note;
 
 /// The values of the filled entries of a table, by bucket and then by entry, which is by number. It takes no memory.
 ///
@@ -69,7 +70,7 @@ impl<'a, T: Drop> Iter<'a, T> {
 impl<'a, T: Drop> Iterator for Iter<'a, T> {
     type Item = &'a T;
 
-    ghost next_gives = { λ old item new. (new.table ≡ old.table) × (number_at old.bucket old.entry ≤ number_at new.bucket new.entry) × IfSome item (λ _. (number_at old.bucket old.entry < number_at new.bucket new.entry) × (number_at new.bucket new.entry ≤ 18446744073709551584)) };
+    ghost next_gives = { λ old item new. (new.table ≡ old.table) × (number_at old.bucket old.entry ≤ number_at new.bucket new.entry) × IfSome item (λ _. (number_at old.bucket old.entry < number_at new.bucket new.entry) × (number_at new.bucket new.entry ≤ 18446744073709551584)) × IfNone item (number_at new.bucket new.entry ≡ 18446744073709551584) };
 
     ghost remaining = { λ it. at_most (18446744073709551584 - number_at it.bucket it.entry) };
 
@@ -81,15 +82,15 @@ impl<'a, T: Drop> Iterator for Iter<'a, T> {
 
 // The first filled entry of the row that is neither before `from` nor past `end`.
 pub(super) fn first_filled<T: Drop>(
-    row: &[OnceBox<T>],
+    row: &[Cell<T>],
     from: usize,
     end: usize,
-) -> Option<(usize, &T, Note<T>)>
+) -> Option<(usize, &T, Note<Option<T>>)>
     ensures { IfSome result (λ found. (from ≤ found.0) × (found.0 < end) × HasCell row.now found.0 found.2 found.1.now) }
 {
     for entry in from..row.len().min(end) {
         let mut note = row[entry].note();
-        if let Some(value) = row[entry].get_as(&mut note) {
+        if let Some(Some(value)) = row[entry].get_as(&mut note) {
             return Some((entry, value, note));
         }
     }

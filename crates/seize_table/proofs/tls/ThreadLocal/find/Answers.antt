@@ -1,4 +1,4 @@
-use Rattle.std.proofs.Common.{◌∙◌}
+use Rattle.std.proofs.Common.{sym, ◌∙◌, ap, Some}
 use Rattle.seize_table.proofs.Shown.{is_bucket, is_cell}
 use Rattle.seize_table.proofs.tls.ThreadLocal.find.Goals as goal
 
@@ -7,6 +7,6 @@ returns g c =
     let at = c.in_ok-cell.ensures.lookup in
     record {
       bucket_is = is_bucket _ _ _ _ c.args.self.now.all_there c.args.thread.in_table c.index-self-thread.is (c.get_as.ensures.cell ∙ c.note-row.ensures.0);
-      entry_is = (c.in_ok-cell.cell.now, is_cell c.get_as.new.note _ _ _ _ c.in_ok-get_as.ensures.value.0 c.deref.ensures.value at.3.0 at.1, c.in_ok-value.ensures.cell ∙ c.note-item.ensures.0);
-      value_is = c.in_ok-value.ensures.value.0;
+      entry_is = (c.in_ok-cell.cell.now, is_cell c.get_as.new.note _ _ _ _ c.in_ok-get_as.ensures.value.0 c.deref.ensures.value at.3.0 at.1, c.in_ok-entry.ensures.cell ∙ c.note-item.ensures.0);
+      value_is = c.in_ok-entry.ensures.value.0 ∙ ap (λ e. Some e) (sym c.in_ok-value.ensures.value);
     }

@@ -9,5 +9,5 @@ returns-clause-value g c =
     record {
       bucket_is = (seen.bucket_is.0, seen.bucket_is.1, c.get_as.ensures.cell ∙ seen.bucket_is.2);
       entry_is = (seen.entry_is.0, (row, c.in-Some.ensures.value.0 ∙ ap (λ r. Some r) (sym same), seen.entry_is.1.2), c.get_as-2.ensures.cell ∙ seen.entry_is.2);
-      value_is = c.in-Some-get_as.ensures.value.0;
+      value_is = c.in-Some-Some.ensures.value.0 ∙ ap (λ e. Some e) c.in-Some-Some.field-0-is;
     }
