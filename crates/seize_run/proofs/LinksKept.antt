@@ -1,5 +1,5 @@
 -- A list of calls, and reclaiming all, leave as many links as there were.
-use Rattle.std.proofs.Common.{◌≡◌, ℕ, Bool, true, false, List, [], ◌∷◌, length, map, ◌⊎◌, inl, inr, refl, ap, ◌∙◌}
+use Rattle.std.proofs.Common.{◌≡◌, ℕ, Bool, false, List, [], ◌∷◌, length, map, inl, inr, refl, ap, ◌∙◌}
 use Rattle.seize.specs.Waiting.State.{State}
 use Rattle.seize.specs.Waiting.Attempt.{part}
 use Rattle.seize.specs.Waiting.Calls.{quieted, freed, reclaim_all}

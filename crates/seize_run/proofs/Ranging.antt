@@ -1,5 +1,5 @@
 -- Calls in range: one more, and groups taken from the front.
-use Rattle.std.proofs.Common.{◌≡◌, ℕ, suc, ◌<◌, List, [], ◌∷◌, ◌++◌, length, map, All, sym, subst, arith}
+use Rattle.std.proofs.Common.{◌≡◌, ℕ, suc, List, [], ◌∷◌, ◌++◌, map, All, sym, subst, arith}
 use Rattle.seize.specs.declared.collector.alone.Call.{Call}
 use Rattle.seize.specs.Alone.{call_of, InRange, AllInRange}
 use Rattle.seize_run.specs.declared.value.Value.{Value}

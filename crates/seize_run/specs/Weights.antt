@@ -1,7 +1,6 @@
 -- What a value weighs: at least 1, and more than the values in its brackets together.
-use Rattle.std.proofs.Common.{◌≡◌, ℕ, ◌+◌, ◌≤◌, ◌<◌, List, [], ◌∷◌, map, sum, refl, ap, ◌∙◌, arith}
+use Rattle.std.proofs.Common.{◌≡◌, ℕ, ◌+◌, ◌≤◌, ◌<◌, map, sum, ◌∙◌, arith}
 use Rattle.std.proofs.lemmas.Grind.{common_steps}
-use Rattle.seize.specs.Blocks.{content}
 use Rattle.seize_run.specs.Values.{inside_of, weight_step, weight_of}
 use Rattle.seize_run.specs.declared.value.Value.{Value}
 use Rattle.seize_run.specs.declared.value.Value.TheFolds.{fold_out-Value}
