@@ -218,12 +218,10 @@ fn threads_fill_a_table_side_by_side(rt: HostRuntime) -> Result<(), Fail> {
     for id in 0..64 {
         let table = Arc::try_clone(&table)?;
         let thread = at(&rt, id);
-        children.push(thread::spawn(&rt, move || {
-            table.load_or(|| id, thread).copied() == Ok(id)
-        })?)?;
+        children.push(thread::spawn(&rt, move || { table.load_or(|| id, thread).copied() })?)?;
     }
-    for child in children {
-        assert!(rt; child.join(&rt));
+    for (id, child) in children.into_iter().enumerate() {
+        assert_eq!(rt; child.join(&rt)?, id);
     }
     assert_eq!(rt; table.iter().count(), 64);
     assert!(rt; table.iter().map(|x| *x).eq(0..64));
