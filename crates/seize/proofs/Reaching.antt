@@ -1,5 +1,5 @@
 -- Each call leads from a reached state to a reached one, unless a growth was refused.
-use Rattle.std.proofs.Common.{◌≡◌, ℕ, Bool, true, List, Option, Result, Ok, Err, ◌⊎◌, inl, inr, sym, subst}
+use Rattle.std.proofs.Common.{◌≡◌, ℕ, Bool, true, List, length, Option, Result, Ok, Err, ◌⊎◌, inl, inr, refl, sym, subst}
 use Rattle.std.proofs.Math.Logic.{∥∥₁_map}
 use Rattle.seize_table.specs.declared.refusal.Refusal.{Refusal}
 use Rattle.seize_table.specs.declared.refusal.Refusal.TheVariants.{NoMemory}
@@ -7,7 +7,7 @@ use Rattle.seize.specs.Waiting.State.{State, new}
 use Rattle.seize.specs.Waiting.Calls as calls
 use Rattle.seize.specs.Waiting.Lists.{Call, step}
 use Rattle.seize.specs.Waiting.Reached.{Reached, IsReached}
-use Rattle.seize.specs.Told.{Did}
+use Rattle.seize.specs.Told.{told_of, Did, AllDone, ReclaimedAll}
 
 module _ {T R : Type 0} (puts : R → T → List T) (weight : T → ℕ) where
   -- from a reached state to a reached one
@@ -49,3 +49,18 @@ module _ {T R : Type 0} (puts : R → T → List T) (weight : T → ℕ) where
       → IsReached puts weight short st → IsReached puts weight short next
   taken_is_reached short st next call result expected (inl refused) reached = subst (IsReached puts weight short) (sym refused.1) reached
   taken_is_reached short st next call result expected (inr did) reached = called_is_reached short st next call did.1 reached
+
+  -- whoever knows the state knows what a watch is told of it
+  pub reclaimed_all : {Seen : Type 0} (told : Seen → T → Seen) (short_old short_new : Bool) (old next : State T R) (seen heard : Seen)
+      → IsReached puts weight short_old old
+      → AllDone told (calls.reclaim_all puts weight old) next short_new seen heard
+      → ReclaimedAll puts weight told old.size (length old.links) short_old short_new seen heard
+  reclaimed_all {Seen} told short_old short_new old next seen heard reached did = ∥∥₁_map reached (known did)
+    where
+      Known : Type 0
+      Known = (st : State T R) × Reached puts weight st × (st.size ≡ old.size) × (length st.links ≡ length old.links) × (heard ≡ told_of told seen (calls.reclaim_all puts weight st).1)
+
+      known : AllDone told (calls.reclaim_all puts weight old) next short_new seen heard → (short_old ≡ true) ⊎ Reached puts weight old → (short_old ≡ true) ⊎ (short_new ≡ true) ⊎ Known
+      known done (inl t) = inl t
+      known (inl t) (inr r) = inr (inl t)
+      known (inr done) (inr r) = inr (inr (old, r, refl, refl, done.1))

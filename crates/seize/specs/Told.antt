@@ -1,10 +1,11 @@
 -- What a watch is told, and what a call answered and did.
-use Rattle.std.specs.Prelude.{◌≡◌, Bool, true, List, ◌++◌, Result, Ok, Err, ◌⊎◌}
+use Rattle.std.specs.Prelude.{◌≡◌, ℕ, Bool, true, List, ◌++◌, length, Result, Ok, Err, ◌⊎◌}
 use Rattle.std.specs.List.{fold}
 use Rattle.seize.specs.Waiting.State.{State}
 use Rattle.seize.specs.Waiting.Attempt.{Outcome}
 use Rattle.seize.specs.Waiting.Further.{further}
-use Rattle.seize.specs.Waiting.Calls.{Answer}
+use Rattle.seize.specs.Waiting.Calls.{Answer, reclaim_all}
+use Rattle.seize.specs.Waiting.Reached.{Reached}
 use Rattle.seize_table.specs.declared.refusal.Refusal.{Refusal}
 use Rattle.seize_table.specs.declared.refusal.Refusal.TheVariants.{NoMemory}
 
@@ -49,3 +50,12 @@ AllDone told o new short seen_old seen_new =
 abbrev pub without_block : {A B : Type 0} → Result A (Refusal × B) → Result A Refusal
 without_block (Ok a) = Ok a
 without_block (Err e) = Err e.0
+
+-- A collector in new hands reclaimed all: the watch was told of the values that go from some reached state of this size and with so
+-- many links, in order, or a growth was refused before or in the call.
+abbrev pub ReclaimedAll : {T R Seen : Type 0} → (R → T → List T) → (T → ℕ) → (Seen → T → Seen) → ℕ → ℕ → Bool → Bool → Seen → Seen → Type 0
+ReclaimedAll {T} {R} puts weight told size links short_old short_new seen_old seen_new =
+    ∥ (short_old ≡ true)
+    ⊎ (short_new ≡ true)
+    ⊎ ((st : State T R) × Reached puts weight st × (st.size ≡ size) × (length st.links ≡ links)
+    × (seen_new ≡ told_of told seen_old (reclaim_all puts weight st).1)) ∥₁

@@ -4,7 +4,9 @@ ghost use Rattle.std.specs.Prelude.{◌≡◌, ◌⊎◌, ℕ, ◌+◌, ◌==◌
 ghost use Rattle.std.specs.Int.{IsNextPowerOfTwo};
 ghost use Rattle.seize.specs.Making.{refusal_for};
 ghost use Rattle.seize.specs.Waiting.State as waiting;
+ghost use Rattle.seize.specs.Waiting.Calls as calls;
 ghost use Rattle.seize.specs.Waiting.Reached.{IsReached};
+ghost use Rattle.seize.specs.Told.{AllDone, ReclaimedAll};
 ghost use Rattle.seize_table.specs.declared.refusal.Refusal.TheVariants.{NoMemory as no_memory};
 
 mod alone;
@@ -169,8 +171,19 @@ impl<T: Weigh + Drop, R: Reclaim<T>> Collector<T, R> {
 
     /// Every slot leaves, every retired value goes to its reclaimer, and all that the reclaimers put too. Then every number is free.
     /// The links stay as they are. The watch is told each value, in order.
-    pub fn reclaim_all<W: Watch<T>>(&mut self, watch: &mut W) {
-        self.alone().reclaim_all(watch);
+    pub fn reclaim_all<W: Watch<T>>(&mut self, watch: &mut W)
+        ensures { ReclaimedAll R.puts T.weight W.told self.old.state.size (length self.old.state.links) self.old.is_short self.new.is_short (W.seen watch.old) (W.seen watch.new) }
+    {
+        self.empty(watch);
+    }
+
+    /// What reclaiming all does, for whoever knows the state.
+    fn empty<W: Watch<T>>(&mut self, watch: &mut W)
+        ensures { AllDone W.told (calls.reclaim_all R.puts T.weight self.old.state) self.new.state self.new.is_short (W.seen watch.old) (W.seen watch.new) }
+    {
+        if self.state.reclaim_all(watch).is_err() {
+            self.is_short = true;
+        }
     }
 }
 

@@ -255,10 +255,7 @@ impl<'c, T: Weigh + Drop, R: Reclaim<T>> Alone<'c, T, R> {
         ensures { AllDone W.told (calls.reclaim_all R.puts T.weight self.old.collector.now.state) self.new.collector.now.state
             self.new.collector.now.is_short (W.seen watch.old) (W.seen watch.new) }
     {
-        let collector = &mut *self.collector;
-        if collector.state.reclaim_all(watch).is_err() {
-            collector.is_short = true;
-        }
+        self.collector.empty(watch);
     }
 
     /// Swaps, and retires what was taken out.
