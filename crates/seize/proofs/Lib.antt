@@ -2,6 +2,7 @@ pub mod Emptying
 pub mod Firsts
 pub mod Giving
 pub mod Joining
+pub mod Linked
 pub mod Models
 pub mod Quieting
 pub mod Reaching

@@ -179,7 +179,8 @@ impl<T: Weigh + Drop, R: Reclaim<T>> Collector<T, R> {
 
     /// What reclaiming all does, for whoever knows the state.
     fn empty<W: Watch<T>>(&mut self, watch: &mut W)
-        ensures { AllDone W.told (calls.reclaim_all R.puts T.weight self.old.state) self.new.state self.new.is_short (W.seen watch.old) (W.seen watch.new) }
+        ensures done { AllDone W.told (calls.reclaim_all R.puts T.weight self.old.state) self.new.state self.new.is_short (W.seen watch.old) (W.seen watch.new) }
+        ensures links { self.new.state.links ≡ self.old.state.links }
     {
         if self.state.reclaim_all(watch).is_err() {
             self.is_short = true;

@@ -221,7 +221,8 @@ impl<T: Drop, R: Copy> Plain<T, R> {
 
     /// The batch of slot `s` becomes a retired batch, which waits for all active slots.
     fn detach(&mut self, s: usize) -> Result<(), AllocError>
-        ensures { IfOk result (λ _. self.new ≡ waiting.detached self.old s) }
+        ensures done { IfOk result (λ _. self.new ≡ waiting.detached self.old s) }
+        ensures links { self.new.links ≡ self.old.links }
     {
         let values = match self.slots.get_mut(s) {
             Some(slot) => slot.take_batch(self.alloc),
@@ -235,7 +236,8 @@ impl<T: Drop, R: Copy> Plain<T, R> {
 
     /// Appends a value to the batch of slot `s`.
     fn push(&mut self, s: usize, value: T, reclaim: R) -> Result<(), AllocError>
-        ensures { IfOk result (λ _. self.new ≡ waiting.appended self.old s (value, reclaim)) }
+        ensures done { IfOk result (λ _. self.new ≡ waiting.appended self.old s (value, reclaim)) }
+        ensures links { self.new.links ≡ self.old.links }
     {
         if let Some(slot) = self.slots.get_mut(s) {
             slot.push(value, reclaim)?;
@@ -252,7 +254,8 @@ impl<T: Weigh + Drop, R: Reclaim<T>> Plain<T, R> {
         queue: &mut VecDeque<(T, R)>,
         watch: &mut W,
     ) -> Result<(), AllocError>
-        ensures { IfOk result (λ _. Queued R.puts W.told (waiting.release self.old b) self.new queue.old.items queue.new.items (W.seen watch.old) (W.seen watch.new)) }
+        ensures done { IfOk result (λ _. Queued R.puts W.told (waiting.release self.old b) self.new queue.old.items queue.new.items (W.seen watch.old) (W.seen watch.new)) }
+        ensures links { self.new.links ≡ self.old.links }
     {
         if !self.is_kept(b) {
             let values = self.take_retired(b);
@@ -268,7 +271,8 @@ impl<T: Weigh + Drop, R: Reclaim<T>> Plain<T, R> {
         queue: &mut VecDeque<(T, R)>,
         watch: &mut W,
     ) -> Result<(), AllocError>
-        ensures { IfOk result (λ _. Queued R.puts W.told (waiting.part self.old s) self.new queue.old.items queue.new.items (W.seen watch.old) (W.seen watch.new)) }
+        ensures done { IfOk result (λ _. Queued R.puts W.told (waiting.part self.old s) self.new queue.old.items queue.new.items (W.seen watch.old) (W.seen watch.new)) }
+        ensures links { self.new.links ≡ self.old.links }
     {
         let mut order = self.take_order(s);
         while let Some(b) = order.pop_front() {
@@ -284,7 +288,8 @@ impl<T: Weigh + Drop, R: Reclaim<T>> Plain<T, R> {
         queue: &mut VecDeque<(T, R)>,
         watch: &mut W,
     ) -> Result<(), AllocError>
-        ensures { IfOk result (λ _. Queued R.puts W.told (waiting.attempt self.old s) self.new queue.old.items queue.new.items (W.seen watch.old) (W.seen watch.new)) }
+        ensures done { IfOk result (λ _. Queued R.puts W.told (waiting.attempt self.old s) self.new queue.old.items queue.new.items (W.seen watch.old) (W.seen watch.new)) }
+        ensures links { self.new.links ≡ self.old.links }
     {
         let len = self.batch_len(s);
         if len == 0 || len < self.active_slots() {
@@ -304,7 +309,8 @@ impl<T: Weigh + Drop, R: Reclaim<T>> Plain<T, R> {
         queue: &mut VecDeque<(T, R)>,
         watch: &mut W,
     ) -> Result<(), AllocError>
-        ensures { IfOk result (λ _. Queued R.puts W.told (waiting.put self.old s (value, reclaim)) self.new queue.old.items queue.new.items (W.seen watch.old) (W.seen watch.new)) }
+        ensures done { IfOk result (λ _. Queued R.puts W.told (waiting.put self.old s (value, reclaim)) self.new queue.old.items queue.new.items (W.seen watch.old) (W.seen watch.new)) }
+        ensures links { self.new.links ≡ self.old.links }
     {
         self.push(s, value, reclaim)?;
         if self.batch_len(s) >= max(1, self.size) {

@@ -1,4 +1,5 @@
 //! What the tests of collectors share: values that count their ends, a reclaimer that counts its calls, and a watch that keeps names.
+ghost use Rattle.std.specs.Prelude.{◌≡◌, length, IfOk};
 
 use seize::reclaim::{Reclaim, boxed};
 use seize::{Alone, Collector, Further, IdSource, Owned, Refusal, Unlinked, Watch, Weigh};
@@ -67,13 +68,17 @@ impl<'a> Watch<Item<'a>> for Names {
 
 pub type Items<'a> = Collector<Item<'a>, Counting<'a>>;
 
+pub type AloneItems<'c, 'a> = Alone<'c, Item<'a>, Counting<'a>>;
+
 /// A collector of such values with this batch size and number of links.
 pub fn items<'a>(
     alloc: Global,
     ids: &mut IdSource,
     size: usize,
     links: usize,
-) -> Result<Items<'a>, Refusal> {
+) -> Result<Items<'a>, Refusal>
+    ensures { IfOk result (λ collector. length collector.state.links ≡ links) }
+{
     Ok(Collector::new(alloc, ids, 1, links)?.batch_size(size))
 }
 
@@ -95,12 +100,14 @@ pub fn block<'a>(
 /// Retires a value by a slot that is in use.
 pub fn retire<'c, 'a>(
     rt: &impl Abort,
-    alone: &mut Alone<'c, Item<'a>, Counting<'a>>,
+    alone: &mut AloneItems<'c, 'a>,
     s: usize,
     value: Unlinked<'c, Item<'a>, Counting<'a>>,
     by: Counting<'a>,
     watch: &mut Names,
-) {
+)
+    ensures { length alone.new.collector.now.state.links ≡ length alone.old.collector.now.state.links }
+{
     match alone.retire(s, value, by, watch) {
         Ok(()) => {}
         Err((_, _value)) => panic!(rt; "refused"),

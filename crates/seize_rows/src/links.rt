@@ -1,28 +1,27 @@
 //! Links, and guards that refresh and flush: calls of `Alone` one after another, and what the drop ends.
 
-use crate::items::{Counting, Item, Items, Names, block, items, retire};
+ghost use Rattle.std.specs.Prelude.{◌≡◌, ◌<◌, length};
+
+use crate::items::{AloneItems, Counting, Item, Names, block, items, retire};
 use seize::{IdSource, Owned, Refusal};
 use std::cell::Cell;
 use std::process::Abort;
 use std::test::Fail;
 
 /// The name that slot 0 finds in the link.
-fn found(collector: &mut Items<'_>, link: usize) -> Result<Option<u64>, Refusal> {
-    if collector.links() <= link {
-        return Ok(None);
-    }
-    match collector.alone().protect(0, link)? {
+fn found(alone: &AloneItems<'_, '_>, link: usize) -> Result<Option<u64>, Refusal>
+    requires { link < length alone.now.collector.now.state.links }
+{
+    match alone.protect(0, link)? {
         Some(shared) => Ok(Some(shared.name)),
         None => Ok(None),
     }
 }
 
 /// Whether slot 0 finds one block in both links.
-fn are_same(collector: &mut Items<'_>, a: usize, b: usize) -> bool {
-    if collector.links() <= a || collector.links() <= b {
-        return false;
-    }
-    let alone = collector.alone();
+fn are_same(alone: &AloneItems<'_, '_>, a: usize, b: usize) -> bool
+    requires { (a < length alone.now.collector.now.state.links) × (b < length alone.now.collector.now.state.links) }
+{
     match (alone.protect(0, a), alone.protect(0, b)) {
         (Ok(Some(a)), Ok(Some(b))) => a.same(&b),
         _ => false,
@@ -30,23 +29,22 @@ fn are_same(collector: &mut Items<'_>, a: usize, b: usize) -> bool {
 }
 
 /// Slot 0 swaps the block in, and retires what the link held: its name is answered.
-fn exchange<'a>(
+fn exchange<'c, 'a>(
     rt: &impl Abort,
-    collector: &mut Items<'a>,
+    alone: &mut AloneItems<'c, 'a>,
     link: usize,
-    new: Option<Owned<Item<'a>, Counting<'a>>>,
+    new: Owned<Item<'a>, Counting<'a>>,
     by: Counting<'a>,
     names: &mut Names,
-) -> Result<Option<u64>, Refusal> {
-    if collector.links() <= link {
-        return Ok(None);
-    }
-    let mut alone = collector.alone();
-    match alone.swap(0, link, new) {
+) -> Result<Option<u64>, Refusal>
+    requires { link < length alone.old.collector.now.state.links }
+    ensures { length alone.new.collector.now.state.links ≡ length alone.old.collector.now.state.links }
+{
+    match alone.swap(0, link, Some(new)) {
         Ok(None) => Ok(None),
         Ok(Some(old)) => {
             let name = old.name;
-            retire(rt, &mut alone, 0, old, by, names);
+            retire(rt, alone, 0, old, by, names);
             Ok(Some(name))
         }
         Err((refusal, _)) => Err(refusal),
@@ -69,31 +67,34 @@ fn linked<'a>(
 ) -> Result<(), Fail> {
     let mut ids = IdSource::new();
     let mut collector = items(rt.alloc(), &mut ids, 1, 2)?;
+    let (first, second) = (block(&collector, 7, ended)?, block(&collector, 7, ended)?);
+    let third = block(&collector, 8, ended)?;
     let mut names = Names {
         names: Vec::new(rt.alloc()),
     };
-    assert_eq!(rt; collector.alone().register(), Ok(0));
-    assert_eq!(rt; found(&mut collector, 0), Err(Refusal::NotActive));
-    assert_eq!(rt; collector.alone().enter(0), Ok(()));
-    assert_eq!(rt; found(&mut collector, 0), Ok(None));
-    for link in 0..2 {
-        let new = Some(block(&collector, 7, ended)?);
-        assert_eq!(rt;
-            exchange(rt, &mut collector, link, new, by, &mut names),
-            Ok(None)
-        );
-    }
-    assert_eq!(rt; found(&mut collector, 0), Ok(Some(7)));
-    assert!(rt; are_same(&mut collector, 0, 0));
-    assert!(rt; !are_same(&mut collector, 0, 1));
-    let new = Some(block(&collector, 8, ended)?);
+    let mut alone = collector.alone();
+    assert_eq!(rt; alone.register(), Ok(0));
+    assert_eq!(rt; found(&alone, 0), Err(Refusal::NotActive));
+    assert_eq!(rt; alone.enter(0), Ok(()));
+    assert_eq!(rt; found(&alone, 0), Ok(None));
     assert_eq!(rt;
-        exchange(rt, &mut collector, 0, new, by, &mut names),
+        exchange(rt, &mut alone, 0, first, by, &mut names),
+        Ok(None)
+    );
+    assert_eq!(rt;
+        exchange(rt, &mut alone, 1, second, by, &mut names),
+        Ok(None)
+    );
+    assert_eq!(rt; found(&alone, 0), Ok(Some(7)));
+    assert!(rt; are_same(&alone, 0, 0));
+    assert!(rt; !are_same(&alone, 0, 1));
+    assert_eq!(rt;
+        exchange(rt, &mut alone, 0, third, by, &mut names),
         Ok(Some(7))
     );
-    assert_eq!(rt; found(&mut collector, 0), Ok(Some(8)));
+    assert_eq!(rt; found(&alone, 0), Ok(Some(8)));
     assert_eq!(rt; ended.get(), 0);
-    assert_eq!(rt; collector.alone().refresh(0, &mut names), Ok(()));
+    assert_eq!(rt; alone.refresh(0, &mut names), Ok(()));
     assert_eq!(rt; names.names.as_slice(), [7].as_slice());
     assert_eq!(rt; ended.get(), 1);
     drop(collector);

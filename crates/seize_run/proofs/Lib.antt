@@ -1,3 +1,2 @@
-pub mod LinksKept
 pub mod Prefixes
 pub mod Ranging

@@ -1,5 +1,5 @@
 //! The program between its arguments and its status: which script it runs, and what it prints. It is over any reader and writers.
-ghost use Rattle.std.specs.Prelude.{◌≡◌, ◌≤◌, length, map, OnOk};
+ghost use Rattle.std.specs.Prelude.{◌≡◌, ◌≤◌, length, map};
 ghost use Rattle.seize.specs.Alone.{call_of, AllInRange};
 ghost use Rattle.seize_run.specs.Ranges.{IsGroupInRange, IsInRange};
 ghost use Rattle.seize_run.specs.Statuses.{status_of};
@@ -115,7 +115,7 @@ fn run_group<'a, O: Write>(
     output: &mut O,
 ) -> Result<(), Failure<'a>>
     requires { IsGroupInRange (length alone.old.collector.now.state.links) group }
-    ensures { OnOk result (length alone.new.collector.now.state.links ≡ length alone.old.collector.now.state.links) }
+    ensures { length alone.new.collector.now.state.links ≡ length alone.old.collector.now.state.links }
 {
     let Group { calls, end } = group;
     run_calls(alloc, alone, calls, names, output)?;
@@ -137,7 +137,7 @@ fn run_calls<'a, O: Write>(
     output: &mut O,
 ) -> Result<(), Failure<'a>>
     requires { AllInRange (length alone.old.collector.now.state.links) (map call_of calls.items) }
-    ensures { OnOk result (length alone.new.collector.now.state.links ≡ length alone.old.collector.now.state.links) }
+    ensures { length alone.new.collector.now.state.links ≡ length alone.old.collector.now.state.links }
 {
     let mut replies = Vec::new(alloc);
     alone.run(&mut calls, &mut replies, names)?;
@@ -158,7 +158,7 @@ fn reclaim_all<'a, O: Write>(
     names: &mut Names,
     output: &mut O,
 ) -> Result<(), Failure<'a>>
-    ensures { OnOk result (length alone.new.collector.now.state.links ≡ length alone.old.collector.now.state.links) }
+    ensures { length alone.new.collector.now.state.links ≡ length alone.old.collector.now.state.links }
 {
     alone.reclaim_all(names);
     if alone.is_short() {

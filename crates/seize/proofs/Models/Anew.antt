@@ -9,7 +9,7 @@ use Rattle.seize.specs.Waiting.Lists.{Call, Register, EnterOwned, Enter, Leave, 
 use Rattle.seize.specs.Agreement.Shows.{Shows}
 use Rattle.seize.specs.Agreement.Play.{handed}
 use Rattle.seize.specs.Agreement.Statement.{Lighter, HasLink, IsRun, AreRuns, AgreementAnew}
-use Rattle.seize.proofs.Running.{step_kept}
+use Rattle.seize.proofs.Linked.{step_kept}
 use Rattle.seize.proofs.Models.Holding.{Holds}
 use Rattle.seize.proofs.Models.Agrees.{HoldsOwn, agrees_where}
 use Rattle.seize.proofs.Models.Pairs.{pair_of, number_of}

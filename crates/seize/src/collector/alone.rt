@@ -75,7 +75,8 @@ impl<'c, T: Weigh + Drop, R: Reclaim<T>> Alone<'c, T, R> {
     ///
     /// `NoNumbers` where none is left, `NoMemory` where the allocator refuses.
     pub fn register(&mut self) -> Result<usize, Refusal>
-        ensures { Grew (calls.take_number self.old.collector.now.state registered 0) result self.old.collector.now.state self.new.collector.now.state }
+        ensures done { Grew (calls.take_number self.old.collector.now.state registered 0) result self.old.collector.now.state self.new.collector.now.state }
+        ensures links { length self.new.collector.now.state.links ≡ length self.old.collector.now.state.links }
     {
         let collector = &mut *self.collector;
         collector.state.take_number(Kind::Registered, 0)
@@ -87,7 +88,8 @@ impl<'c, T: Weigh + Drop, R: Reclaim<T>> Alone<'c, T, R> {
     ///
     /// `NoNumbers` where none is left, `NoMemory` where the allocator refuses.
     pub fn enter_owned(&mut self) -> Result<usize, Refusal>
-        ensures { Grew (calls.take_number self.old.collector.now.state owned_slot 1) result self.old.collector.now.state self.new.collector.now.state }
+        ensures done { Grew (calls.take_number self.old.collector.now.state owned_slot 1) result self.old.collector.now.state self.new.collector.now.state }
+        ensures links { length self.new.collector.now.state.links ≡ length self.old.collector.now.state.links }
     {
         let collector = &mut *self.collector;
         collector.state.take_number(Kind::Owned, 1)
@@ -99,7 +101,8 @@ impl<'c, T: Weigh + Drop, R: Reclaim<T>> Alone<'c, T, R> {
     ///
     /// In this order: `NotInUse`, `WrongKind`, and `TooManyGuards` where it has 2^64 - 1.
     pub fn enter(&mut self, s: usize) -> Result<(), Refusal>
-        ensures { Said (calls.enter self.old.collector.now.state s) result self.new.collector.now.state }
+        ensures done { Said (calls.enter self.old.collector.now.state s) result self.new.collector.now.state }
+        ensures links { length self.new.collector.now.state.links ≡ length self.old.collector.now.state.links }
     {
         let collector = &mut *self.collector;
         collector.state.enter(s)
@@ -112,8 +115,9 @@ impl<'c, T: Weigh + Drop, R: Reclaim<T>> Alone<'c, T, R> {
     ///
     /// In this order: `NotInUse`, `NotActive`.
     pub fn leave<W: Watch<T>>(&mut self, s: usize, watch: &mut W) -> Result<(), Refusal>
-        ensures { Answers W.told (calls.leave R.puts T.weight self.old.collector.now.state s) result self.new.collector.now.state
+        ensures done { Answers W.told (calls.leave R.puts T.weight self.old.collector.now.state s) result self.new.collector.now.state
             self.new.collector.now.is_short (W.seen watch.old) (W.seen watch.new) }
+        ensures links { length self.new.collector.now.state.links ≡ length self.old.collector.now.state.links }
     {
         let collector = &mut *self.collector;
         if let Some(refusal) = collector.state.no_guard(s) {
@@ -130,7 +134,8 @@ impl<'c, T: Weigh + Drop, R: Reclaim<T>> Alone<'c, T, R> {
     ///
     /// In this order: `NotInUse`, `WrongKind`.
     pub fn end(&mut self, s: usize) -> Result<bool, Refusal>
-        ensures { Said (calls.end_slot self.old.collector.now.state s) result self.new.collector.now.state }
+        ensures done { Said (calls.end_slot self.old.collector.now.state s) result self.new.collector.now.state }
+        ensures links { length self.new.collector.now.state.links ≡ length self.old.collector.now.state.links }
     {
         let collector = &mut *self.collector;
         collector.state.end(s)
@@ -142,8 +147,9 @@ impl<'c, T: Weigh + Drop, R: Reclaim<T>> Alone<'c, T, R> {
     ///
     /// In this order: `NotInUse`, `NotActive`.
     pub fn refresh<W: Watch<T>>(&mut self, s: usize, watch: &mut W) -> Result<(), Refusal>
-        ensures { Answers W.told (calls.refresh R.puts T.weight self.old.collector.now.state s) result self.new.collector.now.state
+        ensures done { Answers W.told (calls.refresh R.puts T.weight self.old.collector.now.state s) result self.new.collector.now.state
             self.new.collector.now.is_short (W.seen watch.old) (W.seen watch.new) }
+        ensures links { length self.new.collector.now.state.links ≡ length self.old.collector.now.state.links }
     {
         let collector = &mut *self.collector;
         if let Some(refusal) = collector.state.no_guard(s) {
@@ -160,8 +166,9 @@ impl<'c, T: Weigh + Drop, R: Reclaim<T>> Alone<'c, T, R> {
     ///
     /// In this order: `NotInUse`, `NotActive`.
     pub fn flush<W: Watch<T>>(&mut self, s: usize, watch: &mut W) -> Result<(), Refusal>
-        ensures { Answers W.told (calls.flush R.puts T.weight self.old.collector.now.state s) result self.new.collector.now.state
+        ensures done { Answers W.told (calls.flush R.puts T.weight self.old.collector.now.state s) result self.new.collector.now.state
             self.new.collector.now.is_short (W.seen watch.old) (W.seen watch.new) }
+        ensures links { length self.new.collector.now.state.links ≡ length self.old.collector.now.state.links }
     {
         let collector = &mut *self.collector;
         if let Some(refusal) = collector.state.no_guard(s) {
@@ -197,6 +204,7 @@ impl<'c, T: Weigh + Drop, R: Reclaim<T>> Alone<'c, T, R> {
         ensures answer { Answers W.told (calls.retire R.puts T.weight self.old.collector.now.state s (content value.entry.owned) reclaim) (without_block result) self.new.collector.now.state
             self.new.collector.now.is_short (W.seen watch.old) (W.seen watch.new) }
         ensures back { IfErr result (λ e. e.1 ≡ value.entry) }
+        ensures links { length self.new.collector.now.state.links ≡ length self.old.collector.now.state.links }
     {
         let collector = &mut *self.collector;
         if let Some(refusal) = collector.state.unused(s) {
@@ -238,6 +246,7 @@ impl<'c, T: Weigh + Drop, R: Reclaim<T>> Alone<'c, T, R> {
         ensures answer { MatchResult result (λ old. (calls.no_guard self.old.collector.now.state s ≡ None) × (option_map (λ unlinked. content unlinked.owned) old ≡ calls.link_at self.old.collector.now.state link))
             (λ e. (calls.no_guard self.old.collector.now.state s ≡ Some e.0) × (e.1 ≡ new)) }
         ensures state { self.new.collector.now.state ≡ (calls.swap self.old.collector.now.state s link (option_map content new)).1.0 }
+        ensures links { length self.new.collector.now.state.links ≡ length self.old.collector.now.state.links }
     {
         let collector = &mut *self.collector;
         if let Some(refusal) = collector.state.no_guard(s) {
@@ -252,8 +261,9 @@ impl<'c, T: Weigh + Drop, R: Reclaim<T>> Alone<'c, T, R> {
     /// Every slot leaves, in order of numbers, every retired value goes to its reclaimer, and all that the reclaimers put too. Then
     /// every number is free, and every batch is empty. The links stay as they are. The watch is told each value, in order.
     pub fn reclaim_all<W: Watch<T>>(&mut self, watch: &mut W)
-        ensures { AllDone W.told (calls.reclaim_all R.puts T.weight self.old.collector.now.state) self.new.collector.now.state
+        ensures done { AllDone W.told (calls.reclaim_all R.puts T.weight self.old.collector.now.state) self.new.collector.now.state
             self.new.collector.now.is_short (W.seen watch.old) (W.seen watch.new) }
+        ensures links { length self.new.collector.now.state.links ≡ length self.old.collector.now.state.links }
     {
         self.collector.empty(watch);
     }
@@ -268,8 +278,9 @@ impl<'c, T: Weigh + Drop, R: Reclaim<T>> Alone<'c, T, R> {
         watch: &mut W,
     ) -> Reply<T, R>
         requires { link < length self.old.collector.now.state.links }
-        ensures { Stepped R.puts T.weight W.told self.old.collector.now.state (Call.Swap s link new reclaim) result self.new.collector.now.state
+        ensures done { Stepped R.puts T.weight W.told self.old.collector.now.state (Call.Swap s link new reclaim) result self.new.collector.now.state
             self.new.collector.now.is_short (W.seen watch.old) (W.seen watch.new) }
+        ensures links { length self.new.collector.now.state.links ≡ length self.old.collector.now.state.links }
     {
         let old = match self.swap(s, link, new) {
             Ok(Some(old)) => old,
@@ -285,8 +296,9 @@ impl<'c, T: Weigh + Drop, R: Reclaim<T>> Alone<'c, T, R> {
     /// Does one call of a list.
     fn reply<W: Watch<T>>(&mut self, call: Call<T, R>, watch: &mut W) -> Reply<T, R>
         requires { InRange (length self.old.collector.now.state.links) (call_of call) }
-        ensures { Stepped R.puts T.weight W.told self.old.collector.now.state call result self.new.collector.now.state
+        ensures done { Stepped R.puts T.weight W.told self.old.collector.now.state call result self.new.collector.now.state
             self.new.collector.now.is_short (W.seen watch.old) (W.seen watch.new) }
+        ensures links { length self.new.collector.now.state.links ≡ length self.old.collector.now.state.links }
     {
         match call {
             Call::Register => numbered(self.register()),
@@ -335,6 +347,7 @@ impl<'c, T: Weigh + Drop, R: Reclaim<T>> Alone<'c, T, R> {
             self.new.collector.now.is_short (W.seen watch.old) (W.seen watch.new)) }
         ensures refused { IfErr result (λ refusal. (refusal ≡ no_memory) × (self.new.collector.now.state ≡ self.old.collector.now.state)
             × (calls.new.items ≡ calls.old.items) × (replies.new.items ≡ replies.old.items) × (W.seen watch.new ≡ W.seen watch.old)) }
+        ensures links { length self.new.collector.now.state.links ≡ length self.old.collector.now.state.links }
     {
         if self.collector.is_short {
             return Err(Refusal::NoMemory);

@@ -55,7 +55,8 @@ impl<T: Weigh + Drop, R: Reclaim<T>> Plain<T, R> {
         queue: &mut VecDeque<(T, R)>,
         watch: &mut W,
     ) -> Result<(), AllocError>
-        ensures { IfOk result (λ _. Queued R.puts W.told (calls.quieted self.old (range_with_len 0 (length self.old.slots))) self.new queue.old.items queue.new.items (W.seen watch.old) (W.seen watch.new)) }
+        ensures done { IfOk result (λ _. Queued R.puts W.told (calls.quieted self.old (range_with_len 0 (length self.old.slots))) self.new queue.old.items queue.new.items (W.seen watch.old) (W.seen watch.new)) }
+        ensures links { self.new.links ≡ self.old.links }
     {
         for s in 0..self.made() {
             self.part(s, queue, watch)?;
@@ -70,7 +71,8 @@ impl<T: Weigh + Drop, R: Reclaim<T>> Plain<T, R> {
         queue: &mut VecDeque<(T, R)>,
         watch: &mut W,
     ) -> Result<(), AllocError>
-        ensures { IfOk result (λ _. Queued R.puts W.told (record self.old { slots = map calls.without_batch self.old.slots }, flat_map (λ slot. slot.batch) self.old.slots) self.new queue.old.items queue.new.items (W.seen watch.old) (W.seen watch.new)) }
+        ensures done { IfOk result (λ _. Queued R.puts W.told (record self.old { slots = map calls.without_batch self.old.slots }, flat_map (λ slot. slot.batch) self.old.slots) self.new queue.old.items queue.new.items (W.seen watch.old) (W.seen watch.new)) }
+        ensures links { self.new.links ≡ self.old.links }
     {
         for s in 0..self.made() {
             let values = self.take_batch(s);
@@ -80,7 +82,8 @@ impl<T: Weigh + Drop, R: Reclaim<T>> Plain<T, R> {
     }
 
     pub(crate) fn reclaim_all<W: Watch<T>>(&mut self, watch: &mut W) -> Result<(), AllocError>
-        ensures { IfOk result (λ _. Did W.told (calls.reclaim_all R.puts T.weight self.old) self.new (W.seen watch.old) (W.seen watch.new)) }
+        ensures done { IfOk result (λ _. Did W.told (calls.reclaim_all R.puts T.weight self.old) self.new (W.seen watch.old) (W.seen watch.new)) }
+        ensures links { self.new.links ≡ self.old.links }
     {
         let mut queue = VecDeque::new(self.alloc);
         self.quiet(&mut queue, watch)?;

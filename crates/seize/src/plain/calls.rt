@@ -50,6 +50,7 @@ impl<T: Drop, R: Copy> Plain<T, R> {
         requires { n ≤ length self.old.slots }
         ensures done { IfOk result (λ _. self.new ≡ calls.taken self.old n kind guards) }
         ensures refused { OnErr result (self.new ≡ self.old) }
+        ensures links { self.new.links ≡ self.old.links }
     {
         if n < self.slots.len() {
             let slot = &mut self.slots[n];
@@ -62,7 +63,8 @@ impl<T: Drop, R: Copy> Plain<T, R> {
 
     /// Takes the least number not in use.
     pub(crate) fn take_number(&mut self, kind: Kind, guards: u64) -> Result<usize, Refusal>
-        ensures { Grew (calls.take_number self.old kind guards) result self.old self.new }
+        ensures done { Grew (calls.take_number self.old kind guards) result self.old self.new }
+        ensures links { self.new.links ≡ self.old.links }
     {
         let n = least_unused(&self.slots);
         if n == NUMBERS {
@@ -75,7 +77,8 @@ impl<T: Drop, R: Copy> Plain<T, R> {
     }
 
     pub(crate) fn enter(&mut self, s: usize) -> Result<(), Refusal>
-        ensures { Said (calls.enter self.old s) result self.new }
+        ensures done { Said (calls.enter self.old s) result self.new }
+        ensures links { self.new.links ≡ self.old.links }
     {
         if let Some(refusal) = self.not_registered(s) {
             return Err(refusal);
@@ -89,7 +92,8 @@ impl<T: Drop, R: Copy> Plain<T, R> {
     }
 
     pub(crate) fn end(&mut self, s: usize) -> Result<bool, Refusal>
-        ensures { Said (calls.end_slot self.old s) result self.new }
+        ensures done { Said (calls.end_slot self.old s) result self.new }
+        ensures links { self.new.links ≡ self.old.links }
     {
         if let Some(refusal) = self.not_registered(s) {
             return Err(refusal);

@@ -24,7 +24,8 @@ impl<T: Weigh + Drop, R: Reclaim<T>> Plain<T, R> {
         mut queue: VecDeque<(T, R)>,
         watch: &mut W,
     ) -> Result<(), AllocError>
-        ensures { IfOk result (λ _. Did W.told (further.afterwards R.puts T.weight self.old s queue.items) self.new (W.seen watch.old) (W.seen watch.new)) }
+        ensures done { IfOk result (λ _. Did W.told (further.afterwards R.puts T.weight self.old s queue.items) self.new (W.seen watch.old) (W.seen watch.new)) }
+        ensures links { self.new.links ≡ self.old.links }
     {
         while let Some((value, reclaim)) = queue.pop_front() {
             self.put(s, value, reclaim, &mut queue, watch)?;
@@ -39,7 +40,8 @@ impl<T: Weigh + Drop, R: Reclaim<T>> Plain<T, R> {
         queue: &mut VecDeque<(T, R)>,
         watch: &mut W,
     ) -> Result<(), AllocError>
-        ensures { IfOk result (λ _. Queued R.puts W.told (calls.left_by self.old s) self.new queue.old.items queue.new.items (W.seen watch.old) (W.seen watch.new)) }
+        ensures done { IfOk result (λ _. Queued R.puts W.told (calls.left_by self.old s) self.new queue.old.items queue.new.items (W.seen watch.old) (W.seen watch.new)) }
+        ensures links { self.new.links ≡ self.old.links }
     {
         let guards = self.guards(s);
         self.set_guards(s, guards.saturating_sub(1));
@@ -50,7 +52,8 @@ impl<T: Weigh + Drop, R: Reclaim<T>> Plain<T, R> {
     }
 
     pub(crate) fn leave<W: Watch<T>>(&mut self, s: usize, watch: &mut W) -> Result<(), Refusal>
-        ensures { Answered W.told (calls.leave R.puts T.weight self.old s) result self.new (W.seen watch.old) (W.seen watch.new) }
+        ensures done { Answered W.told (calls.leave R.puts T.weight self.old s) result self.new (W.seen watch.old) (W.seen watch.new) }
+        ensures links { self.new.links ≡ self.old.links }
     {
         if let Some(refusal) = self.no_guard(s) {
             return Err(refusal);
@@ -74,7 +77,8 @@ impl<T: Weigh + Drop, R: Reclaim<T>> Plain<T, R> {
         queue: &mut VecDeque<(T, R)>,
         watch: &mut W,
     ) -> Result<(), AllocError>
-        ensures { IfOk result (λ _. Queued R.puts W.told (calls.refreshed self.old s) self.new queue.old.items queue.new.items (W.seen watch.old) (W.seen watch.new)) }
+        ensures done { IfOk result (λ _. Queued R.puts W.told (calls.refreshed self.old s) self.new queue.old.items queue.new.items (W.seen watch.old) (W.seen watch.new)) }
+        ensures links { self.new.links ≡ self.old.links }
     {
         if self.kind(s) == Kind::Owned || self.guards(s) == 1 {
             self.part(s, queue, watch)?;
@@ -83,7 +87,8 @@ impl<T: Weigh + Drop, R: Reclaim<T>> Plain<T, R> {
     }
 
     pub(crate) fn refresh<W: Watch<T>>(&mut self, s: usize, watch: &mut W) -> Result<(), Refusal>
-        ensures { Answered W.told (calls.refresh R.puts T.weight self.old s) result self.new (W.seen watch.old) (W.seen watch.new) }
+        ensures done { Answered W.told (calls.refresh R.puts T.weight self.old s) result self.new (W.seen watch.old) (W.seen watch.new) }
+        ensures links { self.new.links ≡ self.old.links }
     {
         if let Some(refusal) = self.no_guard(s) {
             return Err(refusal);
@@ -99,7 +104,8 @@ impl<T: Weigh + Drop, R: Reclaim<T>> Plain<T, R> {
     }
 
     pub(crate) fn flush<W: Watch<T>>(&mut self, s: usize, watch: &mut W) -> Result<(), Refusal>
-        ensures { Answered W.told (calls.flush R.puts T.weight self.old s) result self.new (W.seen watch.old) (W.seen watch.new) }
+        ensures done { Answered W.told (calls.flush R.puts T.weight self.old s) result self.new (W.seen watch.old) (W.seen watch.new) }
+        ensures links { self.new.links ≡ self.old.links }
     {
         if let Some(refusal) = self.no_guard(s) {
             return Err(refusal);
@@ -121,7 +127,8 @@ impl<T: Weigh + Drop, R: Reclaim<T>> Plain<T, R> {
         reclaim: R,
         watch: &mut W,
     ) -> Result<(), Refusal>
-        ensures { Answered W.told (calls.retire R.puts T.weight self.old s value reclaim) result self.new (W.seen watch.old) (W.seen watch.new) }
+        ensures done { Answered W.told (calls.retire R.puts T.weight self.old s value reclaim) result self.new (W.seen watch.old) (W.seen watch.new) }
+        ensures links { self.new.links ≡ self.old.links }
     {
         if let Some(refusal) = self.unused(s) {
             return Err(refusal);

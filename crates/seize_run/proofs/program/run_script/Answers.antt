@@ -12,4 +12,4 @@ pub loop-group-preserved : goal.loop-group-preserved
 loop-group-preserved g c =
     (group_taken (length c.loop-group.alone.collector.now.state.links) (length c.run_group.new.alone.collector.now.state.links)
     c.loop-group.group-iterator.rest.items c.next.new.self.rest.items c.in-Some.group
-    c.in-Some.ensures.steps.0 c.loop-group.invariant c.in_ok-run_group.ensures).1
+    c.in-Some.ensures.steps.0 c.loop-group.invariant c.run_group.ensures).1

@@ -9,6 +9,7 @@ invariant-loop-value g l = record {
   state : (afterwards g.R.Reclaim.puts g.T.Weigh.weight l.self l.s l.queue.items).0 ≡ (afterwards g.R.Reclaim.puts g.T.Weigh.weight l.initial.self l.s l.initial.queue.items).0;
   seen : told_of g.W.Watch.told (g.W.Watch.seen l.watch) (afterwards g.R.Reclaim.puts g.T.Weigh.weight l.self l.s l.queue.items).1
       ≡ told_of g.W.Watch.told (g.W.Watch.seen l.initial.watch) (afterwards g.R.Reclaim.puts g.T.Weigh.weight l.initial.self l.s l.initial.queue.items).1;
+  links : l.self.links ≡ l.initial.self.links;
 }
 
 abbrev pub decreases-loop-value : goal.decreases-loop-value

@@ -1,4 +1,4 @@
-use Rattle.std.proofs.Common.{◌≡◌, length, arith}
+use Rattle.std.proofs.Common.{◌≡◌, ap, ◌∙◌, length, arith}
 use Rattle.seize.proofs.Emptying.{batches_on, batches_end}
 use Rattle.seize.proofs.plain.Plain.give_batches.Goals as goal
 
@@ -10,10 +10,10 @@ loop-s-preserved g c =
     (g.W.Watch.seen c.args.watch.now) (g.W.Watch.seen c.loop-s.watch) (g.W.Watch.seen c.give_all.new.watch)
     (omega (arith, c.loop-s-test.true, end)) c.loop-s.invariant.state c.loop-s.invariant.queue c.loop-s.invariant.seen
     c.take_batch-values.ensures.batch c.take_batch-values.ensures.rest c.in_ok-give_all.ensures.queue c.in_ok-give_all.ensures.watch in
-    record { state = e.0; queue = e.1; seen = e.2 }
+    record { state = e.0; queue = e.1; seen = e.2; links = ap (λ st. st.links) c.take_batch-values.ensures.rest ∙ c.loop-s.invariant.links }
 
-pub returns : goal.returns
-returns g c =
+pub returns-clause-done : goal.returns-clause-done
+returns-clause-done g c =
     let end : c.made-s-end.result ≡ length c.args.self.now.slots = c.made-s-end.ensures in
     batches_end g.R.Reclaim.puts g.W.Watch.told c.args.self.now c.loop-s.self c.loop-s.s c.args.queue.now.items c.loop-s.queue.items
     (g.W.Watch.seen c.args.watch.now) (g.W.Watch.seen c.loop-s.watch) (omega (arith, c.loop-s-test.false, c.loop-s.auto.s-end, end))

@@ -11,6 +11,7 @@ invariant-loop-b g l = record {
       ≡ l.initial.queue.items ++ further g.R.Reclaim.puts (release_all l.initial.self l.initial.order.items).1;
   seen : told_of g.W.Watch.told (g.W.Watch.seen l.watch) (release_all l.self l.order.items).1
       ≡ told_of g.W.Watch.told (g.W.Watch.seen l.initial.watch) (release_all l.initial.self l.initial.order.items).1;
+  links : l.self.links ≡ l.initial.self.links;
 }
 
 abbrev pub decreases-loop-b : goal.decreases-loop-b

@@ -1,4 +1,4 @@
-use Rattle.std.proofs.Common.{◌∙◌, ◌+◌, ◌-◌}
+use Rattle.std.proofs.Common.{ap, ◌∙◌, ◌+◌, ◌-◌}
 use Rattle.std.specs.List.{range_with_len}
 use Rattle.seize.proofs.Quieting.{range_step, quiets_on}
 use Rattle.seize.proofs.plain.Plain.quiet.Goals as goal
@@ -8,5 +8,5 @@ loop-s-preserved g c =
     let e : _ = quiets_on g.R.Reclaim.puts g.W.Watch.told c.loop-s.self c.part.new.self c.free.new.self c.loop-s.s
     (range_with_len c.loop-s.s (c.made-s-end.result - c.loop-s.s)) (range_with_len (c.loop-s.s + 1) (c.made-s-end.result - (c.loop-s.s + 1)))
     c.loop-s.queue.items c.part.new.queue.items (g.W.Watch.seen c.loop-s.watch) (g.W.Watch.seen c.part.new.watch)
-    (range_step c.loop-s.s c.made-s-end.result c.loop-s-test.true) c.in_ok-part.ensures c.free.ensures in
-    record { state = e.0 ∙ c.loop-s.invariant.state; queue = e.1 ∙ c.loop-s.invariant.queue; seen = e.2 ∙ c.loop-s.invariant.seen }
+    (range_step c.loop-s.s c.made-s-end.result c.loop-s-test.true) c.in_ok-part.ensures.done c.free.ensures in
+    record { state = e.0 ∙ c.loop-s.invariant.state; queue = e.1 ∙ c.loop-s.invariant.queue; seen = e.2 ∙ c.loop-s.invariant.seen; links = ap (λ st. st.links) c.free.ensures ∙ c.part.ensures.links ∙ c.loop-s.invariant.links }

@@ -12,4 +12,5 @@ invariant-loop-s g l = record {
       ≡ l.initial.queue.items ++ further g.R.Reclaim.puts (quieted l.initial.self (range_with_len 0 l.s-end)).1;
   seen : told_of g.W.Watch.told (g.W.Watch.seen l.watch) (quieted l.self (range_with_len l.s (l.s-end - l.s))).1
       ≡ told_of g.W.Watch.told (g.W.Watch.seen l.initial.watch) (quieted l.initial.self (range_with_len 0 l.s-end)).1;
+  links : l.self.links ≡ l.initial.self.links;
 }
