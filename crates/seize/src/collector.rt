@@ -147,7 +147,8 @@ impl<T: Weigh + Drop, R: Reclaim<T>> Collector<T, R> {
         self.id
     }
 
-    /// Whether a growth was refused in a call that answers no refusal for it. From then on nothing is said of its state.
+    /// Whether a growth was refused in a call that answers no refusal for it. From then on nothing is said of its state but
+    /// the number of links.
     ///
     /// Only a collector that stands on plain lists has such calls.
     pub fn is_short(&self) -> bool

@@ -1,12 +1,11 @@
 //! A plain slow collector: lists of slots and of retired batches, the batches by number, and which of them wait for each slot. It has
 //! no words and no counts, so that it can be believed at sight: each of its functions is one line of the model of waiting sets.
 //! The collector keeps its state in one.
-ghost use Rattle.std.specs.Prelude.{◌≡◌, ℕ, ◌<◌, ◌≤◌, ◌∷◌, ◌++◌, [], length, slice_set, replicate, map, None, Some, IfOk, OnErr, MatchResult, option_map, if◌then◌else◌};
-ghost use Rattle.seize.specs.Blocks.{content};
+ghost use Rattle.std.specs.Prelude.{◌≡◌, ◌<◌, ◌≤◌, [], length, slice_set, replicate, map, None, Some, IfOk, if◌then◌else◌};
 ghost use Rattle.seize.specs.Waiting.State as state;
 ghost use Rattle.seize.specs.Waiting.Attempt as waiting;
 ghost use Rattle.seize.specs.Waiting.Calls as calls;
-ghost use Rattle.seize.specs.Told.{Queued, Grew, Said};
+ghost use Rattle.seize.specs.Told.{Queued};
 
 use crate::block::{Owned, Weigh};
 use crate::collector::Watch;

@@ -1,6 +1,6 @@
 //! How values end. A reclaimer is given each value that nobody can read any more, and may put further values to be retired in turn.
 //! Two ready reclaimers end the value and put nothing.
-ghost use Rattle.std.specs.Prelude.{◌≡◌, ℕ, ◌<◌, List, [], map, sum};
+ghost use Rattle.std.specs.Prelude.{◌≡◌, ◌<◌, List, map, sum};
 ghost use Rattle.seize.specs.Blocks.{Joined};
 
 use crate::block::{Further, Weigh};

@@ -1,7 +1,7 @@
 //! What the model of waiting sets does, shown on given lists of calls. Each function does nothing: its contract is what is shown.
 //! The contracts of `Alone` are by the same definitions.
 
-ghost use Rattle.std.specs.Prelude.{◌≡◌, ◌∷◌, [], true};
+ghost use Rattle.std.specs.Prelude.{◌≡◌, ◌∷◌, []};
 ghost use Rattle.seize.specs.Waiting.State as state;
 ghost use Rattle.seize.specs.Waiting.Further.{AfterwardsLaws, DrainedLaws};
 ghost use Rattle.seize.specs.Waiting.Lists.{AmpleLaw};

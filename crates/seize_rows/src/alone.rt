@@ -1,7 +1,7 @@
 //! The collector in one caller's hands: each public call once, that every value ends exactly once, and that its reclaimer is called
 //! once. No contract says these.
 
-use crate::items::{Counting, Item, Items, Names, block, items, retire};
+use crate::items::{Counting, Item, Items, Names, block, items, known, retire};
 use seize::reclaim::{Boxed, InPlace, Reclaim};
 use seize::{Call, Collector, IdSource, Owned, Refusal, Reply, Weigh};
 use std::cell::Cell;
@@ -31,19 +31,18 @@ fn two_values<'a>(
 ) -> Result<(), Fail> {
     let mut ids = IdSource::new();
     let mut collector = items(rt.alloc(), &mut ids, 2, 0)?;
-    let mut names = Names {
-        names: Vec::new(rt.alloc()),
-    };
-    assert_eq!(rt; collector.alone().register(), Ok(0));
+    let mut names = Names::with_room(rt.alloc(), 4)?;
+    assert_eq!(rt; collector.alone().register()?, 0);
     for name in 1..3 {
         let block = block(&collector, name, ended)?;
         let mut alone = collector.alone();
         assert_eq!(rt; alone.enter(0), Ok(()));
         let value = alone.unlinked(block);
-        retire(rt, &mut alone, 0, value, by, &mut names);
+        retire(rt, &mut alone, 0, value, by, &mut names)?;
         assert_eq!(rt; ended.get(), 0);
         assert_eq!(rt; alone.leave(0, &mut names), Ok(()));
     }
+    known(collector.is_short())?;
     assert_eq!(rt; names.names.as_slice(), [1, 2].as_slice());
     assert_eq!(rt; ended.get(), 2);
     assert_eq!(rt; by.calls.get(), 2);
@@ -65,23 +64,22 @@ fn forgotten_number<'a>(
 ) -> Result<(), Fail> {
     let mut ids = IdSource::new();
     let mut collector = items(rt.alloc(), &mut ids, 1, 0)?;
-    let mut names = Names {
-        names: Vec::new(rt.alloc()),
-    };
-    assert_eq!(rt; collector.alone().enter_owned(), Ok(0));
+    let mut names = Names::with_room(rt.alloc(), 4)?;
+    assert_eq!(rt; collector.alone().enter_owned()?, 0);
     for _ in 0..2u8 {
-        assert_eq!(rt; collector.alone().register(), Ok(1));
+        assert_eq!(rt; collector.alone().register()?, 1);
         assert_eq!(rt; collector.alone().end(1), Ok(true));
     }
     let value = block(&collector, 7, ended)?;
     let mut alone = collector.alone();
     let value = alone.unlinked(value);
-    retire(rt, &mut alone, 0, value, by, &mut names);
+    retire(rt, &mut alone, 0, value, by, &mut names)?;
     assert_eq!(rt; ended.get(), 0);
     collector.reclaim_all(&mut names);
+    known(collector.is_short())?;
     assert_eq!(rt; names.names.as_slice(), [7].as_slice());
     assert_eq!(rt; ended.get(), 1);
-    assert_eq!(rt; collector.alone().register(), Ok(0));
+    assert_eq!(rt; collector.alone().register()?, 0);
     drop(collector);
     assert_eq!(rt; ended.get(), 1);
     assert_eq!(rt; by.calls.get(), 1);
@@ -103,15 +101,13 @@ fn batch_of_four<'a>(
 ) -> Result<(), Fail> {
     let mut ids = IdSource::new();
     let mut collector = items(rt.alloc(), &mut ids, 9, 0)?;
-    assert_eq!(rt; collector.alone().register(), Ok(0));
-    let mut names = Names {
-        names: Vec::new(rt.alloc()),
-    };
+    assert_eq!(rt; collector.alone().register()?, 0);
+    let mut names = Names::with_room(rt.alloc(), 4)?;
     for name in 0..4 {
         let block = block(&collector, name, ended)?;
         let mut alone = collector.alone();
         let value = alone.unlinked(block);
-        retire(rt, &mut alone, 0, value, by, &mut names);
+        retire(rt, &mut alone, 0, value, by, &mut names)?;
     }
     assert_eq!(rt; ended.get(), 0);
     drop(collector);
@@ -138,10 +134,8 @@ fn unused_slot<'a>(
     let mut list = VecDeque::new(rt.alloc());
     list.push_back(Call::Retire(4, block(&collector, 5, ended)?, by))?;
     let mut replies = Vec::new(rt.alloc());
-    assert_eq!(rt;
-        collector.alone().run(&mut list, &mut replies, &mut ()),
-        Ok(())
-    );
+    collector.alone().run(&mut list, &mut replies, &mut ())?;
+    known(collector.is_short())?;
     assert_eq!(rt; given_back(replies.pop()), 5);
     assert_eq!(rt; ended.get(), 1);
     assert_eq!(rt; by.calls.get(), 0);
@@ -182,10 +176,10 @@ fn ready_reclaimers(rt: HostRuntime) -> Result<(), Fail> {
     let ended = Cell::new(0);
     let mut ids = IdSource::new();
     let boxes: Collector<Item<'_>> = Collector::new(rt.alloc(), &mut ids, 1, 0)?;
-    assert!(rt; goes(&rt, boxes, Boxed, &ended));
+    goes(&rt, boxes, Boxed, &ended)?;
     assert_eq!(rt; ended.get(), 1);
     let places: Collector<Item<'_>, InPlace> = Collector::new(rt.alloc(), &mut ids, 1, 0)?;
-    assert!(rt; goes(&rt, places, InPlace, &ended));
+    goes(&rt, places, InPlace, &ended)?;
     assert_eq!(rt; ended.get(), 2);
     Ok(())
 }
@@ -196,26 +190,22 @@ fn goes<'a, R: Reclaim<Item<'a>>>(
     mut collector: Collector<Item<'a>, R>,
     by: R,
     ended: &'a Cell<u64>,
-) -> bool {
+) -> Result<(), Refusal> {
     let value = match Owned::new(&collector, Item { name: 0, ended }) {
         Ok(value) => value,
-        Err((_, item)) => {
+        Err((refusal, item)) => {
             drop(item);
-            return false;
+            return Err(refusal);
         }
     };
     let mut alone = collector.alone();
-    if alone.register() != Ok(0) {
-        return false;
-    }
+    let s = alone.register()?;
     let value = alone.unlinked(value);
-    match alone.retire(0, value, by, &mut ()) {
-        Ok(()) => {
-            alone.reclaim_all(&mut ());
-            true
-        }
+    match alone.retire(s, value, by, &mut ()) {
+        Ok(()) => alone.reclaim_all(&mut ()),
         Err((_, _value)) => panic!(rt; "refused"),
     }
+    known(alone.is_short())
 }
 
 /// A value that holds blocks of its own type.
@@ -233,38 +223,44 @@ impl Weigh for Tree<'_> {
     ghost at_least_one = { λ _. lit≤ tt };
 }
 
+fn tree_of<'a>(
+    collector: &Collector<Tree<'a>>,
+    item: Item<'a>,
+    below: Option<Owned<Tree<'a>>>,
+) -> Result<Owned<Tree<'a>>, Refusal> {
+    match Owned::new(collector, Tree { item, below }) {
+        Ok(tree) => Ok(tree),
+        Err((refusal, tree)) => {
+            drop(tree);
+            Err(refusal)
+        }
+    }
+}
+
 /// What a value holds ends with it, where its reclaimer doesn't put it.
 #[test]
 fn blocks_inside_blocks(rt: HostRuntime) -> Result<(), Fail> {
     let ended = Cell::new(0);
+    three_deep(&rt, &ended)
+}
+
+fn three_deep<'a>(rt: &(impl AllocGlobal + Abort), ended: &'a Cell<u64>) -> Result<(), Fail> {
     let mut ids = IdSource::new();
-    let mut collector: Collector<Tree<'_>> = Collector::new(rt.alloc(), &mut ids, 1, 0)?;
-    let mut below = None;
-    for name in 0..3 {
-        let item = Item {
-            name,
-            ended: &ended,
-        };
-        match Owned::new(&collector, Tree { item, below }) {
-            Ok(tree) => below = Some(tree),
-            Err((refusal, tree)) => {
-                drop(tree);
-                return Err(refusal.into());
-            }
-        }
+    let mut collector: Collector<Tree<'a>> = Collector::new(rt.alloc(), &mut ids, 1, 0)?;
+    let mut top = tree_of(&collector, Item { name: 0, ended }, None)?;
+    for name in 1..3 {
+        top = tree_of(&collector, Item { name, ended }, Some(top))?;
     }
-    let mut list = VecDeque::new(rt.alloc());
-    list.push_back(Call::Register)?;
-    if let Some(tree) = below {
-        list.push_back(Call::Retire(0, tree, Boxed))?;
+    let mut alone = collector.alone();
+    let s = alone.register()?;
+    let top = alone.unlinked(top);
+    match alone.retire(s, top, Boxed, &mut ()) {
+        Ok(()) => known(alone.is_short())?,
+        Err((_, _top)) => panic!(rt; "refused"),
     }
-    let mut replies = Vec::new(rt.alloc());
-    assert_eq!(rt;
-        collector.alone().run(&mut list, &mut replies, &mut ()),
-        Ok(())
-    );
     assert_eq!(rt; ended.get(), 0);
-    collector.reclaim_all(&mut ());
+    alone.reclaim_all(&mut ());
+    known(alone.is_short())?;
     assert_eq!(rt; ended.get(), 3);
     Ok(())
 }

@@ -1,5 +1,6 @@
 //! Further values: how far one call goes, in which order values go, and how often reclaimers are called.
 
+use crate::items::{Names, known};
 use crate::nest::{Nest, PutInside};
 use seize::{Collector, IdSource, Owned, Refusal, Watch};
 use std::alloc::{AllocError, Global};
@@ -14,12 +15,6 @@ type Nests<'a> = Collector<Nest<'a>, PutInside<'a>>;
 
 type Block<'a> = Owned<Nest<'a>, PutInside<'a>>;
 
-/// Keeps the names of the values gone.
-#[derive(Drop)]
-struct Names {
-    names: Vec<u64>,
-}
-
 impl<'a> Watch<Nest<'a>> for Names {
     ghost Seen = { Unit {0} };
 
@@ -28,7 +23,7 @@ impl<'a> Watch<Nest<'a>> for Names {
     ghost told = { λ _ _. tt };
 
     fn gone(&mut self, value: &Nest<'a>) {
-        let _ = self.names.push(value.name);
+        self.keep(value.name);
     }
 }
 
@@ -70,11 +65,11 @@ fn retire<'a>(
     block: Block<'a>,
     by: PutInside<'a>,
     names: &mut Names,
-) {
+) -> Result<(), Refusal> {
     let mut alone = collector.alone();
     let value = alone.unlinked(block);
     match alone.retire(0, value, by, names) {
-        Ok(()) => {}
+        Ok(()) => known(alone.is_short()),
         Err((_, _value)) => panic!(rt; "refused"),
     }
 }
@@ -89,18 +84,16 @@ fn each_reclaimer_is_called_once(rt: HostRuntime) -> Result<(), Fail> {
 fn called_once<'a>(rt: &(impl AllocGlobal + Abort), by: PutInside<'a>) -> Result<(), Fail> {
     let mut ids = IdSource::new();
     let mut collector: Nests<'a> = Collector::new(rt.alloc(), &mut ids, 1, 0)?.batch_size(2);
-    let mut names = Names {
-        names: Vec::new(rt.alloc()),
-    };
-    assert_eq!(rt; collector.alone().register(), Ok(0));
+    let mut names = Names::with_room(rt.alloc(), 5)?;
+    assert_eq!(rt; collector.alone().register()?, 0);
     let fourth = leaf(rt.alloc(), &collector, 4)?;
     let mut inside = Vec::new(rt.alloc());
     inside.push(round(rt.alloc(), &collector, 2, fourth)?)?;
     inside.push(leaf(rt.alloc(), &collector, 3)?)?;
     let first = nest(&collector, 1, inside)?;
-    retire(rt, &mut collector, first, by, &mut names);
+    retire(rt, &mut collector, first, by, &mut names)?;
     let fifth = leaf(rt.alloc(), &collector, 5)?;
-    retire(rt, &mut collector, fifth, by, &mut names);
+    retire(rt, &mut collector, fifth, by, &mut names)?;
     assert_eq!(rt; names.names.as_slice(), [1, 5, 2, 3].as_slice());
     assert_eq!(rt; by.calls.get(), 4);
     drop(collector);
@@ -123,15 +116,13 @@ fn a_long_chain_goes_in_one_call(rt: HostRuntime) -> Result<(), Fail> {
 fn chain<'a>(rt: &(impl AllocGlobal + Abort), by: PutInside<'a>) -> Result<(), Fail> {
     let mut ids = IdSource::new();
     let mut collector: Nests<'a> = Collector::new(rt.alloc(), &mut ids, 1, 0)?.batch_size(1);
-    let mut names = Names {
-        names: Vec::new(rt.alloc()),
-    };
-    assert_eq!(rt; collector.alone().register(), Ok(0));
+    let mut names = Names::with_room(rt.alloc(), MANY as usize)?;
+    assert_eq!(rt; collector.alone().register()?, 0);
     let mut block = leaf(rt.alloc(), &collector, MANY)?;
     for name in (1..MANY).rev() {
         block = round(rt.alloc(), &collector, name, block)?;
     }
-    retire(rt, &mut collector, block, by, &mut names);
+    retire(rt, &mut collector, block, by, &mut names)?;
     assert_eq!(rt; by.calls.get(), MANY);
     assert_eq!(rt; names.names.len() as u64, MANY);
     assert!(rt; count_up(names.names.as_slice()));
@@ -148,23 +139,22 @@ fn a_wide_value_goes_in_one_call(rt: HostRuntime) -> Result<(), Fail> {
 fn wide<'a>(rt: &(impl AllocGlobal + Abort), by: PutInside<'a>) -> Result<(), Fail> {
     let mut ids = IdSource::new();
     let mut collector: Nests<'a> = Collector::new(rt.alloc(), &mut ids, 1, 0)?.batch_size(3);
-    let mut names = Names {
-        names: Vec::new(rt.alloc()),
-    };
-    assert_eq!(rt; collector.alone().register(), Ok(0));
+    let mut names = Names::with_room(rt.alloc(), MANY as usize + 3)?;
+    assert_eq!(rt; collector.alone().register()?, 0);
     let mut inside = Vec::new(rt.alloc());
     for name in 4..MANY + 4 {
         inside.push(leaf(rt.alloc(), &collector, name)?)?;
     }
     let first = nest(&collector, 1, inside)?;
-    retire(rt, &mut collector, first, by, &mut names);
+    retire(rt, &mut collector, first, by, &mut names)?;
     for name in 2..4 {
         let block = leaf(rt.alloc(), &collector, name)?;
-        retire(rt, &mut collector, block, by, &mut names);
+        retire(rt, &mut collector, block, by, &mut names)?;
     }
     assert_eq!(rt; by.calls.get(), MANY + 2);
     assert!(rt; count_up(names.names.as_slice()));
     collector.reclaim_all(&mut names);
+    known(collector.is_short())?;
     assert_eq!(rt; by.calls.get(), MANY + 3);
     assert!(rt; count_up(names.names.as_slice()));
     Ok(())

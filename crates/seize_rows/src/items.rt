@@ -3,7 +3,7 @@ ghost use Rattle.std.specs.Prelude.{◌≡◌, length, IfOk};
 
 use seize::reclaim::{Reclaim, boxed};
 use seize::{Alone, Collector, Further, IdSource, Owned, Refusal, Unlinked, Watch, Weigh};
-use std::alloc::Global;
+use std::alloc::{AllocError, Global};
 use std::cell::Cell;
 use std::process::Abort;
 
@@ -54,6 +54,22 @@ pub struct Names {
     pub names: Vec<u64>,
 }
 
+impl Names {
+    /// No name yet, and room for so many.
+    pub fn with_room(alloc: Global, room: usize) -> Result<Names, AllocError> {
+        Ok(Names {
+            names: Vec::with_capacity(alloc, room)?,
+        })
+    }
+
+    /// One name more, where there is room.
+    pub fn keep(&mut self, name: u64) {
+        if self.names.len() < self.names.capacity() {
+            self.names.push_reserved(name);
+        }
+    }
+}
+
 impl<'a> Watch<Item<'a>> for Names {
     ghost Seen = { Unit {0} };
 
@@ -62,7 +78,7 @@ impl<'a> Watch<Item<'a>> for Names {
     ghost told = { λ _ _. tt };
 
     fn gone(&mut self, value: &Item<'a>) {
-        let _ = self.names.push(value.name);
+        self.keep(value.name);
     }
 }
 
@@ -97,6 +113,14 @@ pub fn block<'a>(
     }
 }
 
+/// Ends a test whose collector is short: nothing is known of its values then.
+pub fn known(is_short: bool) -> Result<(), Refusal> {
+    if is_short {
+        return Err(Refusal::NoMemory);
+    }
+    Ok(())
+}
+
 /// Retires a value by a slot that is in use.
 pub fn retire<'c, 'a>(
     rt: &impl Abort,
@@ -105,11 +129,11 @@ pub fn retire<'c, 'a>(
     value: Unlinked<'c, Item<'a>, Counting<'a>>,
     by: Counting<'a>,
     watch: &mut Names,
-)
+) -> Result<(), Refusal>
     ensures { length alone.new.collector.now.state.links ≡ length alone.old.collector.now.state.links }
 {
     match alone.retire(s, value, by, watch) {
-        Ok(()) => {}
+        Ok(()) => known(alone.is_short()),
         Err((_, _value)) => panic!(rt; "refused"),
     }
 }

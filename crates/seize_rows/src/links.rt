@@ -2,7 +2,7 @@
 
 ghost use Rattle.std.specs.Prelude.{◌≡◌, ◌<◌, length};
 
-use crate::items::{AloneItems, Counting, Item, Names, block, items, retire};
+use crate::items::{AloneItems, Counting, Item, Names, block, items, known, retire};
 use seize::{IdSource, Owned, Refusal};
 use std::cell::Cell;
 use std::process::Abort;
@@ -44,7 +44,7 @@ fn exchange<'c, 'a>(
         Ok(None) => Ok(None),
         Ok(Some(old)) => {
             let name = old.name;
-            retire(rt, alone, 0, old, by, names);
+            retire(rt, alone, 0, old, by, names)?;
             Ok(Some(name))
         }
         Err((refusal, _)) => Err(refusal),
@@ -69,32 +69,25 @@ fn linked<'a>(
     let mut collector = items(rt.alloc(), &mut ids, 1, 2)?;
     let (first, second) = (block(&collector, 7, ended)?, block(&collector, 7, ended)?);
     let third = block(&collector, 8, ended)?;
-    let mut names = Names {
-        names: Vec::new(rt.alloc()),
-    };
+    let mut names = Names::with_room(rt.alloc(), 4)?;
     let mut alone = collector.alone();
-    assert_eq!(rt; alone.register(), Ok(0));
+    assert_eq!(rt; alone.register()?, 0);
     assert_eq!(rt; found(&alone, 0), Err(Refusal::NotActive));
     assert_eq!(rt; alone.enter(0), Ok(()));
     assert_eq!(rt; found(&alone, 0), Ok(None));
-    assert_eq!(rt;
-        exchange(rt, &mut alone, 0, first, by, &mut names),
-        Ok(None)
-    );
-    assert_eq!(rt;
-        exchange(rt, &mut alone, 1, second, by, &mut names),
-        Ok(None)
-    );
+    assert_eq!(rt; exchange(rt, &mut alone, 0, first, by, &mut names)?, None);
+    assert_eq!(rt; exchange(rt, &mut alone, 1, second, by, &mut names)?, None);
     assert_eq!(rt; found(&alone, 0), Ok(Some(7)));
     assert!(rt; are_same(&alone, 0, 0));
     assert!(rt; !are_same(&alone, 0, 1));
     assert_eq!(rt;
-        exchange(rt, &mut alone, 0, third, by, &mut names),
-        Ok(Some(7))
+        exchange(rt, &mut alone, 0, third, by, &mut names)?,
+        Some(7)
     );
     assert_eq!(rt; found(&alone, 0), Ok(Some(8)));
     assert_eq!(rt; ended.get(), 0);
     assert_eq!(rt; alone.refresh(0, &mut names), Ok(()));
+    known(alone.is_short())?;
     assert_eq!(rt; names.names.as_slice(), [7].as_slice());
     assert_eq!(rt; ended.get(), 1);
     drop(collector);
@@ -123,21 +116,20 @@ fn flushed_or_not<'a>(
 ) -> Result<(), Fail> {
     let mut ids = IdSource::new();
     let mut collector = items(rt.alloc(), &mut ids, 9, 0)?;
-    let mut names = Names {
-        names: Vec::new(rt.alloc()),
-    };
-    assert_eq!(rt; collector.alone().enter_owned(), Ok(0));
+    let mut names = Names::with_room(rt.alloc(), 4)?;
+    assert_eq!(rt; collector.alone().enter_owned()?, 0);
     let block = block(&collector, 7, ended)?;
     let mut alone = collector.alone();
     let value = alone.unlinked(block);
-    retire(rt, &mut alone, 0, value, by, &mut names);
+    retire(rt, &mut alone, 0, value, by, &mut names)?;
     if flushes {
         assert_eq!(rt; alone.flush(0, &mut names), Ok(()));
+        known(alone.is_short())?;
     }
     assert_eq!(rt; ended.get(), 0);
     assert_eq!(rt; alone.leave(0, &mut names), Ok(()));
+    known(alone.is_short())?;
     assert_eq!(rt; ended.get(), u64::from(flushes));
-    assert!(rt; !collector.is_short());
     drop(collector);
     assert_eq!(rt; ended.get(), 1);
     Ok(())

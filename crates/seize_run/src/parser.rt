@@ -1,7 +1,6 @@
 //! The grammar of scripts: their lines and groups. A script is read and checked whole before anything of it runs.
-ghost use Rattle.std.specs.Prelude.{◌≡◌, [], length, map, All, IfOk, OnOk};
-ghost use Rattle.seize.specs.Alone.{call_of, AllInRange};
-ghost use Rattle.seize_run.specs.Ranges.{IsGroupInRange, AreInRange, IsInRange, IsReady};
+ghost use Rattle.std.specs.Prelude.{◌≡◌, length, IfOk, OnOk};
+ghost use Rattle.seize_run.specs.Ranges.{AreInRange, IsInRange, IsReady};
 
 use crate::call::CallReader;
 use crate::failure::Failure;

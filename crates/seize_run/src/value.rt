@@ -1,5 +1,5 @@
 //! Values of scripts.
-ghost use Rattle.std.specs.Prelude.{◌≡◌, ◌<◌};
+ghost use Rattle.std.specs.Prelude.{◌<◌};
 ghost use Rattle.seize_run.specs.Values.{inside_of, weight_of};
 ghost use Rattle.seize_run.specs.Weights.{weight_at_least_one, inside_lighter};
 

@@ -3,7 +3,7 @@ use Rattle.std.proofs.Common.{◌≡◌, ℕ, ◌<◌, ◌≤◌, Bool, true, fa
 use Rattle.std.proofs.lemmas.List.{get_or_past, length-set, set-get_or}
 use Rattle.std.proofs.Math.ListN.{get_or-map}
 use Rattle.seize_machine.specs.Machine.State as machine
-use Rattle.seize_machine.specs.Machine.State.{State, Slot, Head, Inactive, Active, Place, Append, Mark, Out, Rest, has, is_idle, is_active, head_at, no_slot}
+use Rattle.seize_machine.specs.Machine.State.{State, Slot, Head, Inactive, Active, Append, Mark, Out, Rest, has, is_idle, is_active, head_at, no_slot}
 use Rattle.seize_machine.specs.Machine.Event.{Event, Begin, Return, Give}
 use Rattle.seize_machine.specs.Machine.Next.{next, set_slot, retiring, is_empty}
 use Rattle.seize_machine.specs.declared.machine.event.Job.TheVariants.{Retire, Flush, Leave, Refresh}

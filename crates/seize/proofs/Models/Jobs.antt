@@ -2,7 +2,7 @@
 use Rattle.std.proofs.Common.{◌≡◌, ℕ, zero, suc, ◌<◌, Bool, true, false, not, ◌||◌, ◌==◌, if◌then◌else◌, nat_lt, List, [], ◌∷◌, length, set, Some, None, refl, sym, ◌∙◌, ap, subst, arith}
 use Rattle.std.proofs.lemmas.List.{get_or-set_same}
 use Rattle.seize_machine.specs.Machine.State as machine
-use Rattle.seize_machine.specs.Machine.State.{State, Slot, Head, Inactive, Active, Place, Append, Mark, Out, Rest, has, is_active, head_at, waiting_at}
+use Rattle.seize_machine.specs.Machine.State.{State, Slot, Head, Inactive, Active, Mark, Out, Rest, has, is_active, head_at, waiting_at}
 use Rattle.seize_machine.specs.Machine.Event.{Event, Begin, Put, SwapOut}
 use Rattle.seize_machine.specs.Machine.Next.{set_head, retiring, is_empty}
 use Rattle.seize_machine.specs.declared.machine.event.Job as job

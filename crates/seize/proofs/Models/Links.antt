@@ -3,7 +3,7 @@ use Rattle.std.proofs.Common.{◌≡◌, ℕ, ◌<◌, Bool, true, false, not, �
 use Rattle.std.proofs.lemmas.List.{length-map, map-set}
 use Rattle.std.proofs.Math.ListN.{get_or-map}
 use Rattle.seize_machine.specs.Machine.State as machine
-use Rattle.seize_machine.specs.Machine.State.{State, has, is_active, head_at}
+use Rattle.seize_machine.specs.Machine.State.{State, has, is_active}
 use Rattle.seize_machine.specs.Machine.Event.{Event, Give, ReadLink, ExchangeLink}
 use Rattle.seize_machine.specs.Machine.Next.{next, is_none_or_fresh}
 use Rattle.seize_machine.specs.Machine.Next as machine_next

@@ -5,9 +5,9 @@ use Rattle.std.proofs.lemmas.Grind.{common_steps}
 use Rattle.std.proofs.lemmas.List.{get_or-set_same, get_or-set_other, length-set, map-set}
 use Rattle.std.proofs.Math.Seq.{map-set_same}
 use Rattle.seize_machine.specs.Machine.State as machine
-use Rattle.seize_machine.specs.Machine.State.{Head, Inactive, Active, Batch, has, no_batch, are_distinct}
+use Rattle.seize_machine.specs.Machine.State.{Head, Batch, has, no_batch, are_distinct}
 use Rattle.seize.specs.Waiting.State as waiting
-use Rattle.seize.specs.Waiting.State.{keeps, is_kept, retired_at}
+use Rattle.seize.specs.Waiting.State.{keeps, retired_at}
 use Rattle.seize.specs.Agreement.Shows.{Stand, held, head_of, ShowsSlot, Shows}
 use Rattle.seize_machine.proofs.Laws.Steps.{is_true, eq_true}
 use Rattle.seize_machine.proofs.Laws.Sums.{one, occ, has_none, has_some, distinct_once}

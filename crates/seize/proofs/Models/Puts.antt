@@ -6,7 +6,7 @@ use Rattle.std.proofs.lemmas.List.{get_or-set_same, length-set, length-map, map-
 use Rattle.std.proofs.Math.ListN.{get_or-map}
 use Rattle.std.proofs.Math.Seq.{get_or-append_seam}
 use Rattle.seize_machine.specs.Machine.State as machine
-use Rattle.seize_machine.specs.Machine.State.{State, Head, Batch, Place, Mark, Rest, has, are_distinct, no_batch}
+use Rattle.seize_machine.specs.Machine.State.{State, Head, Batch, Mark, Rest, has, are_distinct, no_batch}
 use Rattle.seize_machine.specs.Machine.Event.{Hand}
 use Rattle.seize_machine.specs.Machine.Next.{are_fresh}
 use Rattle.seize.specs.Waiting.State as waiting

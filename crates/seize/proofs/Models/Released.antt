@@ -4,7 +4,7 @@ use Rattle.std.specs.List.{count_by}
 use Rattle.std.proofs.lemmas.Int.{ints}
 use Rattle.std.proofs.lemmas.List.{get_or-set_same, get_or-set_other, get_or_past, length-set, set-get_or}
 use Rattle.seize_machine.specs.Machine.State as machine
-use Rattle.seize_machine.specs.Machine.State.{Head, Inactive, Active, Batch, has, no_batch, are_distinct}
+use Rattle.seize_machine.specs.Machine.State.{Head, Batch, has, no_batch}
 use Rattle.seize.specs.Waiting.State as waiting
 use Rattle.seize.specs.Waiting.State.{keeps, is_kept, retired_at}
 use Rattle.seize.specs.Waiting.Attempt.{Outcome, release}

@@ -7,9 +7,9 @@ use Rattle.std.proofs.lemmas.List.{get_or_past, length-map}
 use Rattle.std.proofs.Math.ListN.{get_or-map}
 use Rattle.std.proofs.Math.Seq.{get_or-append_seam}
 use Rattle.seize_machine.specs.Machine.State as machine
-use Rattle.seize_machine.specs.Machine.State.{Head, Inactive, Active, Batch, has, no_batch, are_distinct}
+use Rattle.seize_machine.specs.Machine.State.{Head, Inactive, Active, Batch, no_batch, are_distinct}
 use Rattle.seize.specs.Waiting.State as waiting
-use Rattle.seize.specs.Waiting.State.{keeps, is_kept, retired_at, slot_at}
+use Rattle.seize.specs.Waiting.State.{keeps, slot_at}
 use Rattle.seize.specs.Waiting.Attempt.{wait_if_active}
 use Rattle.seize.specs.Agreement.Shows.{Stand, head_of, ShowsSlot}
 use Rattle.seize.proofs.Models.Attempts.{actives, with_front}

@@ -4,7 +4,7 @@ use Rattle.std.specs.List.{count_by}
 use Rattle.std.proofs.lemmas.List.Concat.{flat_map-cons}
 use Rattle.std.proofs.lemmas.List.{get_or-set_same, length-set, length-map}
 use Rattle.seize_machine.specs.Machine.State as machine
-use Rattle.seize_machine.specs.Machine.State.{State, Head, Batch, Place, Mark, Rest, has, are_distinct, no_batch}
+use Rattle.seize_machine.specs.Machine.State.{State, Batch, Mark, Rest, has, are_distinct, no_batch}
 use Rattle.seize_machine.specs.Machine.Event.{SubCount}
 use Rattle.seize.specs.Waiting.State as waiting
 use Rattle.seize.specs.Waiting.State.{slot_at, keeps, is_kept}

@@ -1,6 +1,6 @@
 //! The calls of a collector that one caller makes one after another. It has no words of its own: each call is one step of the model of
 //! waiting sets, by the collector's lists and sets. Guards of threads make the same calls beside one another.
-ghost use Rattle.std.specs.Prelude.{◌≡◌, ◌⊎◌, ℕ, ◌+◌, ◌<◌, ◌++◌, true, false, length, map, option_map, IfOk, IfErr, MatchResult};
+ghost use Rattle.std.specs.Prelude.{◌≡◌, ◌⊎◌, ◌+◌, ◌<◌, true, false, length, map, option_map, IfOk, IfErr, MatchResult};
 ghost use Rattle.seize.specs.Blocks.{content, shared_content};
 ghost use Rattle.seize.specs.Waiting.Calls as calls;
 ghost use Rattle.seize.specs.Waiting.Lists as lists;
@@ -56,7 +56,7 @@ pub enum Reply<T, R: Copy = Boxed> {
     Refused(Refusal, Option<Owned<T, R>>),
 }
 
-/// The collector in one caller's hands.
+/// The collector in one caller's hands. No call changes how many links there are.
 #[derive(Drop)]
 pub struct Alone<'c, T: Weigh + Drop, R: Reclaim<T> = Boxed> {
     collector: &'c mut Collector<T, R>,
@@ -364,7 +364,7 @@ impl<'c, T: Weigh + Drop, R: Reclaim<T>> Alone<'c, T, R> {
     }
 
     /// Whether a growth was refused in a call that answers no refusal for it, of this collector or an earlier one of its calls. From
-    /// then on nothing is said of its state. It costs nothing to ask.
+    /// then on nothing is said of its state but the number of links. It costs nothing to ask.
     pub fn is_short(&self) -> bool
         ensures { result ≡ self.now.collector.now.is_short }
     {

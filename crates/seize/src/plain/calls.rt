@@ -1,7 +1,6 @@
 //! The calls of the plain collector that tell nobody: numbers, guards and links.
 ghost use Rattle.std.specs.Prelude.{◌≡◌, ◌≤◌, ◌<◌, length, slice_set, IfOk, OnErr, MatchResult, option_map, None, Some};
 ghost use Rattle.seize.specs.Blocks.{content};
-ghost use Rattle.seize.specs.Waiting.State as state;
 ghost use Rattle.seize.specs.Waiting.Calls as calls;
 ghost use Rattle.seize.specs.Told.{Grew, Said};
 

@@ -1,11 +1,8 @@
 //! The calls of the plain collector by which values end.
-ghost use Rattle.std.specs.Prelude.{◌≡◌, ℕ, ◌++◌, length, map, IfOk};
-ghost use Rattle.std.specs.List.{flat_map, range_with_len};
-ghost use Rattle.seize.specs.Waiting.State as state;
-ghost use Rattle.seize.specs.Waiting.Attempt as waiting;
+ghost use Rattle.std.specs.Prelude.{◌≡◌, IfOk};
 ghost use Rattle.seize.specs.Waiting.Further as further;
 ghost use Rattle.seize.specs.Waiting.Calls as calls;
-ghost use Rattle.seize.specs.Told.{told_of, Did, Queued, Answered};
+ghost use Rattle.seize.specs.Told.{Did, Queued, Answered};
 
 use crate::block::Weigh;
 use crate::collector::Watch;
