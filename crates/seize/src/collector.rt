@@ -163,6 +163,7 @@ impl<T: Weigh + Drop, R: Reclaim<T>> Collector<T, R> {
 
     /// The calls that one caller makes one after another. Slots are named by number, and stay as they are when the [`Alone`] ends.
     pub fn alone(&mut self) -> Alone<'_, T, R>
+        ensures id { result.collector.now.id ≡ self.old.id }
         ensures size { result.collector.now.state.size ≡ self.old.state.size }
         ensures links { length result.collector.now.state.links ≡ length self.old.state.links }
         ensures reached { IsReached R.puts T.weight result.collector.now.is_short result.collector.now.state }
@@ -173,7 +174,9 @@ impl<T: Weigh + Drop, R: Reclaim<T>> Collector<T, R> {
     /// Every slot leaves, every retired value goes to its reclaimer, and all that the reclaimers put too. Then every number is free.
     /// The links stay as they are. The watch is told each value, in order.
     pub fn reclaim_all<W: Watch<T>>(&mut self, watch: &mut W)
-        ensures { ReclaimedAll R.puts T.weight W.told self.old.state.size (length self.old.state.links) self.old.is_short self.new.is_short (W.seen watch.old) (W.seen watch.new) }
+        ensures told { ReclaimedAll R.puts T.weight W.told self.old.state.size (length self.old.state.links) self.old.is_short self.new.is_short (W.seen watch.old) (W.seen watch.new) }
+        ensures links { length self.new.state.links ≡ length self.old.state.links }
+        ensures id { self.new.id ≡ self.old.id }
     {
         self.empty(watch);
     }
@@ -182,6 +185,7 @@ impl<T: Weigh + Drop, R: Reclaim<T>> Collector<T, R> {
     fn empty<W: Watch<T>>(&mut self, watch: &mut W)
         ensures done { AllDone W.told (calls.reclaim_all R.puts T.weight self.old.state) self.new.state self.new.is_short (W.seen watch.old) (W.seen watch.new) }
         ensures links { self.new.state.links ≡ self.old.state.links }
+        ensures id { self.new.id ≡ self.old.id }
     {
         if self.state.reclaim_all(watch).is_err() {
             self.is_short = true;

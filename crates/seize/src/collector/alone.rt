@@ -56,7 +56,7 @@ pub enum Reply<T, R: Copy = Boxed> {
     Refused(Refusal, Option<Owned<T, R>>),
 }
 
-/// The collector in one caller's hands. No call changes how many links there are.
+/// The collector in one caller's hands. No call changes its id or how many links there are.
 #[derive(Drop)]
 pub struct Alone<'c, T: Weigh + Drop, R: Reclaim<T> = Boxed> {
     collector: &'c mut Collector<T, R>,
@@ -77,6 +77,7 @@ impl<'c, T: Weigh + Drop, R: Reclaim<T>> Alone<'c, T, R> {
     pub fn register(&mut self) -> Result<usize, Refusal>
         ensures done { Grew (calls.take_number self.old.collector.now.state registered 0) result self.old.collector.now.state self.new.collector.now.state }
         ensures links { length self.new.collector.now.state.links ≡ length self.old.collector.now.state.links }
+        ensures id { self.new.collector.now.id ≡ self.old.collector.now.id }
     {
         let collector = &mut *self.collector;
         collector.state.take_number(Kind::Registered, 0)
@@ -90,6 +91,7 @@ impl<'c, T: Weigh + Drop, R: Reclaim<T>> Alone<'c, T, R> {
     pub fn enter_owned(&mut self) -> Result<usize, Refusal>
         ensures done { Grew (calls.take_number self.old.collector.now.state owned_slot 1) result self.old.collector.now.state self.new.collector.now.state }
         ensures links { length self.new.collector.now.state.links ≡ length self.old.collector.now.state.links }
+        ensures id { self.new.collector.now.id ≡ self.old.collector.now.id }
     {
         let collector = &mut *self.collector;
         collector.state.take_number(Kind::Owned, 1)
@@ -103,6 +105,7 @@ impl<'c, T: Weigh + Drop, R: Reclaim<T>> Alone<'c, T, R> {
     pub fn enter(&mut self, s: usize) -> Result<(), Refusal>
         ensures done { Said (calls.enter self.old.collector.now.state s) result self.new.collector.now.state }
         ensures links { length self.new.collector.now.state.links ≡ length self.old.collector.now.state.links }
+        ensures id { self.new.collector.now.id ≡ self.old.collector.now.id }
     {
         let collector = &mut *self.collector;
         collector.state.enter(s)
@@ -118,6 +121,7 @@ impl<'c, T: Weigh + Drop, R: Reclaim<T>> Alone<'c, T, R> {
         ensures done { Answers W.told (calls.leave R.puts T.weight self.old.collector.now.state s) result self.new.collector.now.state
             self.new.collector.now.is_short (W.seen watch.old) (W.seen watch.new) }
         ensures links { length self.new.collector.now.state.links ≡ length self.old.collector.now.state.links }
+        ensures id { self.new.collector.now.id ≡ self.old.collector.now.id }
     {
         let collector = &mut *self.collector;
         if let Some(refusal) = collector.state.no_guard(s) {
@@ -136,6 +140,7 @@ impl<'c, T: Weigh + Drop, R: Reclaim<T>> Alone<'c, T, R> {
     pub fn end(&mut self, s: usize) -> Result<bool, Refusal>
         ensures done { Said (calls.end_slot self.old.collector.now.state s) result self.new.collector.now.state }
         ensures links { length self.new.collector.now.state.links ≡ length self.old.collector.now.state.links }
+        ensures id { self.new.collector.now.id ≡ self.old.collector.now.id }
     {
         let collector = &mut *self.collector;
         collector.state.end(s)
@@ -150,6 +155,7 @@ impl<'c, T: Weigh + Drop, R: Reclaim<T>> Alone<'c, T, R> {
         ensures done { Answers W.told (calls.refresh R.puts T.weight self.old.collector.now.state s) result self.new.collector.now.state
             self.new.collector.now.is_short (W.seen watch.old) (W.seen watch.new) }
         ensures links { length self.new.collector.now.state.links ≡ length self.old.collector.now.state.links }
+        ensures id { self.new.collector.now.id ≡ self.old.collector.now.id }
     {
         let collector = &mut *self.collector;
         if let Some(refusal) = collector.state.no_guard(s) {
@@ -169,6 +175,7 @@ impl<'c, T: Weigh + Drop, R: Reclaim<T>> Alone<'c, T, R> {
         ensures done { Answers W.told (calls.flush R.puts T.weight self.old.collector.now.state s) result self.new.collector.now.state
             self.new.collector.now.is_short (W.seen watch.old) (W.seen watch.new) }
         ensures links { length self.new.collector.now.state.links ≡ length self.old.collector.now.state.links }
+        ensures id { self.new.collector.now.id ≡ self.old.collector.now.id }
     {
         let collector = &mut *self.collector;
         if let Some(refusal) = collector.state.no_guard(s) {
@@ -205,6 +212,7 @@ impl<'c, T: Weigh + Drop, R: Reclaim<T>> Alone<'c, T, R> {
             self.new.collector.now.is_short (W.seen watch.old) (W.seen watch.new) }
         ensures back { IfErr result (λ e. e.1 ≡ value.entry) }
         ensures links { length self.new.collector.now.state.links ≡ length self.old.collector.now.state.links }
+        ensures id { self.new.collector.now.id ≡ self.old.collector.now.id }
     {
         let collector = &mut *self.collector;
         if let Some(refusal) = collector.state.unused(s) {
@@ -247,6 +255,7 @@ impl<'c, T: Weigh + Drop, R: Reclaim<T>> Alone<'c, T, R> {
             (λ e. (calls.no_guard self.old.collector.now.state s ≡ Some e.0) × (e.1 ≡ new)) }
         ensures state { self.new.collector.now.state ≡ (calls.swap self.old.collector.now.state s link (option_map content new)).1.0 }
         ensures links { length self.new.collector.now.state.links ≡ length self.old.collector.now.state.links }
+        ensures id { self.new.collector.now.id ≡ self.old.collector.now.id }
     {
         let collector = &mut *self.collector;
         if let Some(refusal) = collector.state.no_guard(s) {
@@ -264,6 +273,7 @@ impl<'c, T: Weigh + Drop, R: Reclaim<T>> Alone<'c, T, R> {
         ensures done { AllDone W.told (calls.reclaim_all R.puts T.weight self.old.collector.now.state) self.new.collector.now.state
             self.new.collector.now.is_short (W.seen watch.old) (W.seen watch.new) }
         ensures links { length self.new.collector.now.state.links ≡ length self.old.collector.now.state.links }
+        ensures id { self.new.collector.now.id ≡ self.old.collector.now.id }
     {
         self.collector.empty(watch);
     }
@@ -281,6 +291,7 @@ impl<'c, T: Weigh + Drop, R: Reclaim<T>> Alone<'c, T, R> {
         ensures done { Stepped R.puts T.weight W.told self.old.collector.now.state (Call.Swap s link new reclaim) result self.new.collector.now.state
             self.new.collector.now.is_short (W.seen watch.old) (W.seen watch.new) }
         ensures links { length self.new.collector.now.state.links ≡ length self.old.collector.now.state.links }
+        ensures id { self.new.collector.now.id ≡ self.old.collector.now.id }
     {
         let old = match self.swap(s, link, new) {
             Ok(Some(old)) => old,
@@ -299,6 +310,7 @@ impl<'c, T: Weigh + Drop, R: Reclaim<T>> Alone<'c, T, R> {
         ensures done { Stepped R.puts T.weight W.told self.old.collector.now.state call result self.new.collector.now.state
             self.new.collector.now.is_short (W.seen watch.old) (W.seen watch.new) }
         ensures links { length self.new.collector.now.state.links ≡ length self.old.collector.now.state.links }
+        ensures id { self.new.collector.now.id ≡ self.old.collector.now.id }
     {
         match call {
             Call::Register => numbered(self.register()),
@@ -348,6 +360,7 @@ impl<'c, T: Weigh + Drop, R: Reclaim<T>> Alone<'c, T, R> {
         ensures refused { IfErr result (λ refusal. (refusal ≡ no_memory) × (self.new.collector.now.state ≡ self.old.collector.now.state)
             × (calls.new.items ≡ calls.old.items) × (replies.new.items ≡ replies.old.items) × (W.seen watch.new ≡ W.seen watch.old)) }
         ensures links { length self.new.collector.now.state.links ≡ length self.old.collector.now.state.links }
+        ensures id { self.new.collector.now.id ≡ self.old.collector.now.id }
     {
         if self.collector.is_short {
             return Err(Refusal::NoMemory);
@@ -374,7 +387,8 @@ impl<'c, T: Weigh + Drop, R: Reclaim<T>> Alone<'c, T, R> {
 
 /// Takes note of a growth that was refused in a call that answers no refusal for it.
 fn note(is_short: &mut bool, answer: Result<(), Refusal>)
-    ensures { (is_short.new ≡ true) ⊎ ((answer ≡ Ok tt) × (is_short.new ≡ is_short.old)) }
+    ensures noted { (is_short.new ≡ true) ⊎ ((answer ≡ Ok tt) × (is_short.new ≡ is_short.old)) }
+    ensures needed { answer ≡ Ok tt → is_short.new ≡ is_short.old }
 {
     if answer.is_err() {
         *is_short = true;

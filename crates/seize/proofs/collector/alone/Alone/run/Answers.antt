@@ -13,6 +13,7 @@ loop-self-preserved g c =
           c.in-Some.call c.pop_front.new.self.items c.reply-reply.result
           c.loop-self.invariant.made going c.in-Some.ensures.items c.reply-reply.ensures.done c.reply-reply.ensures.links c.push_reserved.ensures.items;
       links = c.reply-reply.ensures.links ∙ c.loop-self.invariant.links;
+      id = c.reply-reply.ensures.id ∙ c.loop-self.invariant.id;
       room = omega (arith, c.loop-self.invariant.room, c.in-Some.ensures.cases, c.push_reserved.ensures.len, c.push_reserved.ensures.capacity);
     }
 
@@ -22,5 +23,6 @@ loop-self-init g c = record {
       c.args.self.now.collector.now.state c.args.calls.now.items c.args.replies.now.items c.reserve.new.self.items (g.W.Watch.seen c.args.watch.now) c.args.self.now.collector.now.is_short
       c.requires c.in_ok-reserve.ensures.items;
   links = refl;
+  id = refl;
   room = search rules;
 }

@@ -8,6 +8,7 @@ invariant-loop-self g l = record {
       l.fn.self.collector.now.state l.fn.calls.items l.fn.replies.items (g.W.Watch.seen l.fn.watch)
       l.self.collector.now.state l.calls.items l.replies.items (g.W.Watch.seen l.watch) l.self.collector.now.is_short;
   links : length l.self.collector.now.state.links ≡ length l.fn.self.collector.now.state.links;
+  id : l.self.collector.now.id ≡ l.fn.self.collector.now.id;
   room : vec_len l.replies + deque_len l.calls ≤ vec_capacity l.replies;
 }
 
