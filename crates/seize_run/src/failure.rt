@@ -1,6 +1,7 @@
 //! Why the program ends before its script does, with a status and a text for each reason. Every other module names its failures here.
 ghost use Rattle.std.specs.Prelude.{◌≡◌};
 ghost use Rattle.seize_run.specs.Statuses.{status_of};
+ghost use Rattle.seize_run.specs.declared.failure.Failure.TheVariants.{NoMemory};
 
 use seize::Refusal;
 use std::alloc::{AllocError, AllocFailed};
@@ -54,12 +55,16 @@ impl fmt::Display for Failure<'_> {
 }
 
 impl From<AllocError> for Failure<'_> {
+    ghost from_gives = { λ _ failure. failure ≡ NoMemory };
+
     fn from(_error: AllocError) -> Self {
         Failure::NoMemory
     }
 }
 
 impl<T: Drop> From<AllocFailed<T>> for Failure<'_> {
+    ghost from_gives = { λ _ failure. failure ≡ NoMemory };
+
     fn from(_failed: AllocFailed<T>) -> Self {
         Failure::NoMemory
     }
@@ -67,6 +72,8 @@ impl<T: Drop> From<AllocFailed<T>> for Failure<'_> {
 
 /// The program makes one collector, for one processor. So what it asks can be refused for want of memory alone.
 impl From<Refusal> for Failure<'_> {
+    ghost from_gives = { λ _ failure. failure ≡ NoMemory };
+
     fn from(_refusal: Refusal) -> Self {
         Failure::NoMemory
     }

@@ -1,5 +1,6 @@
 //! One line of a script, read from left to right: words, numbers and names. The grammar of whole lines is above it.
 ghost use Rattle.std.specs.Prelude.{◌≡◌, ◌≤◌, ◌++◌, length, MatchBool};
+ghost use Rattle.seize_run.specs.declared.line.LineError.TheVariants.{NoMemory};
 
 use crate::failure::Failure;
 use crate::name::{Name, is_in_name};
@@ -26,12 +27,16 @@ impl LineError {
 }
 
 impl From<AllocError> for LineError {
+    ghost from_gives = { λ _ error. error ≡ NoMemory };
+
     fn from(_error: AllocError) -> LineError {
         LineError::NoMemory
     }
 }
 
 impl<T: Drop> From<AllocFailed<T>> for LineError {
+    ghost from_gives = { λ _ error. error ≡ NoMemory };
+
     fn from(_failed: AllocFailed<T>) -> LineError {
         LineError::NoMemory
     }

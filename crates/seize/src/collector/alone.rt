@@ -1,6 +1,6 @@
 //! The calls of a collector that one caller makes one after another. It has no words of its own: each call is one step of the model of
 //! waiting sets, by the collector's lists and sets. Guards of threads make the same calls beside one another.
-ghost use Rattle.std.specs.Prelude.{◌≡◌, ◌⊎◌, ◌+◌, ◌<◌, true, false, length, map, option_map, IfOk, IfErr, MatchResult};
+ghost use Rattle.std.specs.Prelude.{◌≡◌, ◌⊎◌, ◌+◌, ◌<◌, true, false, length, map, option_map, IfOk, IfErr, IfSome, MatchResult};
 ghost use Rattle.seize.specs.Blocks.{content, shared_content};
 ghost use Rattle.seize.specs.Waiting.Calls as calls;
 ghost use Rattle.seize.specs.Waiting.Lists as lists;
@@ -231,7 +231,8 @@ impl<'c, T: Weigh + Drop, R: Reclaim<T>> Alone<'c, T, R> {
     /// In this order: `NotInUse`, `NotActive`.
     pub fn protect(&self, s: usize, link: usize) -> Result<Option<Shared<'_, T>>, Refusal>
         requires { link < length self.now.collector.now.state.links }
-        ensures { MatchResult result (λ found. (calls.no_guard self.now.collector.now.state s ≡ None) × (option_map shared_content found ≡ calls.link_at self.now.collector.now.state link)) (λ refusal. calls.no_guard self.now.collector.now.state s ≡ Some refusal) }
+        ensures answer { MatchResult result (λ found. (calls.no_guard self.now.collector.now.state s ≡ None) × (option_map shared_content found ≡ calls.link_at self.now.collector.now.state link)) (λ refusal. calls.no_guard self.now.collector.now.state s ≡ Some refusal) }
+        ensures block { IfOk result (λ found. IfSome found (λ shared. (shared.collector_id ≡ self.now.collector.now.id) × (shared.link ≡ link))) }
     {
         match self.collector.state.protect(s, link)? {
             None => Ok(None),
@@ -253,6 +254,7 @@ impl<'c, T: Weigh + Drop, R: Reclaim<T>> Alone<'c, T, R> {
         requires { link < length self.old.collector.now.state.links }
         ensures answer { MatchResult result (λ old. (calls.no_guard self.old.collector.now.state s ≡ None) × (option_map (λ unlinked. content unlinked.owned) old ≡ calls.link_at self.old.collector.now.state link))
             (λ e. (calls.no_guard self.old.collector.now.state s ≡ Some e.0) × (e.1 ≡ new)) }
+        ensures block { IfOk result (λ old. IfSome old (λ unlinked. unlinked.collector_id ≡ self.old.collector.now.id)) }
         ensures state { self.new.collector.now.state ≡ (calls.swap self.old.collector.now.state s link (option_map content new)).1.0 }
         ensures links { length self.new.collector.now.state.links ≡ length self.old.collector.now.state.links }
         ensures id { self.new.collector.now.id ≡ self.old.collector.now.id }
