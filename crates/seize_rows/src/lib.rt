@@ -1,5 +1,5 @@
-//! Tests that cross modules: worked runs, and whatever no contract says. They stand in a crate of their own, since a crate
-//! with tests is proved twice.
+//! Tests of the collector in one caller's hands: worked runs, and whatever no contract says. They stand in a crate of their own,
+//! since a crate with tests is proved twice.
 #![tactic(auto)]
 
 #[cfg(test)]
@@ -10,8 +10,6 @@ mod further;
 mod items;
 #[cfg(test)]
 mod links;
-#[cfg(test)]
-mod machine;
 mod nest;
 #[cfg(test)]
-mod table;
+mod passed_on;

@@ -1,7 +1,7 @@
-// Numbers, their places, and the table.
-use seize::Refusal;
-use seize::thread_id::{BUCKETS, MAX_INDEX, Numbers, Thread};
-use seize::tls::ThreadLocal;
+//! Numbers, their places, and the table.
+use seize_table::Refusal;
+use seize_table::thread_id::{BUCKETS, MAX_INDEX, Numbers, Thread};
+use seize_table::tls::ThreadLocal;
 use std::alloc::Global;
 use std::cell::Cell;
 use std::process::Abort;
