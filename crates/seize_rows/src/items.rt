@@ -130,6 +130,7 @@ pub fn retire<'c, 'a>(
     by: Counting<'a>,
     watch: &mut Names,
 ) -> Result<(), Refusal>
+    requires { value.collector_id ≡ alone.old.collector.now.id }
     ensures { length alone.new.collector.now.state.links ≡ length alone.old.collector.now.state.links }
 {
     match alone.retire(s, value, by, watch) {

@@ -208,6 +208,7 @@ impl<'c, T: Weigh + Drop, R: Reclaim<T>> Alone<'c, T, R> {
         reclaim: R,
         watch: &mut W,
     ) -> Result<(), (Refusal, Unlinked<'c, T, R>)>
+        requires own { value.collector_id ≡ self.old.collector.now.id }
         ensures answer { Answers W.told (calls.retire R.puts T.weight self.old.collector.now.state s (content value.entry.owned) reclaim) (without_block result) self.new.collector.now.state
             self.new.collector.now.is_short (W.seen watch.old) (W.seen watch.new) }
         ensures back { IfErr result (λ e. e.1 ≡ value.entry) }
