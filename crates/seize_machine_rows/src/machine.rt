@@ -19,7 +19,6 @@ const INACTIVE: Answer = Answer::Head(false);
 #[derive(Drop)]
 struct Run<'a, A> {
     rt: &'a A,
-    alloc: Global,
     machine: Machine,
 }
 
@@ -27,7 +26,7 @@ impl<'a, A: Abort> Run<'a, A> {
     /// A machine of batch size 1 that has done nothing.
     fn new(rt: &'a A, alloc: Global, links: usize) -> Result<Run<'a, A>, Fail> {
         let machine = Machine::new(alloc, 1, links)?;
-        let mut run = Run { rt, alloc, machine };
+        let mut run = Run { rt, machine };
         run.refuses()?;
         Ok(run)
     }
@@ -187,8 +186,12 @@ fn detach_of_three(run: &mut Run<'_, impl Abort>, s: usize, value: u64) -> Resul
 }
 
 /// Slot 1 leaves with two batches, and hands their values in this order.
-fn leave_with_two(run: &mut Run<'_, impl Abort>, first: u64, second: u64) -> Result<(), Fail> {
-    let alloc = run.alloc;
+fn leave_with_two(
+    run: &mut Run<'_, impl Abort>,
+    alloc: Global,
+    first: u64,
+    second: u64,
+) -> Result<(), Fail> {
     for (event, want) in [
         (Begin(1, Leave), Done),
         (SwapOut(1), Done),
@@ -237,7 +240,7 @@ fn two_insertions(rt: HostRuntime) -> Result<(), Fail> {
     ] {
         run.does(event, want)?;
     }
-    leave_with_two(&mut run, 2, 1)
+    leave_with_two(&mut run, alloc, 2, 1)
 }
 
 #[test]
@@ -256,7 +259,7 @@ fn second_finishes_first(rt: HostRuntime) -> Result<(), Fail> {
     ] {
         run.does(event, want)?;
     }
-    leave_with_two(&mut run, 1, 2)
+    leave_with_two(&mut run, alloc, 1, 2)
 }
 
 #[test]
