@@ -20,8 +20,10 @@ pub fn runs_agree()
     ensures enough { by_events 1 0 runs.enough ≡ by_sets 1 0 runs.enough }
     ensures nobody_active { by_events 0 0 runs.nobody_active ≡ by_sets 0 0 runs.nobody_active }
     ensures further_values { by_events 2 0 runs.further_values ≡ by_sets 2 0 runs.further_values }
+    ensures crowd { by_events 1 0 runs.crowd ≡ by_sets 1 0 runs.crowd }
     ensures reuse { by_events 4 0 runs.reuse ≡ by_sets 4 0 runs.reuse }
     ensures left_behind { by_events 3 0 runs.left_behind ≡ by_sets 3 0 runs.left_behind }
+    ensures inherited { by_events 3 0 runs.inherited ≡ by_sets 3 0 runs.inherited }
     ensures refused { by_events 1 0 runs.refused ≡ by_sets 1 0 runs.refused }
     ensures links { by_events 1 1 runs.links ≡ by_sets 1 1 runs.links }
 {}

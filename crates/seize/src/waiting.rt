@@ -25,9 +25,12 @@ pub fn calls_in_turn()
     ensures furthered { (state.slot_at (runs.state_after (state.new 2 0) runs.furthered) 0).batch ≡ (15, tt) ∷ [] }
     ensures reclaimed { runs.told (state.new 2 0) runs.reclaimed ≡ runs.reclaimed_told }
     ensures reclaimed_deep { runs.told (state.new 8 0) runs.reclaimed_deep ≡ runs.reclaimed_deep_told }
+    ensures many { runs.told (state.new 20 0) runs.many ≡ runs.many_told }
+    ensures crowd { runs.told (state.new 1 0) runs.crowd ≡ runs.crowd_told }
     ensures reuse { runs.told (state.new 4 0) runs.reuse ≡ runs.reuse_told }
     ensures forgotten { runs.told (state.new 4 0) runs.forgotten ≡ runs.forgotten_told }
     ensures left_behind { runs.told (state.new 3 0) runs.left_behind ≡ runs.left_behind_told }
+    ensures inherited { runs.told (state.new 3 0) runs.inherited ≡ runs.inherited_told }
     ensures refused { runs.told (state.new 1 0) runs.refused ≡ runs.refused_told }
     ensures links { runs.told (state.new 1 1) runs.links ≡ runs.links_told }
 {}

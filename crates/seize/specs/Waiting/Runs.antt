@@ -7,12 +7,12 @@ use Rattle.seize.specs.Waiting.State.{State}
 use Rattle.seize.specs.Waiting.Calls.{reclaim_all}
 use Rattle.seize.specs.Waiting.Lists.{Call, Register, EnterOwned, Enter, Leave, End, Refresh, Flush, Retire, Protect, Swap, Reply, Done, Number, Kept, Found, Refused, run}
 
--- 12 puts 13 and 14, and 13 puts 15
+-- 12 puts 13 and 14, 13 puts 15, and 40 puts 41 to 50
 abbrev pub puts : Unit {0} → ℕ → List ℕ
-puts r v = if v == 12 then 13 ∷ 14 ∷ [] else (if v == 13 then 15 ∷ [] else [])
+puts r v = if v == 12 then 13 ∷ 14 ∷ [] else (if v == 13 then 15 ∷ [] else (if v == 40 then range_with_len 41 10 else []))
 
 abbrev pub weight : ℕ → ℕ
-weight v = if v == 12 then 4 else (if v == 13 then 2 else 1)
+weight v = if v == 12 then 4 else (if v == 13 then 2 else (if v == 40 then 11 else 1))
 
 -- calls made in one list, or a reclaim all
 pub data Group : Type 0 where
@@ -153,6 +153,21 @@ reclaimed_deep = Calls (Register ∷ gives 0 12 ∷ []) ∷ All ∷ []
 abbrev pub reclaimed_deep_told : List Telling
 reclaimed_deep_told = ([], Number 0 ∷ dones 1) ∷ (12 ∷ 13 ∷ 14 ∷ 15 ∷ [], []) ∷ []
 
+-- **Many.** And all of it is, however much one value puts.
+abbrev pub many : List Group
+many = Calls (Register ∷ gives 0 40 ∷ []) ∷ All ∷ []
+
+abbrev pub many_told : List Telling
+many_told = ([], Number 0 ∷ dones 1) ∷ (range_with_len 40 11, []) ∷ []
+
+-- **Crowd.** A batch that waits for five slots is gone as the last of them leaves.
+abbrev pub crowd : List Group
+crowd =
+    Calls (replicate 5 EnterOwned ++ map (gives 0) (range_with_len 1 5) ++ map Leave (range_with_len 0 4)) ∷ Calls (Leave 4 ∷ []) ∷ []
+
+abbrev pub crowd_told : List Telling
+crowd_told = ([], map Number (range_with_len 0 5) ++ dones 9) ∷ (range_with_len 1 5, dones 1) ∷ []
+
 -- **Reuse.** The least number that was given back is taken next, and a guard that was forgotten keeps its number.
 abbrev pub reuse : List Group
 reuse =
@@ -178,6 +193,14 @@ left_behind =
 
 abbrev pub left_behind_told : List Telling
 left_behind_told = ([], Number 0 ∷ Number 1 ∷ dones 10) ∷ (1 ∷ 2 ∷ 3 ∷ [], dones 1) ∷ []
+
+-- **Inherited.** The batch of a slot that ended is that of the next slot with its number.
+abbrev pub inherited : List Group
+inherited =
+    Calls (Register ∷ gives 0 1 ∷ End 0 ∷ []) ∷ Calls (EnterOwned ∷ gives 0 2 ∷ gives 0 3 ∷ []) ∷ Calls (Leave 0 ∷ []) ∷ []
+
+abbrev pub inherited_told : List Telling
+inherited_told = ([], Number 0 ∷ dones 2) ∷ ([], Number 0 ∷ dones 2) ∷ (1 ∷ 2 ∷ 3 ∷ [], dones 1) ∷ []
 
 -- **Refused.** A number not in use, a slot without a guard, an owned slot.
 abbrev pub refused : List Group
