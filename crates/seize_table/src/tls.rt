@@ -12,7 +12,7 @@ mod room;
 
 use crate::Refusal;
 use crate::thread_id::{BUCKETS, MAX_INDEX, Thread};
-pub use filled::Filled;
+pub use filled::{Filled, Loaded};
 pub use iter::Iter;
 use iter::first_filled;
 use once_cell::race::{Note, OnceBox};
@@ -70,16 +70,17 @@ impl<T: Drop> ThreadLocal<T> {
     }
 
     // The first filled entry of the bucket that is not before `from`.
-    fn first_from(&self, bucket: usize, from: usize) -> Option<(Thread, &T, Filled<T>)>
+    fn first_from(&self, bucket: usize, from: usize) -> Option<(Thread, Loaded<'_, T>)>
         requires { bucket < BUCKETS }
         ensures place { IfSome result (λ found. (found.0.bucket ≡ bucket) × (from ≤ found.0.entry)) }
-        ensures shown { IfSome result (λ found. Shows self.now.buckets found.0.bucket found.0.entry found.2 found.1.now) }
+        ensures shown { IfSome result (λ found. Shows self.now.buckets found.0.bucket found.0.entry found.1.filled found.1.value.now) }
     {
         let mut row = self.buckets[bucket].note();
         let cells = self.buckets[bucket].get_as(&mut row)?;
         let end = Thread::bucket_capacity(bucket);
         let (entry, value, item) = first_filled(cells, from, end)?;
-        Some((Thread::at(bucket, entry), value, Filled { row, item }))
+        let filled = Filled { row, item };
+        Some((Thread::at(bucket, entry), Loaded { value, filled }))
     }
 
     // The bucket, which is made where it isn't yet. A bucket that another thread makes first is kept in place of this one.
@@ -93,20 +94,6 @@ impl<T: Drop> ThreadLocal<T> {
         let alloc = self.alloc;
         let capacity = Thread::bucket_capacity(bucket);
         Ok(self.buckets[bucket].get_or_try_init_as(move || room::row(alloc, capacity), note)?)
-    }
-
-    // The entry if it is filled, and what shows that it is.
-    fn find(&self, thread: Thread) -> Option<(&T, Filled<T>)>
-        ensures { IfSome result (λ found. Shows self.now.buckets thread.bucket thread.entry found.1 found.0.now) }
-    {
-        let mut row = self.buckets[thread.bucket].note();
-        let cell = self.buckets[thread.bucket]
-            .get_as(&mut row)?
-            .get(thread.entry)?;
-        let mut item = cell.note();
-        let entry = cell.get_as(&mut item)?;
-        let value = entry.as_ref()?;
-        Some((value, Filled { row, item }))
     }
 
     // The entry's cell, in its bucket, which is made where it isn't yet. A bucket is made with a cell for each of its entries,
@@ -125,11 +112,11 @@ impl<T: Drop> ThreadLocal<T> {
 
     // Fills the entry where it isn't filled yet. All memory comes before `create` is called. An entry that is in its cell has a
     // value, so the last refusal is that of no call: the cell does not tell a proof what another thread put in.
-    fn fill<F: FnOnce() -> T>(&self, create: F, thread: Thread) -> Result<(&T, Filled<T>), Refusal>
+    fn fill<F: FnOnce() -> T>(&self, create: F, thread: Thread) -> Result<Loaded<'_, T>, Refusal>
     where
         F: Drop,
         requires { F.pre create }
-        ensures shown { IfOk result (λ found. Shows self.now.buckets thread.bucket thread.entry found.1 found.0.now) }
+        ensures shown { IfOk result (λ found. Shows self.now.buckets thread.bucket thread.entry found.filled found.value.now) }
         ensures refusal { IfErr result (λ e. e ≡ NoMemory) }
     {
         let alloc = self.alloc;
@@ -141,23 +128,28 @@ impl<T: Drop> ThreadLocal<T> {
             return Err(Refusal::NoMemory);
         };
         match entry {
-            Some(value) => Ok((value, Filled { row, item })),
+            Some(value) => {
+                let filled = Filled { row, item };
+                Ok(Loaded { value, filled })
+            }
             None => Err(Refusal::NoMemory),
         }
     }
 
-    /// The entry's value, if it is filled. It takes no memory, changes nothing: three loads, of which two depend on one
-    /// before them, and no atomic write.
-    pub fn try_load(&self, thread: Thread) -> Option<&T> {
-        let (value, _filled) = self.find(thread)?;
-        Some(value)
-    }
-
-    /// As `try_load`, with a token that shows the entry's value from then on.
-    pub fn try_load_seen(&self, thread: Thread) -> Option<(&T, Filled<T>)>
-        ensures { IfSome result (λ found. Shows self.now.buckets thread.bucket thread.entry found.1 found.0.now) }
+    /// The entry's value, if it is filled, with the token that shows it from then on. It takes no memory and changes nothing:
+    /// three loads, of which two depend on one before them, and no atomic write.
+    pub fn try_load(&self, thread: Thread) -> Option<Loaded<'_, T>>
+        ensures { IfSome result (λ found. Shows self.now.buckets thread.bucket thread.entry found.filled found.value.now) }
     {
-        self.find(thread)
+        let mut row = self.buckets[thread.bucket].note();
+        let cell = self.buckets[thread.bucket]
+            .get_as(&mut row)?
+            .get(thread.entry)?;
+        let mut item = cell.note();
+        let entry = cell.get_as(&mut item)?;
+        let value = entry.as_ref()?;
+        let filled = Filled { row, item };
+        Some(Loaded { value, filled })
     }
 
     /// The entry's value. Where the entry isn't filled, it is filled with what `create` answers; where another thread fills it
@@ -165,14 +157,14 @@ impl<T: Drop> ThreadLocal<T> {
     ///
     /// `NoMemory` where a growth was refused; then no entry is filled, and `create` was not called. The bucket of the entry and
     /// the entry's own memory are made here, where they aren't yet, before `create` is called, and stay until the table ends.
-    pub fn load_or<F: Fn() -> T>(&self, create: F, thread: Thread) -> Result<&T, Refusal>
+    pub fn load_or<F: Fn() -> T>(&self, create: F, thread: Thread) -> Result<Loaded<'_, T>, Refusal>
     where
         F: Drop,
         requires { F.IsAlwaysCallable create }
-        ensures { IfErr result (λ e. e ≡ NoMemory) }
+        ensures shown { IfOk result (λ found. Shows self.now.buckets thread.bucket thread.entry found.filled found.value.now) }
+        ensures refusal { IfErr result (λ e. e ≡ NoMemory) }
     {
-        let (value, _filled) = self.fill(create, thread)?;
-        Ok(value)
+        self.fill(create, thread)
     }
 
     /// As `load_or`, for a caller that may have seen the entry filled and then kept the token. With a token `create` isn't
@@ -182,19 +174,19 @@ impl<T: Drop> ThreadLocal<T> {
         create: F,
         thread: Thread,
         seen: Option<Filled<T>>,
-    ) -> Result<(&T, Filled<T>), Refusal>
+    ) -> Result<Loaded<'_, T>, Refusal>
     where
         F: Drop,
         requires callable { IsNone seen → F.IsAlwaysCallable create }
         requires of_entry { ForSome seen (IsOf self.now.buckets thread.bucket thread.entry) }
-        ensures shown { IfOk result (λ found. Shows self.now.buckets thread.bucket thread.entry found.1 found.0.now) }
-        ensures kept { (f : Token T) (x : T) → seen ≡ Some f → Shows self.now.buckets thread.bucket thread.entry f x → IsOkAnd result (λ found. found.0.now ≡ x) }
+        ensures shown { IfOk result (λ found. Shows self.now.buckets thread.bucket thread.entry found.filled found.value.now) }
+        ensures kept { (f : Token T) (x : T) → seen ≡ Some f → Shows self.now.buckets thread.bucket thread.entry f x → IsOkAnd result (λ found. found.value.now ≡ x) }
         ensures refusal { IfErr result (λ e. e ≡ NoMemory) }
     {
         match seen {
             Some(mut filled) => {
                 let value = self.value(thread, &mut filled);
-                Ok((value, filled))
+                Ok(Loaded { value, filled })
             }
             None => self.fill(create, thread),
         }
@@ -229,8 +221,9 @@ impl<T: Drop> ThreadLocal<T> {
 
 impl<T: Drop + Default> ThreadLocal<T> {
     /// As `load_or`, with the default value of `T`, which is made only where the entry isn't filled and its memory is there.
-    pub fn load(&self, thread: Thread) -> Result<&T, Refusal>
-        ensures { IfErr result (λ e. e ≡ NoMemory) }
+    pub fn load(&self, thread: Thread) -> Result<Loaded<'_, T>, Refusal>
+        ensures shown { IfOk result (λ found. Shows self.now.buckets thread.bucket thread.entry found.filled found.value.now) }
+        ensures refusal { IfErr result (λ e. e ≡ NoMemory) }
     {
         self.load_or(|| T::default(), thread)
     }

@@ -1,9 +1,10 @@
 //! Numbers, their places, and the table.
 use seize_table::Refusal;
 use seize_table::thread_id::{BUCKETS, MAX_INDEX, Numbers, Thread};
-use seize_table::tls::ThreadLocal;
+use seize_table::tls::{Filled, Loaded, ThreadLocal};
 use std::alloc::Global;
 use std::cell::Cell;
+use std::mem::size_of;
 use std::process::Abort;
 use std::sync::atomic::{AtomicU64, Ordering};
 use std::sync::{Arc, Wait};
@@ -100,8 +101,8 @@ fn a_table_keeps_the_first_value(rt: HostRuntime) -> Result<(), Fail> {
         assert_eq!(rt; table.buckets(), buckets);
         assert_eq!(rt; *table.load_or(|| 1, at(&rt, 0))?, 1);
         assert_eq!(rt; *table.load_or(|| 2, at(&rt, 0))?, 1);
-        assert_eq!(rt; table.try_load(at(&rt, 0)).copied(), Some(1));
-        assert_eq!(rt; table.try_load(at(&rt, 1)).copied(), None);
+        assert_eq!(rt; table.try_load(at(&rt, 0)).map(|found| *found), Some(1));
+        assert!(rt; table.try_load(at(&rt, 1)).is_none());
         assert!(rt; table.iter().map(|x| *x).eq([1u64]));
     }
     Ok(())
@@ -132,15 +133,24 @@ fn no_table_is_too_large(rt: HostRuntime) {
 fn tokens_show_one_value(rt: HostRuntime) -> Result<(), Fail> {
     let table: ThreadLocal<u64> = ThreadLocal::with_capacity(rt.alloc(), 0)?;
     let thread = at(&rt, 40);
-    assert!(rt; table.try_load_seen(thread).is_none());
-    let (value, mut seen) = table.load_seen(|| 5, thread, None)?;
+    assert!(rt; table.try_load(thread).is_none());
+    let Loaded {
+        value,
+        filled: mut seen,
+    } = table.load_or(|| 5, thread)?;
     let mut again = seen.again();
     assert_eq!(rt; *value, 5);
     assert_eq!(rt; *table.value(thread, &mut seen), 5);
-    let (value, other) = table.load_seen(|| 6, thread, Some(seen))?;
-    assert_eq!(rt; *value, 5);
-    table.agree(thread, &mut again, other);
+    let found = table.load_seen(|| 6, thread, Some(seen))?;
+    assert_eq!(rt; *found, 5);
+    table.agree(thread, &mut again, found.filled);
     Ok(())
+}
+
+#[test]
+fn tokens_have_no_bytes(rt: HostRuntime) {
+    assert_eq!(rt; size_of::<Filled<u64>>(), 0);
+    assert_eq!(rt; size_of::<Loaded<'_, u64>>(), size_of::<&u64>());
 }
 
 #[test]
@@ -218,7 +228,9 @@ fn threads_fill_a_table_side_by_side(rt: HostRuntime) -> Result<(), Fail> {
     for id in 0..64 {
         let table = Arc::try_clone(&table)?;
         let thread = at(&rt, id);
-        children.push(thread::spawn(&rt, move || { table.load_or(|| id, thread).copied() })?)?;
+        children.push(thread::spawn(&rt, move || {
+            table.load_or(|| id, thread).map(|found| *found)
+        })?)?;
     }
     for (id, child) in children.into_iter().enumerate() {
         assert_eq!(rt; child.join(&rt)?, id);

@@ -1,8 +1,9 @@
-// What shows that an entry of a table is filled.
+// What shows that an entry of a table is filled, and what a load answers.
 ghost use Rattle.std.specs.Prelude.{◌≡◌};
 
 use super::room::Row;
 use once_cell::race::Note;
+use std::ops::Deref;
 
 /// What shows that one entry of one table holds one value, for good. It takes no bytes.
 #[derive(Drop)]
@@ -20,5 +21,24 @@ impl<T> Filled<T> {
             row: self.row.again(),
             item: self.item.again(),
         }
+    }
+}
+
+/// What a load answers: the entry's value, and the token that shows it from then on. It is as large as a `&T`, and reads as `T`.
+#[derive(Drop)]
+pub struct Loaded<'a, T> {
+    /// The value, for as long as the table is borrowed.
+    pub value: &'a T,
+    /// What shows the value.
+    pub filled: Filled<T>,
+}
+
+impl<T> Deref for Loaded<'_, T> {
+    type Target = T;
+
+    fn deref(&self) -> &T
+        ensures { result.now ≡ self.now.value.now }
+    {
+        self.value
     }
 }

@@ -4,7 +4,7 @@ ghost use Rattle.std.specs.Iterator.{at_most};
 ghost use Rattle.seize_table.specs.Table.{Shows, number_at, HasCell};
 
 use super::room::Cell;
-use super::{Filled, ThreadLocal};
+use super::{Loaded, ThreadLocal};
 use crate::thread_id::{BUCKETS, MAX_INDEX, Thread};
 use once_cell::race::Note;
 
@@ -33,13 +33,13 @@ impl<'a, T: Drop> Iter<'a, T> {
         }
     }
 
-    /// The next filled entry: its place, its value, and a token that shows it from then on.
-    pub fn next_seen(&mut self) -> Option<(Thread, &'a T, Filled<T>)>
+    /// The next filled entry: its place, and its value with the token that shows it from then on.
+    pub fn next_seen(&mut self) -> Option<(Thread, Loaded<'a, T>)>
         ensures table { self.new.table ≡ self.old.table }
         ensures forward { number_at self.old.bucket self.old.entry ≤ number_at self.new.bucket self.new.entry }
         ensures in_table { number_at self.new.bucket self.new.entry ≤ MAX_INDEX + 1 }
         ensures place { IfSome result (λ found. (number_at self.old.bucket self.old.entry ≤ found.0.id) × (number_at self.new.bucket self.new.entry ≡ found.0.id + 1)) }
-        ensures shown { IfSome result (λ found. Shows self.old.table.now.buckets found.0.bucket found.0.entry found.2 found.1.now) }
+        ensures shown { IfSome result (λ found. Shows self.old.table.now.buckets found.0.bucket found.0.entry found.1.filled found.1.value.now) }
         ensures none { IfNone result (number_at self.new.bucket self.new.entry ≡ MAX_INDEX + 1) }
     {
         while self.bucket < BUCKETS {
@@ -53,12 +53,12 @@ impl<'a, T: Drop> Iter<'a, T> {
     }
 
     // The next filled entry of this bucket.
-    fn next_in_bucket(&mut self) -> Option<(Thread, &'a T, Filled<T>)>
+    fn next_in_bucket(&mut self) -> Option<(Thread, Loaded<'a, T>)>
         requires { self.old.bucket < BUCKETS }
         ensures table { self.new.table ≡ self.old.table }
         ensures bucket { self.new.bucket ≡ self.old.bucket }
         ensures place { IfSome result (λ found. (found.0.bucket ≡ self.old.bucket) × (self.old.entry ≤ found.0.entry) × (self.new.entry ≡ found.0.entry + 1)) }
-        ensures shown { IfSome result (λ found. Shows self.old.table.now.buckets found.0.bucket found.0.entry found.2 found.1.now) }
+        ensures shown { IfSome result (λ found. Shows self.old.table.now.buckets found.0.bucket found.0.entry found.1.filled found.1.value.now) }
         ensures none { IfNone result (self.new.entry ≡ self.old.entry) }
     {
         let found = self.table.first_from(self.bucket, self.entry)?;
@@ -75,8 +75,8 @@ impl<'a, T: Drop> Iterator for Iter<'a, T> {
     ghost remaining = { λ it. at_most (18446744073709551584 - number_at it.bucket it.entry) };
 
     fn next(&mut self) -> Option<&'a T> {
-        let (_thread, value, _filled) = self.next_seen()?;
-        Some(value)
+        let (_thread, found) = self.next_seen()?;
+        Some(found.value)
     }
 }
 

@@ -1,6 +1,6 @@
 use Rattle.std.proofs.Common.{sym, ◌∙◌, ap, Some}
 use Rattle.seize_table.proofs.Shown.{is_bucket, is_cell}
-use Rattle.seize_table.proofs.tls.ThreadLocal.find.Goals as goal
+use Rattle.seize_table.proofs.tls.ThreadLocal.try_load.Goals as goal
 
 pub returns : goal.returns
 returns g c =
