@@ -7,12 +7,15 @@ pub mod Kept
 pub mod Parts
 pub mod Fits
 pub mod Histories
+pub mod LegalLists
+pub mod Gone
 pub mod Invariants
 pub mod Reclaiming
 pub mod Lists
 pub mod Ends
 pub mod PartsLaw
 pub mod Holders
+pub mod LaterHolders
 pub mod Quiet
 pub mod Protection
 pub mod Tries

@@ -1,13 +1,17 @@
 -- What the code of the machine needs of std's words.
-use Rattle.std.proofs.Common.{◌≡◌, ℕ, ◌+◌, ◌<◌, true, false, not, ◌&&◌, nat_eq, List, [], ◌∷◌, ◌++◌, length, map, take, get_or, append_assoc, Option, Some, None, refl, sym, ◌∙◌, ap, subst, arith}
-use Rattle.std.proofs.lemmas.List.{get_or_default, take_more, map_push}
+use Rattle.std.proofs.Common.{◌≡◌, ℕ, ◌+◌, zero, suc, ◌<◌, ◌≤◌, true, false, not, ◌&&◌, nat_eq, List, [], ◌∷◌, ◌++◌, length, map, take, get_or, append_assoc, Option, Some, None, Result, Ok, Err, OnOk, refl, sym, ◌∙◌, ap, subst, arith}
+use Rattle.std.specs.List.{list_all}
+use Rattle.std.proofs.lemmas.List.{get_or_default, take_more, map_push, map-append, append_cancel_left}
 use Rattle.std.proofs.lemmas.List.Sums.{position_or_len_is}
 use lib.Pointwise.{pointwise}
 use Rattle.seize_machine.specs.Machine.State.{State, Slot, Call, Place, Append, Mark, Look, Try, Add, Out, Rest, no_slot, slot_at}
 use Rattle.seize_machine.specs.Machine.Event.{Event}
-use Rattle.seize_machine.specs.Machine.Next.{same_list, first_free, tried, run_state, run_answers}
-use Rattle.seize_machine.specs.Machine.Code.{of_call, walking_at, SubFits, CountFits, CallCountsFit, CountsFit, Sized, HasRun}
+use Rattle.seize_machine.specs.Machine.Next.{same_list, first_free, next, of_call, walking_at}
+use Rattle.seize_machine.specs.Machine.History.{Timed, at_size, Moment, done_by, history, answers_of, end_of, is_legal}
+use Rattle.seize_machine.specs.Machine.Code.{event_of, SubFits, CountFits, CallCountsFit, CountsFit, Sized, HasDone, HasRun, HasRunLegally}
 use Rattle.seize_machine.specs.declared.machine.event.Answer.{Answer}
+use Rattle.seize_machine.specs.declared.machine.event.Event.{Event as Written}
+use Rattle.seize_machine.proofs.Laws.LegalLists.{end_of-append, history-append, are_legal-answers}
 
 -- what `==` answers of two lists of numbers
 pub same_list-is : (xs ys : List ℕ) → pointwise nat_eq xs ys ≡ same_list xs ys
@@ -45,25 +49,16 @@ sub_fits st s b slot fits slot_is e = go (slot_at st s).call (fits.fit s) (ap (�
     go (Some call) f e = at call.place call.queue f.1 e
 
 -- a run of one event more
-run_state-push : (size : ℕ) (st : State) (es : List Event) (e : Event) → run_state size st (es ++ e ∷ []) ≡ (tried size (run_state size st es) e).0
-run_state-push size st [] e = refl
-run_state-push size st (f ∷ es) e = run_state-push size (tried size st f).0 es e
-
-run_answers-push : (size : ℕ) (st : State) (es : List Event) (e : Event) → run_answers size st (es ++ e ∷ []) ≡ run_answers size st es ++ (tried size (run_state size st es) e).1 ∷ []
-run_answers-push size st [] e = refl
-run_answers-push size st (f ∷ es) e = ap (λ answers. (tried size st f).1 ∷ answers) (run_answers-push size (tried size st f).0 es e)
-
-pub runs_on : {W : Type 0} (event_of : W → Event) (events : List W) (i : ℕ) (e : W) (old now new : Sized) (a b c : List Answer) (answer : Answer)
+pub runs_on : (events : List Written) (i : ℕ) (e : Written) (old now new : Sized) (a b c : List Answer) (answer : Answer)
     → HasRun (map event_of (take i events)) old now a b → i < length events → e ≡ get_or events i e
-    → new.size ≡ now.size → new.state ≡ (tried now.size now.state (event_of e)).0 → answer ≡ (tried now.size now.state (event_of e)).1 → c ≡ b ++ answer ∷ []
+    → HasDone e now new answer → c ≡ b ++ answer ∷ []
     → HasRun (map event_of (take (i + 1) events)) old new a c
-runs_on event_of events i e old now new a b c answer run within e_is size_is state_is answer_is answers_is =
+runs_on events i e old now new a b c answer run within e_is one answers_is =
     rw list_is (record {
-      size = size_is ∙ run.size;
-      state = state_is ∙ ap (λ size. (tried size now.state (event_of e)).0) run.size ∙ ap (λ st. (tried old.size st (event_of e)).0) run.state ∙ sym (run_state-push old.size old.state before (event_of e));
-      answers = answers_is ∙ ap (λ b. b ++ answer ∷ []) run.answers ∙ append_assoc a (run_answers old.size old.state before) (answer ∷ [])
-          ∙ ap (λ last. a ++ (run_answers old.size old.state before ++ last ∷ [])) (answer_is ∙ ap (λ size. (tried size now.state (event_of e)).1) run.size ∙ ap (λ st. (tried old.size st (event_of e)).1) run.state)
-          ∙ ap (λ more. a ++ more) (sym (run_answers-push old.size old.state before (event_of e)));
+      size = one.size ∙ run.size;
+      state = ap (λ (x : State × Answer). x.0) done ∙ sym (ap (end_of old.state) all ∙ end_of-append ms last old.state);
+      answers = answers_is ∙ ap (λ b. b ++ answer ∷ []) run.answers ∙ append_assoc a (answers_of ms) (answer ∷ [])
+          ∙ ap (λ (l : List Answer). a ++ l) (ap (λ (x : State × Answer). answers_of ms ++ x.1 ∷ []) done ∙ sym (ap answers_of all ∙ map-append _ ms last));
     })
   where
     before : List Event
@@ -71,3 +66,40 @@ runs_on event_of events i e old now new a b c answer run within e_is size_is sta
 
     list_is : map event_of (take (i + 1) events) ≡ before ++ event_of e ∷ []
     list_is = ap (map event_of) (take_more events i e within ∙ ap (λ x. take i events ++ x ∷ []) (sym e_is)) ∙ map_push event_of (take i events) e
+
+    ms : List Moment
+    ms = history next old.state (at_size old.size before)
+
+    end : State
+    end = end_of old.state ms
+
+    t : Timed
+    t = record { size = old.size; event = event_of e }
+
+    last : List Moment
+    last = history next end (t ∷ [])
+
+    all : history next old.state (at_size old.size (before ++ event_of e ∷ [])) ≡ ms ++ last
+    all = ap (history next old.state) (map-append _ before (event_of e ∷ [])) ∙ history-append next (at_size old.size before) (t ∷ []) old.state
+
+    done : (new.state, answer) ≡ done_by next end t
+    done = one.done ∙ ap (λ (n : ℕ). done_by next now.state (record { size = n; event = event_of e })) run.size ∙ ap (λ (st : State). done_by next st t) run.state
+
+-- a run with no illegal answer is a legal list
+pub run_legally : (events : List Event) (old new : Sized) (a b : List Answer) → HasRun events old new a b → HasRunLegally events old new a b
+run_legally events old new a b run answers e legal =
+    let ms : List Moment = history next old.state (at_size old.size events) in
+    let same : answers_of ms ≡ answers = append_cancel_left a _ _ (sym run.answers ∙ e) in
+    record { legal = are_legal-answers ms ∙ ap (list_all is_legal) same ∙ legal; answers_are = same; end_is = sym run.state }
+
+-- at the end of the events
+pub run_ends : (events : List Written) (i : ℕ) (old new : Sized) (a b : List Answer) → HasRun (map event_of (take i events)) old new a b → length events ≤ i
+    → HasRunLegally (map event_of events) old new a b
+run_ends events i old new a b run past =
+    run_legally (map event_of events) old new a b (subst (λ (l : List Written). HasRun (map event_of l) old new a b) (take_all events i past) run)
+  where
+    take_all : (xs : List Written) (n : ℕ) → length xs ≤ n → take n xs ≡ xs
+    take_all [] zero h = refl
+    take_all [] (suc n) h = refl
+    take_all (x ∷ xs) zero h = absurd (omega arith)
+    take_all (x ∷ xs) (suc n) h = ap (λ (l : List Written). x ∷ l) (take_all xs n (omega arith))

@@ -1,12 +1,13 @@
 //! The events of a collector as a machine, in one caller's hands and without memory of its own to reclaim: which events
 //! are legal, what each does, and the laws that hold of every list of them. It uses `refusal` alone, and the modules above
 //! use its definitions alone.
-ghost use Rattle.std.specs.Prelude.{◌≡◌, ℕ, ◌<◌, List, Option, true, length, map, take, replicate, OnOk, OnErr, IfOk, IfErr};
-ghost use Rattle.seize_machine.specs.Machine.State.{linked, are_distinct, opening, head_at, is_active};
-ghost use Rattle.seize_machine.specs.Machine.Next.{next, tried};
-ghost use Rattle.seize_machine.specs.Machine.History.{Timed, history};
-ghost use Rattle.seize_machine.specs.Machine.Laws.{is_quiet, AtMostOnce, After, Quiet, Protection, Parts, Holders, Tries};
-ghost use Rattle.seize_machine.specs.Machine.Code.{event_of, HasRun};
+ghost use Rattle.std.specs.Prelude.{◌≡◌, ℕ, ◌<◌, List, [], ◌∷◌, ◌++◌, Some, length, map, take, drop, replicate, OnOk, OnErr, IfOk, IfErr};
+ghost use Rattle.seize_machine.specs.Machine.State.{State, opening, head_at, is_active};
+ghost use Rattle.seize_machine.specs.Machine.Next.{next};
+ghost use Rattle.seize_machine.specs.Machine.History.{Timed, Legal};
+ghost use Rattle.seize_machine.specs.Machine.Laws.{is_quiet, HoldsOfAll, AtMostOnce, After, Quiet, Protection, Parts, Gone, Holders, NoLaterHolders, Tries};
+ghost use Rattle.seize_machine.specs.Machine.Code.{event_of, HasDone, HasRun, HasRunLegally};
+ghost use Rattle.seize_machine.specs.declared.machine.event.Answer.{Answer as Told};
 ghost use Rattle.seize_table.specs.declared.refusal.Refusal.TheVariants.{NoMemory};
 
 use seize_table::Refusal;
@@ -42,7 +43,7 @@ impl Model for Machine {
 
     ghost view = { λ m. record { size = m.size; state = m.configuration } };
 
-    ghost invariant = { λ m. IsReached m.size m.configuration };
+    ghost invariant = { λ m. IsReached m.configuration };
 }
 
 impl Machine {
@@ -64,9 +65,7 @@ impl Machine {
     ///
     /// May take memory. `NoMemory` where that was refused: nothing has changed.
     pub fn step(&mut self, event: Event) -> Result<Answer, Refusal>
-        ensures size { self.new.size ≡ self.old.size }
-        ensures state { OnOk result (self.new.state ≡ (tried self.old.size self.old.state (event_of event)).0) }
-        ensures answer { IfOk result (λ answer. answer ≡ (tried self.old.size self.old.state (event_of event)).1) }
+        ensures done { IfOk result (λ answer. HasDone event self.old self.new answer) }
         ensures unchanged { OnErr result (self.new ≡ self.old) }
         ensures err { IfErr result (λ refusal. refusal ≡ NoMemory) }
     {
@@ -74,9 +73,7 @@ impl Machine {
     }
 
     fn apply(&mut self, event: &Event) -> Result<Answer, AllocError>
-        ensures size { self.new.size ≡ self.old.size }
-        ensures state { OnOk result (self.new.state ≡ (tried self.old.size self.old.state (event_of event.now)).0) }
-        ensures answer { IfOk result (λ answer. answer ≡ (tried self.old.size self.old.state (event_of event.now)).1) }
+        ensures done { IfOk result (λ answer. HasDone event.now self.old self.new answer) }
         ensures unchanged { OnErr result (self.new ≡ self.old) }
     {
         self.configuration.step(self.size, event)
@@ -88,7 +85,9 @@ impl Machine {
     /// and the machine stands after them.
     pub fn run(&mut self, events: &[Event], answers: &mut Vec<Answer>) -> Result<(), Refusal>
         ensures ok { OnOk result (HasRun (map event_of events.now) self.old self.new answers.old.items answers.new.items) }
-        ensures some { OnErr result ((done : ℕ) × (done < length events.now) × HasRun (map event_of (take done events.now)) self.old self.new answers.old.items answers.new.items) }
+        ensures legal { OnOk result (HasRunLegally (map event_of events.now) self.old self.new answers.old.items answers.new.items) }
+        ensures some { OnErr result ((done : ℕ) × (done < length events.now)
+            × HasRun (map event_of (take done events.now)) self.old self.new answers.old.items answers.new.items) }
         ensures err { IfErr result (λ refusal. refusal ≡ NoMemory) }
     {
         for event in events {
@@ -130,23 +129,31 @@ fn empty_links(alloc: Global, links: usize) -> Result<Vec<Option<u64>>, AllocErr
     Ok(made)
 }
 
-/// What holds of every list of events, from every opening state, with any number of slots made and any size at each
+/// What holds of every legal list of events, from every opening state, with any number of slots made and any size at each
 /// event. It does nothing: its contract is the laws.
-///
-/// A law speaks of the list's moments up to its first illegal event.
 pub fn laws()
-    ensures at_most_once { (slots : ℕ) (links : List (Option ℕ)) (events : List Timed) → are_distinct (linked links) ≡ true
-        → AtMostOnce (history next (opening slots links) events) }
-    ensures after { (slots : ℕ) (links : List (Option ℕ)) (events : List Timed) → are_distinct (linked links) ≡ true
-        → After (history next (opening slots links) events) }
-    ensures quiet { (slots : ℕ) (links : List (Option ℕ)) (events : List Timed) → are_distinct (linked links) ≡ true
-        → Quiet (opening slots links) (history next (opening slots links) events) }
-    ensures protection { (slots : ℕ) (links : List (Option ℕ)) (events : List Timed) → are_distinct (linked links) ≡ true
-        → Protection (history next (opening slots links) events) }
-    ensures parts { (slots : ℕ) (links : List (Option ℕ)) (events : List Timed) → are_distinct (linked links) ≡ true
-        → Parts (opening slots links) (history next (opening slots links) events) }
-    ensures holders { (slots : ℕ) (links : List (Option ℕ)) (events : List Timed) → are_distinct (linked links) ≡ true
-        → Holders (opening slots links) (history next (opening slots links) events) }
-    ensures tries { (slots : ℕ) (links : List (Option ℕ)) (events : List Timed) → are_distinct (linked links) ≡ true
-        → Tries (history next (opening slots links) events) }
+    ensures at_most_once { HoldsOfAll AtMostOnce }
+    ensures after { HoldsOfAll After }
+    ensures quiet { HoldsOfAll Quiet }
+    ensures protection { HoldsOfAll Protection }
+    ensures parts { HoldsOfAll Parts }
+    ensures gone { HoldsOfAll Gone }
+    ensures holders { HoldsOfAll Holders }
+    ensures no_later_holders { HoldsOfAll NoLaterHolders }
+    ensures tries { HoldsOfAll Tries }
+{}
+
+/// How legal lists are made and taken apart. No event is a legal list, one legal event after a legal list makes a longer one, a
+/// legal list goes on with what is legal from its end, and each beginning of a legal list is one, which the rest goes on. It does
+/// nothing.
+pub fn legal_lists()
+    ensures no_event { (st : State) → Legal next st [] [] st }
+    ensures one_more { (st now later : State) (events : List Timed) (answers : List Told) (t : Timed) (answer : Told)
+        → Legal next st events answers now → next t.size now t.event ≡ Some (later, answer)
+        → Legal next st (events ++ t ∷ []) (answers ++ answer ∷ []) later }
+    ensures joined { (st now later : State) (events more : List Timed) (answers told : List Told)
+        → Legal next st events answers now → Legal next now more told later → Legal next st (events ++ more) (answers ++ told) later }
+    ensures parted { (st later : State) (events more : List Timed) (answers : List Told) → Legal next st (events ++ more) answers later
+        → (now : State) × Legal next st events (take (length events) answers) now
+        × Legal next now more (drop (length events) answers) later }
 {}

@@ -82,14 +82,14 @@ same_counts b st s new o h e walk own win c =
     let z : _ ≡ _ = change (wins b) st s new o h e in
     record { balance = omega (arith, ints); alone = omega arith; few = omega arith; fresh = omega arith; held = λ h. omega (arith, c.held h) }
 
-place_quiet : (b : ℕ) (active : Bool) (n note : ℕ) (marks batch : List ℕ) → (place_walks b (marked_place active n note marks batch) ≡ 0) × (place_owns b (marked_place active n note marks batch) ≡ 0) × (place_won b (marked_place active n note marks batch) ≡ 0)
+pub place_quiet : (b : ℕ) (active : Bool) (n note : ℕ) (marks batch : List ℕ) → (place_walks b (marked_place active n note marks batch) ≡ 0) × (place_owns b (marked_place active n note marks batch) ≡ 0) × (place_won b (marked_place active n note marks batch) ≡ 0)
 place_quiet b active n note marks batch = grind arith
 
-look_walks : (b c won : ℕ) (marks : List ℕ) → place_walks b (look c won marks) ≡ 0
+pub look_walks : (b c won : ℕ) (marks : List ℕ) → place_walks b (look c won marks) ≡ 0
 look_walks b c won [] = refl
 look_walks b c won (m ∷ marks) = refl
 
-look_owns : (b c won : ℕ) (marks : List ℕ) → place_owns b (look c won marks) ≡ one (c == b)
+pub look_owns : (b c won : ℕ) (marks : List ℕ) → place_owns b (look c won marks) ≡ one (c == b)
 look_owns b c won [] = refl
 look_owns b c won (m ∷ marks) = refl
 
@@ -101,7 +101,7 @@ look_none : (b c : ℕ) (marks : List ℕ) → place_won b (look c 0 marks) ≡ 
 look_none b c [] = grind arith
 look_none b c (m ∷ marks) = grind arith
 
-looked_same : (b : ℕ) (head : Head) (c won m : ℕ) (later : List ℕ) → (place_walks b (looked head c won m later) ≡ 0) × (place_owns b (looked head c won m later) ≡ one (c == b)) × (place_won b (looked head c won m later) ≡ (if c == b then won else 0))
+pub looked_same : (b : ℕ) (head : Head) (c won m : ℕ) (later : List ℕ) → (place_walks b (looked head c won m later) ≡ 0) × (place_owns b (looked head c won m later) ≡ one (c == b)) × (place_won b (looked head c won m later) ≡ (if c == b then won else 0))
 looked_same b Inactive c won m later = (look_walks b c won later, look_owns b c won later, look_wins b c won later)
 looked_same b (Active waiting) c won m later = (refl, refl, refl)
 
@@ -333,23 +333,23 @@ off_none b Inactive e = refl
 off_none b (Active waiting) e = absurd (cc)
 
 pub counted_step : (b size : ℕ) (st : State) (event : Event) (d : State × Answer) → Step size st event d → CountedIn b st → CountedIn b d.0
-counted_step b size st event _ (Step.took_new s e) c =
+counted_step b size st event _ (Step.took_new s e least) c =
     let x : _ ≡ _ = sum_by_push (λ slot. walks b slot.call) st.slots (record { used = true; batch = []; call = None }) in
     let y : _ ≡ _ = sum_by_push (λ slot. owns b slot.call) st.slots (record { used = true; batch = []; call = None }) in
     let z : _ ≡ _ = sum_by_push (λ slot. wins b slot.call) st.slots (record { used = true; batch = []; call = None }) in
     let l : _ ≡ _ = sum_by_push (λ head. occ b (waiting_at head)) st.heads Inactive in
     record { balance = omega (arith, ints); alone = omega arith; few = omega arith; fresh = omega arith; held = λ h. omega (arith, c.held h) }
-counted_step b size st event _ (Step.took_old s r e) c = same_counts b st s (record (slot_at st s) { used = true }) (slot_at st s).call r refl refl refl refl c
-counted_step b size st event _ (Step.gave s e) c = same_counts b st s (record (slot_at st s) { used = false }) (slot_at st s).call (idle_range st s e) refl refl refl refl c
+counted_step b size st event _ (Step.took_old s r e least) c = same_counts b st s (record (slot_at st s) { used = true }) (slot_at st s).call r refl refl refl refl c
+counted_step b size st event _ (Step.gave s e off) c = same_counts b st s (record (slot_at st s) { used = false }) (slot_at st s).call (idle_range st s e) refl refl refl refl c
 counted_step b size st event _ (Step.entered s e off) c =
     let l : _ ≡ _ = emptied b st s (Active []) refl in
     let old : occ b (waiting_at (head_at st s)) ≡ 0 = off_none b (head_at st s) off in
     record { balance = omega (arith, ints); alone = omega arith; few = omega arith; fresh = omega arith; held = λ h. omega (arith, c.held h) }
 counted_step b size st event _ (Step.begun_retire s v e new) c = same_counts b st s _ None (idle_range st s e) (idle_call (slot_at st s) e) refl refl refl c
-counted_step b size st event _ (Step.begun_other s job place e which) c =
+counted_step b size st event _ (Step.begun_other s job place e which exact) c =
     let q : (place_walks b place ≡ 0) × (place_owns b place ≡ 0) × (place_won b place ≡ 0) = grind arith in
     same_counts b st s _ None (idle_range st s e) (idle_call (slot_at st s) e) q.0 q.1 q.2 c
-counted_step b size st event _ (Step.put s v from before after place e which to) c =
+counted_step b size st event _ (Step.put s v from before after place e which to after_is) c =
     let p : (place_walks b from ≡ 0) × (place_owns b from ≡ 0) × (place_won b from ≡ 0) = grind arith in
     let q : (place_walks b place ≡ 0) × (place_owns b place ≡ 0) × (place_won b place ≡ 0) = grind arith in
     same_counts b st s _ _ (in_range st s _ e) e (q.0 ∙ sym p.0) (q.1 ∙ sym p.1) (q.2 ∙ sym p.2) c
@@ -381,5 +381,5 @@ counted_step b size st event _ (Step.handed s v puts given walk queue e new) c =
 counted_step b size st event _ (Step.returned s e) c =
     same_counts b st s _ _ (in_range st s _ e) e refl refl refl c
 counted_step b size st event _ (Step.read s l e) c = c
-counted_step b size st event _ (Step.exchanged s l exchange new e fresh) c = c
-counted_step b size st event _ (Step.compared s l exchange e) c = c
+counted_step b size st event _ (Step.exchanged s l exchange new e fresh exact) c = c
+counted_step b size st event _ (Step.compared s l exchange e exact) c = c

@@ -1,14 +1,14 @@
 -- The state at the end of a history: what it shows of its moments.
-use Rattle.std.proofs.Common.{◌≡◌, ℕ, zero, suc, ◌+◌, ◌≤◌, max, true, false, ◌==◌, nat_lt, List, [], ◌∷◌, get_or, replicate, Option, Some, None, refl, sym, ◌∙◌, ap, subst, ◌⊎◌, inl, inr, arith}
+use Rattle.std.proofs.Common.{◌≡◌, ℕ, zero, suc, ◌+◌, ◌≤◌, max, Bool, true, false, not, ◌||◌, nat_lt, nat_le, List, [], ◌∷◌, get_or, replicate, Option, Some, None, refl, sym, ◌∙◌, ap, subst, ◌⊎◌, inl, inr, arith}
 use Rattle.std.specs.List.{slice_get, list_all}
 use Rattle.std.proofs.lemmas.List.{get_or-replicate, get_or_past, length-replicate}
 use Rattle.seize_machine.specs.Machine.State.{no_slot, State, opening}
 use Rattle.seize_machine.specs.Machine.Event.{Event}
 use Rattle.seize_machine.specs.Machine.Next.{Outcome, next}
 use Rattle.seize_machine.specs.Machine.History.{Timed, Moment, end_of, retired_value, handed_value, Retired, Reclaimed}
-use Rattle.seize_machine.specs.Machine.Laws.{HaveSize}
+use Rattle.seize_machine.specs.Machine.Laws.{is_put, PutsWithin}
 use Rattle.seize_machine.specs.declared.machine.event.Answer.{Answer}
-use Rattle.seize_machine.proofs.Laws.Steps.{Step, step_of, is_true, eq_true, lt_true, and_true, some_is}
+use Rattle.seize_machine.proofs.Laws.Steps.{Step, step_of, is_true, lt_true, le_true, and_true, some_is}
 use Rattle.seize_machine.proofs.Laws.Sums.{occ, occ-push}
 use Rattle.seize_machine.proofs.Laws.Parts.{parts, parts_step, is_value}
 use Rattle.seize_machine.proofs.Laws.Fits.{Fits, fits_step}
@@ -29,17 +29,20 @@ end_keeps P step (t ∷ ts) st p = go (next t.size st t.event) refl (λ st. end_
 pub end_inv : (ts : List Timed) (st : State) → Inv st → Inv (end_of st (run st ts))
 end_inv ts st i = end_keeps Inv inv_step ts st i
 
-pub end_fits : (size : ℕ) (ts : List Timed) (st : State) → HaveSize size (run st ts) → Fits (max 1 size) st → Fits (max 1 size) (end_of st (run st ts))
-end_fits size [] st same fits = fits
-end_fits size (t ∷ ts) st same fits = go (next t.size st t.event) refl same (λ st. end_fits size ts st)
+pub end_fits : (k : ℕ) (ts : List Timed) (st : State) → PutsWithin k (run st ts) → Fits (max 1 k) st → Fits (max 1 k) (end_of st (run st ts))
+end_fits k [] st small fits = fits
+end_fits k (t ∷ ts) st small fits = go (next t.size st t.event) refl small (λ st. end_fits k ts st)
   where
-    go : (o : Outcome) → next t.size st t.event ≡ o → HaveSize size (from_first o st t ts)
-        → ((st : State) → HaveSize size (run st ts) → Fits (max 1 size) st → Fits (max 1 size) (end_of st (run st ts))) → Fits (max 1 size) (end_of st (from_first o st t ts))
-    go None e same ih = fits
-    go (Some d) e same ih =
-        let w : ((t.size == size) ≡ true) × (list_all (λ m. m.timed.size == size) (run d.0 ts) ≡ true) = and_true _ _ same in
-        let size_is : t.size ≡ size = eq_true _ _ w.0 in
-        ih d.0 w.1 (subst (λ k. Fits (max 1 k) d.0) size_is (fits_step t.size st t.event d (step_of t.size st t.event d e) (subst (λ k. Fits (max 1 k) st) (sym size_is) fits)))
+    within : (put : Bool) → (not put || nat_le t.size k) ≡ true → put ≡ true → t.size ≤ max 1 k
+    within true h e = omega (arith, le_true _ _ h)
+    within false h e = absurd (cc)
+
+    go : (o : Outcome) → next t.size st t.event ≡ o → PutsWithin k (from_first o st t ts)
+        → ((st : State) → PutsWithin k (run st ts) → Fits (max 1 k) st → Fits (max 1 k) (end_of st (run st ts))) → Fits (max 1 k) (end_of st (from_first o st t ts))
+    go None e small ih = fits
+    go (Some d) e small ih =
+        let w : ((not (is_put t.event) || nat_le t.size k) ≡ true) × (list_all (λ m. not (is_put m.timed.event) || nat_le m.timed.size k) (run d.0 ts) ≡ true) = and_true _ _ small in
+        ih d.0 w.1 (fits_step (max 1 k) t.size st t.event d (step_of t.size st t.event d e) (omega arith) (within (is_put t.event) w.0) fits)
 
 pub opening_fits : (size slots : ℕ) (links : List (Option ℕ)) → Fits (max 1 size) (opening slots links)
 opening_fits size slots links t = rw (length-replicate slots no_slot) (rw (same (is_true (nat_lt t slots))) (omega arith))

@@ -1,9 +1,10 @@
 -- What bounds the batches of slots, the marks and the insertions.
-use Rattle.std.proofs.Common.{◌≡◌, ℕ, ◌+◌, ◌<◌, ◌≤◌, max, Bool, true, false, if◌then◌else◌, nat_lt, List, [], ◌∷◌, ◌++◌, length, get_or, set, Option, Some, None, refl, sym, subst, inl, inr, arith}
+use Rattle.std.proofs.Common.{◌≡◌, ℕ, ◌+◌, ◌<◌, ◌≤◌, max, Bool, true, false, if◌then◌else◌, nat_lt, List, [], ◌∷◌, ◌++◌, length, get_or, set, Option, Some, None, refl, sym, subst, ◌⊎◌, inl, inr, arith}
 use Rattle.std.proofs.lemmas.List.{length-set, length_push}
 use Rattle.seize_machine.specs.Machine.State.{no_slot, State, Slot, Call, Head, Inactive, Active, Place, Append, Mark, Look, Try, Add, Out, Rest, slot_at, head_at, is_active}
 use Rattle.seize_machine.specs.Machine.Event.{Event}
 use Rattle.seize_machine.specs.Machine.Next.{look, marked_place, looked}
+use Rattle.seize_machine.specs.Machine.Laws.{is_put}
 use Rattle.seize_machine.specs.declared.machine.event.Answer.{Answer}
 use Rattle.seize_machine.proofs.Laws.Steps.{Step, some_is}
 use Rattle.seize_machine.proofs.Laws.Counts.{idle_call}
@@ -65,43 +66,48 @@ marked_fits k n i next note true marks batch r at le = go (nat_lt (length marks)
     go true e = (omega (arith, length_push marks i), omega arith)
     go false e = (let le2 : length batch ≤ length marks = grind arith in omega arith)
 
-pub fits_step : (size : ℕ) (st : State) (event : Event) (d : State × Answer) → Step size st event d → Fits (max 1 size) st → Fits (max 1 size) d.0
-fits_step size st event _ (Step.took_new s e) c = λ t. rw (length_push st.slots (record { used = true; batch = []; call = None })) (pushed (SlotFits (max 1 size) (length st.slots + 1)) st.slots t (record { used = true; batch = []; call = None }) no_slot (λ same. omega arith) (wider (max 1 size) (length st.slots) _ _ (c t)))
-fits_step size st event _ (Step.took_old s r e) c = fits_set (max 1 size) st s (record (slot_at st s) { used = true }) c (c s)
-fits_step size st event _ (Step.gave s e) c = fits_set (max 1 size) st s (record (slot_at st s) { used = false }) c (c s)
-fits_step size st event _ (Step.entered s e off) c = c
-fits_step size st event _ (Step.begun_retire s w e new) c = fits_set (max 1 size) st s (record (slot_at st s) { call = Some (record { place = Append w; queue = [] }) }) c (rw (idle_call (slot_at st s) e) at (c s))
-fits_step size st event _ (Step.begun_other s job place e which) c =
-    let f : length (slot_at st s).batch < max (max 1 size) (length st.slots) = rw (idle_call (slot_at st s) e) at (c s) in
-    fits_set (max 1 size) st s (record (slot_at st s) { call = Some (record { place = place; queue = [] }) }) c
-    (starts (PlaceFits (max 1 size) (length st.slots) (length (slot_at st s).batch)) (length st.slots) f (omega arith, omega arith) f f place which)
-fits_step size st event _ (Step.put s w from before after place e which (inl to)) c =
-    fits_set (max 1 size) st s (record { used = (slot_at st s).used; batch = (slot_at st s).batch ++ w ∷ []; call = Some (record { place = place; queue = after }) }) c
-    (subst (PlaceFits (max 1 size) (length st.slots) (length ((slot_at st s).batch ++ w ∷ []))) (sym to.0) (omega (arith, to.1)))
-fits_step size st event _ (Step.put s w from before after place e which (inr to)) c =
-    fits_set (max 1 size) st s (record { used = (slot_at st s).used; batch = (slot_at st s).batch ++ w ∷ []; call = Some (record { place = place; queue = after }) }) c
-    (subst (PlaceFits (max 1 size) (length st.slots) (length ((slot_at st s).batch ++ w ∷ []))) (sym to) (omega arith, omega arith))
-fits_step size st event _ (Step.marked s n next note marks queue e r k) c =
+next_at : (n next note : ℕ) → (n ≡ next) ⊎ ((note ≤ next) × (next < n)) → next ≤ n
+next_at n next note at = grind arith
+
+-- where k is at least 1, and at least the size if the event is a put
+pub fits_step : (k size : ℕ) (st : State) (event : Event) (d : State × Answer) → Step size st event d → 1 ≤ k → (is_put event ≡ true → size ≤ k) → Fits k st → Fits k d.0
+fits_step k size st event _ (Step.took_new s e least) one small c = λ t. rw (length_push st.slots (record { used = true; batch = []; call = None })) (pushed (SlotFits k (length st.slots + 1)) st.slots t (record { used = true; batch = []; call = None }) no_slot (λ same. omega arith) (wider k (length st.slots) _ _ (c t)))
+fits_step k size st event _ (Step.took_old s r e least) one small c = fits_set k st s (record (slot_at st s) { used = true }) c (c s)
+fits_step k size st event _ (Step.gave s e off) one small c = fits_set k st s (record (slot_at st s) { used = false }) c (c s)
+fits_step k size st event _ (Step.entered s e off) one small c = c
+fits_step k size st event _ (Step.begun_retire s w e new) one small c = fits_set k st s (record (slot_at st s) { call = Some (record { place = Append w; queue = [] }) }) c (rw (idle_call (slot_at st s) e) at (c s))
+fits_step k size st event _ (Step.begun_other s job place e which exact) one small c =
+    let f : length (slot_at st s).batch < max k (length st.slots) = rw (idle_call (slot_at st s) e) at (c s) in
+    fits_set k st s (record (slot_at st s) { call = Some (record { place = place; queue = [] }) }) c
+    (starts (PlaceFits k (length st.slots) (length (slot_at st s).batch)) (length st.slots) f (omega arith, omega arith) f f place which)
+fits_step k size st event _ (Step.put s w from before after place e which (inl to) after_is) one small c =
+    let within : size ≤ k = small refl in
+    fits_set k st s (record { used = (slot_at st s).used; batch = (slot_at st s).batch ++ w ∷ []; call = Some (record { place = place; queue = after }) }) c
+    (subst (PlaceFits k (length st.slots) (length ((slot_at st s).batch ++ w ∷ []))) (sym to.0) (omega (arith, to.1)))
+fits_step k size st event _ (Step.put s w from before after place e which (inr to) after_is) one small c =
+    fits_set k st s (record { used = (slot_at st s).used; batch = (slot_at st s).batch ++ w ∷ []; call = Some (record { place = place; queue = after }) }) c
+    (subst (PlaceFits k (length st.slots) (length ((slot_at st s).batch ++ w ∷ []))) (sym to) (omega arith, omega arith))
+fits_step k size st event _ (Step.marked s n next note marks queue e r at) one small c =
     let f : (length marks ≤ next) × (next ≤ length st.slots) = rw e at (c s) in
-    fits_set (max 1 size) st s (record (slot_at st s) { call = Some (record { place = marked_place (is_active (head_at st n)) n note marks (slot_at st s).batch; queue = queue }) }) c (marked_fits (max 1 size) (length st.slots) n next note (is_active (head_at st n)) marks (slot_at st s).batch r (grind arith) f.0)
-fits_step size st event _ (Step.looked_at s b won m later queue e) c =
-    let f : (length (slot_at st s).batch < max (max 1 size) (length st.slots)) × (won + 1 + length later ≤ length st.slots) = rw e at (c s) in
-    fits_set (max 1 size) st s (record (slot_at st s) { call = Some (record { place = looked (head_at st m) b won m later; queue = queue }) }) c (looked_fits _ _ _ b won m (head_at st m) later f.0 f.1)
-fits_step size st event _ (Step.detached s next note marks queue e le) c =
+    fits_set k st s (record (slot_at st s) { call = Some (record { place = marked_place (is_active (head_at st n)) n note marks (slot_at st s).batch; queue = queue }) }) c (marked_fits k (length st.slots) n next note (is_active (head_at st n)) marks (slot_at st s).batch r (next_at n next note at) f.0)
+fits_step k size st event _ (Step.looked_at s b won m later queue e) one small c =
+    let f : (length (slot_at st s).batch < max k (length st.slots)) × (won + 1 + length later ≤ length st.slots) = rw e at (c s) in
+    fits_set k st s (record (slot_at st s) { call = Some (record { place = looked (head_at st m) b won m later; queue = queue }) }) c (looked_fits _ _ _ b won m (head_at st m) later f.0 f.1)
+fits_step k size st event _ (Step.detached s next note marks queue e le) one small c =
     let f : (length marks ≤ next) × (next ≤ length st.slots) = rw e at (c s) in
-    fits_set (max 1 size) st s (record { used = (slot_at st s).used; batch = []; call = Some (record { place = look (length st.batches) 0 marks; queue = queue }) }) c (look_fits (max 1 size) (length st.slots) (length st.batches) 0 marks (omega arith) (omega arith))
-fits_step size st event _ (Step.inserted s m b won later saw queue waiting e head_is) c =
-    let f : (length (slot_at st s).batch < max (max 1 size) (length st.slots)) × (won + 1 + length later ≤ length st.slots) = rw e at (c s) in
-    fits_set (max 1 size) st s (record (slot_at st s) { call = Some (record { place = look b (won + 1) later; queue = queue }) }) c (look_fits_at _ _ _ b (won + 1) later f.0 f.1)
-fits_step size st event _ (Step.lost s m b won later saw queue e differs) c = fits_set (max 1 size) st s (record (slot_at st s) { call = Some (record { place = Look b won m later; queue = queue }) }) c (rw e at (c s))
-fits_step size st event _ (Step.added s b won queue d e h) c =
-    let f : (length (slot_at st s).batch < max (max 1 size) (length st.slots)) × (won ≤ length st.slots) = rw e at (c s) in
-    subst (λ d. Fits (max 1 size) d.0) (some_is _ _ h) (fits_set (max 1 size) st s _ c f.0)
-fits_step size st event _ (Step.subtracted s b walk queue d e h) c =
-    subst (λ d. Fits (max 1 size) d.0) (some_is _ _ h) (fits_set (max 1 size) st s _ c (rw e at (c s)))
-fits_step size st event _ (Step.swapped_out s stays queue e) c = fits_set (max 1 size) st s _ c (rw e at (c s))
-fits_step size st event _ (Step.handed s w puts given_on walk queue e new) c = fits_set (max 1 size) st s _ c (rw e at (c s))
-fits_step size st event _ (Step.returned s e) c = fits_set (max 1 size) st s (record (slot_at st s) { call = None }) c (rw e at (c s))
-fits_step size st event _ (Step.read s l e) c = c
-fits_step size st event _ (Step.exchanged s l exchange new e fresh) c = c
-fits_step size st event _ (Step.compared s l exchange e) c = c
+    fits_set k st s (record { used = (slot_at st s).used; batch = []; call = Some (record { place = look (length st.batches) 0 marks; queue = queue }) }) c (look_fits k (length st.slots) (length st.batches) 0 marks (omega arith) (omega arith))
+fits_step k size st event _ (Step.inserted s m b won later saw queue waiting e head_is) one small c =
+    let f : (length (slot_at st s).batch < max k (length st.slots)) × (won + 1 + length later ≤ length st.slots) = rw e at (c s) in
+    fits_set k st s (record (slot_at st s) { call = Some (record { place = look b (won + 1) later; queue = queue }) }) c (look_fits_at _ _ _ b (won + 1) later f.0 f.1)
+fits_step k size st event _ (Step.lost s m b won later saw queue e differs) one small c = fits_set k st s (record (slot_at st s) { call = Some (record { place = Look b won m later; queue = queue }) }) c (rw e at (c s))
+fits_step k size st event _ (Step.added s b won queue d e h) one small c =
+    let f : (length (slot_at st s).batch < max k (length st.slots)) × (won ≤ length st.slots) = rw e at (c s) in
+    subst (λ d. Fits k d.0) (some_is _ _ h) (fits_set k st s _ c f.0)
+fits_step k size st event _ (Step.subtracted s b walk queue d e h) one small c =
+    subst (λ d. Fits k d.0) (some_is _ _ h) (fits_set k st s _ c (rw e at (c s)))
+fits_step k size st event _ (Step.swapped_out s stays queue e) one small c = fits_set k st s _ c (rw e at (c s))
+fits_step k size st event _ (Step.handed s w puts given_on walk queue e new) one small c = fits_set k st s _ c (rw e at (c s))
+fits_step k size st event _ (Step.returned s e) one small c = fits_set k st s (record (slot_at st s) { call = None }) c (rw e at (c s))
+fits_step k size st event _ (Step.read s l e) one small c = c
+fits_step k size st event _ (Step.exchanged s l exchange new e fresh exact) one small c = c
+fits_step k size st event _ (Step.compared s l exchange e exact) one small c = c

@@ -1,22 +1,35 @@
--- The moments of a list of events, from its first event on.
-use Rattle.std.proofs.Common.{◌≡◌, ◌≢◌, ℕ, zero, suc, Bool, true, false, ◌==◌, ◌||◌, List, [], ◌∷◌, Option, Some, None, refl, sym, ◌∙◌, ap, subst, arith}
+-- The moments of a legal list of events, from its first event on.
+use Rattle.std.proofs.Common.{◌≡◌, ◌≢◌, ℕ, zero, suc, Bool, true, false, ◌==◌, ◌&&◌, ◌||◌, List, [], ◌∷◌, Option, Some, None, refl, sym, ◌∙◌, ap, subst, arith}
 use Rattle.std.specs.List.{slice_get, list_any}
 use Rattle.seize_machine.specs.Machine.State.{State}
 use Rattle.seize_machine.specs.Machine.Event.{Event, SwapOut}
 use Rattle.seize_machine.specs.Machine.Next.{Outcome, next}
-use Rattle.seize_machine.specs.Machine.History.{Timed, Moment, history, is_swap_out}
+use Rattle.seize_machine.specs.Machine.History.{Timed, Moment, or_illegal, history, is_legal, are_legal, end_of, answers_of, Legal, is_swap_out}
 use Rattle.seize_machine.specs.declared.machine.event.Answer.{Answer}
-use Rattle.seize_machine.proofs.Laws.Steps.{some_is}
+use Rattle.seize_machine.proofs.Laws.Steps.{some_is, and_true}
 
+-- the moments up to the first illegal event, which are all moments of a legal list
 abbrev pub run : State → List Timed → List Moment
-run st ts = history next st ts
+run st [] = []
+run st (t ∷ ts) =
+    elim (next t.size st t.event) [ None ↦ [] | Some done ↦ record { before = st; timed = t; answer = done.1; after = done.0 } ∷ run done.0 ts ]
 
 abbrev pub moment_of : State → Timed → State × Answer → Moment
 moment_of st t d = record { before = st; timed = t; answer = d.1; after = d.0 }
 
 -- the history of an event and what comes after it, by the event's outcome
 abbrev pub from_first : Outcome → State → Timed → List Timed → List Moment
-from_first o st t ts = elim o [ None ↦ [] | Some done ↦ record { before = st; timed = t; answer = done.1; after = done.0 } ∷ history next done.0 ts ]
+from_first o st t ts = elim o [ None ↦ [] | Some done ↦ record { before = st; timed = t; answer = done.1; after = done.0 } ∷ run done.0 ts ]
+
+pub run_is : (ts : List Timed) (st : State) → are_legal (history next st ts) ≡ true → history next st ts ≡ run st ts
+run_is [] st h = refl
+run_is (t ∷ ts) st h = go (next t.size st t.event) h (λ st. run_is ts st)
+  where
+    go : (o : Outcome) → (is_legal (or_illegal st o).1 && are_legal (history next (or_illegal st o).0 ts)) ≡ true
+        → ((st : State) → are_legal (history next st ts) ≡ true → history next st ts ≡ run st ts)
+        → moment_of st t (or_illegal st o) ∷ history next (or_illegal st o).0 ts ≡ from_first o st t ts
+    go None h ih = absurd (cc)
+    go (Some d) h ih = ap (λ (ms : List Moment). moment_of st t d ∷ ms) (ih d.0 (and_true _ _ h).1)
 
 -- nothing stands in an empty history
 pub none_in : {A : Type 0} (q : ℕ) (m : Moment) → slice_get {X = Moment} [] q ≡ Some m → A

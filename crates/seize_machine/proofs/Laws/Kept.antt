@@ -324,7 +324,7 @@ inserted_kept s v st i m a won later saw queue waiting e head_is c =
             rw (get_or-set_other st.heads m s (Active (a ∷ waiting)) Inactive other) (omega (arith, lefts b))
 
 pub kept_step : (s v size : ℕ) (st : State) (event : Event) (d : State × Answer) → Step size st event d → event ≢ SwapOut s → Sound st → KeptIn s v st → KeptIn s v d.0
-kept_step s v size st event _ (Step.took_new i e) stays sound c =
+kept_step s v size st event _ (Step.took_new i e least) stays sound c =
     let r : s < length st.heads = omega (arith, sound.lengths, in_slots_range s st sound c.active) in
     let same : get_or (st.heads ++ Inactive ∷ []) s Inactive ≡ get_or st.heads s Inactive = get_or_append_left st.heads (Inactive ∷ []) Inactive s r in
     let new : Slot = record { used = true; batch = []; call = None } in
@@ -335,8 +335,8 @@ kept_step s v size st event _ (Step.took_new i e) stays sound c =
       marks = λ t. pushed (λ slot. 1 ≤ occ v slot.batch → Marks s slot.call) st.slots t new no_slot (λ same h. tt) (c.marks t);
       waits = λ b h. rw same (omega (arith, sum_by_push (λ slot. left b s slot.call) st.slots new, c.waits b h));
     }
-kept_step s v size st event _ (Step.took_old i r e) stays sound c = keeps s v st i (record (slot_at st i) { used = true }) (slot_at st i).call r refl refl (c.marks i) (λ b. refl) c
-kept_step s v size st event _ (Step.gave i e) stays sound c = keeps s v st i (record (slot_at st i) { used = false }) (slot_at st i).call (idle_range st i e) refl refl (c.marks i) (λ b. refl) c
+kept_step s v size st event _ (Step.took_old i r e least) stays sound c = keeps s v st i (record (slot_at st i) { used = true }) (slot_at st i).call r refl refl (c.marks i) (λ b. refl) c
+kept_step s v size st event _ (Step.gave i e off) stays sound c = keeps s v st i (record (slot_at st i) { used = false }) (slot_at st i).call (idle_range st i e) refl refl (c.marks i) (λ b. refl) c
 kept_step s v size st event _ (Step.entered i e off) stays sound c =
     let other : s ≢ i = λ same. (let on : is_active (head_at st i) ≡ true = rw (← same) c.active in cc) in
     record {
@@ -347,10 +347,10 @@ kept_step s v size st event _ (Step.entered i e off) stays sound c =
       waits = λ b h. head_other (λ head. 1 ≤ of_calls (left b s) st.slots + occ b (waiting_at head)) st.heads s i _ other (c.waits b h);
     }
 kept_step s v size st event _ (Step.begun_retire i w e new) stays sound c = keeps s v st i _ None (idle_range st i e) (idle_call (slot_at st i) e) refl (λ h. tt) (λ b. refl) c
-kept_step s v size st event _ (Step.begun_other i job place e which) stays sound c =
+kept_step s v size st event _ (Step.begun_other i job place e which exact) stays sound c =
     let q : Silent s v place = silent_start s v (length st.slots) place (in_slots_range s st sound c.active) which in
     keeps s v st i (record (slot_at st i) { call = Some (record { place = place; queue = [] }) }) None (idle_range st i e) (idle_call (slot_at st i) e) q.0 (λ h. q.1) q.2 c
-kept_step s v size st event _ (Step.put i w from before after place e which to) stays sound c =
+kept_step s v size st event _ (Step.put i w from before after place e which to after_is) stays sound c =
     let q : Silent s v place = silent_start s v (length st.slots) place (in_slots_range s st sound c.active) (grind arith) in
     let f : (place_given v from ≡ 0) × ((b : ℕ) → place_left b s from ≡ 0) = silent_from s v w from before after which in
     keeps s v st i (record { used = (slot_at st i).used; batch = (slot_at st i).batch ++ w ∷ []; call = Some (record { place = place; queue = after }) }) _ (in_range st i _ e) e (q.0 ∙ sym f.0) (λ h. q.1) (λ b. q.2 b ∙ sym (f.1 b)) c
@@ -384,5 +384,5 @@ kept_step s v size st event _ (Step.handed i w puts given_on walk queue e new) s
     record { active = k.active; not_given = k.not_given; not_gone = omega (arith, occ-push v st.gone w, c.not_gone, c.not_given); marks = k.marks; waits = k.waits }
 kept_step s v size st event _ (Step.returned i e) stays sound c = keeps s v st i (record (slot_at st i) { call = None }) _ (in_range st i _ e) e refl (λ h. tt) (λ b. refl) c
 kept_step s v size st event _ (Step.read i l e) stays sound c = c
-kept_step s v size st event _ (Step.exchanged i l exchange new e fresh) stays sound c = record { active = c.active; not_given = c.not_given; not_gone = c.not_gone; marks = c.marks; waits = c.waits }
-kept_step s v size st event _ (Step.compared i l exchange e) stays sound c = c
+kept_step s v size st event _ (Step.exchanged i l exchange new e fresh exact) stays sound c = record { active = c.active; not_given = c.not_given; not_gone = c.not_gone; marks = c.marks; waits = c.waits }
+kept_step s v size st event _ (Step.compared i l exchange e exact) stays sound c = c

@@ -6,9 +6,9 @@ use Rattle.std.proofs.lemmas.List.{get_or_past, set_past}
 use Rattle.std.proofs.lemmas.List.Sums.{sum_by-set, sum_by_push}
 use Rattle.seize_machine.specs.Machine.State.{no_slot, no_batch, State, Slot, Batch, Call, Head, Inactive, Active, Place, Append, Look, Add, Rest, slot_at, head_at, batch_at, link_at, is_active, waiting_at, is_idle, has}
 use Rattle.seize_machine.specs.Machine.Event.{Event}
-use Rattle.seize_machine.specs.Machine.Next.{look, marked_place, looked, begun, retiring, swapped, is_none_or_fresh}
+use Rattle.seize_machine.specs.Machine.Next.{look, marked_place, looked, begun, retiring, is_none_or_fresh}
 use Rattle.seize_machine.specs.declared.machine.event.Answer.{Answer}
-use Rattle.seize_machine.proofs.Laws.Steps.{Step, Stands, is_true, eq_true, lt_true, and_true, not_true, some_is}
+use Rattle.seize_machine.proofs.Laws.Steps.{Step, Stands, is_true, eq_true, lt_true, and_true, not_true, some_is, swapped}
 use Rattle.seize_machine.proofs.Laws.Sums.{one, occ, occ-append, occ-push, has_none, has_some, occ-filter_other, occ-filter_same, are_fresh-occ}
 use Rattle.seize_machine.proofs.Laws.Counts.{in_range, idle_range, idle_call}
 
@@ -159,23 +159,23 @@ swapped_once v st l new r fresh c =
         go (inr t) = let own : one (w == v) ≡ 0 = ap one t in (omega arith, λ h. absurd (omega arith))
 
 pub once_step : (v size : ℕ) (st : State) (event : Event) (d : State × Answer) → Step size st event d → Once v st → Once v d.0
-once_step v size st event _ (Step.took_new s e) c =
+once_step v size st event _ (Step.took_new s e least) c =
     let x : _ ≡ _ = sum_by_push (slot_has v) st.slots (record { used = true; batch = []; call = None }) in
     record { once = omega (arith, c.once); unnamed = λ h. omega (arith, c.unnamed h) }
-once_step v size st event _ (Step.took_old s r e) c =
+once_step v size st event _ (Step.took_old s r e least) c =
     let x : _ ≡ _ = same_place v st s (record (slot_at st s) { used = true }) r refl in
     record { once = omega (arith, c.once); unnamed = λ h. omega (arith, c.unnamed h) }
-once_step v size st event _ (Step.gave s e) c =
+once_step v size st event _ (Step.gave s e off) c =
     let x : _ ≡ _ = same_place v st s (record (slot_at st s) { used = false }) (idle_range st s e) refl in
     record { once = omega (arith, c.once); unnamed = λ h. omega (arith, c.unnamed h) }
 once_step v size st event _ (Step.entered s e off) c = record { once = c.once; unnamed = c.unnamed }
 once_step v size st event _ (Step.begun_retire s w e new) c = begun_once v st s w e new c
-once_step v size st event _ (Step.begun_other s job place e which) c =
+once_step v size st event _ (Step.begun_other s job place e which exact) c =
     let k : place_has v place ≡ 0 = grind arith in
     let x : _ ≡ _ = move v st s (record (slot_at st s) { call = Some (record { place = place; queue = [] }) }) (idle_range st s e) in
     let y : _ ≡ _ = had v st s None (idle_call (slot_at st s) e) in
     record { once = omega (arith, c.once); unnamed = λ h. omega (arith, c.unnamed h) }
-once_step v size st event _ (Step.put s w from before after place e which to) c =
+once_step v size st event _ (Step.put s w from before after place e which to after_is) c =
     let k : place_has v place ≡ 0 = grind arith in
     let f : occ v before + place_has v from ≡ occ v after + one (w == v) = grind arith in
     let p : _ ≡ _ = occ-push v (slot_at st s).batch w in
@@ -227,5 +227,5 @@ once_step v size st event _ (Step.returned s e) c =
     let y : _ ≡ _ = had v st s _ e in
     record { once = omega (arith, c.once); unnamed = λ h. omega (arith, c.unnamed h) }
 once_step v size st event _ (Step.read s l e) c = c
-once_step v size st event _ (Step.exchanged s l exchange new e fresh) c = swapped_once v st l new (lt_true _ _ (and_true _ _ e).1) fresh c
-once_step v size st event _ (Step.compared s l exchange e) c = c
+once_step v size st event _ (Step.exchanged s l exchange new e fresh exact) c = swapped_once v st l new (lt_true _ _ (and_true _ _ e).1) fresh c
+once_step v size st event _ (Step.compared s l exchange e exact) c = c

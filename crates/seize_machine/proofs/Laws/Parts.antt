@@ -43,15 +43,15 @@ settles v st s a from up count walk queue e none =
     omega arith
 
 pub parts_step : (v size : ℕ) (st : State) (event : Event) (d : State × Answer) → Step size st event d → parts v d.0 ≡ parts v st + is_value v (retired_value st event)
-parts_step v size st event _ (Step.took_new s e) = omega (arith, sum_by_push (slot_keeps v) st.slots (record { used = true; batch = []; call = None }))
-parts_step v size st event _ (Step.took_old s r e) = omega (arith, move v st s (record (slot_at st s) { used = true }) r)
-parts_step v size st event _ (Step.gave s e) = omega (arith, move v st s (record (slot_at st s) { used = false }) (idle_range st s e))
+parts_step v size st event _ (Step.took_new s e least) = omega (arith, sum_by_push (slot_keeps v) st.slots (record { used = true; batch = []; call = None }))
+parts_step v size st event _ (Step.took_old s r e least) = omega (arith, move v st s (record (slot_at st s) { used = true }) r)
+parts_step v size st event _ (Step.gave s e off) = omega (arith, move v st s (record (slot_at st s) { used = false }) (idle_range st s e))
 parts_step v size st event _ (Step.entered s e off) = omega arith
 parts_step v size st event _ (Step.begun_retire s w e new) = omega (arith, move v st s (record (slot_at st s) { call = Some (record { place = Append w; queue = [] }) }) (idle_range st s e), had v st s None (idle_call (slot_at st s) e))
-parts_step v size st event _ (Step.begun_other s job place e which) =
+parts_step v size st event _ (Step.begun_other s job place e which exact) =
     let k : place_given v place ≡ 0 = starts (λ place. place_given v place ≡ 0) (length st.slots) refl refl refl refl place which in
     omega (arith, move v st s (record (slot_at st s) { call = Some (record { place = place; queue = [] }) }) (idle_range st s e), had v st s None (idle_call (slot_at st s) e))
-parts_step v size st event _ (Step.put s w from before after place e which to) =
+parts_step v size st event _ (Step.put s w from before after place e which to after_is) =
     let k : place_given v place ≡ 0 = grind arith in
     let f : (place_given v from ≡ 0) × (place_value from before ≡ Some w) = grind arith in
     let a : is_value v (call_value (slot_at st s).call) ≡ one (w == v) = ap (λ o. is_value v (call_value o)) e ∙ ap (is_value v) f.1 in
@@ -81,8 +81,8 @@ parts_step v size st event _ (Step.handed s w puts given_on walk queue e new) =
 parts_step v size st event _ (Step.returned s e) =
     omega (arith, move v st s (record (slot_at st s) { call = None }) (in_range st s _ e), had v st s _ e)
 parts_step v size st event _ (Step.read s l e) = omega arith
-parts_step v size st event _ (Step.exchanged s l exchange new e fresh) = omega arith
-parts_step v size st event _ (Step.compared s l exchange e) = omega arith
+parts_step v size st event _ (Step.exchanged s l exchange new e fresh exact) = omega arith
+parts_step v size st event _ (Step.compared s l exchange e exact) = omega arith
 
 -- no value stands twice where retired values stand
 pub kept-le-slots : (v : ℕ) (slots : List Slot) → kept_in v slots ≤ in_slots v slots

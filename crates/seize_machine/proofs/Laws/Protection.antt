@@ -30,8 +30,8 @@ seen s v st i l e own h =
 
 saw : (s v size : ℕ) (st : State) (event : Event) (d : State × Answer) → Step size st event d → is_link_event s event ≡ true → linked_value d.1 ≡ Some v → Sees s v st
 saw s v size st event _ (Step.read i l e) own h = seen s v st i l e own h
-saw s v size st event _ (Step.exchanged i l exchange new e fresh) own h = seen s v st i l e own h
-saw s v size st event _ (Step.compared i l exchange e) own h = seen s v st i l e own h
+saw s v size st event _ (Step.exchanged i l exchange new e fresh exact) own h = seen s v st i l e own h
+saw s v size st event _ (Step.compared i l exchange e exact) own h = seen s v st i l e own h
 saw s v size st event _ _ own h = absurd (cc)
 
 -- the same, of the first moment
@@ -118,5 +118,5 @@ between s v (suc e) (suc c) (t ∷ ts) st i f r =
     let w : (d : State × Answer) × (next t.size st t.event ≡ Some d) × (slice_get (run d.0 ts) e ≡ Some f.0) = later _ st t ts e f.0 f.1 in
     between_later s v e c t ts st w.0 w.1 (between s v e c ts (w.0).0 (inv_step t.size st t.event w.0 (step_of t.size st t.event w.0 w.1) i) (f.0, w.2, f.2, f.3) (r.0, after_this st t ts w.0 c r.0 w.1 r.1, r.2))
 
-pub law_protection : (slots : ℕ) (links : List (Option ℕ)) (ts : List Timed) → are_distinct (linked links) ≡ true → Protection (run (opening slots links) ts)
+pub law_protection : (slots : ℕ) (links : List (Option ℕ)) (ts : List Timed) → are_distinct (linked links) ≡ true → Protection (opening slots links) (run (opening slots links) ts)
 law_protection slots links ts distinct s v e c f r = between s v e c ts (opening slots links) (opening_inv slots links distinct) f r

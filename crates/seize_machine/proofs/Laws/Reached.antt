@@ -1,37 +1,55 @@
 -- The states that a legal list of events reaches: they stay so, and what the code counts with fits.
-use Rattle.std.proofs.Common.{◌≡◌, ℕ, zero, suc, ◌+◌, ◌<◌, ◌≤◌, max, pos, ◌+ℤ◌, Bool, true, false, ◌==◌, if◌then◌else◌, nat_lt, List, [], ◌∷◌, ◌++◌, length, get_or, replicate, Option, Some, None, Result, Ok, Err, IfOk, OnErr, refl, sym, ap, subst, ◌⊎◌, inl, inr, arith}
+use Rattle.std.proofs.Common.{◌≡◌, ℕ, zero, suc, ◌+◌, ◌<◌, ◌≤◌, max, pos, ◌+ℤ◌, Bool, true, false, not, ◌&&◌, ◌||◌, ◌==◌, if◌then◌else◌, nat_lt, nat_le, List, [], ◌∷◌, ◌++◌, length, get_or, replicate, Option, Some, None, Result, Ok, Err, IfOk, OnErr, refl, sym, ◌∙◌, ap, subst, ◌⊎◌, inl, inr, arith}
 use Rattle.std.proofs.lemmas.Int.{ints}
 use Rattle.std.proofs.lemmas.List.{get_or_past}
 use Rattle.std.proofs.lemmas.List.Sums.{get_or-le-sum_by}
 use Rattle.seize_machine.specs.Machine.State.{no_slot, State, Slot, Call, Place, Append, Mark, Look, Try, Add, Out, Rest, slot_at, batch_at, linked, are_distinct, opening}
 use Rattle.seize_machine.specs.Machine.Event.{Event}
-use Rattle.seize_machine.specs.Machine.Next.{Outcome, next, or_illegal, tried}
-use Rattle.seize_machine.specs.Machine.History.{after_events, IsReached}
-use Rattle.seize_machine.specs.Machine.Code.{Does, WinsFit, AddFits, SubFits, CountFits, CallCountsFit, CountsFit}
+use Rattle.seize_machine.specs.Machine.Next.{Outcome, next}
+use Rattle.seize_machine.specs.Machine.History.{Timed, or_illegal, done_by, end_of, is_legal, IsReached}
+use Rattle.seize_machine.specs.Machine.Laws.{is_put, PutsWithin}
+use Rattle.seize_machine.specs.Machine.Code.{Sized, event_of, timed, HasDone, Does, WinsFit, AddFits, SubFits, CountFits, CallCountsFit, CountsFit}
 use Rattle.seize_machine.specs.declared.machine.event.Answer.{Answer}
+use Rattle.seize_machine.specs.declared.machine.event.Event.{Event as Written}
 use Rattle.seize_machine.proofs.Laws.Steps.{Step, Stands, step_of, is_true, some_is, lt_true}
 use Rattle.seize_machine.proofs.Laws.Sums.{one, occ, sum_nothing, sum_alone}
 use Rattle.seize_machine.proofs.Laws.Lists.{some_part}
 use Rattle.seize_machine.proofs.Laws.Counts.{CountedIn, of_calls, owns, wins, place_won, walks, listed, owns-wins, in_call_of, wins_alone, in_range, held_range}
 use Rattle.seize_machine.proofs.Laws.Fits.{Fits, SlotFits, CallFits, PlaceFits, fits_step}
 use Rattle.seize_machine.proofs.Laws.Invariants.{Inv, inv_step, opening_inv}
-use Rattle.seize_machine.proofs.Laws.Ends.{opening_fits}
+use Rattle.seize_machine.proofs.Laws.Histories.{run, run_is, from_first}
+use Rattle.seize_machine.proofs.Laws.LegalLists.{no_event, one_more}
+use Rattle.seize_machine.proofs.Laws.Ends.{opening_fits, end_inv, end_fits}
 
--- what each legal event keeps holds at the end
-keeps_on : (P : State → Type 0) (size : ℕ) → ((st : State) (event : Event) (d : State × Answer) → Step size st event d → P st → P d.0)
-    → (es : List Event) (from st : State) → after_events size from es ≡ Some st → P from → P st
-keeps_on P size step [] from st e p = subst P (some_is _ _ e) p
-keeps_on P size step (event ∷ es) from st e p = on (next size from event) refl e (λ from. keeps_on P size step es from st)
+-- a legal list ends where its moments end
+ends_at : (st : State) (r : IsReached st) → end_of (opening r.slots r.links) (run (opening r.slots r.links) r.events) ≡ st
+ends_at st r = ap (end_of (opening r.slots r.links)) (sym (run_is r.events (opening r.slots r.links) r.leads.legal)) ∙ r.leads.end_is
+
+pub reached_inv : (st : State) → IsReached st → Inv st
+reached_inv st r = subst Inv (ends_at st r) (end_inv r.events (opening r.slots r.links) (opening_inv r.slots r.links r.distinct))
+
+-- the greatest of the sizes
+abbrev largest : List Timed → ℕ
+largest [] = 0
+largest (t ∷ ts) = max t.size (largest ts)
+
+within : (k : ℕ) (ts : List Timed) (st : State) → largest ts ≤ k → PutsWithin k (run st ts)
+within k [] st h = refl
+within k (t ∷ ts) st h = go (next t.size st t.event) (λ st. within k ts st (omega arith))
   where
-    on : (o : Outcome) → next size from event ≡ o → (elim o [ None ↦ None | Some done ↦ after_events size done.0 es ]) ≡ Some st → ((from : State) → after_events size from es ≡ Some st → P from → P st) → P st
-    on None n e ih = absurd (cc)
-    on (Some d) n e ih = ih d.0 e (step from event d (step_of size from event d n) p)
+    this : (put : Bool) → t.size ≤ k → (not put || nat_le t.size k) ≡ true
+    this true le = grind arith
+    this false le = refl
 
-pub reached_inv : (size : ℕ) (st : State) → IsReached size st → Inv st
-reached_inv size st r = keeps_on Inv size (λ st event d step. inv_step size st event d step) r.events (opening r.slots r.links) st r.leads (opening_inv r.slots r.links r.distinct)
+    go : (o : Outcome) → ((st : State) → PutsWithin k (run st ts)) → PutsWithin k (from_first o st t ts)
+    go None ih = refl
+    go (Some d) ih = rw (this (is_put t.event) (omega arith)) (ih d.0)
 
-reached_fits : (size : ℕ) (st : State) → IsReached size st → Fits (max 1 size) st
-reached_fits size st r = keeps_on (Fits (max 1 size)) size (λ st event d step. fits_step size st event d step) r.events (opening r.slots r.links) st r.leads (opening_fits size r.slots r.links)
+pub reached_fits : (st : State) → IsReached st → (k : ℕ) × Fits k st
+reached_fits st r =
+    let k : ℕ = largest r.events in
+    let start : State = opening r.slots r.links in
+    (max 1 k, subst (Fits (max 1 k)) (ends_at st r) (end_fits k r.events start (within k r.events start (omega arith)) (opening_fits k r.slots r.links)))
 
 -- the insertions won of one batch are those of its one owner, at most one for each slot
 owner_wins : (k b : ℕ) (st : State) → Fits k st → CountedIn b st → of_calls (wins b) st.slots ≤ length st.slots
@@ -114,48 +132,72 @@ counts_fit k st fits i = record { fit = λ s. of_call s (slot_at st s).call refl
     of_call s None e = tt
     of_call s (Some call) e = at s call.place call.queue e
 
-pub reached_counts : (size : ℕ) (st : State) → IsReached size st → CountsFit st
-reached_counts size st r = counts_fit (max 1 size) st (reached_fits size st r) (reached_inv size st r)
+pub reached_counts : (st : State) → IsReached st → CountsFit st
+reached_counts st r = let f : (k : ℕ) × Fits k st = reached_fits st r in counts_fit f.0 st f.1 (reached_inv st r)
 
--- a legal list goes on by one more event
-after_more : (size : ℕ) (es : List Event) (st now : State) (event : Event) (d : State × Answer) → after_events size st es ≡ Some now → next size now event ≡ Some d → after_events size st (es ++ event ∷ []) ≡ Some d.0
-after_more size [] st now event d e n = last (next size st event) (subst (λ st. next size st event ≡ Some d) (sym (some_is _ _ e)) n)
-  where
-    last : (o : Outcome) → o ≡ Some d → (elim o [ None ↦ None | Some done ↦ Some done.0 ]) ≡ Some d.0
-    last o e = rw e
-after_more size (f ∷ es) st now event d e n = go (next size st f) e (λ st e. after_more size es st now event d e n)
-  where
-    go : (o : Outcome) → (elim o [ None ↦ None | Some done ↦ after_events size done.0 es ]) ≡ Some now
-        → ((st : State) → after_events size st es ≡ Some now → after_events size st (es ++ event ∷ []) ≡ Some d.0)
-        → (elim o [ None ↦ None | Some done ↦ after_events size done.0 (es ++ event ∷ []) ]) ≡ Some d.0
-    go None e ih = absurd (cc)
-    go (Some d) e ih = ih d.0 e
+-- a reached state, and one legal event
+pub reached_next : (st : State) (t : Timed) (d : State × Answer) → IsReached st → next t.size st t.event ≡ Some d → IsReached d.0
+reached_next st t d r e =
+    record {
+      slots = r.slots;
+      links = r.links;
+      events = r.events ++ t ∷ [];
+      answers = r.answers ++ d.1 ∷ [];
+      distinct = r.distinct;
+      leads = one_more (opening r.slots r.links) st d.0 r.events r.answers t d.1 r.leads e;
+    }
 
 -- the machine stays reached, whatever the event
-pub reached_more : (size : ℕ) (st : State) (event : Event) → IsReached size st → IsReached size (tried size st event).0
-reached_more size st event r = go (next size st event) refl
+pub reached_more : (st : State) (t : Timed) → IsReached st → IsReached (done_by next st t).0
+reached_more st t r = go (next t.size st t.event) refl
   where
-    go : (o : Outcome) → next size st event ≡ o → IsReached size (or_illegal st o).0
+    go : (o : Outcome) → next t.size st t.event ≡ o → IsReached (or_illegal st o).0
     go None e = r
-    go (Some d) e =
-        record { slots = r.slots; links = r.links; events = r.events ++ event ∷ []; distinct = r.distinct; leads = after_more size r.events (opening r.slots r.links) st event d r.leads e }
+    go (Some d) e = reached_next st t d r e
 
--- what an event did by its outcome is what trying it does
-pub does_tried : (size : ℕ) (old new : State) (event : Event) (answer : Answer) → Does (next size old event) old new answer → (new ≡ (tried size old event).0) × (answer ≡ (tried size old event).1)
-does_tried size old new event answer = go (next size old event)
+-- what an event did by its outcome is what the machine does
+pub does_by : (old new : State) (t : Timed) (answer : Answer) → Does (next t.size old t.event) old new answer → (new, answer) ≡ done_by next old t
+does_by old new t answer = go (next t.size old t.event)
   where
-    go : (o : Outcome) → Does o old new answer → (new ≡ (or_illegal old o).0) × (answer ≡ (or_illegal old o).1)
-    go None d = d
-    go (Some done) d = d
+    go : (o : Outcome) → Does o old new answer → (new, answer) ≡ or_illegal old o
+    go None d = ap (λ (st : State). (st, answer)) d.0 ∙ ap (λ (a : Answer). (old, a)) d.1
+    go (Some done) d = ap (λ (st : State). (st, answer)) d.0 ∙ ap (λ (a : Answer). (done.0, a)) d.1
 
-pub reached_result : {E : Type 0} (size : ℕ) (event : Event) (old new : State) (result : Result Answer E) → IfOk result (λ answer. Does (next size old event) old new answer) → OnErr result (new ≡ old) → IsReached size old → IsReached size new
-reached_result size event old new (Ok answer) does err r = subst (IsReached size) (sym (does_tried size old new event answer does).0) (reached_more size old event r)
-reached_result size event old new (Err e) does err r = subst (IsReached size) (sym err) r
+pub does_done : (event : Written) (old new : Sized) (answer : Answer) → new.size ≡ old.size → Does (next old.size old.state (event_of event)) old.state new.state answer → HasDone event old new answer
+does_done event old new answer size d =
+    let t : Timed = timed old event in
+    let same : (new.state, answer) ≡ done_by next old.state t = does_by old.state new.state t answer d in
+    record {
+      size = size;
+      done = same;
+      legal = λ h. record {
+        legal = ap (λ (x : State × Answer). is_legal x.1 && true) (sym same) ∙ ap (λ (b : Bool). b && true) h;
+        answers_are = ap (λ (x : State × Answer). x.1 ∷ []) (sym same);
+        end_is = ap (λ (x : State × Answer). x.0) (sym same);
+      };
+    }
+
+pub done_result : {E : Type 0} (event : Written) (old new : Sized) (result : Result Answer E) → new.size ≡ old.size
+    → IfOk result (λ answer. Does (next old.size old.state (event_of event)) old.state new.state answer) → IfOk result (λ answer. HasDone event old new answer)
+done_result event old new (Ok answer) size does = does_done event old new answer size does
+done_result event old new (Err e) size does = tt
+
+pub reached_result : {E : Type 0} (t : Timed) (old new : State) (result : Result Answer E) → IfOk result (λ answer. Does (next t.size old t.event) old new answer) → OnErr result (new ≡ old) → IsReached old → IsReached new
+reached_result t old new (Ok answer) does err r = subst IsReached (ap (λ (x : State × Answer). x.0) (sym (does_by old new t answer does))) (reached_more old t r)
+reached_result t old new (Err e) does err r = subst IsReached (sym err) r
 
 -- the opening with no slot made and empty links
 pub linked-replicate : (n : ℕ) → linked (replicate n None) ≡ []
 linked-replicate zero = refl
 linked-replicate (suc n) = linked-replicate n
 
-pub opening_reached : (size links : ℕ) → IsReached size (opening 0 (replicate links None))
-opening_reached size links = record { slots = 0; links = replicate links None; events = []; distinct = ap are_distinct (linked-replicate links); leads = refl }
+pub opening_reached : (links : ℕ) → IsReached (opening 0 (replicate links None))
+opening_reached links =
+    record {
+      slots = 0;
+      links = replicate links None;
+      events = [];
+      answers = [];
+      distinct = ap are_distinct (linked-replicate links);
+      leads = no_event (opening 0 (replicate links None));
+    }

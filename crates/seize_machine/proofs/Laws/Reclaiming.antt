@@ -41,7 +41,7 @@ first_gone v t ts st r d e =
     let h : handed_value d.1 ≡ Some v = ap (λ m. handed_value m.answer) m_is ∙ r.2 in
     omega (arith, handed_gone v t.size st t.event d (step_of t.size st t.event d e) h)
 
-pub at_most_once : (ts : List Timed) (st : State) → Inv st → AtMostOnce (run st ts)
+pub at_most_once : (ts : List Timed) (st : State) → Inv st → AtMostOnce st (run st ts)
 at_most_once [] st i v c d r q = none_in c r.0 r.1
 at_most_once (t ∷ ts) st i v zero zero r q = refl
 at_most_once (t ∷ ts) st i v zero (suc d) r q =
@@ -199,11 +199,11 @@ after v (suc c) (t ∷ ts) st i n r = go (later _ st t ts c r.0 r.1) (λ st. aft
         let step : Step t.size st t.event w.0 = step_of t.size st t.event w.0 w.1 in
         story_later v c t ts st w.0 w.1 none (ih (w.0).0 (inv_step t.size st t.event w.0 step i) (omega (arith, parts_step v t.size st t.event w.0 step)) (r.0, w.2, r.2))
 
-pub law_at_most_once : (slots : ℕ) (links : List (Option ℕ)) (ts : List Timed) → are_distinct (linked links) ≡ true → AtMostOnce (run (opening slots links) ts)
+pub law_at_most_once : (slots : ℕ) (links : List (Option ℕ)) (ts : List Timed) → are_distinct (linked links) ≡ true → AtMostOnce (opening slots links) (run (opening slots links) ts)
 law_at_most_once slots links ts distinct = at_most_once ts (opening slots links) (opening_inv slots links distinct)
 
 pub none_retired : (v slots : ℕ) (links : List (Option ℕ)) → parts v (opening slots links) ≡ 0
 none_retired v slots links = omega (arith, sum_replicate (slot_keeps v) slots no_slot refl)
 
-pub law_after : (slots : ℕ) (links : List (Option ℕ)) (ts : List Timed) → are_distinct (linked links) ≡ true → After (run (opening slots links) ts)
+pub law_after : (slots : ℕ) (links : List (Option ℕ)) (ts : List Timed) → are_distinct (linked links) ≡ true → After (opening slots links) (run (opening slots links) ts)
 law_after slots links ts distinct v c r = after v c ts (opening slots links) (opening_inv slots links distinct) (none_retired v slots links) r

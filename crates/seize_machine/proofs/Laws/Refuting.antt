@@ -1,14 +1,15 @@
 -- What breaks a law, as tests of a list's moments that compute.
-use Rattle.std.proofs.Common.{◌≡◌, ℕ, ◌+◌, ◌<◌, ◌≤◌, Bool, true, false, ◌==◌, ◌&&◌, ◌||◌, nat_lt, List, ◌∷◌, ◌++◌, length, get_or, Option, Some, None, refl, sym, ◌∙◌, subst, ◌⊎◌, inl, inr, arith}
-use Rattle.std.specs.Prelude.{take, drop}
+use Rattle.std.proofs.Common.{◌≡◌, ℕ, ◌+◌, ◌<◌, ◌≤◌, Bool, true, false, ◌==◌, ◌&&◌, ◌||◌, nat_lt, List, [], ◌∷◌, ◌++◌, length, get_or, Option, Some, None, refl, sym, ◌∙◌, subst, ◌⊎◌, inl, inr, arith}
+use Rattle.std.specs.Prelude.{take, drop, slice_get, zero, suc}
 use Rattle.std.specs.List.{Contains, list_any, count_by}
 use Rattle.std.proofs.lemmas.List.{get_or_past}
 use Rattle.std.proofs.lemmas.List.Folds.{list_any_at}
-use Rattle.seize_machine.specs.Machine.State.{State, Slot, no_slot, Inactive, slot_at, batch_at, waiting_at, has}
-use Rattle.seize_machine.specs.Machine.History.{Moment, end_of, handed_value, is_swap_out, Reclaimed, Retired, Found, IsActiveAt, HasParted}
-use Rattle.seize_machine.specs.Machine.Laws.{AtMostOnce, After, Quiet, is_quiet, bound, HaveSize, IsBatched, Protection, Parts, parts, Holders, walk_of, detached_by, IsHeld, begins, during, is_changed, is_lost, Tries}
-use Rattle.seize_machine.proofs.Laws.Steps.{is_true, some_is}
-use Rattle.seize_machine.proofs.Laws.Histories.{some_moment}
+use Rattle.seize_machine.specs.Machine.State.{State, Slot, no_slot, Inactive, slot_at, head_at, batch_at, waiting_at, has, are_distinct}
+use Rattle.seize_machine.specs.Machine.History.{Moment, end_of, answers_of, retired_value, handed_value, handed, is_swap_out, Reclaimed, Retired, Found, IsActiveAt, HasParted}
+use Rattle.seize_machine.specs.Machine.Laws.{AtMostOnce, After, Quiet, is_quiet, bound, PutsWithin, IsBatched, Protection, Parts, parts, Gone, Holders, Lists, added_by, NoLaterHolders, walk_of, detached_by, IsHeld, begins, during, changes_head, is_lost, Tries}
+use Rattle.seize_machine.specs.Machine.Next.{same_list}
+use Rattle.seize_machine.proofs.Laws.Steps.{is_true, some_is, same_list-refl}
+use Rattle.seize_machine.proofs.Laws.Histories.{some_moment, none_in}
 
 -- whether an option has this value
 abbrev pub is_value : ℕ → Option ℕ → Bool
@@ -54,19 +55,19 @@ some_at test xs d i none h = go (is_true (nat_lt i (length xs)))
     go (inr t) = let past : length xs ≤ i = grind arith in not_both (test d) (subst (λ x. test x ≡ true) (get_or_past xs i d past) h) none
 
 -- a value is handed at two places
-pub not_once : (ms : List Moment) (v c d : ℕ) → Reclaimed ms v c → Reclaimed ms v d → (c == d) ≡ false → ¬ (AtMostOnce ms)
-not_once ms v c d h k differ once = (let e : c ≡ d = once v c d h k in grind arith)
+pub not_once : (st : State) (ms : List Moment) (v c d : ℕ) → Reclaimed ms v c → Reclaimed ms v d → (c == d) ≡ false → ¬ (AtMostOnce st ms)
+not_once st ms v c d h k differ once = (let e : c ≡ d = once v c d h k in grind arith)
 
 -- a value is handed with a slot that was active at its retirement and never parts
-pub not_after : (ms : List Moment) (v q c s : ℕ) → Retired ms v q → Reclaimed ms v c → IsActiveAt ms s q → parts_ever s ms ≡ false → ¬ (After ms)
-not_after ms v q c s retired handed active never after =
+pub not_after : (st : State) (ms : List Moment) (v q c s : ℕ) → Retired ms v q → Reclaimed ms v c → IsActiveAt ms s q → parts_ever s ms ≡ false → ¬ (After st ms)
+not_after st ms v q c s retired handed active never after =
     let a = after v c handed in
     let same : q ≡ a.0 = a.3 q retired in
     not_both (parts_ever s ms) (has_parted ms s a.0 c (a.4 s (subst (λ q. IsActiveAt ms s q) same active))) never
 
 -- a value found in a link is handed with the slot that found it never parting
-pub not_protection : (ms : List Moment) (s v e c : ℕ) → Found ms s v e → Reclaimed ms v c → parts_ever s ms ≡ false → ¬ (Protection ms)
-not_protection ms s v e c found handed never protects =
+pub not_protection : (st : State) (ms : List Moment) (s v e c : ℕ) → Found ms s v e → Reclaimed ms v c → parts_ever s ms ≡ false → ¬ (Protection st ms)
+not_protection st ms s v e c found handed never protects =
     not_both (parts_ever s ms) (has_parted ms s e c (protects s v e c found handed).1) never
 
 -- whether a slot's batch has the value and is within the bound
@@ -75,7 +76,7 @@ batched v size st slot = has v slot.batch && nat_lt (length slot.batch) (bound s
 
 -- the list ends quiet, and a value was retired, is never handed, and is in no slot's batch within the bound
 pub not_quiet : (st : State) (ms : List Moment) (v q : ℕ) → is_quiet (end_of st ms) ≡ true → Retired ms v q → handed_ever v ms ≡ false
-    → (size : ℕ) → HaveSize size ms → list_any (batched v size (end_of st ms)) (end_of st ms).slots ≡ false → ¬ (Quiet st ms)
+    → (size : ℕ) → PutsWithin size ms → list_any (batched v size (end_of st ms)) (end_of st ms).slots ≡ false → ¬ (Quiet st ms)
 not_quiet st ms v q ends retired never size sizes none quiet = go (quiet ends v q retired)
   where
     both : (a b : Bool) → a ≡ true → b ≡ true → (a && b) ≡ true
@@ -95,6 +96,62 @@ not_quiet st ms v q ends retired never size sizes none quiet = go (quiet ends v 
 -- a value is retired and stands nowhere
 pub not_parts : (st : State) (ms : List Moment) (v q : ℕ) → Retired ms v q → has v (parts (end_of st ms)) ≡ false → ¬ (Parts st ms)
 not_parts st ms v q retired none law = not_both (has v (parts (end_of st ms))) (contained (parts (end_of st ms)) v ((law.1 v).1 (q, retired))) none
+
+-- a value stands in two places
+pub not_distinct : (st : State) (ms : List Moment) → are_distinct (parts (end_of st ms)) ≡ false → ¬ (Parts st ms)
+not_distinct st ms twice law = not_both (are_distinct (parts (end_of st ms))) law.0 twice
+
+-- whether some event retires the value
+abbrev pub retired_ever : ℕ → List Moment → Bool
+retired_ever v ms = list_any (λ m. is_value v (retired_value m.before m.timed.event)) ms
+
+has_retired : (ms : List Moment) (v q : ℕ) → Retired ms v q → retired_ever v ms ≡ true
+has_retired ms v q h = some_moment (λ m. is_value v (retired_value m.before m.timed.event)) ms q h.0 h.1 (value_found v (retired_value h.0.before h.0.timed.event) h.2)
+
+-- a value that was never retired stands somewhere
+pub not_retired : (st : State) (ms : List Moment) (v : ℕ) → Contains (parts (end_of st ms)) v → retired_ever v ms ≡ false → ¬ (Parts st ms)
+not_retired st ms v stands never law = let r : (q : ℕ) × Retired ms v q = (law.1 v).0 stands in not_both (retired_ever v ms) (has_retired ms v r.0 r.1) never
+
+-- a value is handed that was never retired
+pub not_before : (st : State) (ms : List Moment) (v c : ℕ) → Reclaimed ms v c → retired_ever v ms ≡ false → ¬ (After st ms)
+not_before st ms v c handed never after = let a = after v c handed in not_both (retired_ever v ms) (has_retired ms v a.0 a.2) never
+
+-- a value is handed that was retired at two places
+pub not_just_once : (st : State) (ms : List Moment) (v c q r : ℕ) → Reclaimed ms v c → Retired ms v q → Retired ms v r → (q == r) ≡ false → ¬ (After st ms)
+not_just_once st ms v c q r handed first again differ after =
+    let a = after v c handed in
+    let one : q ≡ a.0 = a.3 q first in
+    let other : r ≡ a.0 = a.3 r again in
+    grind arith
+
+-- whether the value is retired in the list after so many events
+abbrev pub retired_from : ℕ → ℕ → List Moment → Bool
+retired_from v n ms = retired_ever v (drop n ms)
+
+later_retired : (ms : List Moment) (v n q : ℕ) → n ≤ q → Retired ms v q → retired_from v n ms ≡ true
+later_retired ms v zero q le h = has_retired ms v q h
+later_retired [] v (suc n) q le h = none_in q h.0 h.1
+later_retired (m ∷ ms) v (suc n) zero le h = absurd (omega arith)
+later_retired (m ∷ ms) v (suc n) (suc q) le h = later_retired ms v n q (omega arith) h
+
+-- a value found in a link is handed, and not retired after it was found
+pub not_retired_since : (st : State) (ms : List Moment) (s v e c : ℕ) → Found ms s v e → Reclaimed ms v c → retired_from v (e + 1) ms ≡ false → ¬ (Protection st ms)
+not_retired_since st ms s v e c found handed never protects =
+    let p : (q : ℕ) × (e < q) × (q < c) × Retired ms v q = (protects s v e c found handed).0 in
+    let low : e < p.0 = p.1 in
+    not_both (retired_from v (e + 1) ms) (later_retired ms v (e + 1) p.0 (omega arith) p.3) never
+
+-- a slot lists a batch and did not right after the batch's add
+pub not_no_later_holders : (st : State) (ms : List Moment) (b a s : ℕ) (m : Moment) → slice_get ms a ≡ Some m → added_by m.before m.timed.event ≡ Some b
+    → Lists (end_of st ms) s b → has b (waiting_at (head_at m.after s)) ≡ false → ¬ (NoLaterHolders st ms)
+not_no_later_holders st ms b a s m at adds lists none law =
+    not_both (has b (waiting_at (head_at m.after s))) (contained (waiting_at (head_at m.after s)) b ((law b a m at adds s).0 lists)) none
+
+-- the values reclaimed are not those handed
+pub not_gone : (st : State) (ms : List Moment) → same_list (end_of st ms).gone (st.gone ++ handed (answers_of ms)) ≡ false → ¬ (Gone st ms)
+not_gone st ms other law =
+    not_both (same_list (end_of st ms).gone (st.gone ++ handed (answers_of ms)))
+    (subst (λ (l : List ℕ). same_list (end_of st ms).gone l ≡ true) law (same_list-refl (end_of st ms).gone)) other
 
 -- whether a head, a walk or a call has the batch
 abbrev pub is_held : ℕ → State → Bool
@@ -122,8 +179,8 @@ not_holders st ms b v stays none law = not_both (is_held b (end_of st ms)) (go (
     go (inr (inr h)) = second _ _ (second _ _ (some_at (λ slot. is_value b (detached_by slot.call)) end.slots no_slot h.0 refl (value_found b _ h.1)))
 
 -- after the beginning of a call of s at place k, s loses more insertions at n than others change its head
-pub not_tries : (ms : List Moment) (s n k : ℕ) (begin : Moment) → ms ≡ take k ms ++ begin ∷ drop (k + 1) ms → begins s begin.timed.event ≡ true
-    → nat_lt (count_by (is_changed s n) (during s (drop (k + 1) ms))) (count_by (λ m. is_lost s n m.timed.event) (during s (drop (k + 1) ms))) ≡ true → ¬ (Tries ms)
-not_tries ms s n k begin at starts more law =
+pub not_tries : (st : State) (ms : List Moment) (s n k : ℕ) (begin : Moment) → ms ≡ take k ms ++ begin ∷ drop (k + 1) ms → begins s begin.timed.event ≡ true
+    → nat_lt (count_by (changes_head s n) (during s (drop (k + 1) ms))) (count_by (λ m. is_lost s n m.timed.event) (during s (drop (k + 1) ms))) ≡ true → ¬ (Tries st ms)
+not_tries st ms s n k begin at starts more law =
     let le : _ ≤ _ = law s n (take k ms) (drop (k + 1) ms) begin at starts in
     grind arith

@@ -7,7 +7,7 @@ use Rattle.seize_machine.specs.Machine.State.{no_slot, State, Slot, Call, Head, 
 use Rattle.seize_machine.specs.Machine.Event.{Event, slot_of}
 use Rattle.seize_machine.specs.Machine.Next.{Outcome, next, look, marked_place, looked, same_list}
 use Rattle.seize_machine.specs.Machine.History.{Timed, Moment}
-use Rattle.seize_machine.specs.Machine.Laws.{Tries, begins, returns, during, same_head, is_lost, is_changed}
+use Rattle.seize_machine.specs.Machine.Laws.{Tries, begins, returns, during, same_head, is_lost, changes_head}
 use Rattle.seize_machine.specs.declared.machine.event.Answer.{Answer}
 use Rattle.seize_machine.proofs.Laws.Steps.{Step, step_of, eq_true, and_true, some_is, same_list-refl}
 use Rattle.seize_machine.proofs.Laws.Sums.{one}
@@ -102,18 +102,18 @@ was n head st s o e = ap (call_stale n head) e
 
 -- an event of the slot itself
 own_step : (n size : ℕ) (st : State) (event : Event) (d : State × Answer) → Step size st event d → one (is_lost (slot_of event) n event) + stale (slot_of event) n d.0 ≤ stale (slot_of event) n st
-own_step n size st event _ (Step.took_new s e) =
+own_step n size st event _ (Step.took_new s e least) =
     let new : Slot = record { used = true; batch = []; call = None } in
     let fresh : call_stale n (get_or (st.heads ++ Inactive ∷ []) n Inactive) (get_or (st.slots ++ new ∷ []) s no_slot).call ≡ 0 = ap (λ slot. call_stale n (get_or (st.heads ++ Inactive ∷ []) n Inactive) slot.call) (get_or_push st.slots new no_slot s (sym e)) in
     omega arith
-own_step n size st event _ (Step.took_old s r e) = omega (arith, now n (head_at st n) st.slots s (record (slot_at st s) { used = true }) r)
-own_step n size st event _ (Step.gave s e) = omega (arith, now n (head_at st n) st.slots s (record (slot_at st s) { used = false }) (idle_range st s e))
+own_step n size st event _ (Step.took_old s r e least) = omega (arith, now n (head_at st n) st.slots s (record (slot_at st s) { used = true }) r)
+own_step n size st event _ (Step.gave s e off) = omega (arith, now n (head_at st n) st.slots s (record (slot_at st s) { used = false }) (idle_range st s e))
 own_step n size st event _ (Step.entered s e off) = omega (arith, was n (get_or (set st.heads s (Active [])) n Inactive) st s None (idle_call (slot_at st s) e))
 own_step n size st event _ (Step.begun_retire s v e new) = omega (arith, now n (head_at st n) st.slots s (record (slot_at st s) { call = Some (record { place = Append v; queue = [] }) }) (idle_range st s e))
-own_step n size st event _ (Step.begun_other s job place e which) =
+own_step n size st event _ (Step.begun_other s job place e which exact) =
     let k : place_stale n (head_at st n) place ≡ 0 = starts (λ place. place_stale n (head_at st n) place ≡ 0) (length st.slots) refl refl refl refl place which in
     omega (arith, now n (head_at st n) st.slots s (record (slot_at st s) { call = Some (record { place = place; queue = [] }) }) (idle_range st s e))
-own_step n size st event _ (Step.put s v from before after place e which to) =
+own_step n size st event _ (Step.put s v from before after place e which to after_is) =
     let k : place_stale n (head_at st n) place ≡ 0 = grind arith in
     omega (arith, now n (head_at st n) st.slots s (record { used = (slot_at st s).used; batch = (slot_at st s).batch ++ v ∷ []; call = Some (record { place = place; queue = after }) }) (in_range st s _ e))
 own_step n size st event _ (Step.marked s i index note marks queue e r k) =
@@ -143,21 +143,21 @@ own_step n size st event _ (Step.handed s v puts given walk queue e new) =
 own_step n size st event _ (Step.returned s e) =
     omega (arith, now n (head_at st n) st.slots s (record (slot_at st s) { call = None }) (in_range st s _ e))
 own_step n size st event _ (Step.read s l e) = omega arith
-own_step n size st event _ (Step.exchanged s l exchange new e fresh) = omega arith
-own_step n size st event _ (Step.compared s l exchange e) = omega arith
+own_step n size st event _ (Step.exchanged s l exchange new e fresh exact) = omega arith
+own_step n size st event _ (Step.compared s l exchange e exact) = omega arith
 
 -- an event of another slot leaves the slot's record
 set_away : (slots : List Slot) (i s : ℕ) (new : Slot) → (i == s) ≡ false → get_or (set slots i new) s no_slot ≡ get_or slots s no_slot
 set_away slots i s new t = let other : s ≢ i = grind arith in get_or-set_other slots i s new no_slot other
 
 other_slot : (s size : ℕ) (st : State) (event : Event) (d : State × Answer) → Step size st event d → (slot_of event == s) ≡ false → slot_at d.0 s ≡ slot_at st s
-other_slot s size st event _ (Step.took_new i e) t = let other : length st.slots ≢ s = grind arith in get_or_push_other st.slots (record { used = true; batch = []; call = None }) no_slot s other
-other_slot s size st event _ (Step.took_old i r e) t = set_away st.slots i s _ t
-other_slot s size st event _ (Step.gave i e) t = set_away st.slots i s _ t
+other_slot s size st event _ (Step.took_new i e least) t = let other : length st.slots ≢ s = grind arith in get_or_push_other st.slots (record { used = true; batch = []; call = None }) no_slot s other
+other_slot s size st event _ (Step.took_old i r e least) t = set_away st.slots i s _ t
+other_slot s size st event _ (Step.gave i e off) t = set_away st.slots i s _ t
 other_slot s size st event _ (Step.entered i e off) t = refl
 other_slot s size st event _ (Step.begun_retire i v e new) t = set_away st.slots i s _ t
-other_slot s size st event _ (Step.begun_other i job place e which) t = set_away st.slots i s _ t
-other_slot s size st event _ (Step.put i v from before after place e which to) t = set_away st.slots i s _ t
+other_slot s size st event _ (Step.begun_other i job place e which exact) t = set_away st.slots i s _ t
+other_slot s size st event _ (Step.put i v from before after place e which to after_is) t = set_away st.slots i s _ t
 other_slot s size st event _ (Step.marked i n index note marks queue e r k) t = set_away st.slots i s _ t
 other_slot s size st event _ (Step.looked_at i b won m later queue e) t = set_away st.slots i s _ t
 other_slot s size st event _ (Step.detached i index note marks queue e le) t = set_away st.slots i s _ t
@@ -169,8 +169,8 @@ other_slot s size st event _ (Step.swapped_out i stays queue e) t = set_away st.
 other_slot s size st event _ (Step.handed i v puts given walk queue e new) t = set_away st.slots i s _ t
 other_slot s size st event _ (Step.returned i e) t = set_away st.slots i s _ t
 other_slot s size st event _ (Step.read i l e) t = refl
-other_slot s size st event _ (Step.exchanged i l exchange new e fresh) t = refl
-other_slot s size st event _ (Step.compared i l exchange e) t = refl
+other_slot s size st event _ (Step.exchanged i l exchange new e fresh exact) t = refl
+other_slot s size st event _ (Step.compared i l exchange e exact) t = refl
 
 not_lost : (s n size : ℕ) (st : State) (event : Event) (d : State × Answer) → Step size st event d → (slot_of event == s) ≡ false → is_lost s n event ≡ false
 not_lost s n size st event _ (Step.lost i m b won later saw queue e differs) t = ap (λ k. k && (m == n)) t
@@ -194,7 +194,7 @@ other_step s n size st event d step t = go (same_head (head_at st n) (head_at d.
         omega (arith, lost_is, call_is)
 
 tries_step : (s n : ℕ) (st : State) (t : Timed) (d : State × Answer) → next t.size st t.event ≡ Some d
-    → one (is_lost s n t.event) + stale s n d.0 ≤ one (is_changed s n (moment_of st t d)) + stale s n st
+    → one (is_lost s n t.event) + stale s n d.0 ≤ one (changes_head s n (moment_of st t d)) + stale s n st
 tries_step s n st t d e = go (slot_of t.event == s) refl
   where
     step : Step t.size st t.event d
@@ -204,12 +204,12 @@ tries_step s n st t d e = go (slot_of t.event == s) refl
     go false k = other_step s n t.size st t.event d step k
     go true k = subst (λ s. one (is_lost s n t.event) + stale s n d.0 ≤ 0 + stale s n st) (eq_true _ _ k) (omega (arith, own_step n t.size st t.event d step))
 
-tries_run : (s n : ℕ) (ts : List Timed) (st : State) → count_by (λ m. is_lost s n m.timed.event) (during s (run st ts)) ≤ count_by (is_changed s n) (during s (run st ts)) + stale s n st
+tries_run : (s n : ℕ) (ts : List Timed) (st : State) → count_by (λ m. is_lost s n m.timed.event) (during s (run st ts)) ≤ count_by (changes_head s n) (during s (run st ts)) + stale s n st
 tries_run s n [] st = omega arith
 tries_run s n (t ∷ ts) st = go (next t.size st t.event) refl (tries_run s n ts)
   where
     Bounded : List Moment → State → Type 0
-    Bounded ms st = count_by (λ m. is_lost s n m.timed.event) ms ≤ count_by (is_changed s n) ms + stale s n st
+    Bounded ms st = count_by (λ m. is_lost s n m.timed.event) ms ≤ count_by (changes_head s n) ms + stale s n st
 
     go : (o : Outcome) → next t.size st t.event ≡ o → ((st : State) → Bounded (during s (run st ts)) st) → Bounded (during s (from_first o st t ts)) st
     go None e ih = omega arith
@@ -223,7 +223,7 @@ tries_run s n (t ∷ ts) st = go (next t.size st t.event) refl (tries_run s n ts
               tries_step s n st t d e,
               ih d.0,
               sum_by-cons (λ m. cond (is_lost s n m.timed.event) 1 0) (moment_of st t d) (during s (run d.0 ts)),
-              sum_by-cons (λ m. cond (is_changed s n m) 1 0) (moment_of st t d) (during s (run d.0 ts)),
+              sum_by-cons (λ m. cond (changes_head s n m) 1 0) (moment_of st t d) (during s (run d.0 ts)),
             )
 
 -- where a call begins, it has read no head
@@ -231,7 +231,7 @@ begun_stale : (s n size : ℕ) (st : State) (event : Event) (d : State × Answer
 begun_stale s n size st event _ (Step.begun_retire i v e new) own =
     subst (λ s. call_stale n (head_at st n) (get_or (set st.slots i (record (slot_at st i) { call = Some (record { place = Append v; queue = [] }) })) s no_slot).call ≡ 0) (eq_true i s own)
     (now n (head_at st n) st.slots i (record (slot_at st i) { call = Some (record { place = Append v; queue = [] }) }) (idle_range st i e))
-begun_stale s n size st event _ (Step.begun_other i job place e which) own =
+begun_stale s n size st event _ (Step.begun_other i job place e which exact) own =
     subst (λ s. call_stale n (head_at st n) (get_or (set st.slots i (record (slot_at st i) { call = Some (record { place = place; queue = [] }) })) s no_slot).call ≡ 0) (eq_true i s own)
     (now n (head_at st n) st.slots i (record (slot_at st i) { call = Some (record { place = place; queue = [] }) }) (idle_range st i e)
     ∙ starts (λ place. place_stale n (head_at st n) place ≡ 0) (length st.slots) refl refl refl refl place which)
@@ -258,8 +258,8 @@ follows (x ∷ earlier) (t ∷ ts) st m later e = go (next t.size st t.event) e 
     go None e ih = absurd (cc)
     go (Some d) e ih = ih d.0 (cc)
 
-pub law_tries : (slots : ℕ) (links : List (Option ℕ)) (ts : List Timed) → are_distinct (linked links) ≡ true → Tries (run (opening slots links) ts)
+pub law_tries : (slots : ℕ) (links : List (Option ℕ)) (ts : List Timed) → are_distinct (linked links) ≡ true → Tries (opening slots links) (run (opening slots links) ts)
 law_tries slots links ts distinct s n earlier later begin e own =
     let f : Follows begin later = follows earlier ts (opening slots links) begin later e in
     let fresh : stale s n begin.after ≡ 0 = begun_stale s n begin.timed.size begin.before begin.timed.event (begin.after, begin.answer) (step_of begin.timed.size begin.before begin.timed.event _ f.2) own in
-    subst (λ later. count_by (λ m. is_lost s n m.timed.event) (during s later) ≤ count_by (is_changed s n) (during s later)) (sym f.1) (omega (arith, tries_run s n f.0 begin.after))
+    subst (λ later. count_by (λ m. is_lost s n m.timed.event) (during s later) ≤ count_by (changes_head s n) (during s later)) (sym f.1) (omega (arith, tries_run s n f.0 begin.after))

@@ -1,7 +1,7 @@
 -- The events of the machine. Each names the slot that makes it.
 use Rattle.std.specs.Prelude.{ℕ, List}
 use Rattle.seize_machine.specs.declared.machine.event.Job.{Job}
-use Rattle.seize_machine.specs.declared.machine.event.Try.{Try as Tried}
+use Rattle.seize_machine.specs.declared.machine.event.Try.{Try as Insertion}
 use Rattle.seize_machine.specs.declared.machine.event.Exchange.{Exchange}
 
 pub data Event : Type 0 where
@@ -19,7 +19,7 @@ pub data Event : Type 0 where
   -- the batch is taken from the slot
   Detach : (slot : ℕ) → Event
   -- the detached batch is inserted into the list of another slot, or the insertion is lost
-  Insert : (slot other : ℕ) → (tried : Tried) → Event
+  Insert : (slot other : ℕ) → (ends : Insertion) → Event
   -- the insertions won are added to the batch's count
   AddCount : (slot : ℕ) → Event
   -- the slot leaves or refreshes
@@ -42,7 +42,7 @@ slot_of (Begin s job) = s
 slot_of (Put s) = s
 slot_of (ReadHead s n) = s
 slot_of (Detach s) = s
-slot_of (Insert s m tried) = s
+slot_of (Insert s m ends) = s
 slot_of (AddCount s) = s
 slot_of (SwapOut s) = s
 slot_of (SubCount s) = s

@@ -1,19 +1,20 @@
--- Lists of events, and positions in them, counted from 0.
-use Rattle.std.specs.Prelude.{◌≡◌, ℕ, ◌<◌, Bool, true, false, ◌==◌, List, [], ◌∷◌, slice_get, Option, Some, None}
+-- Lists of events: what becomes of them, which are legal, and positions in them, counted from 0.
+use Rattle.std.specs.Prelude.{◌≡◌, ℕ, ◌<◌, Bool, true, false, ◌==◌, List, [], ◌∷◌, map, slice_get, Option, Some, None, option_to_list}
+use Rattle.std.specs.List.{list_all, flat_map}
 use Rattle.seize_machine.specs.Machine.State.{State, Call, Place, Append, Rest, slot_at, head_at, is_active, linked, are_distinct, opening}
 use Rattle.seize_machine.specs.Machine.Event.{Event, Put, SwapOut, ReadLink, ExchangeLink}
-use Rattle.seize_machine.specs.Machine.Next.{Outcome, next}
+use Rattle.seize_machine.specs.Machine.Next.{Outcome, Transition, next}
 use Rattle.seize_machine.specs.declared.machine.event.Answer.{Answer}
-use Rattle.seize_machine.specs.declared.machine.event.Answer.TheVariants.{Handed, Link}
-
--- a transition function, as `next`: from the size, a state and an event to the new state and the answer, if it is legal
-abbrev pub Transition : Type 0
-Transition = ℕ → State → Event → Outcome
+use Rattle.seize_machine.specs.declared.machine.event.Answer.TheVariants.{Handed, Link, Illegal}
 
 -- an event, with the size at it
 pub record Timed : Type 0 where
   pub size : ℕ
   pub event : Event
+
+-- events that all have one size
+abbrev pub at_size : ℕ → List Event → List Timed
+at_size size events = map (λ event. record { size = size; event = event }) events
 
 -- one event of a list: the state before it, the event with its size, its answer and the state after it
 pub record Moment : Type 0 where
@@ -22,16 +23,52 @@ pub record Moment : Type 0 where
   pub answer : Answer
   pub after : State
 
--- the moments of a list of events, up to its first illegal event
+-- an illegal event answers so and changes nothing
+abbrev pub or_illegal : State → Outcome → State × Answer
+or_illegal st None = (st, Illegal)
+or_illegal st (Some done) = done
+
+-- what an event does, legal or not
+abbrev pub done_by : Transition → State → Timed → State × Answer
+done_by transition st t = or_illegal st (transition t.size st t.event)
+
+-- the moments of a list of events that begins in this state
 abbrev pub history : Transition → State → List Timed → List Moment
 history transition st [] = []
 history transition st (t ∷ ts) =
-    elim (transition t.size st t.event) [ None ↦ [] | Some done ↦ record { before = st; timed = t; answer = done.1; after = done.0 } ∷ history transition done.0 ts ]
+    let done = done_by transition st t in
+    record { before = st; timed = t; answer = done.1; after = done.0 } ∷ history transition done.0 ts
+
+abbrev pub answers_of : List Moment → List Answer
+answers_of ms = map (λ m. m.answer) ms
 
 -- the state after the moments that began at st
 abbrev pub end_of : State → List Moment → State
 end_of st [] = st
 end_of st (m ∷ ms) = end_of m.after ms
+
+abbrev pub is_legal : Answer → Bool
+is_legal Illegal = false
+is_legal _ = true
+
+abbrev pub are_legal : List Moment → Bool
+are_legal ms = list_all (λ m. is_legal m.answer) ms
+
+-- **A legal list**: from this state on, these events, with their sizes, are legal, each after those before it; these are their
+-- answers, and this is the state after them.
+pub record Legal (transition : Transition) (st : State) (events : List Timed) (answers : List Answer) (end : State) : Type 0 where
+  pub legal : are_legal (history transition st events) ≡ true
+  pub answers_are : answers_of (history transition st events) ≡ answers
+  pub end_is : end_of st (history transition st events) ≡ end
+
+-- a legal list from an opening state leads to this state
+pub record IsReached (st : State) : Type 0 where
+  pub slots : ℕ
+  pub links : List (Option ℕ)
+  pub events : List Timed
+  pub answers : List Answer
+  pub distinct : are_distinct (linked links) ≡ true
+  pub leads : Legal next (opening slots links) events answers st
 
 -- the value that the slot's call appends to its batch, where it is about to
 abbrev pub first_of : List ℕ → Option ℕ
@@ -60,6 +97,10 @@ abbrev pub linked_value : Answer → Option ℕ
 linked_value (Link value) = value
 linked_value _ = None
 
+-- the values handed to their reclaimers, in order
+abbrev pub handed : List Answer → List ℕ
+handed answers = flat_map (λ answer. option_to_list (handed_value answer)) answers
+
 abbrev pub is_link_event : ℕ → Event → Bool
 is_link_event s (ReadLink i l) = i == s
 is_link_event s (ExchangeLink i l exchange) = i == s
@@ -79,7 +120,8 @@ Reclaimed ms v c = (m : Moment) × (slice_get ms c ≡ Some m) × (handed_value 
 
 -- event e, a link event by s, found v
 abbrev pub Found : List Moment → ℕ → ℕ → ℕ → Type 0
-Found ms s v e = (m : Moment) × (slice_get ms e ≡ Some m) × (is_link_event s m.timed.event ≡ true) × (linked_value m.answer ≡ Some v)
+Found ms s v e =
+    (m : Moment) × (slice_get ms e ≡ Some m) × (is_link_event s m.timed.event ≡ true) × (linked_value m.answer ≡ Some v)
 
 -- s is active before event q
 abbrev pub IsActiveAt : List Moment → ℕ → ℕ → Type 0
@@ -87,17 +129,5 @@ IsActiveAt ms s q = (m : Moment) × (slice_get ms q ≡ Some m) × (is_active (h
 
 -- s leaves or refreshes after event q and before event c
 abbrev pub HasParted : List Moment → ℕ → ℕ → ℕ → Type 0
-HasParted ms s q c = (p : ℕ) × (q < p) × (p < c) × ((m : Moment) × (slice_get ms p ≡ Some m) × (is_swap_out s m.timed.event ≡ true))
-
--- the state after some events at one size, if each is legal
-abbrev pub after_events : ℕ → State → List Event → Option State
-after_events size st [] = Some st
-after_events size st (e ∷ es) = elim (next size st e) [ None ↦ None | Some done ↦ after_events size done.0 es ]
-
--- some legal list of events at this size leads to this state
-pub record IsReached (size : ℕ) (st : State) : Type 0 where
-  pub slots : ℕ
-  pub links : List (Option ℕ)
-  pub events : List Event
-  pub distinct : are_distinct (linked links) ≡ true
-  pub leads : after_events size (opening slots links) events ≡ Some st
+HasParted ms s q c =
+    (p : ℕ) × (q < p) × (p < c) × ((m : Moment) × (slice_get ms p ≡ Some m) × (is_swap_out s m.timed.event ≡ true))

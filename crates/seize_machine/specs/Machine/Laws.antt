@@ -1,25 +1,26 @@
--- The laws of the machine, each of the moments of one list of events that began at an opening state. Each beginning of a
--- legal list is a legal list, so what a law says of the end of a list, it says before every event.
-use Rattle.std.specs.Prelude.{◌≡◌, ℕ, ◌<◌, ◌≤◌, ◌↔◌, ◌⊎◌, Bool, true, false, not, ◌&&◌, ◌==◌, max, List, [], ◌∷◌, ◌++◌, length, Option, Some, None, is_some}
+-- The laws of the machine, each of an opening state and the moments of a legal list of events that began there. Each beginning
+-- of a legal list is a legal list, so what a law says of the end of a list, it says before every event.
+use Rattle.std.specs.Prelude.{◌≡◌, ℕ, ◌<◌, ◌≤◌, ◌↔◌, ◌⊎◌, Bool, true, false, not, ◌&&◌, ◌||◌, ◌==◌, nat_le, max, List, [], ◌∷◌, ◌++◌, length, slice_get, Option, Some, None, is_some}
 use Rattle.std.specs.List.{Contains, list_all, flat_map, count_by, take_while}
-use Rattle.seize_machine.specs.Machine.State.{State, Call, Head, Inactive, Active, Look, Try, Add, Rest, slot_at, head_at, batch_at, is_active, waiting_at, are_distinct}
-use Rattle.seize_machine.specs.Machine.Event.{Event, Begin, Insert, Return, slot_of}
-use Rattle.seize_machine.specs.Machine.Next.{same_list}
-use Rattle.seize_machine.specs.Machine.History.{Moment, end_of, Retired, Reclaimed, Found, IsActiveAt, HasParted}
+use Rattle.seize_machine.specs.Machine.State.{State, Call, Head, Inactive, Active, Look, Try, Add, Rest, slot_at, head_at, batch_at, is_active, waiting_at, linked, are_distinct, opening}
+use Rattle.seize_machine.specs.Machine.Event.{Event, Begin, Put, Insert, AddCount, Return, slot_of}
+use Rattle.seize_machine.specs.Machine.Next.{Transition, next, same_list}
+use Rattle.seize_machine.specs.Machine.History.{Timed, Moment, history, answers_of, end_of, are_legal, Legal, handed, Retired, Reclaimed, Found, IsActiveAt, HasParted}
+use Rattle.seize_machine.specs.declared.machine.event.Answer.{Answer}
 use Rattle.seize_machine.specs.declared.machine.event.Try.TheVariants.{Lost}
 
 -- **At most once.** Each value goes to its reclaimer at most once.
-abbrev pub AtMostOnce : List Moment → Type 0
-AtMostOnce ms = (v c d : ℕ) → Reclaimed ms v c → Reclaimed ms v d → c ≡ d
+abbrev pub AtMostOnce : State → List Moment → Type 0
+AtMostOnce st ms = (v c d : ℕ) → Reclaimed ms v c → Reclaimed ms v d → c ≡ d
 
 -- **After.** A reclaimed value was retired before, once, and each slot that was active then has left or refreshed since.
-abbrev pub After : List Moment → Type 0
-After ms =
+abbrev pub After : State → List Moment → Type 0
+After st ms =
     (v c : ℕ) → Reclaimed ms v c
     → (q : ℕ) × (q < c) × Retired ms v q × ((r : ℕ) → Retired ms v r → r ≡ q) × ((s : ℕ) → IsActiveAt ms s q → HasParted ms s q c)
 
 -- **Quiet.** Where no call is under way and no slot is active, each retired value is reclaimed or stands in a slot's batch,
--- which is shorter than the bound if all events had one size.
+-- which is shorter than the bound at each size that no retirement's size was above.
 abbrev pub is_quiet : State → Bool
 is_quiet st = list_all (λ slot. not (is_some slot.call)) st.slots && list_all (λ head. not (is_active head)) st.heads
 
@@ -27,11 +28,17 @@ is_quiet st = list_all (λ slot. not (is_some slot.call)) st.slots && list_all (
 abbrev pub bound : ℕ → State → ℕ
 bound size st = max (max 1 size) (length st.slots)
 
-abbrev pub HaveSize : ℕ → List Moment → Type 0
-HaveSize size ms = list_all (λ m. m.timed.size == size) ms ≡ true
+abbrev pub is_put : Event → Bool
+is_put (Put s) = true
+is_put _ = false
+
+-- each event that retires a value had at most this size
+abbrev pub PutsWithin : ℕ → List Moment → Type 0
+PutsWithin size ms = list_all (λ m. not (is_put m.timed.event) || nat_le m.timed.size size) ms ≡ true
 
 abbrev pub IsBatched : State → ℕ → List Moment → Type 0
-IsBatched st v ms = (s : ℕ) × Contains (slot_at st s).batch v × ((size : ℕ) → HaveSize size ms → length (slot_at st s).batch < bound size st)
+IsBatched st v ms =
+    (s : ℕ) × Contains (slot_at st s).batch v × ((size : ℕ) → PutsWithin size ms → length (slot_at st s).batch < bound size st)
 
 abbrev pub Quiet : State → List Moment → Type 0
 Quiet st ms =
@@ -40,8 +47,8 @@ Quiet st ms =
 
 -- **Protection.** A value that slot s found in a link, and that was reclaimed, was retired in between, and s left or
 -- refreshed in between.
-abbrev pub Protection : List Moment → Type 0
-Protection ms =
+abbrev pub Protection : State → List Moment → Type 0
+Protection st ms =
     (s v e c : ℕ) → Found ms s v e → Reclaimed ms v c
     → ((q : ℕ) × (e < q) × (q < c) × Retired ms v q) × HasParted ms s e c
 
@@ -60,6 +67,10 @@ Parts st ms =
     (are_distinct (parts (end_of st ms)) ≡ true)
     × ((v : ℕ) → Contains (parts (end_of st ms)) v ↔ ((q : ℕ) × Retired ms v q))
 
+-- **Gone.** The values reclaimed are those handed to their reclaimers, in order.
+abbrev pub Gone : State → List Moment → Type 0
+Gone st ms = (end_of st ms).gone ≡ st.gone ++ handed (answers_of ms)
+
 -- **Holders.** A retired batch that is not given up stands in an active slot's list, in the walk of a call under way, or
 -- with the call that detached it, whose add is still to come.
 abbrev pub walk_of : Option Call → List ℕ
@@ -70,14 +81,34 @@ abbrev pub detached_by : Option Call → Option ℕ
 detached_by None = None
 detached_by (Some call) = elim call.place [ Look b won m later ↦ Some b | Try b won m later saw ↦ Some b | Add b won ↦ Some b | _ ↦ None ]
 
+-- slot s lists b, or its call is to walk b
+abbrev pub Lists : State → ℕ → ℕ → Type 0
+Lists st s b = Contains (waiting_at (head_at st s)) b
+
+abbrev pub Walks : State → ℕ → ℕ → Type 0
+Walks st s b = Contains (walk_of (slot_at st s).call) b
+
 abbrev pub IsHeld : State → ℕ → Type 0
-IsHeld st b =
-    ((s : ℕ) × Contains (waiting_at (head_at st s)) b)
-    ⊎ ((s : ℕ) × Contains (walk_of (slot_at st s).call) b)
-    ⊎ ((s : ℕ) × (detached_by (slot_at st s).call ≡ Some b))
+IsHeld st b = ((s : ℕ) × Lists st s b) ⊎ ((s : ℕ) × Walks st s b) ⊎ ((s : ℕ) × (detached_by (slot_at st s).call ≡ Some b))
 
 abbrev pub Holders : State → List Moment → Type 0
 Holders st ms = (b v : ℕ) → Contains (batch_at (end_of st ms) b).values v → IsHeld (end_of st ms) b
+
+-- **No later holders.** After the add of a batch, only slots list it that listed it right after the add, and only calls of slots
+-- walk it that listed or walked it then. So a slot that becomes active after the add never keeps the batch back.
+abbrev pub added_batch : Option Call → Option ℕ
+added_batch None = None
+added_batch (Some call) = elim call.place [ Add b won ↦ Some b | _ ↦ None ]
+
+-- the batch to whose count an event adds
+abbrev pub added_by : State → Event → Option ℕ
+added_by st (AddCount s) = added_batch (slot_at st s).call
+added_by st _ = None
+
+abbrev pub NoLaterHolders : State → List Moment → Type 0
+NoLaterHolders st ms =
+    (b a : ℕ) (m : Moment) → slice_get ms a ≡ Some m → added_by m.before m.timed.event ≡ Some b
+    → (s : ℕ) → (Lists (end_of st ms) s b → Lists m.after s b) × (Walks (end_of st ms) s b → Lists m.after s b ⊎ Walks m.after s b)
 
 -- **Tries.** The insertions that a call lost at one head are at most the events of other slots that changed that head
 -- during the call.
@@ -103,10 +134,21 @@ is_lost s n (Insert i m Lost) = (i == s) && (m == n)
 is_lost s n _ = false
 
 -- an event of another slot than s changed the head of n
-abbrev pub is_changed : ℕ → ℕ → Moment → Bool
-is_changed s n m = not (slot_of m.timed.event == s) && not (same_head (head_at m.before n) (head_at m.after n))
+abbrev pub changes_head : ℕ → ℕ → Moment → Bool
+changes_head s n m = not (slot_of m.timed.event == s) && not (same_head (head_at m.before n) (head_at m.after n))
 
-abbrev pub Tries : List Moment → Type 0
-Tries ms =
+abbrev pub Tries : State → List Moment → Type 0
+Tries st ms =
     (s n : ℕ) (earlier later : List Moment) (begin : Moment) → ms ≡ earlier ++ begin ∷ later → begins s begin.timed.event ≡ true
-    → count_by (λ m. is_lost s n m.timed.event) (during s later) ≤ count_by (is_changed s n) (during s later)
+    → count_by (λ m. is_lost s n m.timed.event) (during s later) ≤ count_by (changes_head s n) (during s later)
+
+-- What a law is said of: every legal list of events, with any sizes, from every opening state.
+abbrev pub HoldsOfAll : (State → List Moment → Type 0) → Type 0
+HoldsOfAll law =
+    (slots : ℕ) (links : List (Option ℕ)) (events : List Timed) (answers : List Answer) (end : State) → are_distinct (linked links) ≡ true
+    → Legal next (opening slots links) events answers end → law (opening slots links) (history next (opening slots links) events)
+
+-- A list of events, legal under a transition function from the opening with no slot made and these links, breaks a law.
+abbrev pub Breaks : Transition → List (Option ℕ) → List Timed → (State → List Moment → Type 0) → Type 0
+Breaks transition links events law =
+    (are_legal (history transition (opening 0 links) events) ≡ true) × ¬ (law (opening 0 links) (history transition (opening 0 links) events))

@@ -1,28 +1,68 @@
 -- What each event does: `next`, the one transition function, which is total and computes.
-use Rattle.std.specs.Prelude.{ℕ, ◌+◌, ◌-◌, ◌^◌, ℤ, pos, negsuc, ◌+ℤ◌, ◌-ℤ◌, Bool, true, false, not, ◌&&◌, ◌||◌, ◌==◌, if◌then◌else◌, nat_lt, nat_le, max, List, [], ◌∷◌, ◌++◌, length, slice_set, Option, Some, None, option_to_list}
+use Rattle.std.specs.Prelude.{ℕ, ◌+◌, ◌-◌, ◌^◌, ℤ, pos, negsuc, ◌+ℤ◌, ◌-ℤ◌, Bool, true, false, not, ◌&&◌, ◌||◌, ◌==◌, if◌then◌else◌, nat_lt, nat_le, max, List, [], ◌∷◌, ◌++◌, length, slice_set, Option, Some, None, option_map, option_to_list, unwrap_or}
 use Rattle.std.specs.List.{list_all, position_or_len, filter}
 use Rattle.seize_machine.specs.Machine.State.{State, Slot, Call, Head, Inactive, Active, Place, Append, Mark, Look, Try, Add, Out, Rest, slot_at, head_at, batch_at, link_at, is_active, waiting_at, is_idle, has, are_distinct}
 use Rattle.seize_machine.specs.Machine.Event.{Event, Take, Give, Enter, Begin, Put, ReadHead, Detach, Insert, AddCount, SwapOut, SubCount, Hand, Return, ReadLink, ExchangeLink}
 use Rattle.seize_machine.specs.declared.machine.event.Job.{Job}
 use Rattle.seize_machine.specs.declared.machine.event.Job.TheVariants.{Retire, Flush, Leave, Refresh}
-use Rattle.seize_machine.specs.declared.machine.event.Try.{Try as Tried}
 use Rattle.seize_machine.specs.declared.machine.event.Try.TheVariants.{Won, Lost}
 use Rattle.seize_machine.specs.declared.machine.event.Exchange.{Exchange}
 use Rattle.seize_machine.specs.declared.machine.event.Exchange.TheVariants.{Swap, Compare}
 use Rattle.seize_machine.specs.declared.machine.event.Answer.{Answer}
-use Rattle.seize_machine.specs.declared.machine.event.Answer.TheVariants.{Done, Head as Found, Count, Handed, Link, Illegal}
+use Rattle.seize_machine.specs.declared.machine.event.Answer.TheVariants.{Done, Head as HeadRead, Count, Handed, Link, Illegal}
 
 -- the new state and the answer, or none where the event is illegal
 abbrev pub Outcome : Type 0
 Outcome = Option (State × Answer)
 
--- the least number that is not in use
-abbrev pub first_free : List Slot → ℕ
-first_free slots = position_or_len (λ slot. not slot.used) slots
+-- a transition function, as `next`: from the size, a state and an event to the outcome
+abbrev pub Transition : Type 0
+Transition = ℕ → State → Event → Outcome
 
-abbrev pub is_empty : List ℕ → Bool
-is_empty [] = true
-is_empty (x ∷ xs) = false
+-- **The scheme**: the choices that decide whether the laws hold. The table below leaves them open, `scheme` has the right ones,
+-- and a counterexample is the right scheme with one of them changed.
+pub record Scheme : Type 0 where
+  -- whether the value may be retired
+  pub may_retire : State → ℕ → Bool
+  -- where the retirement of the value begins
+  pub retiring_at : ℕ → Place
+  -- the slot becomes active
+  pub entered : State → ℕ → State
+  -- where there are so many slots and the batch is as long as the size: the slot's batch, and where its call goes on
+  pub filled : ℕ → List ℕ → List ℕ × Place
+  -- after the numbers below `next`, with this note: whether number n may be read
+  pub may_read : (next note n : ℕ) → Bool
+  -- where a call goes on that read head n: whether the head is active, n, the note, the slots marked so far, the slot's batch
+  pub marked : Bool → ℕ → ℕ → List ℕ → List ℕ → Place
+  -- where a call goes on that read the head of marked slot m again: the head, the batch, the insertions won, m, the slots after m
+  pub looked : Head → ℕ → ℕ → ℕ → List ℕ → Place
+  -- whether an insertion at this head may be lost that was read as this list
+  pub may_lose : Head → List ℕ → Bool
+  -- of the values of a batch that has come to this count, those given up and those that stay
+  pub parted : State → ℤ → List ℕ → List ℕ × List ℕ
+  -- what a link holds in which a value, or none, is exchanged for another
+  pub stored : (old new : Option ℕ) → Option ℕ
+  -- the values reclaimed, and one more
+  pub recorded : List ℕ → ℕ → List ℕ
+
+-- The call under way of a slot.
+
+-- what it answers by its place and its queue
+abbrev pub of_call : {A : Type 0} → (Place → List ℕ → Option A) → Option Call → Option A
+of_call f None = None
+of_call f (Some call) = f call.place call.queue
+
+-- it goes on at a place that follows from the one where it stood
+abbrev pub moved_call : (Place → Place) → Option Call → Option Call
+moved_call f None = None
+moved_call f (Some call) = Some (record { place = f call.place; queue = call.queue })
+
+abbrev pub moved : (Place → Place) → Slot → Slot
+moved f slot = record { used = slot.used; batch = slot.batch; call = moved_call f slot.call }
+
+-- it begins
+abbrev pub begun_at : Slot → Place → Slot
+begun_at slot place = record { used = slot.used; batch = slot.batch; call = Some (record { place = place; queue = [] }) }
 
 abbrev pub set_slot : State → ℕ → Slot → State
 set_slot st s slot = record st { slots = slice_set st.slots s slot }
@@ -30,11 +70,15 @@ set_slot st s slot = record st { slots = slice_set st.slots s slot }
 abbrev pub set_head : State → ℕ → Head → State
 set_head st s head = record st { heads = slice_set st.heads s head }
 
--- the call of slot s goes on so
-abbrev pub go_on : State → ℕ → Call → State
-go_on st s call = set_slot st s (record (slot_at st s) { call = Some call })
+-- an event that changes its own slot alone
+abbrev pub own : State → ℕ → Answer → Option Slot → Outcome
+own st s answer None = None
+own st s answer (Some slot) = Some (set_slot st s slot, answer)
 
 -- Take: the least number that is not in use; a new slot is inactive
+
+abbrev pub first_free : List Slot → ℕ
+first_free slots = position_or_len (λ slot. not slot.used) slots
 
 abbrev pub taken : State → ℕ → State
 taken st s =
@@ -42,10 +86,19 @@ taken st s =
     then record st { slots = st.slots ++ record { used = true; batch = []; call = None } ∷ []; heads = st.heads ++ Inactive ∷ [] }
     else set_slot st s (record (slot_at st s) { used = true })
 
+-- Give, Enter: a slot in use, with no call under way and not active
+
+abbrev pub is_outside : State → ℕ → Bool
+is_outside st s = is_idle (slot_at st s) && not (is_active (head_at st s))
+
 -- Begin
 
+abbrev pub is_empty : List ℕ → Bool
+is_empty [] = true
+is_empty (x ∷ xs) = false
+
 abbrev pub begun : State → ℕ → Place → State
-begun st s place = go_on st s (record { place = place; queue = [] })
+begun st s place = set_slot st s (begun_at (slot_at st s) place)
 
 -- v is about to be retired: it is named, and no longer between a link and its retirement
 abbrev pub retiring : State → ℕ → State
@@ -55,160 +108,229 @@ retiring st v =
       named = if has v st.named then st.named else st.named ++ v ∷ [];
     }
 
-abbrev pub begin : State → ℕ → Job → Outcome
-begin st s (Retire v) =
-    if is_idle (slot_at st s) && (not (has v st.named) || has v st.loose)
-    then Some (begun (retiring st v) s (Append v), Done)
+-- where a flush begins: at the first head, if the slot has a batch
+abbrev pub flushing_at : ℕ → List ℕ → Place
+flushing_at slots batch = if is_empty batch then Rest [] [] else Mark 0 slots []
+
+-- a call that only an active slot begins
+abbrev pub begin_active : State → ℕ → Place → Outcome
+begin_active st s place = if is_idle (slot_at st s) && is_active (head_at st s) then Some (begun st s place, Done) else None
+
+abbrev pub begin : Scheme → State → ℕ → Job → Outcome
+begin scheme st s (Retire v) =
+    if is_idle (slot_at st s) && scheme.may_retire st v then Some (begun (retiring st v) s (scheme.retiring_at v), Done) else None
+begin scheme st s Flush = begin_active st s (flushing_at (length st.slots) (slot_at st s).batch)
+begin scheme st s Leave = begin_active st s (Out false)
+begin scheme st s Refresh = begin_active st s (Out true)
+
+-- Put: v is retired into the batch of a slot, where there are so many slots
+
+abbrev pub put_into : Scheme → ℕ → ℕ → Slot → ℕ → List ℕ → Option Slot
+put_into scheme size slots slot v queue =
+    let batch = slot.batch ++ v ∷ [] in
+    let after = if nat_le (max 1 size) (length batch) then scheme.filled slots batch else (batch, Rest [] []) in
+    Some (record { used = slot.used; batch = after.0; call = Some (record { place = after.1; queue = queue }) })
+
+abbrev pub put_first : Scheme → ℕ → ℕ → Slot → List ℕ → Option Slot
+put_first scheme size slots slot [] = None
+put_first scheme size slots slot (v ∷ queue) = put_into scheme size slots slot v queue
+
+abbrev pub put_at : Scheme → ℕ → ℕ → Slot → Place → List ℕ → Option Slot
+put_at scheme size slots slot (Append v) queue = put_into scheme size slots slot v queue
+put_at scheme size slots slot (Rest [] []) queue = put_first scheme size slots slot queue
+put_at scheme size slots slot _ queue = None
+
+abbrev pub slot_put : Scheme → ℕ → ℕ → Slot → Option Slot
+slot_put scheme size slots slot = of_call (put_at scheme size slots slot) slot.call
+
+-- ReadHead, while marking: the head of n is active or not
+
+abbrev pub mark_at : Scheme → ℕ → ℕ → Bool → Slot → Place → List ℕ → Option Slot
+mark_at scheme slots n active slot (Mark next note marks) queue =
+    if nat_lt n slots && scheme.may_read next note n
+    then Some (record slot { call = Some (record { place = scheme.marked active n note marks slot.batch; queue = queue }) })
     else None
-begin st s Flush =
-    if is_idle (slot_at st s) && is_active (head_at st s)
-    then Some (begun st s (if is_empty (slot_at st s).batch then Rest [] [] else Mark 0 (length st.slots) []), Done)
-    else None
-begin st s Leave =
-    if is_idle (slot_at st s) && is_active (head_at st s) then Some (begun st s (Out false), Done) else None
-begin st s Refresh =
-    if is_idle (slot_at st s) && is_active (head_at st s) then Some (begun st s (Out true), Done) else None
+mark_at scheme slots n active slot _ queue = None
 
--- Put: v is retired into the batch of s
+abbrev pub slot_mark : Scheme → ℕ → ℕ → Bool → Slot → Option Slot
+slot_mark scheme slots n active slot = of_call (mark_at scheme slots n active slot) slot.call
 
-abbrev pub appended : ℕ → State → ℕ → ℕ → List ℕ → Outcome
-appended size st s v queue =
-    let batch = (slot_at st s).batch ++ v ∷ [] in
-    let place = if nat_le (max 1 size) (length batch) then Mark 0 (length st.slots) [] else Rest [] [] in
-    Some (set_slot st s (record { used = (slot_at st s).used; batch = batch; call = Some (record { place = place; queue = queue }) }), Done)
+-- and before an insertion: the marked slot whose head is read, and where the call goes on
 
-abbrev pub append_next : ℕ → State → ℕ → List ℕ → Outcome
-append_next size st s [] = None
-append_next size st s (v ∷ queue) = appended size st s v queue
+abbrev pub looking_at : Place → List ℕ → Option ℕ
+looking_at (Look b won m later) queue = Some m
+looking_at _ queue = None
 
-abbrev pub append : ℕ → State → ℕ → Place → List ℕ → Outcome
-append size st s (Append v) queue = appended size st s v queue
-append size st s (Rest [] []) queue = append_next size st s queue
-append size st s _ queue = None
+abbrev pub looked_on : Scheme → Head → Place → Place
+looked_on scheme head (Look b won m later) = scheme.looked head b won m later
+looked_on scheme head place = place
 
--- ReadHead: an active slot is marked while there are values for it, and else the batch stays
+abbrev pub slot_read : Scheme → State → ℕ → Slot → Option ℕ → Option Slot
+slot_read scheme st n slot (Some m) = if n == m then Some (moved (looked_on scheme (head_at st n)) slot) else None
+slot_read scheme st n slot None = slot_mark scheme (length st.slots) n (is_active (head_at st n)) slot
+
+-- Detach: the batch becomes retired batch b with count 0
 
 -- where the call looks next
-abbrev pub look : ℕ → ℕ → List ℕ → Place
+abbrev pub look : (b won : ℕ) → List ℕ → Place
 look b won [] = Add b won
 look b won (m ∷ later) = Look b won m later
 
-abbrev pub marked_place : Bool → ℕ → ℕ → List ℕ → List ℕ → Place
-marked_place active n note marked batch =
-    if active
-    then (if nat_lt (length marked) (length batch) then Mark (n + 1) note (marked ++ n ∷ []) else Rest [] [])
-    else Mark (n + 1) note marked
+abbrev pub can_detach_at : Place → List ℕ → Option Bool
+can_detach_at (Mark next note marks) queue = Some (nat_le note next)
+can_detach_at _ queue = None
 
-abbrev pub looked : Head → ℕ → ℕ → ℕ → List ℕ → Place
-looked Inactive b won m later = look b won later
-looked (Active waiting) b won m later = Try b won m later waiting
+abbrev pub can_detach : Slot → Bool
+can_detach slot = unwrap_or (of_call can_detach_at slot.call) false
 
-abbrev pub read_head : State → ℕ → ℕ → Place → List ℕ → Outcome
-read_head st s n (Mark next note marked) queue =
-    if nat_lt n (length st.slots) && ((n == next) || (nat_le note next && nat_lt next n))
-    then Some (go_on st s (record { place = marked_place (is_active (head_at st n)) n note marked (slot_at st s).batch; queue = queue }), Found (is_active (head_at st n)))
-    else None
-read_head st s n (Look b won m later) queue =
-    if n == m
-    then Some (go_on st s (record { place = looked (head_at st m) b won m later; queue = queue }), Found (is_active (head_at st m)))
-    else None
-read_head st s n _ queue = None
+abbrev pub detached_on : ℕ → Place → Place
+detached_on b (Mark next note marks) = look b 0 marks
+detached_on b place = place
 
--- Detach: the batch becomes a retired batch with count 0
+abbrev pub detached : ℕ → Slot → Slot
+detached b slot = record { used = slot.used; batch = []; call = moved_call (detached_on b) slot.call }
 
-abbrev pub detach : State → ℕ → Place → List ℕ → Outcome
-detach st s (Mark next note marked) queue =
-    if nat_le note next
+abbrev pub detach : State → ℕ → Outcome
+detach st s =
+    if can_detach (slot_at st s)
     then Some (
       record st {
-        slots = slice_set st.slots s (record { used = (slot_at st s).used; batch = []; call = Some (record { place = look (length st.batches) 0 marked; queue = queue }) });
+        slots = slice_set st.slots s (detached (length st.batches) (slot_at st s));
         batches = st.batches ++ record { values = (slot_at st s).batch; count = pos 0 } ∷ [];
       },
       Done,
     )
     else None
-detach st s _ queue = None
 
--- Insert: won where the slot is active, whatever was read, since the number of a batch that has ended may be used again;
--- lost where the head is not what was read
+-- Insert: won where the slot is active, whatever was read, since the number of a batch that has ended may be used again
 
-abbrev pub same_list : List ℕ → List ℕ → Bool
-same_list [] [] = true
-same_list (x ∷ xs) (y ∷ ys) = (x == y) && same_list xs ys
-same_list _ _ = false
+-- the batch and the slot of the insertion that is about to be tried
+abbrev pub trying_at : Place → List ℕ → Option (ℕ × ℕ)
+trying_at (Try b won m later saw) queue = Some (b, m)
+trying_at _ queue = None
 
-abbrev pub insert_into : State → ℕ → ℕ → Head → ℕ → ℕ → List ℕ → List ℕ → Outcome
-insert_into st s m Inactive b won later queue = None
-insert_into st s m (Active waiting) b won later queue =
-    Some (go_on (set_head st m (Active (b ∷ waiting))) s (record { place = look b (won + 1) later; queue = queue }), Done)
+abbrev pub won_on : Place → Place
+won_on (Try b won m later saw) = look b (won + 1) later
+won_on place = place
 
-abbrev pub insert : State → ℕ → ℕ → Tried → Place → List ℕ → Outcome
-insert st s n Won (Try b won m later saw) queue =
-    if n == m then insert_into st s m (head_at st m) b won later queue else None
-insert st s n Lost (Try b won m later saw) queue =
-    if (n == m) && not (is_active (head_at st m) && same_list (waiting_at (head_at st m)) saw)
-    then Some (go_on st s (record { place = Look b won m later; queue = queue }), Done)
-    else None
-insert st s n _ _ queue = None
+abbrev pub insert_into : State → ℕ → ℕ → ℕ → Head → Outcome
+insert_into st s m b Inactive = None
+insert_into st s m b (Active waiting) =
+    Some (set_slot (set_head st m (Active (b ∷ waiting))) s (moved won_on (slot_at st s)), Done)
 
--- AddCount, SubCount: the batch's count becomes this, and at 0 its values are given up by s
+abbrev pub insert : State → ℕ → ℕ → Option (ℕ × ℕ) → Outcome
+insert st s n None = None
+insert st s n (Some at) = if n == at.1 then insert_into st s n at.0 (head_at st n) else None
 
-abbrev pub is_zero : ℤ → Bool
-is_zero (pos n) = n == 0
-is_zero (negsuc n) = false
+-- lost where the head of n is not what was read
 
-abbrev pub counted : State → ℕ → ℕ → ℤ → List ℕ → List ℕ → Outcome
-counted st s b count walk queue =
-    let gives_up = is_zero count in
-    let values = (batch_at st b).values in
+abbrev pub can_lose_at : Scheme → ℕ → Head → Place → List ℕ → Option Bool
+can_lose_at scheme n head (Try b won m later saw) queue = Some ((n == m) && scheme.may_lose head saw)
+can_lose_at scheme n head _ queue = None
+
+abbrev pub lost_on : Place → Place
+lost_on (Try b won m later saw) = Look b won m later
+lost_on place = place
+
+abbrev pub slot_lost : Scheme → ℕ → Head → Slot → Option Slot
+slot_lost scheme n head slot =
+    if unwrap_or (of_call (can_lose_at scheme n head) slot.call) false then Some (moved lost_on slot) else None
+
+-- AddCount, SubCount: the batch comes to this count, and what it gives up goes to the slot that counted
+
+abbrev pub counted : Scheme → State → ℕ → ℕ → ℤ → (List ℕ → Place → Place) → Outcome
+counted scheme st s b count goes_on =
+    let parts = scheme.parted st count (batch_at st b).values in
     Some (
       record st {
-        slots = slice_set st.slots s (record (slot_at st s) { call = Some (record { place = Rest (if gives_up then values else []) walk; queue = queue }) });
-        batches = slice_set st.batches b (record { values = if gives_up then [] else values; count = count });
+        slots = slice_set st.slots s (moved (goes_on parts.0) (slot_at st s));
+        batches = slice_set st.batches b (record { values = parts.1; count = count });
       },
       Count count,
     )
 
-abbrev pub add_count : State → ℕ → Place → List ℕ → Outcome
-add_count st s (Add b won) queue = counted st s b ((batch_at st b).count +ℤ pos won) [] queue
-add_count st s _ queue = None
+-- the batch and the insertions won that are about to be added
+abbrev pub adding_at : Place → List ℕ → Option (ℕ × ℕ)
+adding_at (Add b won) queue = Some (b, won)
+adding_at _ queue = None
 
-abbrev pub sub_count : State → ℕ → Place → List ℕ → Outcome
-sub_count st s (Rest [] (b ∷ walk)) queue = counted st s b ((batch_at st b).count -ℤ pos 1) walk queue
-sub_count st s _ queue = None
+abbrev pub add_count : Scheme → State → ℕ → Option (ℕ × ℕ) → Outcome
+add_count scheme st s None = None
+add_count scheme st s (Some add) =
+    counted scheme st s add.0 ((batch_at st add.0).count +ℤ pos add.1) (λ given place. Rest given [])
+
+-- the batch that is counted down next, with nothing given up that has still to be handed
+abbrev pub walking_at : Place → List ℕ → Option ℕ
+walking_at (Rest [] (b ∷ walk)) queue = Some b
+walking_at _ queue = None
+
+abbrev pub tail : List ℕ → List ℕ
+tail [] = []
+tail (x ∷ xs) = xs
+
+abbrev pub walked_on : List ℕ → Place → Place
+walked_on given (Rest old walk) = Rest given (tail walk)
+walked_on given place = place
+
+abbrev pub sub_count : Scheme → State → ℕ → Option ℕ → Outcome
+sub_count scheme st s None = None
+sub_count scheme st s (Some b) = counted scheme st s b ((batch_at st b).count -ℤ pos 1) walked_on
 
 -- SwapOut: the list that comes out is walked
 
-abbrev pub swap_out : State → ℕ → Place → List ℕ → Outcome
-swap_out st s (Out stays) queue =
-    Some (go_on (set_head st s (if stays then Active [] else Inactive)) s (record { place = Rest [] (waiting_at (head_at st s)); queue = queue }), Done)
-swap_out st s _ queue = None
+abbrev pub leaving_at : Place → List ℕ → Option Bool
+leaving_at (Out stays) queue = Some stays
+leaving_at _ queue = None
+
+abbrev pub swap_out : State → ℕ → Option Bool → Outcome
+swap_out st s None = None
+swap_out st s (Some stays) =
+    let walk = waiting_at (head_at st s) in
+    Some (set_slot (set_head st s (if stays then Active [] else Inactive)) s (moved (λ place. Rest [] walk) (slot_at st s)), Done)
 
 -- Hand: the first given-up value is reclaimed, and what its reclaimer puts joins the queue
+
+abbrev pub handing_at : Place → List ℕ → Option ℕ
+handing_at (Rest (v ∷ given) walk) queue = Some v
+handing_at _ queue = None
+
+abbrev pub handed_on : Place → Place
+handed_on (Rest given walk) = Rest (tail given) walk
+handed_on place = place
+
+abbrev pub handed_call : List ℕ → Option Call → Option Call
+handed_call puts None = None
+handed_call puts (Some call) = Some (record { place = handed_on call.place; queue = call.queue ++ puts })
+
+abbrev pub slot_handed : List ℕ → Slot → Slot
+slot_handed puts slot = record { used = slot.used; batch = slot.batch; call = handed_call puts slot.call }
 
 -- values that were never named, each once
 abbrev pub are_fresh : List ℕ → List ℕ → Bool
 are_fresh named values = list_all (λ v. not (has v named)) values && are_distinct values
 
-abbrev pub hand : State → ℕ → List ℕ → Place → List ℕ → Outcome
-hand st s puts (Rest (v ∷ given) walk) queue =
+abbrev pub hand : Scheme → State → ℕ → List ℕ → Option ℕ → Outcome
+hand scheme st s puts None = None
+hand scheme st s puts (Some v) =
     if are_fresh st.named puts
     then Some (
       record st {
-        slots = slice_set st.slots s (record (slot_at st s) { call = Some (record { place = Rest given walk; queue = queue ++ puts }) });
-        gone = st.gone ++ v ∷ [];
+        slots = slice_set st.slots s (slot_handed puts (slot_at st s));
+        gone = scheme.recorded st.gone v;
         named = st.named ++ puts;
       },
       Handed v,
     )
     else None
-hand st s puts _ queue = None
 
 -- Return
 
-abbrev pub return : State → ℕ → Place → List ℕ → Outcome
-return st s (Rest [] []) [] = Some (set_slot st s (record (slot_at st s) { call = None }), Done)
-return st s _ _ = None
+abbrev pub return_at : Slot → Place → List ℕ → Option Slot
+return_at slot (Rest [] []) [] = Some (record { used = slot.used; batch = slot.batch; call = None })
+return_at slot _ _ = None
+
+abbrev pub slot_return : Slot → Option Slot
+slot_return slot = of_call (return_at slot) slot.call
 
 -- ReadLink, ExchangeLink: also while a call of the slot is under way, since threads may share a guard
 
@@ -224,62 +346,108 @@ same_link None None = true
 same_link (Some v) (Some w) = v == w
 same_link _ _ = false
 
-abbrev pub swapped : State → ℕ → Option ℕ → State
-swapped st l new =
+-- the new value of an exchange, and whether it is stored where the link holds this
+abbrev pub new_link : Exchange → Option ℕ
+new_link (Swap new) = new
+new_link (Compare current new) = new
+
+abbrev pub is_stored : Option ℕ → Exchange → Bool
+is_stored held (Swap new) = true
+is_stored held (Compare current new) = same_link held current
+
+abbrev pub swapped : Scheme → State → ℕ → Option ℕ → State
+swapped scheme st l new =
     record st {
-      links = slice_set st.links l new;
+      links = slice_set st.links l (scheme.stored (link_at st l) new);
       loose = st.loose ++ option_to_list (link_at st l);
       named = st.named ++ option_to_list new;
     }
 
-abbrev pub exchange_link : State → ℕ → ℕ → Exchange → Outcome
-exchange_link st s l (Swap new) =
-    if can_link st s l && is_none_or_fresh st new then Some (swapped st l new, Link (link_at st l)) else None
-exchange_link st s l (Compare current new) =
-    if can_link st s l && is_none_or_fresh st new
-    then Some ((if same_link (link_at st l) current then swapped st l new else st), Link (link_at st l))
+abbrev pub exchange_link : Scheme → State → ℕ → ℕ → Exchange → Outcome
+exchange_link scheme st s l exchange =
+    if can_link st s l && is_none_or_fresh st (new_link exchange)
+    then Some (
+      if is_stored (link_at st l) exchange then swapped scheme st l (new_link exchange) else st,
+      Link (link_at st l),
+    )
     else None
 
--- an event of the call under way of slot s
-abbrev pub in_call : State → ℕ → (Place → List ℕ → Outcome) → Option Call → Outcome
-in_call st s event None = None
-in_call st s event (Some call) = event call.place call.queue
+-- The table.
 
-abbrev pub next : ℕ → State → Event → Outcome
-next size st (Take s) =
-    if (s == first_free st.slots) && nat_lt s (2 ^ 64 - 32) then Some (taken st s, Done) else None
-next size st (Give s) =
-    if is_idle (slot_at st s) && not (is_active (head_at st s))
-    then Some (set_slot st s (record (slot_at st s) { used = false }), Done)
-    else None
-next size st (Enter s) =
-    if is_idle (slot_at st s) && not (is_active (head_at st s)) then Some (set_head st s (Active []), Done) else None
-next size st (Begin s job) = begin st s job
-next size st (Put s) = in_call st s (append size st s) (slot_at st s).call
-next size st (ReadHead s n) = in_call st s (read_head st s n) (slot_at st s).call
-next size st (Detach s) = in_call st s (detach st s) (slot_at st s).call
-next size st (Insert s m tried) = in_call st s (insert st s m tried) (slot_at st s).call
-next size st (AddCount s) = in_call st s (add_count st s) (slot_at st s).call
-next size st (SwapOut s) = in_call st s (swap_out st s) (slot_at st s).call
-next size st (SubCount s) = in_call st s (sub_count st s) (slot_at st s).call
-next size st (Hand s puts) = in_call st s (hand st s puts) (slot_at st s).call
-next size st (Return s) = in_call st s (return st s) (slot_at st s).call
-next size st (ReadLink s l) = if can_link st s l then Some (st, Link (link_at st l)) else None
-next size st (ExchangeLink s l exchange) = exchange_link st s l exchange
+abbrev pub next_by : Scheme → Transition
+next_by scheme size st (Take s) = if (s == first_free st.slots) && nat_lt s (2 ^ 64 - 32) then Some (taken st s, Done) else None
+next_by scheme size st (Give s) = if is_outside st s then Some (set_slot st s (record (slot_at st s) { used = false }), Done) else None
+next_by scheme size st (Enter s) = if is_outside st s then Some (scheme.entered st s, Done) else None
+next_by scheme size st (Begin s job) = begin scheme st s job
+next_by scheme size st (Put s) = own st s Done (slot_put scheme size (length st.slots) (slot_at st s))
+next_by scheme size st (ReadHead s n) =
+    own st s (HeadRead (is_active (head_at st n))) (slot_read scheme st n (slot_at st s) (of_call looking_at (slot_at st s).call))
+next_by scheme size st (Detach s) = detach st s
+next_by scheme size st (Insert s n Won) = insert st s n (of_call trying_at (slot_at st s).call)
+next_by scheme size st (Insert s n Lost) = own st s Done (slot_lost scheme n (head_at st n) (slot_at st s))
+next_by scheme size st (AddCount s) = add_count scheme st s (of_call adding_at (slot_at st s).call)
+next_by scheme size st (SwapOut s) = swap_out st s (of_call leaving_at (slot_at st s).call)
+next_by scheme size st (SubCount s) = sub_count scheme st s (of_call walking_at (slot_at st s).call)
+next_by scheme size st (Hand s puts) = hand scheme st s puts (of_call handing_at (slot_at st s).call)
+next_by scheme size st (Return s) = own st s Done (slot_return (slot_at st s))
+next_by scheme size st (ReadLink s l) = if can_link st s l then Some (st, Link (link_at st l)) else None
+next_by scheme size st (ExchangeLink s l exchange) = exchange_link scheme st s l exchange
 
--- an outcome, where an illegal event answers so and changes nothing
-abbrev pub or_illegal : State → Outcome → State × Answer
-or_illegal st None = (st, Illegal)
-or_illegal st (Some done) = done
+-- The right scheme.
 
-abbrev pub tried : ℕ → State → Event → State × Answer
-tried size st event = or_illegal st (next size st event)
+-- a full batch stays, and the call reads the heads from the first on: the note is the number of slots at this retirement
+abbrev pub marking : ℕ → List ℕ → List ℕ × Place
+marking slots batch = (batch, Mark 0 slots [])
 
--- the state after some events, and their answers
-abbrev pub run_state : ℕ → State → List Event → State
-run_state size st [] = st
-run_state size st (e ∷ es) = run_state size (tried size st e).0 es
+-- the next number, or from the note on also a later one
+abbrev pub in_turn : (next note n : ℕ) → Bool
+in_turn next note n = (n == next) || (nat_le note next && nat_lt next n)
 
-abbrev pub run_answers : ℕ → State → List Event → List Answer
-run_answers size st [] = []
-run_answers size st (e ∷ es) = (tried size st e).1 ∷ run_answers size (tried size st e).0 es
+-- an active slot is marked while there are values for it, and else the batch stays
+abbrev pub marked_place : Bool → ℕ → ℕ → List ℕ → List ℕ → Place
+marked_place active n note marks batch =
+    if active
+    then (if nat_lt (length marks) (length batch) then Mark (n + 1) note (marks ++ n ∷ []) else Rest [] [])
+    else Mark (n + 1) note marks
+
+-- an inactive slot is skipped
+abbrev pub looked : Head → ℕ → ℕ → ℕ → List ℕ → Place
+looked Inactive b won m later = look b won later
+looked (Active waiting) b won m later = Try b won m later waiting
+
+abbrev pub same_list : List ℕ → List ℕ → Bool
+same_list [] [] = true
+same_list (x ∷ xs) (y ∷ ys) = (x == y) && same_list xs ys
+same_list _ _ = false
+
+abbrev pub is_changed : Head → List ℕ → Bool
+is_changed head saw = not (is_active head && same_list (waiting_at head) saw)
+
+abbrev pub is_zero : ℤ → Bool
+is_zero (pos n) = n == 0
+is_zero (negsuc n) = false
+
+-- of these values, all are given up and none, or the other way round
+abbrev pub all_if : Bool → List ℕ → List ℕ × List ℕ
+all_if gives_up values = (if gives_up then values else [], if gives_up then [] else values)
+
+abbrev pub scheme : Scheme
+scheme =
+    record {
+      -- it was never named, or it was taken out of a link and no call began to retire it
+      may_retire = λ st v. not (has v st.named) || has v st.loose;
+      retiring_at = λ v. Append v;
+      entered = λ st s. set_head st s (Active []);
+      filled = marking;
+      may_read = in_turn;
+      marked = marked_place;
+      looked = looked;
+      may_lose = is_changed;
+      -- at 0, and there alone, all values are given up
+      parted = λ st count values. all_if (is_zero count) values;
+      stored = λ old new. new;
+      recorded = λ gone v. gone ++ v ∷ [];
+    }
+
+abbrev pub next : Transition
+next = next_by scheme

@@ -1,27 +1,29 @@
 -- Worked runs of the machine at size 1, from the opening with no slot made: for each the events, their answers under the same
 -- name with `_answers`.
 use Rattle.std.specs.Prelude.{ℕ, pos, negsuc, Bool, true, false, ◌&&◌, List, [], ◌∷◌, ◌++◌, is_none}
-use Rattle.seize_machine.specs.Machine.State.{State}
+use Rattle.std.specs.List.{list_all}
+use Rattle.seize_machine.specs.Machine.State.{opening}
 use Rattle.seize_machine.specs.Machine.Event.{Event, Take, Enter, Begin, Put, ReadHead, Detach, Insert, AddCount, SwapOut, SubCount, Hand, Return}
-use Rattle.seize_machine.specs.Machine.Next.{next, tried}
+use Rattle.seize_machine.specs.Machine.Next.{next}
+use Rattle.seize_machine.specs.Machine.History.{Moment, at_size, history, end_of}
 use Rattle.seize_machine.specs.declared.machine.event.Job.TheVariants.{Retire, Leave}
 use Rattle.seize_machine.specs.declared.machine.event.Try.TheVariants.{Won, Lost}
 use Rattle.seize_machine.specs.declared.machine.event.Answer.{Answer}
-use Rattle.seize_machine.specs.declared.machine.event.Answer.TheVariants.{Done, Head as Found, Count, Handed}
+use Rattle.seize_machine.specs.declared.machine.event.Answer.TheVariants.{Done, Head as HeadRead, Count, Handed}
 
 -- slots 0 and 1 are made, slot 1 becomes active, and slot 0 retires 7 and takes its batch, marked for slot 1
 abbrev pub detached : List Event
 detached = Take 0 ∷ Take 1 ∷ Enter 1 ∷ Begin 0 (Retire 7) ∷ Put 0 ∷ ReadHead 0 0 ∷ ReadHead 0 1 ∷ Detach 0 ∷ []
 
 abbrev pub detached_answers : List Answer
-detached_answers = Done ∷ Done ∷ Done ∷ Done ∷ Done ∷ Found false ∷ Found true ∷ Done ∷ []
+detached_answers = Done ∷ Done ∷ Done ∷ Done ∷ Done ∷ HeadRead false ∷ HeadRead true ∷ Done ∷ []
 
 -- slot 0 inserts, and slot 1 leaves and counts the batch down to -1
 abbrev pub walked : List Event
 walked = detached ++ ReadHead 0 1 ∷ Insert 0 1 Won ∷ Begin 1 Leave ∷ SwapOut 1 ∷ SubCount 1 ∷ Return 1 ∷ []
 
 abbrev pub walked_answers : List Answer
-walked_answers = detached_answers ++ Found true ∷ Done ∷ Done ∷ Done ∷ Count (negsuc 0) ∷ Done ∷ []
+walked_answers = detached_answers ++ HeadRead true ∷ Done ∷ Done ∷ Done ∷ Count (negsuc 0) ∷ Done ∷ []
 
 -- **Walker first.** Slot 1 counts the batch down before slot 0 adds its insertion, and slot 0 hands 7.
 abbrev pub walker_first : List Event
@@ -42,7 +44,7 @@ abbrev pub left_before_insertion : List Event
 left_before_insertion = left ++ ReadHead 0 1 ∷ AddCount 0 ∷ Hand 0 [] ∷ Return 0 ∷ []
 
 abbrev pub left_before_insertion_answers : List Answer
-left_before_insertion_answers = left_answers ++ Found false ∷ Count (pos 0) ∷ Handed 7 ∷ Done ∷ []
+left_before_insertion_answers = left_answers ++ HeadRead false ∷ Count (pos 0) ∷ Handed 7 ∷ Done ∷ []
 
 -- **Back before insertion.** Slot 1 leaves and enters again before slot 0 inserts: the batch is inserted, and slot 1 hands 7
 -- when it leaves again.
@@ -53,7 +55,7 @@ back_before_insertion =
 
 abbrev pub back_before_insertion_answers : List Answer
 back_before_insertion_answers =
-    left_answers ++ Done ∷ Found true ∷ Done ∷ Count (pos 1) ∷ Done
+    left_answers ++ Done ∷ HeadRead true ∷ Done ∷ Count (pos 1) ∷ Done
     ∷ Done ∷ Done ∷ Count (pos 0) ∷ Handed 7 ∷ Done ∷ []
 
 -- of three slots, slot s retires v and takes its batch, marked for slot 1
@@ -61,7 +63,7 @@ abbrev pub detached_of_three : ℕ → ℕ → List Event
 detached_of_three s v = Begin s (Retire v) ∷ Put s ∷ ReadHead s 0 ∷ ReadHead s 1 ∷ ReadHead s 2 ∷ Detach s ∷ []
 
 abbrev pub detached_of_three_answers : List Answer
-detached_of_three_answers = Done ∷ Done ∷ Found false ∷ Found true ∷ Found false ∷ Done ∷ []
+detached_of_three_answers = Done ∷ Done ∷ HeadRead false ∷ HeadRead true ∷ HeadRead false ∷ Done ∷ []
 
 -- slot 1 is active, slot 0 has detached 1, and slot 2 has detached 2
 abbrev pub detached_twice : List Event
@@ -80,7 +82,7 @@ two_insertions =
 
 abbrev pub two_insertions_answers : List Answer
 two_insertions_answers =
-    detached_twice_answers ++ Found true ∷ Found true ∷ Done ∷ Done ∷ Found true ∷ Done
+    detached_twice_answers ++ HeadRead true ∷ HeadRead true ∷ Done ∷ Done ∷ HeadRead true ∷ Done
     ∷ Count (pos 1) ∷ Count (pos 1) ∷ Done ∷ Done
     ∷ Done ∷ Done ∷ Count (pos 0) ∷ Handed 2 ∷ Count (pos 0) ∷ Handed 1 ∷ Done ∷ []
 
@@ -95,7 +97,10 @@ entered_before_add = added_beside_active ++ Hand 0 [] ∷ Return 0 ∷ []
 abbrev pub entered_before_add_answers : List Answer
 entered_before_add_answers = walked_answers ++ Done ∷ Done ∷ Count (pos 0) ∷ Handed 7 ∷ Done ∷ []
 
--- whether an event is illegal before each of some events, and after the last
-abbrev pub illegal_throughout : Event → ℕ → State → List Event → Bool
-illegal_throughout event size st [] = is_none (next size st event)
-illegal_throughout event size st (e ∷ es) = is_none (next size st event) && illegal_throughout event size (tried size st e).0 es
+-- the history of some events at size 1, from the opening with no slot made
+abbrev pub run : List Event → List Moment
+run events = history next (opening 0 []) (at_size 1 events)
+
+-- whether an event is illegal before each moment of a run, and after the last
+abbrev pub is_illegal_throughout : Event → List Moment → Bool
+is_illegal_throughout event ms = list_all (λ m. is_none (next 1 m.before event)) ms && is_none (next 1 (end_of (opening 0 []) ms) event)

@@ -6,7 +6,7 @@ use Rattle.seize_machine.specs.Machine.Rows.{detached_twice, detached_twice_answ
 use Rattle.seize_machine.specs.declared.machine.event.Job.TheVariants.{Retire, Leave}
 use Rattle.seize_machine.specs.declared.machine.event.Try.TheVariants.{Won, Lost}
 use Rattle.seize_machine.specs.declared.machine.event.Answer.{Answer}
-use Rattle.seize_machine.specs.declared.machine.event.Answer.TheVariants.{Done, Head as Found, Count, Handed, Illegal}
+use Rattle.seize_machine.specs.declared.machine.event.Answer.TheVariants.{Done, Head as HeadRead, Count, Handed, Illegal}
 
 -- Slots 0 and 1 are made, and slot 1 is active; slot 0 retires 7, and slot 1 leaves. `walker_first` is one order of this.
 abbrev pub entered : List Event
@@ -31,8 +31,8 @@ retire_first =
 
 abbrev pub retire_first_answers : List Answer
 retire_first_answers =
-    entered_answers ++ Done ∷ Done ∷ Found false ∷ Found true ∷ Done
-    ∷ Found true ∷ Done ∷ Count (pos 1) ∷ Done
+    entered_answers ++ Done ∷ Done ∷ HeadRead false ∷ HeadRead true ∷ Done
+    ∷ HeadRead true ∷ Done ∷ Count (pos 1) ∷ Done
     ∷ Done ∷ Done ∷ Count (pos 0) ∷ Handed 7 ∷ Done ∷ []
 
 -- slot 1 leaves before 7 is put in the batch: nothing is marked, and slot 0 hands 7
@@ -44,7 +44,7 @@ left_before_put =
 abbrev pub left_before_put_answers : List Answer
 left_before_put_answers =
     entered_answers ++ Done ∷ leaves_answers
-    ++ Done ∷ Found false ∷ Found false ∷ Done ∷ Count (pos 0) ∷ Handed 7 ∷ Done ∷ []
+    ++ Done ∷ HeadRead false ∷ HeadRead false ∷ Done ∷ Count (pos 0) ∷ Handed 7 ∷ Done ∷ []
 
 -- slot 1 leaves when slot 0 has read its head and is about to insert: no insertion can be won, and slot 0 hands 7
 abbrev pub left_before_attempt : List Event
@@ -54,8 +54,8 @@ left_before_attempt =
 
 abbrev pub left_before_attempt_answers : List Answer
 left_before_attempt_answers =
-    entered_answers ++ Done ∷ Done ∷ Found false ∷ Found true ∷ Done ∷ Found true ∷ leaves_answers
-    ++ Illegal ∷ Done ∷ Found false ∷ Count (pos 0) ∷ Handed 7 ∷ Done ∷ []
+    entered_answers ++ Done ∷ Done ∷ HeadRead false ∷ HeadRead true ∷ Done ∷ HeadRead true ∷ leaves_answers
+    ++ Illegal ∷ Done ∷ HeadRead false ∷ Count (pos 0) ∷ Handed 7 ∷ Done ∷ []
 
 -- Of three slots, slot 1 is active; slots 0 and 2 have detached 1 and 2, and slot 1 leaves. `two_insertions` is one order of
 -- this.
@@ -69,8 +69,8 @@ second_finishes_first =
 
 abbrev pub second_finishes_first_answers : List Answer
 second_finishes_first_answers =
-    detached_twice_answers ++ Found true ∷ Done ∷ Count (pos 1) ∷ Done
-    ∷ Found true ∷ Done ∷ Count (pos 1) ∷ Done
+    detached_twice_answers ++ HeadRead true ∷ Done ∷ Count (pos 1) ∷ Done
+    ∷ HeadRead true ∷ Done ∷ Count (pos 1) ∷ Done
     ∷ Done ∷ Done ∷ Count (pos 0) ∷ Handed 1 ∷ Count (pos 0) ∷ Handed 2 ∷ Done ∷ []
 
 -- slot 1 leaves first: slots 0 and 2 skip it, and each hands its own value
@@ -83,5 +83,5 @@ left_before_both =
 abbrev pub left_before_both_answers : List Answer
 left_before_both_answers =
     detached_twice_answers ++ leaves_answers
-    ++ Found false ∷ Count (pos 0) ∷ Handed 1 ∷ Done
-    ∷ Found false ∷ Count (pos 0) ∷ Handed 2 ∷ Done ∷ []
+    ++ HeadRead false ∷ Count (pos 0) ∷ Handed 1 ∷ Done
+    ∷ HeadRead false ∷ Count (pos 0) ∷ Handed 2 ∷ Done ∷ []

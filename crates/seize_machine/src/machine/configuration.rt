@@ -3,7 +3,7 @@ ghost use Rattle.std.specs.Prelude.{◌≡◌, ◌<◌, ◌≤◌, ◌==◌, ◌
 ghost use Rattle.std.specs.List.{filter, list_all};
 ghost use Rattle.seize_machine.specs.Machine.State as state;
 ghost use Rattle.seize_machine.specs.Machine.Event as event;
-ghost use Rattle.seize_machine.specs.Machine.Next.{next, first_free, is_none_or_fresh, swapped};
+ghost use Rattle.seize_machine.specs.Machine.Next.{scheme, next, first_free, is_outside, is_none_or_fresh, swapped};
 ghost use Rattle.seize_machine.specs.Machine.Laws.{is_quiet};
 ghost use Rattle.seize_machine.specs.Machine.Code.{Does, CountsFit, head_view, event_of};
 
@@ -143,7 +143,7 @@ impl Configuration {
 
     /// Whether the slot is in use, with no call under way and not active.
     fn is_outside(&self, s: usize) -> bool
-        ensures outside { result ≡ (state.is_idle (state.slot_at self.now s) && not (state.is_active (state.head_at self.now s))) }
+        ensures outside { result ≡ is_outside self.now s }
         ensures in_range { IsTrue result → s < length self.now.slots }
     {
         s < self.slots.len() && self.slots[s].is_idle() && !self.heads[s].is_active()
@@ -196,7 +196,6 @@ impl Configuration {
         ensures err { OnErr result (self.new ≡ self.old) }
     {
         let count = self.slots.len();
-        let size = if size < 1 { 1 } else { size };
         if s >= count || !self.slots[s].put(self.alloc, size, count)? {
             return Ok(Answer::Illegal);
         }
@@ -488,7 +487,7 @@ impl Configuration {
     /// The link holds the new value, and the old one is out.
     fn swap_link(&mut self, l: usize, new: Option<u64>) -> Result<(), AllocError>
         requires { l < length self.old.links }
-        ensures ok { OnOk result (self.new ≡ swapped self.old l new) }
+        ensures ok { OnOk result (self.new ≡ swapped scheme self.old l new) }
         ensures err { OnErr result (self.new ≡ self.old) }
     {
         self.loose.reserve(1)?;

@@ -1,56 +1,65 @@
 //! What the machine does, shown on given lists of events. Each function does nothing: its contract is what is shown.
 
-ghost use Rattle.std.specs.Prelude.{◌≡◌, [], true};
+ghost use Rattle.std.specs.Prelude.{◌≡◌, Some, [], ◌∷◌, true};
 ghost use Rattle.seize_machine.specs.Machine.State.{opening, head_at, is_active};
 ghost use Rattle.seize_machine.specs.Machine.Event.{Give};
-ghost use Rattle.seize_machine.specs.Machine.Next.{run_state, run_answers};
-ghost use Rattle.seize_machine.specs.Machine.Rows.{walker_first, walker_first_answers, left_before_insertion, left_before_insertion_answers, back_before_insertion, back_before_insertion_answers, two_insertions, two_insertions_answers, added_beside_active, entered_before_add, entered_before_add_answers, illegal_throughout};
+ghost use Rattle.seize_machine.specs.Machine.History.{at_size, end_of, answers_of};
+ghost use Rattle.seize_machine.specs.Machine.Laws.{AtMostOnce, After, Quiet, Protection, Parts, Gone, Holders, NoLaterHolders, Tries, Breaks};
+ghost use Rattle.seize_machine.specs.Machine.Rows.{run, walker_first, walker_first_answers, left_before_insertion, left_before_insertion_answers, back_before_insertion, back_before_insertion_answers, two_insertions, two_insertions_answers, added_beside_active, entered_before_add, entered_before_add_answers, is_illegal_throughout};
 ghost use Rattle.seize_machine.specs.Machine.Schedules.{retire_first, retire_first_answers, left_before_put, left_before_put_answers, left_before_attempt, left_before_attempt_answers, second_finishes_first, second_finishes_first_answers, left_before_both, left_before_both_answers};
-ghost use Rattle.seize_machine.specs.Machine.Counterexamples.{NothingGivenUpBreaksQuiet, NothingGivenUpBreaksHolders, GivenUpUnlessActiveBreaksHolders, GivenUpBelowZeroBreaksAfter, GivenUpAndKeptBreaksAtMostOnce, GivenUpAndForgottenBreaksParts, SkippedAndCountedBreaksQuiet, OneValueMoreBreaksQuiet, RestPassedOverBreaksAfter, NumberPassedOverBreaksAfter, GivenUpWhenFullBreaksProtection, GivenUpWhenFullBreaksAfter, FixedNoteBreaksAfter, LostAtAnyTimeBreaksTries};
+ghost use Rattle.seize_machine.specs.Machine.Counterexamples.{nothing_given_up, retired_alone, given_up_unless_active, given_up_below_zero, counted_down_early, given_up_and_kept, given_up_twice, handed_twice, given_up_and_forgotten, skipped_and_counted, skipped_and_added, one_value_more, retired_at_a_smaller_size, rest_passed_over, retired_beside_two, number_passed_over, read_last_alone, given_up_when_full, found_and_retired, fixed_note, made_before_put, retired_again, retired_twice, given_up_unretired, begun_alone, handed_alone, lost_at_any_time, lost_alone, left_in_the_link, found_after_its_retirement, joined_at_entry, entered_after_add, recorded_in_front, handed_in_order};
 
 /// Worked runs at size 1, from the opening with no slot made: the answers to their events.
 ///
 /// A slot that becomes active before an add neither changes the count nor keeps the batch. A number that was never taken is
 /// not given back at any time of a run.
 pub fn rows()
-    ensures walker_first_gives { run_answers 1 (opening 0 []) walker_first ≡ walker_first_answers }
-    ensures left_before_insertion_gives { run_answers 1 (opening 0 []) left_before_insertion ≡ left_before_insertion_answers }
-    ensures back_before_insertion_gives { run_answers 1 (opening 0 []) back_before_insertion ≡ back_before_insertion_answers }
-    ensures two_insertions_gives { run_answers 1 (opening 0 []) two_insertions ≡ two_insertions_answers }
-    ensures entered_before_add_gives { run_answers 1 (opening 0 []) entered_before_add ≡ entered_before_add_answers }
-    ensures active_at_hand { is_active (head_at (run_state 1 (opening 0 []) added_beside_active) 2) ≡ true }
-    ensures illegal_in_walker_first { illegal_throughout (Give 9) 1 (opening 0 []) walker_first ≡ true }
-    ensures illegal_in_left_before_insertion { illegal_throughout (Give 9) 1 (opening 0 []) left_before_insertion ≡ true }
-    ensures illegal_in_back_before_insertion { illegal_throughout (Give 9) 1 (opening 0 []) back_before_insertion ≡ true }
-    ensures illegal_in_two_insertions { illegal_throughout (Give 9) 1 (opening 0 []) two_insertions ≡ true }
+    ensures walker_first_gives { answers_of (run walker_first) ≡ walker_first_answers }
+    ensures left_before_insertion_gives { answers_of (run left_before_insertion) ≡ left_before_insertion_answers }
+    ensures back_before_insertion_gives { answers_of (run back_before_insertion) ≡ back_before_insertion_answers }
+    ensures two_insertions_gives { answers_of (run two_insertions) ≡ two_insertions_answers }
+    ensures entered_before_add_gives { answers_of (run entered_before_add) ≡ entered_before_add_answers }
+    ensures active_at_hand { is_active (head_at (end_of (opening 0 []) (run added_beside_active)) 2) ≡ true }
+    ensures illegal_in_walker_first { is_illegal_throughout (Give 9) (run walker_first) ≡ true }
+    ensures illegal_in_left_before_insertion { is_illegal_throughout (Give 9) (run left_before_insertion) ≡ true }
+    ensures illegal_in_back_before_insertion { is_illegal_throughout (Give 9) (run back_before_insertion) ≡ true }
+    ensures illegal_in_two_insertions { is_illegal_throughout (Give 9) (run two_insertions) ≡ true }
 {}
 
 /// The answers where the events of the same calls come in other orders: the calls of `walker_first`, a retirement beside an
 /// active slot that leaves, in three orders more, and those of `two_insertions` in two orders more.
 pub fn schedules()
-    ensures retire_first_gives { run_answers 1 (opening 0 []) retire_first ≡ retire_first_answers }
-    ensures left_before_put_gives { run_answers 1 (opening 0 []) left_before_put ≡ left_before_put_answers }
-    ensures left_before_attempt_gives { run_answers 1 (opening 0 []) left_before_attempt ≡ left_before_attempt_answers }
-    ensures second_finishes_first_gives { run_answers 1 (opening 0 []) second_finishes_first ≡ second_finishes_first_answers }
-    ensures left_before_both_gives { run_answers 1 (opening 0 []) left_before_both ≡ left_before_both_answers }
+    ensures retire_first_gives { answers_of (run retire_first) ≡ retire_first_answers }
+    ensures left_before_put_gives { answers_of (run left_before_put) ≡ left_before_put_answers }
+    ensures left_before_attempt_gives { answers_of (run left_before_attempt) ≡ left_before_attempt_answers }
+    ensures second_finishes_first_gives { answers_of (run second_finishes_first) ≡ second_finishes_first_answers }
+    ensures left_before_both_gives { answers_of (run left_before_both) ≡ left_before_both_answers }
 {}
 
-/// Machines that are wrong in one thing each, and a list of events on which each breaks a law. Each of the laws is broken.
+/// Machines that are wrong in one thing each, and a list of events, legal under each, on which it breaks a law. Each of the laws is
+/// broken, and each of its parts.
 ///
 /// A clause is named by what is wrong and the law that it breaks.
 pub fn counterexamples()
-    ensures nothing_given_up_breaks_quiet { NothingGivenUpBreaksQuiet }
-    ensures nothing_given_up_breaks_holders { NothingGivenUpBreaksHolders }
-    ensures given_up_unless_active_breaks_holders { GivenUpUnlessActiveBreaksHolders }
-    ensures given_up_below_zero_breaks_after { GivenUpBelowZeroBreaksAfter }
-    ensures given_up_and_kept_breaks_at_most_once { GivenUpAndKeptBreaksAtMostOnce }
-    ensures given_up_and_forgotten_breaks_parts { GivenUpAndForgottenBreaksParts }
-    ensures skipped_and_counted_breaks_quiet { SkippedAndCountedBreaksQuiet }
-    ensures one_value_more_breaks_quiet { OneValueMoreBreaksQuiet }
-    ensures rest_passed_over_breaks_after { RestPassedOverBreaksAfter }
-    ensures number_passed_over_breaks_after { NumberPassedOverBreaksAfter }
-    ensures given_up_when_full_breaks_protection { GivenUpWhenFullBreaksProtection }
-    ensures given_up_when_full_breaks_after { GivenUpWhenFullBreaksAfter }
-    ensures fixed_note_breaks_after { FixedNoteBreaksAfter }
-    ensures lost_at_any_time_breaks_tries { LostAtAnyTimeBreaksTries }
+    ensures nothing_given_up_breaks_quiet { Breaks nothing_given_up [] (at_size 1 retired_alone) Quiet }
+    ensures nothing_given_up_breaks_holders { Breaks nothing_given_up [] (at_size 1 retired_alone) Holders }
+    ensures given_up_unless_active_breaks_holders { Breaks given_up_unless_active [] (at_size 1 added_beside_active) Holders }
+    ensures given_up_below_zero_breaks_after { Breaks given_up_below_zero [] (at_size 2 counted_down_early) After }
+    ensures given_up_and_kept_breaks_at_most_once { Breaks given_up_and_kept [] (at_size 1 handed_twice) AtMostOnce }
+    ensures given_up_and_kept_breaks_parts { Breaks given_up_and_kept [] (at_size 1 given_up_twice) Parts }
+    ensures given_up_and_forgotten_breaks_parts { Breaks given_up_and_forgotten [] (at_size 1 retired_alone) Parts }
+    ensures skipped_and_counted_breaks_quiet { Breaks skipped_and_counted [] (at_size 1 skipped_and_added) Quiet }
+    ensures one_value_more_breaks_quiet { Breaks one_value_more [] retired_at_a_smaller_size Quiet }
+    ensures rest_passed_over_breaks_after { Breaks rest_passed_over [] (at_size 1 retired_beside_two) After }
+    ensures number_passed_over_breaks_after { Breaks number_passed_over [] (at_size 1 read_last_alone) After }
+    ensures given_up_when_full_breaks_protection { Breaks given_up_when_full (Some 7 ∷ []) (at_size 1 found_and_retired) Protection }
+    ensures given_up_when_full_breaks_after { Breaks given_up_when_full (Some 7 ∷ []) (at_size 1 found_and_retired) After }
+    ensures fixed_note_breaks_after { Breaks fixed_note [] (at_size 1 made_before_put) After }
+    ensures retired_again_breaks_after { Breaks retired_again [] (at_size 2 retired_twice) After }
+    ensures given_up_unretired_breaks_after { Breaks given_up_unretired [] (at_size 1 handed_alone) After }
+    ensures given_up_unretired_breaks_parts { Breaks given_up_unretired [] (at_size 1 begun_alone) Parts }
+    ensures lost_at_any_time_breaks_tries { Breaks lost_at_any_time [] (at_size 1 lost_alone) Tries }
+    ensures left_in_the_link_breaks_protection { Breaks left_in_the_link (Some 7 ∷ []) (at_size 1 found_after_its_retirement) Protection }
+    ensures joined_at_entry_breaks_no_later_holders { Breaks joined_at_entry [] (at_size 1 entered_after_add) NoLaterHolders }
+    ensures recorded_in_front_breaks_gone { Breaks recorded_in_front [] (at_size 2 handed_in_order) Gone }
 {}

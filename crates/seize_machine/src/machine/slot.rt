@@ -1,8 +1,8 @@
 //! A slot: its batch and its call under way.
 ghost use Rattle.std.specs.Prelude.{◌≡◌, IfOk, OnOk, OnErr, [], true, false, not, is_some, unwrap_or};
 ghost use Rattle.seize_machine.specs.Machine.State as state;
-ghost use Rattle.seize_machine.specs.Machine.Next.{is_empty, look};
-ghost use Rattle.seize_machine.specs.Machine.Code.{slot_view, place_view, head_view, of_call, moved, begun_at, DoesSlot, slot_put, slot_mark, looking_at, looked_on, can_detach, detached, detached_on, trying_at, CanWin, CanWinAt, won_on, slot_lost, can_lose_at, lost_on, adding_at, leaving_at, walking_at, walked_on, handing_at, slot_handed, slot_return};
+ghost use Rattle.seize_machine.specs.Machine.Next.{scheme, is_empty, look, of_call, moved, begun_at, slot_put, slot_mark, looking_at, looked_on, can_detach, detached, detached_on, trying_at, won_on, slot_lost, can_lose_at, lost_on, adding_at, leaving_at, walking_at, walked_on, handing_at, slot_handed, slot_return};
+ghost use Rattle.seize_machine.specs.Machine.Code.{slot_view, place_view, head_view, CanWin, CanWinAt, DoesSlot};
 
 use super::head::Head;
 use std::alloc::{AllocError, Global};
@@ -153,7 +153,7 @@ impl Place {
     }
 
     fn looked(self, saw: Option<VecDeque<usize>>) -> Place
-        ensures { place_view result ≡ looked_on (head_view saw) (place_view self) }
+        ensures { place_view result ≡ looked_on scheme (head_view saw) (place_view self) }
     {
         match self {
             Place::Look {
@@ -242,14 +242,14 @@ impl Slot {
         });
     }
 
-    /// Appends the value in turn to the batch, where there are so many slots. `size` is at least 1.
+    /// Appends the value in turn to the batch, where there are so many slots.
     pub(super) fn put(
         &mut self,
         alloc: Global,
         size: usize,
         slots: usize,
     ) -> Result<bool, AllocError>
-        ensures step { IfOk result (λ legal. DoesSlot (slot_put size slots self.old) self.old self.new legal) }
+        ensures step { IfOk result (λ legal. DoesSlot (slot_put scheme size slots self.old) self.old self.new legal) }
         ensures err { OnErr result (self.new ≡ self.old) }
     {
         let Slot { batch, call, .. } = self;
@@ -274,7 +274,7 @@ impl Slot {
             let _ = queue.pop_front();
         }
         batch.push_back_reserved(value);
-        *place = if batch.len() >= size {
+        *place = if batch.len() >= size.max(1) {
             Place::marking(alloc, slots)
         } else {
             Place::resting(alloc)
@@ -290,7 +290,7 @@ impl Slot {
         active: bool,
         slots: usize,
     ) -> Result<bool, AllocError>
-        ensures step { IfOk result (λ legal. DoesSlot (slot_mark slots n active self.old) self.old self.new legal) }
+        ensures step { IfOk result (λ legal. DoesSlot (slot_mark scheme slots n active self.old) self.old self.new legal) }
         ensures err { OnErr result (self.new ≡ self.old) }
     {
         let Slot { batch, call, .. } = self;
@@ -331,7 +331,7 @@ impl Slot {
 
     /// The head of the marked slot was read: it is inactive, or active with this list.
     pub(super) fn look(&mut self, alloc: Global, saw: Option<VecDeque<usize>>)
-        ensures { self.new ≡ moved (looked_on (head_view saw)) self.old }
+        ensures { self.new ≡ moved (looked_on scheme (head_view saw)) self.old }
     {
         if let Some(Call { place, queue }) = self.call.take() {
             self.call = Some(Call {
@@ -400,7 +400,7 @@ impl Slot {
 
     /// The insertion into the list of slot `n`, whose head is now this one, was lost.
     pub(super) fn lost(&mut self, n: usize, head: &Head) -> bool
-        ensures { DoesSlot (slot_lost n head.now self.old) self.old self.new result }
+        ensures { DoesSlot (slot_lost scheme n head.now self.old) self.old self.new result }
     {
         if !self.can_lose(n, head) {
             return false;
@@ -415,7 +415,7 @@ impl Slot {
     }
 
     fn can_lose(&self, n: usize, head: &Head) -> bool
-        ensures { result ≡ unwrap_or (of_call (can_lose_at n head.now) self.now.call) false }
+        ensures { result ≡ unwrap_or (of_call (can_lose_at scheme n head.now) self.now.call) false }
     {
         match &self.call {
             Some(

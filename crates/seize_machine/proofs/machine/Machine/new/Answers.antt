@@ -8,4 +8,4 @@ pub new-requires : goal.new-requires
 new-requires c = ap linked c.in_ok-links.ensures ∙ linked-replicate c.args.links
 
 pub invariant_of-result : goal.invariant_of-result
-invariant_of-result c = subst (IsReached c.args.size) (sym (c.new.ensures ∙ ap (opening 0) c.in_ok-links.ensures)) (opening_reached c.args.size c.args.links)
+invariant_of-result c = subst IsReached (sym (c.new.ensures ∙ ap (opening 0) c.in_ok-links.ensures)) (opening_reached c.args.links)
