@@ -1,9 +1,11 @@
 -- The proofs of the laws.
 pub mod Steps
+pub mod Exactness
 pub mod Sums
 pub mod Counts
 pub mod Once
 pub mod Kept
+pub mod Frames
 pub mod Parts
 pub mod Fits
 pub mod Histories
@@ -22,3 +24,4 @@ pub mod Tries
 pub mod Refuting
 pub mod Counterexamples
 pub mod Reached
+pub mod States

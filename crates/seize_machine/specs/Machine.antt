@@ -4,6 +4,8 @@ pub mod Event
 pub mod Next
 pub mod History
 pub mod Laws
+pub mod Frames
+pub mod Kept
 pub mod Rows
 pub mod Schedules
 pub mod Counterexamples

@@ -144,8 +144,8 @@ pub fn laws()
 {}
 
 /// How legal lists are made and taken apart. No event is a legal list, one legal event after a legal list makes a longer one, a
-/// legal list goes on with what is legal from its end, and each beginning of a legal list is one, which the rest goes on. It does
-/// nothing.
+/// legal list goes on with what is legal from its end, and each beginning of a legal list is one, which the rest goes on. The first
+/// of its events is legal, and the others are a legal list from there. It does nothing.
 pub fn legal_lists()
     ensures no_event { (st : State) → Legal next st [] [] st }
     ensures one_more { (st now later : State) (events : List Timed) (answers : List Told) (t : Timed) (answer : Told)
@@ -156,4 +156,7 @@ pub fn legal_lists()
     ensures parted { (st later : State) (events more : List Timed) (answers : List Told) → Legal next st (events ++ more) answers later
         → (now : State) × Legal next st events (take (length events) answers) now
         × Legal next now more (drop (length events) answers) later }
+    ensures first_event { (st later : State) (t : Timed) (more : List Timed) (answers : List Told) → Legal next st (t ∷ more) answers later
+        → (now : State) × (answer : Told) × (rest : List Told) × (answers ≡ answer ∷ rest)
+        × (next t.size st t.event ≡ Some (now, answer)) × Legal next now more rest later }
 {}

@@ -3,7 +3,7 @@ use Rattle.std.proofs.Common.{ℕ, List, [], ◌∷◌, Option, Some, refl, arit
 use Rattle.seize_machine.specs.Machine.State.{State, opening}
 use Rattle.seize_machine.specs.Machine.Event.{Event}
 use Rattle.seize_machine.specs.Machine.Next.{Transition}
-use Rattle.seize_machine.specs.Machine.History.{Timed, Moment, at_size, history}
+use Rattle.seize_machine.specs.Machine.History.{Moment, at_size, history}
 use Rattle.seize_machine.specs.Machine.Laws.{AtMostOnce, After, Quiet, Protection, Parts, Gone, Holders, NoLaterHolders, Tries, Breaks}
 use Rattle.seize_machine.specs.Machine.Rows.{added_beside_active}
 use Rattle.seize_machine.specs.Machine.Counterexamples.{nothing_given_up, retired_alone, given_up_unless_active, given_up_below_zero, counted_down_early, given_up_and_kept, given_up_twice, handed_twice, given_up_and_forgotten, skipped_and_counted, skipped_and_added, one_value_more, retired_at_a_smaller_size, rest_passed_over, retired_beside_two, number_passed_over, read_last_alone, given_up_when_full, found_and_retired, fixed_note, made_before_put, retired_again, retired_twice, given_up_unretired, begun_alone, handed_alone, lost_at_any_time, lost_alone, left_in_the_link, found_after_its_retirement, joined_at_entry, entered_after_add, recorded_in_front, handed_in_order}

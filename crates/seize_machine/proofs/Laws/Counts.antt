@@ -1,4 +1,5 @@
 -- The count of a batch, with the insertions not yet added to it, is how often the batch is held.
+pub use Rattle.seize_machine.specs.Machine.Kept.{of_calls}
 use Rattle.std.proofs.Common.{◌≡◌, ◌≢◌, ℕ, zero, suc, ◌+◌, ◌<◌, ◌≤◌, ℤ, pos, ◌+ℤ◌, ◌-ℤ◌, Bool, true, false, ◌==◌, if◌then◌else◌, nat_lt, List, [], ◌∷◌, ◌++◌, length, get_or, set, Option, Some, None, refl, sym, ◌∙◌, ap, subst, ◌⊎◌, inl, inr, arith}
 use Rattle.std.specs.List.{sum_by}
 use Rattle.std.proofs.lemmas.Int.{ints}
@@ -39,9 +40,6 @@ owns b (Some call) = place_owns b call.place
 abbrev pub wins : ℕ → Option Call → ℕ
 wins b None = 0
 wins b (Some call) = place_won b call.place
-
-abbrev pub of_calls : (Option Call → ℕ) → List Slot → ℕ
-of_calls f slots = sum_by (λ slot. f slot.call) slots
 
 abbrev pub listed : ℕ → List Head → ℕ
 listed b heads = sum_by (λ head. occ b (waiting_at head)) heads

@@ -4,7 +4,7 @@ use Rattle.std.specs.List.{slice_get, list_any}
 use Rattle.seize_machine.specs.Machine.State.{State}
 use Rattle.seize_machine.specs.Machine.Event.{Event, SwapOut}
 use Rattle.seize_machine.specs.Machine.Next.{Outcome, next}
-use Rattle.seize_machine.specs.Machine.History.{Timed, Moment, or_illegal, history, is_legal, are_legal, end_of, answers_of, Legal, is_swap_out}
+use Rattle.seize_machine.specs.Machine.History.{Timed, Moment, or_illegal, history, is_legal, are_legal, is_swap_out}
 use Rattle.seize_machine.specs.declared.machine.event.Answer.{Answer}
 use Rattle.seize_machine.proofs.Laws.Steps.{some_is, and_true}
 

@@ -25,7 +25,7 @@ in_walk b (Some call) h = go call.place h
     go (Add c won) h = absurd (omega arith)
     go (Out stays) h = absurd (omega arith)
 
-owner_of : (b : ℕ) (call : Option Call) → 1 ≤ owns b call → detached_by call ≡ Some b
+pub owner_of : (b : ℕ) (call : Option Call) → 1 ≤ owns b call → detached_by call ≡ Some b
 owner_of b None h = absurd (omega arith)
 owner_of b (Some call) h = go call.place h
   where

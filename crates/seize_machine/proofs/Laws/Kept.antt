@@ -1,53 +1,16 @@
 -- While an active slot neither leaves nor refreshes, it keeps back what was not given up when it was active.
+pub use Rattle.seize_machine.specs.Machine.Kept.{place_given, given, place_left, left, WillMark, Marks, Kept, KeptIn}
 use Rattle.std.proofs.Common.{◌≡◌, ◌≢◌, ℕ, ◌+◌, ◌<◌, ◌≤◌, ℤ, pos, negsuc, ◌+ℤ◌, ◌-ℤ◌, Bool, true, false, ◌==◌, if◌then◌else◌, nat_lt, List, [], ◌∷◌, ◌++◌, length, get_or, set, Option, Some, None, refl, sym, ◌∙◌, ap, subst, ◌⊎◌, inl, inr, arith}
 use Rattle.std.proofs.lemmas.Int.{ints}
 use Rattle.std.proofs.lemmas.List.{get_or-set_same, get_or-set_other, get_or_past, get_or_push, get_or_append_left, set_past}
 use Rattle.std.proofs.lemmas.List.Sums.{sum_by_push, get_or-le-sum_by}
-use Rattle.seize_machine.specs.Machine.State.{no_slot, no_batch, State, Slot, Batch, Call, Head, Inactive, Active, Place, Append, Mark, Look, Try, Add, Out, Rest, slot_at, head_at, batch_at, is_active, waiting_at}
+use Rattle.seize_machine.specs.Machine.State.{no_slot, no_batch, State, Slot, Call, Head, Inactive, Active, Place, Append, Mark, Look, Try, Add, Out, Rest, slot_at, head_at, batch_at, is_active, waiting_at}
 use Rattle.seize_machine.specs.Machine.Event.{Event, SwapOut}
 use Rattle.seize_machine.specs.Machine.Next.{look, marked_place, looked, is_zero}
 use Rattle.seize_machine.specs.declared.machine.event.Answer.{Answer}
 use Rattle.seize_machine.proofs.Laws.Steps.{Step, Stands, is_true, eq_true, lt_true, some_is}
 use Rattle.seize_machine.proofs.Laws.Sums.{one, occ, occ-push, sum_alone, sum_nothing}
 use Rattle.seize_machine.proofs.Laws.Counts.{Counted, CountedIn, of_calls, owns, place_owns, wins, walks, listed, change, in_range, idle_range, idle_call, get_or_push_other, owns-wins, wins_alone, head_range}
-
-abbrev pub place_given : ℕ → Place → ℕ
-place_given v (Rest given walk) = occ v given
-place_given v _ = 0
-
-abbrev pub given : ℕ → Option Call → ℕ
-given v None = 0
-given v (Some call) = place_given v call.place
-
--- how often s is among the slots where the call has still to insert b
-abbrev pub place_left : ℕ → ℕ → Place → ℕ
-place_left b s (Look c won m later) = if c == b then one (m == s) + occ s later else 0
-place_left b s (Try c won m later saw) = if c == b then one (m == s) + occ s later else 0
-place_left b s _ = 0
-
-abbrev pub left : ℕ → ℕ → Option Call → ℕ
-left b s None = 0
-left b s (Some call) = place_left b s call.place
-
--- a call that reads the heads marks s
-abbrev pub WillMark : ℕ → Place → Type 0
-WillMark s (Mark next note marks) = (s < note) × (s < next → 1 ≤ occ s marks)
-WillMark s _ = Unit {0}
-
-abbrev pub Marks : ℕ → Option Call → Type 0
-Marks s None = Unit {0}
-Marks s (Some call) = WillMark s call.place
-
--- s keeps v back
-pub record Kept (s v : ℕ) (slots : List Slot) (heads : List Head) (batches : List Batch) (gone : List ℕ) : Type 0 where
-  pub active : is_active (get_or heads s Inactive) ≡ true
-  pub not_given : of_calls (given v) slots ≡ 0
-  pub not_gone : occ v gone ≡ 0
-  pub marks : (t : ℕ) → 1 ≤ occ v (get_or slots t no_slot).batch → Marks s (get_or slots t no_slot).call
-  pub waits : (b : ℕ) → 1 ≤ occ v (get_or batches b no_batch).values → 1 ≤ of_calls (left b s) slots + occ b (waiting_at (get_or heads s Inactive))
-
-abbrev pub KeptIn : ℕ → ℕ → State → Type 0
-KeptIn s v st = Kept s v st.slots st.heads st.batches st.gone
 
 pub record Sound (st : State) : Type 0 where
   pub counts : (b : ℕ) → CountedIn b st
@@ -188,21 +151,28 @@ add_lets_go s v a won queue st i sound e c z =
     let h : listed a st.heads ≡ 0 = omega (arith, ints, b.balance) in
     let_go s v a st c l h
 
+-- no call has still to add to a batch whose count comes to 0 by a walk
+pub unowned_at_zero : (a : ℕ) (walk queue : List ℕ) (st : State) (i : ℕ) → Sound st → Stands st i (Rest [] (a ∷ walk)) queue → is_zero ((batch_at st a).count -ℤ pos 1) ≡ true → of_calls (owns a) st.slots ≡ 0
+unowned_at_zero a walk queue st i sound e z =
+    let b : Counted a st.slots st.heads st.batches = sound.counts a in
+    let zero : (batch_at st a).count -ℤ pos 1 ≡ pos 0 = zero_is _ z in
+    let more : of_calls (wins a) st.slots + 1 ≡ listed a st.heads + of_calls (walks a) st.slots = omega (arith, ints, b.balance) in
+    unowned _ _ _ b.alone b.few more
+  where
+    unowned : (o w h : ℕ) → o ≤ 1 → (o ≡ 1 → h ≤ w) → w + 1 ≡ h → o ≡ 0
+    unowned o w h le few more = grind arith
+
 sub_lets_go : (s v a : ℕ) (walk queue : List ℕ) (st : State) (i : ℕ) → Sound st → Stands st i (Rest [] (a ∷ walk)) queue → KeptIn s v st → is_zero ((batch_at st a).count -ℤ pos 1) ≡ true → occ v (batch_at st a).values ≡ 0
 sub_lets_go s v a walk queue st i sound e c z =
     let b : Counted a st.slots st.heads st.batches = sound.counts a in
     let own : one (a == a) ≡ 1 = one_same a a refl in
     let k : one (a == a) + occ a walk ≤ of_calls (walks a) st.slots = rw e at (get_or-le-sum_by (λ slot. walks a slot.call) st.slots i no_slot (in_range st i _ e)) in
     let zero : (batch_at st a).count -ℤ pos 1 ≡ pos 0 = zero_is _ z in
-    let more : of_calls (wins a) st.slots + 1 ≡ listed a st.heads + of_calls (walks a) st.slots = omega (arith, ints, b.balance) in
-    let none : of_calls (owns a) st.slots ≡ 0 = unowned _ _ _ b.alone b.few more in
+    let none : of_calls (owns a) st.slots ≡ 0 = unowned_at_zero a walk queue st i sound e z in
     let l : of_calls (left a s) st.slots ≡ 0 = sum_nothing (λ slot. left a s slot.call) (λ slot. owns a slot.call) (λ slot. owns-left a s slot.call) st.slots none in
     let w : of_calls (wins a) st.slots ≡ 0 = sum_nothing (λ slot. wins a slot.call) (λ slot. owns a slot.call) (λ slot. owns-wins a slot.call) st.slots none in
-    let h : listed a st.heads ≡ 0 = omega arith in
+    let h : listed a st.heads ≡ 0 = omega (arith, ints, b.balance) in
     let_go s v a st c l h
-  where
-    unowned : (o w h : ℕ) → o ≤ 1 → (o ≡ 1 → h ≤ w) → w + 1 ≡ h → o ≡ 0
-    unowned o w h le few more = grind arith
 
 -- the count of a batch put anew, where its values are kept back by nobody if it is given up
 settled : (s v a : ℕ) (st : State) (i : ℕ) (from : Place) (up : Bool) (count : ℤ) (walk queue : List ℕ) → Stands st i from queue → place_given v from ≡ 0 → ((b : ℕ) → place_left b s from ≡ 0)

@@ -1,18 +1,18 @@
 -- The law of later holders: after the add of a batch nobody lists it who did not list it then.
-use Rattle.std.proofs.Common.{◌≡◌, ◌≢◌, ℕ, zero, suc, ◌+◌, ◌<◌, ◌≤◌, ℤ, pos, ◌+ℤ◌, ◌-ℤ◌, Bool, true, false, ◌==◌, if◌then◌else◌, nat_lt, List, [], ◌∷◌, ◌++◌, length, get_or, set, Option, Some, None, refl, sym, ◌∙◌, ap, subst, ◌⊎◌, inl, inr, arith}
-use Rattle.std.specs.List.{Contains, slice_get}
+use Rattle.std.proofs.Common.{◌≡◌, ℕ, zero, suc, ◌+◌, ◌<◌, ◌≤◌, ℤ, pos, ◌+ℤ◌, Bool, true, false, ◌==◌, if◌then◌else◌, nat_lt, List, [], ◌∷◌, ◌++◌, length, get_or, set, Option, Some, None, refl, sym, ◌∙◌, ap, subst, ◌⊎◌, inl, inr, arith}
+use Rattle.std.specs.List.{slice_get}
 use Rattle.std.proofs.lemmas.List.{get_or_past, get_or-set_same, get_or-set_other, set_past, length-set, length_push}
 use Rattle.std.proofs.lemmas.List.Sums.{sum_by_push}
 use Rattle.seize_machine.specs.Machine.State.{no_slot, State, Slot, Batch, Call, Head, Inactive, Active, Place, Append, Mark, Look, Try, Add, Out, Rest, slot_at, head_at, batch_at, waiting_at, is_active, linked, are_distinct, opening}
 use Rattle.seize_machine.specs.Machine.Event.{Event}
-use Rattle.seize_machine.specs.Machine.Next.{Outcome, next, look, looked, marked_place, is_zero}
+use Rattle.seize_machine.specs.Machine.Next.{Outcome, next, look, is_zero}
 use Rattle.seize_machine.specs.Machine.History.{Timed, Moment, end_of}
 use Rattle.seize_machine.specs.Machine.Laws.{walk_of, added_batch, added_by, Lists, Walks, NoLaterHolders}
 use Rattle.seize_machine.specs.declared.machine.event.Answer.{Answer}
-use Rattle.seize_machine.proofs.Laws.Steps.{Step, Stands, step_of, some_is, is_true, eq_true}
+use Rattle.seize_machine.proofs.Laws.Steps.{Step, step_of, some_is, is_true, eq_true}
 use Rattle.seize_machine.proofs.Laws.Sums.{one, occ}
 use Rattle.seize_machine.proofs.Laws.Lists.{contains_some, some_contained}
-use Rattle.seize_machine.proofs.Laws.Counts.{CountedIn, of_calls, owns, place_owns, walks, place_walks, listed, change, in_range, idle_range, idle_call, in_call_of, held_range, place_quiet, look_walks, look_owns, looked_same}
+use Rattle.seize_machine.proofs.Laws.Counts.{CountedIn, of_calls, owns, place_owns, walks, place_walks, change, in_range, idle_range, idle_call, in_call_of, held_range, place_quiet, look_walks, look_owns, looked_same}
 use Rattle.seize_machine.proofs.Laws.Kept.{at_set, pushed, starts}
 use Rattle.seize_machine.proofs.Laws.Invariants.{Inv, inv_step, opening_inv}
 use Rattle.seize_machine.proofs.Laws.Histories.{run, moment_of, from_first, none_in, later}
@@ -35,13 +35,12 @@ record Settled (b : ℕ) (base st : State) : Type 0 where
 -- a change of one slot's record that adds no walk and no owner of b
 slot_settled : (b : ℕ) (base st : State) (i : ℕ) (new : Slot) (o : Option Call) → i < length st.slots → (slot_at st i).call ≡ o → walks b new.call ≤ walks b o → owns b new.call ≤ owns b o
     → Settled b base st → ((s : ℕ) → walks b (get_or (set st.slots i new) s no_slot).call ≤ walked b st s) × (of_calls (owns b) (set st.slots i new) ≡ 0)
-slot_settled b base st i new o r e walk own c =
-    (
-      λ s. at_set (λ slot. walks b slot.call ≤ walked b st s) st.slots i s new no_slot
-          (λ same r. subst (λ s. walks b new.call ≤ walked b st s) same (omega (arith, ap (walks b) e)))
-          (omega arith),
-      omega (arith, change (owns b) st i new o r e, c.unowned),
-    )
+slot_settled b base st i new o r e walk own c = (
+  λ s. at_set (λ slot. walks b slot.call ≤ walked b st s) st.slots i s new no_slot
+      (λ same r. subst (λ s. walks b new.call ≤ walked b st s) same (omega (arith, ap (walks b) e)))
+      (omega arith),
+  omega (arith, change (owns b) st i new o r e, c.unowned),
+)
 
 -- the same, where no head and no number of batches changes
 same_heads : (b : ℕ) (base st : State) (i : ℕ) (new : Slot) (o : Option Call) (loose gone named : List ℕ) → i < length st.slots → (slot_at st i).call ≡ o → walks b new.call ≤ walks b o → owns b new.call ≤ owns b o
@@ -114,9 +113,9 @@ settled_step : (b size : ℕ) (base st : State) (event : Event) (d : State × An
 settled_step b size base st event _ (Step.took_new s e least) c =
     let new : Slot = record { used = true; batch = []; call = None } in
     let same : (t : ℕ) → get_or (st.heads ++ Inactive ∷ []) t Inactive ≡ head_at st t =
-        λ t. pushed (λ head. head ≡ head_at st t) st.heads t Inactive Inactive (λ i. sym (get_or_past st.heads t Inactive (omega (arith, i)))) refl in
+    λ t. pushed (λ head. head ≡ head_at st t) st.heads t Inactive Inactive (λ i. sym (get_or_past st.heads t Inactive (omega (arith, i)))) refl in
     let walk : (t : ℕ) → walks b (get_or (st.slots ++ new ∷ []) t no_slot).call ≤ walked b st t =
-        λ t. pushed (λ slot. walks b slot.call ≤ walked b st t) st.slots t new no_slot (λ i. omega arith) (omega arith) in
+    λ t. pushed (λ slot. walks b slot.call ≤ walked b st t) st.slots t new no_slot (λ i. omega arith) (omega arith) in
     record {
       lists_less = λ t. rw (same t) (c.lists_less t);
       held_less = λ t. rw (same t) (omega (arith, walk t, c.held_less t));
@@ -213,7 +212,7 @@ settled_end b (suc a) (t ∷ ts) st i m at adds = go (next t.size st t.event) re
     go None n at ih = none_in (suc a) m at
     go (Some d) n at ih = ih d.0 (inv_step t.size st t.event d (step_of t.size st t.event d n) i) m at adds
 
-walk_is : (b : ℕ) (o : Option Call) → occ b (walk_of o) ≡ walks b o
+pub walk_is : (b : ℕ) (o : Option Call) → occ b (walk_of o) ≡ walks b o
 walk_is b None = refl
 walk_is b (Some call) = go call.place
   where

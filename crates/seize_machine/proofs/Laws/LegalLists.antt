@@ -1,5 +1,5 @@
 -- How legal lists are made and taken apart, and what a law of their moments is shown by.
-use Rattle.std.proofs.Common.{◌≡◌, ℕ, zero, suc, Bool, true, false, ◌&&◌, List, [], ◌∷◌, ◌++◌, length, map, take, drop, Option, Some, None, refl, sym, ◌∙◌, ap, subst, arith}
+use Rattle.std.proofs.Common.{◌≡◌, ℕ, zero, suc, Bool, true, ◌&&◌, List, [], ◌∷◌, ◌++◌, length, take, drop, Option, Some, None, refl, sym, ◌∙◌, ap, subst, arith}
 use Rattle.std.specs.List.{list_all}
 use Rattle.std.proofs.lemmas.List.{map-append}
 use Rattle.std.proofs.lemmas.List.Folds.{list_all-append}
@@ -38,7 +38,7 @@ pub joined : (st now later : State) (events more : List Timed) (answers told : L
     → Legal next st events answers now → Legal next now more told later → Legal next st (events ++ more) (answers ++ told) later
 joined st now later events more answers told a b =
     let all : history next st (events ++ more) ≡ history next st events ++ history next now more =
-        history-append next events more st ∙ ap (λ (now : State). history next st events ++ history next now more) a.end_is in
+    history-append next events more st ∙ ap (λ (now : State). history next st events ++ history next now more) a.end_is in
     record {
       legal = ap are_legal all ∙ list_all-append _ (history next st events) (history next now more) ∙ both_true _ _ a.legal b.legal;
       answers_are =
@@ -80,16 +80,15 @@ drop_all (x ∷ xs) ys (suc n) e = drop_all xs ys n (omega arith)
 
 pub parted : (st later : State) (events more : List Timed) (answers : List Answer) → Legal next st (events ++ more) answers later
     → (now : State) × Legal next st events (take (length events) answers) now × Legal next now more (drop (length events) answers) later
-parted st later events more answers l =
-    (
-      now,
-      record { legal = both.0; answers_are = sym (ap (take (length events)) split ∙ take_all first last (length events) same); end_is = refl },
-      record {
-        legal = both.1;
-        answers_are = sym (ap (drop (length events)) split ∙ drop_all first last (length events) same);
-        end_is = sym (end_of-append (history next st events) (history next now more) st) ∙ ap (end_of st) (sym all) ∙ l.end_is;
-      },
-    )
+parted st later events more answers l = (
+  now,
+  record { legal = both.0; answers_are = sym (ap (take (length events)) split ∙ take_all first last (length events) same); end_is = refl },
+  record {
+    legal = both.1;
+    answers_are = sym (ap (drop (length events)) split ∙ drop_all first last (length events) same);
+    end_is = sym (end_of-append (history next st events) (history next now more) st) ∙ ap (end_of st) (sym all) ∙ l.end_is;
+  },
+)
   where
     now : State
     now = end_of st (history next st events)
@@ -111,6 +110,23 @@ parted st later events more answers l =
 
     both : (are_legal (history next st events) ≡ true) × (are_legal (history next now more) ≡ true)
     both = and_true _ _ (sym (list_all-append _ (history next st events) (history next now more)) ∙ ap are_legal (sym all) ∙ l.legal)
+
+-- a legal list from its first event on
+abbrev pub First : State → Timed → List Timed → List Answer → State → Type 0
+First st t more answers later =
+    (now : State) × (answer : Answer) × (rest : List Answer)
+    × (answers ≡ answer ∷ rest) × (next t.size st t.event ≡ Some (now, answer)) × Legal next now more rest later
+
+pub first_event : (st later : State) (t : Timed) (more : List Timed) (answers : List Answer) → Legal next st (t ∷ more) answers later → First st t more answers later
+first_event st later t more answers l = go (next t.size st t.event) refl l.legal l.answers_are l.end_is
+  where
+    go : (o : Outcome) → next t.size st t.event ≡ o
+        → (is_legal (or_illegal st o).1 && are_legal (history next (or_illegal st o).0 more)) ≡ true
+        → (or_illegal st o).1 ∷ answers_of (history next (or_illegal st o).0 more) ≡ answers
+        → end_of (or_illegal st o).0 (history next (or_illegal st o).0 more) ≡ later → First st t more answers later
+    go None e h a k = absurd (cc)
+    go (Some d) e h a k =
+        (d.0, d.1, answers_of (history next d.0 more), sym a, e, record { legal = (and_true _ _ h).1; answers_are = refl; end_is = k })
 
 -- legal answers
 pub are_legal-answers : (ms : List Moment) → are_legal ms ≡ list_all is_legal (answers_of ms)

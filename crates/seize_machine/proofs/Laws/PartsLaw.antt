@@ -3,7 +3,6 @@ use Rattle.std.proofs.Common.{◌≡◌, ℕ, ◌+◌, ◌≤◌, true, List, []
 use Rattle.std.specs.List.{Contains, flat_map}
 use Rattle.std.proofs.lemmas.List.Sums.{sum_by-cons}
 use Rattle.seize_machine.specs.Machine.State.{State, Slot, Call, Place, Append, Mark, Look, Try, Add, Out, Rest, linked, are_distinct, opening}
-use Rattle.seize_machine.specs.Machine.Next.{next}
 use Rattle.seize_machine.specs.Machine.History.{Timed, end_of, Retired}
 use Rattle.seize_machine.specs.Machine.Laws.{Parts, given_up, parts as all_parts}
 use Rattle.seize_machine.proofs.Laws.Sums.{occ, occ-append}
@@ -21,7 +20,7 @@ occ-given v (Some call) = go call.place
   where
     go : (place : Place) → occ v (given_up (Some (record { place = place; queue = call.queue }))) ≡ given v (Some (record { place = place; queue = call.queue }))
     go (Append w) = refl
-    go (Mark next note marked) = refl
+    go (Mark n note marked) = refl
     go (Look b won m later) = refl
     go (Try b won m later saw) = refl
     go (Add b won) = refl

@@ -18,10 +18,10 @@ use Rattle.seize_machine.proofs.Laws.Histories.{run, moment_of, from_first, none
 use Rattle.seize_machine.proofs.Laws.Reclaiming.{Story, after, keeps_until, keeps_new, first_gone}
 
 -- a slot that may read a link with v is active, and v stands in the links
-abbrev Sees : ℕ → ℕ → State → Type 0
+abbrev pub Sees : ℕ → ℕ → State → Type 0
 Sees s v st = (is_active (head_at st s) ≡ true) × (1 ≤ in_links v st.links)
 
-seen : (s v : ℕ) (st : State) (i l : ℕ) → can_link st i l ≡ true → (i == s) ≡ true → link_at st l ≡ Some v → Sees s v st
+pub seen : (s v : ℕ) (st : State) (i l : ℕ) → can_link st i l ≡ true → (i == s) ≡ true → link_at st l ≡ Some v → Sees s v st
 seen s v st i l e own h =
     let t : (is_active (head_at st i) ≡ true) × (nat_lt l (length st.links) ≡ true) = and_true _ _ e in
     let at : occ v (option_to_list (link_at st l)) ≡ one (v == v) + 0 = ap (λ o. occ v (option_to_list o)) h in
@@ -70,7 +70,7 @@ not_parting s _ own h = cc
 abbrev Between : List Moment → ℕ → ℕ → ℕ → ℕ → Type 0
 Between ms s v e c = ((q : ℕ) × (e < q) × (q < c) × Retired ms v q) × HasParted ms s e c
 
-unretired : (v : ℕ) (st : State) → parts v st + in_links v st.links ≤ places v st
+pub unretired : (v : ℕ) (st : State) → parts v st + in_links v st.links ≤ places v st
 unretired v st = omega (arith, kept-le-slots v st.slots)
 
 between_first : (s v c : ℕ) (t : Timed) (ts : List Timed) (st : State) → Inv st → Found (run st (t ∷ ts)) s v zero → Reclaimed (run st (t ∷ ts)) v c → Between (run st (t ∷ ts)) s v zero c

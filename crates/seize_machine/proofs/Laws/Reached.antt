@@ -4,25 +4,24 @@ use Rattle.std.proofs.lemmas.Int.{ints}
 use Rattle.std.proofs.lemmas.List.{get_or_past}
 use Rattle.std.proofs.lemmas.List.Sums.{get_or-le-sum_by}
 use Rattle.seize_machine.specs.Machine.State.{no_slot, State, Slot, Call, Place, Append, Mark, Look, Try, Add, Out, Rest, slot_at, batch_at, linked, are_distinct, opening}
-use Rattle.seize_machine.specs.Machine.Event.{Event}
 use Rattle.seize_machine.specs.Machine.Next.{Outcome, next}
 use Rattle.seize_machine.specs.Machine.History.{Timed, or_illegal, done_by, end_of, is_legal, IsReached}
 use Rattle.seize_machine.specs.Machine.Laws.{is_put, PutsWithin}
 use Rattle.seize_machine.specs.Machine.Code.{Sized, event_of, timed, HasDone, Does, WinsFit, AddFits, SubFits, CountFits, CallCountsFit, CountsFit}
 use Rattle.seize_machine.specs.declared.machine.event.Answer.{Answer}
 use Rattle.seize_machine.specs.declared.machine.event.Event.{Event as Written}
-use Rattle.seize_machine.proofs.Laws.Steps.{Step, Stands, step_of, is_true, some_is, lt_true}
+use Rattle.seize_machine.proofs.Laws.Steps.{Stands, is_true, lt_true}
 use Rattle.seize_machine.proofs.Laws.Sums.{one, occ, sum_nothing, sum_alone}
 use Rattle.seize_machine.proofs.Laws.Lists.{some_part}
 use Rattle.seize_machine.proofs.Laws.Counts.{CountedIn, of_calls, owns, wins, place_won, walks, listed, owns-wins, in_call_of, wins_alone, in_range, held_range}
-use Rattle.seize_machine.proofs.Laws.Fits.{Fits, SlotFits, CallFits, PlaceFits, fits_step}
-use Rattle.seize_machine.proofs.Laws.Invariants.{Inv, inv_step, opening_inv}
+use Rattle.seize_machine.proofs.Laws.Fits.{Fits, SlotFits, CallFits, PlaceFits}
+use Rattle.seize_machine.proofs.Laws.Invariants.{Inv, opening_inv}
 use Rattle.seize_machine.proofs.Laws.Histories.{run, run_is, from_first}
 use Rattle.seize_machine.proofs.Laws.LegalLists.{no_event, one_more}
 use Rattle.seize_machine.proofs.Laws.Ends.{opening_fits, end_inv, end_fits}
 
 -- a legal list ends where its moments end
-ends_at : (st : State) (r : IsReached st) → end_of (opening r.slots r.links) (run (opening r.slots r.links) r.events) ≡ st
+pub ends_at : (st : State) (r : IsReached st) → end_of (opening r.slots r.links) (run (opening r.slots r.links) r.events) ≡ st
 ends_at st r = ap (end_of (opening r.slots r.links)) (sym (run_is r.events (opening r.slots r.links) r.leads.legal)) ∙ r.leads.end_is
 
 pub reached_inv : (st : State) → IsReached st → Inv st
@@ -52,7 +51,7 @@ reached_fits st r =
     (max 1 k, subst (Fits (max 1 k)) (ends_at st r) (end_fits k r.events start (within k r.events start (omega arith)) (opening_fits k r.slots r.links)))
 
 -- the insertions won of one batch are those of its one owner, at most one for each slot
-owner_wins : (k b : ℕ) (st : State) → Fits k st → CountedIn b st → of_calls (wins b) st.slots ≤ length st.slots
+pub owner_wins : (k b : ℕ) (st : State) → Fits k st → CountedIn b st → of_calls (wins b) st.slots ≤ length st.slots
 owner_wins k b st fits c = go (nat_lt 0 (of_calls (owns b) st.slots)) refl
   where
     place_fits : (place : Place) (l : ℕ) → PlaceFits k (length st.slots) l place → place_won b place ≤ length st.slots
@@ -91,7 +90,7 @@ owner_wins k b st fits c = go (nat_lt 0 (of_calls (owns b) st.slots)) refl
         omega arith
 
 -- what a call that is about to add counts with
-adds : (k b won s : ℕ) (queue : List ℕ) (st : State) → Fits k st → Inv st → Stands st s (Add b won) queue → AddFits st b won
+pub adds : (k b won s : ℕ) (queue : List ℕ) (st : State) → Fits k st → Inv st → Stands st s (Add b won) queue → AddFits st b won
 adds k b won s queue st fits i e =
     let c : CountedIn b st = i.sound.counts b in
     let own : one (b == b) ≡ 1 = grind arith in

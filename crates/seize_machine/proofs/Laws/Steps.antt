@@ -3,13 +3,11 @@ use Rattle.std.proofs.Common.{◌≡◌, ◌≢◌, ℕ, ◌+◌, ◌-◌, ◌^�
 use Rattle.std.proofs.lemmas.List.Sums.{prefix_len-le-length, passes_at_first}
 use Rattle.seize_machine.specs.Machine.State.{no_slot, State, Slot, Call, Head, Inactive, Active, Place, Append, Mark, Look, Try, Add, Out, Rest, slot_at, head_at, batch_at, link_at, is_active, waiting_at, has, is_idle}
 use Rattle.seize_machine.specs.Machine.Event.{Event, Take, Give, Enter, Begin, Put, ReadHead, Detach, Insert, AddCount, SwapOut, SubCount, Hand, Return, ReadLink, ExchangeLink}
-use Rattle.seize_machine.specs.Machine.Next.{Outcome, scheme, next, of_call, moved, moved_call, own, first_free, is_outside, is_empty, set_slot, set_head, begun, retiring, flushing_at, begin_active, begin, put_into, put_first, put_at, slot_put, marking, mark_at, slot_mark, looking_at, looked_on, slot_read, look, marked_place, looked, can_detach_at, can_detach, detached_on, detach, trying_at, won_on, insert_into, insert, is_changed, can_lose_at, lost_on, slot_lost, same_list, is_zero, adding_at, add_count, walking_at, walked_on, sub_count, leaving_at, swap_out, are_fresh, handing_at, handed_on, slot_handed, hand, return_at, slot_return, can_link, is_none_or_fresh, same_link, new_link, is_stored, exchange_link}
+use Rattle.seize_machine.specs.Machine.Next.{Outcome, scheme, next, of_call, moved, moved_call, own, first_free, is_outside, is_empty, set_slot, set_head, begun, retiring, flushing_at, begin_active, begin, put_into, put_at, slot_put, marking, mark_at, slot_mark, looking_at, looked_on, slot_read, look, marked_place, looked, can_detach_at, can_detach, detached_on, detach, trying_at, won_on, insert_into, insert, is_changed, can_lose_at, lost_on, slot_lost, same_list, is_zero, adding_at, add_count, walking_at, walked_on, sub_count, leaving_at, swap_out, are_fresh, handing_at, handed_on, hand, return_at, slot_return, can_link, is_none_or_fresh, new_link, is_stored, exchange_link}
 use Rattle.seize_machine.specs.declared.machine.event.Job.{Job}
 use Rattle.seize_machine.specs.declared.machine.event.Job.TheVariants.{Retire, Flush, Leave, Refresh}
-use Rattle.seize_machine.specs.declared.machine.event.Try.{Try as Insertion}
 use Rattle.seize_machine.specs.declared.machine.event.Try.TheVariants.{Won, Lost}
 use Rattle.seize_machine.specs.declared.machine.event.Exchange.{Exchange}
-use Rattle.seize_machine.specs.declared.machine.event.Exchange.TheVariants.{Swap, Compare}
 use Rattle.seize_machine.specs.declared.machine.event.Answer.{Answer}
 use Rattle.seize_machine.specs.declared.machine.event.Answer.TheVariants.{Done, Head as HeadRead, Count, Handed, Link}
 
@@ -175,7 +173,7 @@ from_read : {A : Type 0} (P : State × Answer → Type 0) (o : Option A) (f : Op
 from_read P None f d none h k = absurd (let e : Option.None ≡ Some d = sym none ∙ h in cc)
 from_read P (Some x) f d none h k = k x refl h
 
-moved_to : (st : State) (s : ℕ) (f : Place → Place) (place : Place) (queue : List ℕ) → Stands st s place queue
+pub moved_to : (st : State) (s : ℕ) (f : Place → Place) (place : Place) (queue : List ℕ) → Stands st s place queue
     → moved f (slot_at st s) ≡ record (slot_at st s) { call = Some (record { place = f place; queue = queue }) }
 moved_to st s f place queue e = ap (λ (o : Option Call). record (slot_at st s) { call = moved_call f o }) e
 
@@ -228,7 +226,7 @@ put_place k n batch = go (nat_le k (length batch)) refl
     go true e = inr refl
     go false e = inl (refl, grind arith)
 
-put_is : (size n : ℕ) (slot : Slot) (v : ℕ) (queue : List ℕ)
+pub put_is : (size n : ℕ) (slot : Slot) (v : ℕ) (queue : List ℕ)
     → put_into scheme size n slot v queue ≡ Some (record { used = slot.used; batch = slot.batch ++ v ∷ []; call = Some (record { place = after_put size n (slot.batch ++ v ∷ []); queue = queue }) })
 put_is size n slot v queue = go (slot.batch ++ v ∷ []) (nat_le (max 1 size) (length (slot.batch ++ v ∷ [])))
   where
@@ -310,14 +308,13 @@ step_detach size st s d h =
     subst (λ d. Step size st (Detach s) d) w.1 (at k.0 k.1 k.2 k.3)
   where
     after : Option Call → State × Answer
-    after call =
-        (
-          record st {
-            slots = slice_set st.slots s (record { used = (slot_at st s).used; batch = []; call = moved_call (detached_on (length st.batches)) call });
-            batches = st.batches ++ record { values = (slot_at st s).batch; count = pos 0 } ∷ [];
-          },
-          Done,
-        )
+    after call = (
+      record st {
+        slots = slice_set st.slots s (record { used = (slot_at st s).used; batch = []; call = moved_call (detached_on (length st.batches)) call });
+        batches = st.batches ++ record { values = (slot_at st s).batch; count = pos 0 } ∷ [];
+      },
+      Done,
+    )
 
     at : (place : Place) (queue : List ℕ) → Stands st s place queue → can_detach_at place queue ≡ Some true → Step size st (Detach s) (after (slot_at st s).call)
     at (Mark next note marks) queue e c =
@@ -365,7 +362,7 @@ step_lost size st s n slot h =
     at _ queue e c moves = absurd (cc)
 
 -- a count with the call's place told
-abbrev counted_call : State → ℕ → ℕ → ℤ → Option Call → Outcome
+abbrev pub counted_call : State → ℕ → ℕ → ℤ → Option Call → Outcome
 counted_call st s b count call =
     Some (
       record st {
@@ -423,15 +420,14 @@ step_hand size st s puts d v c h =
     here k.0 k.1 k.2 k.3 (if_some _ _ _ h)
   where
     after : Option Call → State × Answer
-    after call =
-        (
-          record st {
-            slots = slice_set st.slots s (record (slot_at st s) { call = handed_to call });
-            gone = st.gone ++ v ∷ [];
-            named = st.named ++ puts;
-          },
-          Handed v,
-        )
+    after call = (
+      record st {
+        slots = slice_set st.slots s (record (slot_at st s) { call = handed_to call });
+        gone = st.gone ++ v ∷ [];
+        named = st.named ++ puts;
+      },
+      Handed v,
+    )
       where
         handed_to : Option Call → Option Call
         handed_to None = None

@@ -1,18 +1,11 @@
 -- Counts over lists.
-use Rattle.std.proofs.Common.{◌≡◌, ◌≢◌, ℕ, zero, suc, ◌+◌, ◌<◌, ◌≤◌, Bool, true, false, not, ◌==◌, if◌then◌else◌, List, [], ◌∷◌, ◌++◌, length, get_or, refl, ap, subst, ◌⊎◌, inl, inr, arith}
+pub use Rattle.seize_machine.specs.Machine.Kept.{one, occ}
+use Rattle.std.proofs.Common.{◌≡◌, ◌≢◌, ℕ, zero, suc, ◌+◌, ◌<◌, ◌≤◌, true, false, not, ◌==◌, List, [], ◌∷◌, ◌++◌, length, get_or, refl, ap, subst, ◌⊎◌, inl, inr, arith}
 use Rattle.std.specs.List.{sum_by, list_all, filter}
 use Rattle.std.proofs.lemmas.List.Sums.{sum_by-cons, get_or-le-sum_by}
 use Rattle.seize_machine.specs.Machine.State.{has, are_distinct}
 use Rattle.seize_machine.specs.Machine.Next.{are_fresh}
 use Rattle.seize_machine.proofs.Laws.Steps.{is_true, eq_true, and_true, not_true}
-
-abbrev pub one : Bool → ℕ
-one b = if b then 1 else 0
-
--- how often v stands in a list
-abbrev pub occ : ℕ → List ℕ → ℕ
-occ v [] = 0
-occ v (x ∷ xs) = one (x == v) + occ v xs
 
 pub occ-append : (v : ℕ) (xs ys : List ℕ) → occ v (xs ++ ys) ≡ occ v xs + occ v ys
 occ-append v [] ys = omega arith

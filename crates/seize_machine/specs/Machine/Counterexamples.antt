@@ -1,12 +1,12 @@
 -- Wrong machines, each the right scheme with one of its choices changed, and for each a list of events, legal under it, on which
 -- it breaks a law.
-use Rattle.std.specs.Prelude.{ℕ, ◌+◌, ℤ, pos, negsuc, ◌+ℤ◌, Bool, true, false, not, ◌&&◌, ◌==◌, if◌then◌else◌, nat_lt, nat_le, List, [], ◌∷◌, ◌++◌, map, length, slice_set, Option, Some, None}
+use Rattle.std.specs.Prelude.{ℕ, ◌+◌, ℤ, pos, negsuc, ◌+ℤ◌, Bool, true, not, ◌&&◌, ◌==◌, if◌then◌else◌, nat_lt, nat_le, List, [], ◌∷◌, ◌++◌, map, length, slice_set, None}
 use Rattle.std.specs.List.{list_all}
-use Rattle.seize_machine.specs.Machine.State.{State, Batch, Head, Inactive, Active, Place, Mark, Look, Try, Add, Rest, is_active}
+use Rattle.seize_machine.specs.Machine.State.{Batch, Head, Inactive, Active, Place, Mark, Try, Rest, is_active}
 use Rattle.seize_machine.specs.Machine.Event.{Event, Take, Enter, Begin, Put, ReadHead, Detach, Insert, AddCount, SwapOut, SubCount, Hand, Return, ReadLink, ExchangeLink}
 use Rattle.seize_machine.specs.Machine.Next.{Transition, next_by, scheme, is_empty, is_zero, all_if, look}
 use Rattle.seize_machine.specs.Machine.History.{Timed, at_size}
-use Rattle.seize_machine.specs.Machine.Rows.{detached, left, added_beside_active}
+use Rattle.seize_machine.specs.Machine.Rows.{detached, left}
 use Rattle.seize_machine.specs.declared.machine.event.Job.TheVariants.{Retire, Leave}
 use Rattle.seize_machine.specs.declared.machine.event.Try.TheVariants.{Won, Lost}
 use Rattle.seize_machine.specs.declared.machine.event.Exchange.TheVariants.{Swap}
@@ -26,7 +26,9 @@ retired_alone = Take 0 ∷ Begin 0 (Retire 7) ∷ Put 0 ∷ ReadHead 0 0 ∷ Det
 -- becomes active before slot 0 adds its insertion: the count is 0, the batch is not given up, and nothing holds it.
 abbrev pub given_up_unless_active : Transition
 given_up_unless_active =
-    next_by (record scheme { parted = λ st count values. all_if (is_zero count && list_all (λ head. not (is_active head)) st.heads) values })
+    next_by (record scheme {
+      parted = λ st count values. all_if (is_zero count && list_all (λ head. not (is_active head)) st.heads) values;
+    })
 
 -- whether a count is 0 or below
 abbrev pub is_zero_or_below : ℤ → Bool

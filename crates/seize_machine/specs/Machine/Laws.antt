@@ -60,7 +60,8 @@ given_up (Some call) = elim call.place [ Rest given walk ↦ given | _ ↦ [] ]
 
 abbrev pub parts : State → List ℕ
 parts st =
-    flat_map (λ slot. slot.batch) st.slots ++ flat_map (λ batch. batch.values) st.batches ++ flat_map (λ slot. given_up slot.call) st.slots ++ st.gone
+    flat_map (λ slot. slot.batch) st.slots ++ flat_map (λ batch. batch.values) st.batches
+    ++ flat_map (λ slot. given_up slot.call) st.slots ++ st.gone
 
 abbrev pub Parts : State → List Moment → Type 0
 Parts st ms =
@@ -151,4 +152,5 @@ HoldsOfAll law =
 -- A list of events, legal under a transition function from the opening with no slot made and these links, breaks a law.
 abbrev pub Breaks : Transition → List (Option ℕ) → List Timed → (State → List Moment → Type 0) → Type 0
 Breaks transition links events law =
-    (are_legal (history transition (opening 0 links) events) ≡ true) × ¬ (law (opening 0 links) (history transition (opening 0 links) events))
+    let start = opening 0 links in
+    (are_legal (history transition start events) ≡ true) × ¬ (law start (history transition start events))

@@ -1,5 +1,5 @@
 -- What each event does: `next`, the one transition function, which is total and computes.
-use Rattle.std.specs.Prelude.{ℕ, ◌+◌, ◌-◌, ◌^◌, ℤ, pos, negsuc, ◌+ℤ◌, ◌-ℤ◌, Bool, true, false, not, ◌&&◌, ◌||◌, ◌==◌, if◌then◌else◌, nat_lt, nat_le, max, List, [], ◌∷◌, ◌++◌, length, slice_set, Option, Some, None, option_map, option_to_list, unwrap_or}
+use Rattle.std.specs.Prelude.{ℕ, ◌+◌, ◌-◌, ◌^◌, ℤ, pos, negsuc, ◌+ℤ◌, ◌-ℤ◌, Bool, true, false, not, ◌&&◌, ◌||◌, ◌==◌, if◌then◌else◌, nat_lt, nat_le, max, List, [], ◌∷◌, ◌++◌, length, slice_set, Option, Some, None, option_to_list, unwrap_or}
 use Rattle.std.specs.List.{list_all, position_or_len, filter}
 use Rattle.seize_machine.specs.Machine.State.{State, Slot, Call, Head, Inactive, Active, Place, Append, Mark, Look, Try, Add, Out, Rest, slot_at, head_at, batch_at, link_at, is_active, waiting_at, is_idle, has, are_distinct}
 use Rattle.seize_machine.specs.Machine.Event.{Event, Take, Give, Enter, Begin, Put, ReadHead, Detach, Insert, AddCount, SwapOut, SubCount, Hand, Return, ReadLink, ExchangeLink}
@@ -9,7 +9,7 @@ use Rattle.seize_machine.specs.declared.machine.event.Try.TheVariants.{Won, Lost
 use Rattle.seize_machine.specs.declared.machine.event.Exchange.{Exchange}
 use Rattle.seize_machine.specs.declared.machine.event.Exchange.TheVariants.{Swap, Compare}
 use Rattle.seize_machine.specs.declared.machine.event.Answer.{Answer}
-use Rattle.seize_machine.specs.declared.machine.event.Answer.TheVariants.{Done, Head as HeadRead, Count, Handed, Link, Illegal}
+use Rattle.seize_machine.specs.declared.machine.event.Answer.TheVariants.{Done, Head as HeadRead, Count, Handed, Link}
 
 -- the new state and the answer, or none where the event is illegal
 abbrev pub Outcome : Type 0
@@ -100,12 +100,15 @@ is_empty (x ∷ xs) = false
 abbrev pub begun : State → ℕ → Place → State
 begun st s place = set_slot st s (begun_at (slot_at st s) place)
 
+abbrev pub with_named : List ℕ → ℕ → List ℕ
+with_named named v = if has v named then named else named ++ v ∷ []
+
 -- v is about to be retired: it is named, and no longer between a link and its retirement
 abbrev pub retiring : State → ℕ → State
 retiring st v =
     record st {
       loose = filter (λ x. not (x == v)) st.loose;
-      named = if has v st.named then st.named else st.named ++ v ∷ [];
+      named = with_named st.named v;
     }
 
 -- where a flush begins: at the first head, if the slot has a batch

@@ -100,4 +100,12 @@ linked links = flat_map option_to_list links
 -- values; nothing retired
 abbrev pub opening : ℕ → List (Option ℕ) → State
 opening slots links =
-    record { slots = replicate slots no_slot; heads = replicate slots Inactive; batches = []; links = links; loose = []; gone = []; named = linked links }
+    record {
+      slots = replicate slots no_slot;
+      heads = replicate slots Inactive;
+      batches = [];
+      links = links;
+      loose = [];
+      gone = [];
+      named = linked links;
+    }

@@ -3,7 +3,7 @@ ghost use Rattle.std.specs.Prelude.{◌≡◌, ◌<◌, ◌≤◌, ◌==◌, ◌
 ghost use Rattle.std.specs.List.{filter, list_all};
 ghost use Rattle.seize_machine.specs.Machine.State as state;
 ghost use Rattle.seize_machine.specs.Machine.Event as event;
-ghost use Rattle.seize_machine.specs.Machine.Next.{scheme, next, first_free, is_outside, is_none_or_fresh, swapped};
+ghost use Rattle.seize_machine.specs.Machine.Next.{scheme, next, first_free, is_outside, with_named, is_none_or_fresh, swapped};
 ghost use Rattle.seize_machine.specs.Machine.Laws.{is_quiet};
 ghost use Rattle.seize_machine.specs.Machine.Code.{Does, CountsFit, head_view, event_of};
 
@@ -234,7 +234,7 @@ impl Configuration {
 
     /// The value is one that was named.
     fn name(&mut self, value: u64) -> Result<(), AllocError>
-        ensures ok { OnOk result (self.new ≡ record self.old { named = if state.has value self.old.named then self.old.named else self.old.named ++ value ∷ [] }) }
+        ensures ok { OnOk result (self.new ≡ record self.old { named = with_named self.old.named value }) }
         ensures err { OnErr result (self.new ≡ self.old) }
     {
         if !self.named.contains(&value) {

@@ -59,6 +59,16 @@ pub(super) struct Call {
     pub(super) queue: VecDeque<u64>,
 }
 
+impl Call {
+    /// The place, which the caller puts anew.
+    fn take_place(&mut self) -> Place
+        ensures place { place_view result ≡ place_view self.old.place }
+        ensures queue { self.new.queue ≡ self.old.queue }
+    {
+        mem::replace(&mut self.place, Place::Out { stays: false })
+    }
+}
+
 impl Place {
     /// Reading the heads from the first on.
     pub(super) fn marking(alloc: Global, slots: usize) -> Place
@@ -333,11 +343,8 @@ impl Slot {
     pub(super) fn look(&mut self, alloc: Global, saw: Option<VecDeque<usize>>)
         ensures { self.new ≡ moved (looked_on scheme (head_view saw)) self.old }
     {
-        if let Some(Call { place, queue }) = self.call.take() {
-            self.call = Some(Call {
-                place: place.looked(saw),
-                queue,
-            });
+        if let Some(call) = &mut self.call {
+            call.place = call.take_place().looked(saw);
         }
     }
 
@@ -361,11 +368,8 @@ impl Slot {
         ensures batch { result.items ≡ self.old.batch }
         ensures rest { self.new ≡ detached number self.old }
     {
-        if let Some(Call { place, queue }) = self.call.take() {
-            self.call = Some(Call {
-                place: place.detached(number),
-                queue,
-            });
+        if let Some(call) = &mut self.call {
+            call.place = call.take_place().detached(number);
         }
         mem::replace(&mut self.batch, VecDeque::new(alloc))
     }
@@ -390,11 +394,8 @@ impl Slot {
         requires { CanWin self.old.call }
         ensures { self.new ≡ moved won_on self.old }
     {
-        if let Some(Call { place, queue }) = self.call.take() {
-            self.call = Some(Call {
-                place: place.won(),
-                queue,
-            });
+        if let Some(call) = &mut self.call {
+            call.place = call.take_place().won();
         }
     }
 
@@ -405,11 +406,8 @@ impl Slot {
         if !self.can_lose(n, head) {
             return false;
         }
-        if let Some(Call { place, queue }) = self.call.take() {
-            self.call = Some(Call {
-                place: place.lost(),
-                queue,
-            });
+        if let Some(call) = &mut self.call {
+            call.place = call.take_place().lost();
         }
         true
     }
@@ -462,11 +460,8 @@ impl Slot {
     pub(super) fn rest(&mut self, given: VecDeque<u64>, walk: VecDeque<usize>)
         ensures { self.new ≡ moved (λ _. state.Rest given.items walk.items) self.old }
     {
-        if let Some(Call { queue, .. }) = self.call.take() {
-            self.call = Some(Call {
-                place: Place::Rest { given, walk },
-                queue,
-            });
+        if let Some(call) = &mut self.call {
+            call.place = Place::Rest { given, walk };
         }
     }
 
@@ -494,11 +489,8 @@ impl Slot {
     pub(super) fn walked(&mut self, given: VecDeque<u64>)
         ensures { self.new ≡ moved (walked_on given.items) self.old }
     {
-        if let Some(Call { place, queue }) = self.call.take() {
-            self.call = Some(Call {
-                place: place.walked(given),
-                queue,
-            });
+        if let Some(call) = &mut self.call {
+            call.place = call.take_place().walked(given);
         }
     }
 

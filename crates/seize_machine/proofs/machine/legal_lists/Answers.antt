@@ -1,6 +1,4 @@
-use Rattle.seize_machine.proofs.Laws.LegalLists.{one_more, joined, parted}
-use Rattle.seize_machine.proofs.Laws.Gone.{law_gone}
-use Rattle.seize_machine.proofs.Laws.Ends.{end_fits}
+use Rattle.seize_machine.proofs.Facts.{one_more, joined, parted, first_event}
 use Rattle.seize_machine.proofs.machine.legal_lists.Goals as goal
 
 pub returns-clause-one_more : goal.returns-clause-one_more
@@ -11,3 +9,6 @@ returns-clause-joined c = joined
 
 pub returns-clause-parted : goal.returns-clause-parted
 returns-clause-parted c = parted
+
+pub returns-clause-first_event : goal.returns-clause-first_event
+returns-clause-first_event c = first_event

@@ -1,0 +1,215 @@
+-- What other crates may build on: the facts of the machine, each with its statement. The modules of `proofs/Laws` behind them are no
+-- interface, and may change. The definitions that the statements cite are in `specs/Machine`.
+pub use Rattle.seize_machine.proofs.Laws.Steps.{Step, Stands, go_on, counted, swapped, beginning, after_put}
+use Rattle.std.proofs.Common.{◌≡◌, ◌≢◌, ℕ, ◌+◌, ◌<◌, ◌≤◌, pos, neg_ℤ, ◌≤ℤ◌, Bool, true, false, List, [], ◌∷◌, ◌++◌, length, take, drop, Option, Some, arith}
+use Rattle.std.specs.List.{Contains}
+use Rattle.seize_machine.specs.Machine.State.{State, Mark, Look, Try, Add, Out, slot_at, head_at, link_at, batch_at, is_active, has, linked, are_distinct, opening}
+use Rattle.seize_machine.specs.Machine.Event.{Event, SwapOut}
+use Rattle.seize_machine.specs.Machine.Next.{next, can_link}
+use Rattle.seize_machine.specs.Machine.History.{Timed, Legal, IsReached, handed_value}
+use Rattle.seize_machine.specs.Machine.Laws.{HoldsOfAll, AtMostOnce, After, Quiet, Protection, Parts, Gone, Holders, NoLaterHolders, Tries, detached_by, Lists, Walks}
+use Rattle.seize_machine.specs.Machine.Frames.{changes_slot, used, changes_used, changes_head_of, changes_link, changes_batch, changes_value, slots_added, batches_added, begins_retiring}
+use Rattle.seize_machine.specs.Machine.Kept.{KeptIn}
+use Rattle.seize_machine.specs.declared.machine.event.Answer.{Answer}
+use Rattle.seize_machine.specs.declared.machine.event.Answer.TheVariants.{Count}
+use Rattle.seize_machine.proofs.Laws.Exactness as exactness
+use Rattle.seize_machine.proofs.Laws.Steps as steps
+use Rattle.seize_machine.proofs.Laws.Frames as frames
+use Rattle.seize_machine.proofs.Laws.LegalLists as lists
+use Rattle.seize_machine.proofs.Laws.Reached as reached
+use Rattle.seize_machine.proofs.Laws.States as states
+use Rattle.seize_machine.proofs.Laws.Invariants as invariants
+use Rattle.seize_machine.proofs.Laws.Kept as kept
+use Rattle.seize_machine.proofs.Laws.Reclaiming as reclaiming
+use Rattle.seize_machine.proofs.Laws.Protection as protection
+use Rattle.seize_machine.proofs.Laws.Quiet as quiet
+use Rattle.seize_machine.proofs.Laws.PartsLaw as parts
+use Rattle.seize_machine.proofs.Laws.Gone as gone
+use Rattle.seize_machine.proofs.Laws.Holders as holders
+use Rattle.seize_machine.proofs.Laws.LaterHolders as later_holders
+use Rattle.seize_machine.proofs.Laws.Tries as tries
+
+-- Steps. `Step size st event d` has one constructor for each row of the table, with all that the row asks: these are exactly the
+-- legal events.
+
+pub step_of : (size : ℕ) (st : State) (event : Event) (d : State × Answer) → next size st event ≡ Some d → Step size st event d
+step_of = steps.step_of
+
+pub next_of : (size : ℕ) (st : State) (event : Event) (d : State × Answer) → Step size st event d → next size st event ≡ Some d
+next_of = exactness.next_of
+
+-- Legal lists: nothing, one event, one event more at the end, a list that goes on; and a list taken apart after a beginning or
+-- after its first event.
+
+pub no_event : (st : State) → Legal next st [] [] st
+no_event = lists.no_event
+
+pub one_event : (st later : State) (t : Timed) (answer : Answer) → next t.size st t.event ≡ Some (later, answer) → Legal next st (t ∷ []) (answer ∷ []) later
+one_event = lists.one_event
+
+pub one_more : (st now later : State) (events : List Timed) (answers : List Answer) (t : Timed) (answer : Answer)
+    → Legal next st events answers now → next t.size now t.event ≡ Some (later, answer) → Legal next st (events ++ t ∷ []) (answers ++ answer ∷ []) later
+one_more = lists.one_more
+
+pub joined : (st now later : State) (events more : List Timed) (answers told : List Answer)
+    → Legal next st events answers now → Legal next now more told later → Legal next st (events ++ more) (answers ++ told) later
+joined = lists.joined
+
+pub parted : (st later : State) (events more : List Timed) (answers : List Answer) → Legal next st (events ++ more) answers later
+    → (now : State) × Legal next st events (take (length events) answers) now × Legal next now more (drop (length events) answers) later
+parted = lists.parted
+
+pub first_event : (st later : State) (t : Timed) (more : List Timed) (answers : List Answer) → Legal next st (t ∷ more) answers later
+    → (now : State) × (answer : Answer) × (rest : List Answer)
+    × (answers ≡ answer ∷ rest) × (next t.size st t.event ≡ Some (now, answer)) × Legal next now more rest later
+first_event = lists.first_event
+
+-- Reached states: each opening is one, a legal event leads to another, and what holds of each opening and is kept by each legal event
+-- from a reached state holds of all of them.
+
+pub opening_reached : (slots : ℕ) (links : List (Option ℕ)) → are_distinct (linked links) ≡ true → IsReached (opening slots links)
+opening_reached slots links distinct =
+    record { slots = slots; links = links; events = []; answers = []; distinct = distinct; leads = lists.no_event (opening slots links) }
+
+pub reached_next : (st : State) (t : Timed) (d : State × Answer) → IsReached st → next t.size st t.event ≡ Some d → IsReached d.0
+reached_next = reached.reached_next
+
+pub reached_holds : (P : State → Type 0) → ((slots : ℕ) (links : List (Option ℕ)) → are_distinct (linked links) ≡ true → P (opening slots links))
+    → ((st : State) (t : Timed) (d : State × Answer) → IsReached st → Step t.size st t.event d → P st → P d.0) → (st : State) → IsReached st → P st
+reached_holds = states.reached_holds
+
+-- The laws, of every legal list from every opening.
+
+pub law_at_most_once : HoldsOfAll AtMostOnce
+law_at_most_once = lists.of_all AtMostOnce reclaiming.law_at_most_once
+
+pub law_after : HoldsOfAll After
+law_after = lists.of_all After reclaiming.law_after
+
+pub law_quiet : HoldsOfAll Quiet
+law_quiet = lists.of_all Quiet quiet.law_quiet
+
+pub law_protection : HoldsOfAll Protection
+law_protection = lists.of_all Protection protection.law_protection
+
+pub law_parts : HoldsOfAll Parts
+law_parts = lists.of_all Parts parts.law_parts
+
+pub law_gone : HoldsOfAll Gone
+law_gone = lists.of_all Gone gone.law_gone
+
+pub law_holders : HoldsOfAll Holders
+law_holders = lists.of_all Holders holders.law_holders
+
+pub law_no_later_holders : HoldsOfAll NoLaterHolders
+law_no_later_holders = lists.of_all NoLaterHolders later_holders.law_no_later_holders
+
+pub law_tries : HoldsOfAll Tries
+law_tries = lists.of_all Tries tries.law_tries
+
+-- Frames: what an event leaves as it was.
+
+-- the record of another slot, and whether another slot is active
+pub slot_frame : (k size : ℕ) (st : State) (event : Event) (d : State × Answer) → Step size st event d → changes_slot k event ≡ false → slot_at d.0 k ≡ slot_at st k
+slot_frame = frames.slot_frame
+
+pub active_frame : (k size : ℕ) (st : State) (event : Event) (d : State × Answer) → Step size st event d → changes_slot k event ≡ false → is_active (head_at d.0 k) ≡ is_active (head_at st k)
+active_frame = frames.active_frame
+
+-- all heads but the one that an event enters, swaps out or inserts at
+pub head_frame : (m size : ℕ) (st : State) (event : Event) (d : State × Answer) → Step size st event d → changes_head_of m event ≡ false → head_at d.0 m ≡ head_at st m
+head_frame = frames.head_frame
+
+-- all retired batches but the one that is counted up or down
+pub batch_frame : (b size : ℕ) (st : State) (event : Event) (d : State × Answer) → Step size st event d → b < length st.batches → changes_batch st b event ≡ false → batch_at d.0 b ≡ batch_at st b
+batch_frame = frames.batch_frame
+
+-- all links but the one that is exchanged
+pub link_frame : (l size : ℕ) (st : State) (event : Event) (d : State × Answer) → Step size st event d → changes_link l event ≡ false → link_at d.0 l ≡ link_at st l
+link_frame = frames.link_frame
+
+-- which numbers are in use
+pub used_frame : (size : ℕ) (st : State) (event : Event) (d : State × Answer) → Step size st event d → changes_used event ≡ false → used d.0 ≡ used st
+used_frame = frames.used_frame
+
+-- whether a value was ever named, and whether it is between a link and its retirement
+pub value_frame : (v size : ℕ) (st : State) (event : Event) (d : State × Answer) → Step size st event d → changes_value st v event ≡ false
+    → (has v (d.0).named ≡ has v st.named) × (has v (d.0).loose ≡ has v st.loose)
+value_frame = frames.value_frame
+
+-- slots made, retired batches and named values only grow, links stay as many
+pub slots_length : (size : ℕ) (st : State) (event : Event) (d : State × Answer) → Step size st event d → length (d.0).slots ≡ length st.slots + slots_added st event
+slots_length = frames.slots_length
+
+pub heads_length : (st : State) → IsReached st → length st.heads ≡ length st.slots
+heads_length st r = (reached.reached_inv st r).sound.lengths
+
+pub batches_length : (size : ℕ) (st : State) (event : Event) (d : State × Answer) → Step size st event d → length (d.0).batches ≡ length st.batches + batches_added event
+batches_length = frames.batches_length
+
+pub links_length : (size : ℕ) (st : State) (event : Event) (d : State × Answer) → Step size st event d → length (d.0).links ≡ length st.links
+links_length = frames.links_length
+
+pub named_grows : (v size : ℕ) (st : State) (event : Event) (d : State × Answer) → Step size st event d → has v st.named ≡ true → has v (d.0).named ≡ true
+named_grows = frames.named_grows
+
+-- a value that came out of a link stays so until a call begins to retire it
+pub loose_stays : (v size : ℕ) (st : State) (event : Event) (d : State × Answer) → Step size st event d → begins_retiring v event ≡ false → has v st.loose ≡ true → has v (d.0).loose ≡ true
+loose_stays = frames.loose_stays
+
+-- Calls in a reached state.
+
+-- a call that is about to swap its head out is one of an active slot
+pub out_active : (st : State) (s : ℕ) (stays : Bool) (queue : List ℕ) → IsReached st → Stands st s (Out stays) queue → is_active (head_at st s) ≡ true
+out_active = states.out_active
+
+-- the slots marked are distinct, below the next number to read, and no more than the values of the batch
+pub marks_tidy : (st : State) (s next note : ℕ) (marks queue : List ℕ) → IsReached st → Stands st s (Mark next note marks) queue
+    → (are_distinct marks ≡ true) × ((v : ℕ) → Contains marks v → v < next) × (length marks ≤ length (slot_at st s).batch)
+marks_tidy = states.marks_tidy
+
+-- the slots where a call has still to insert its batch are distinct, and with the insertions won they are no more than its values
+pub looks_tidy : (st : State) (s b won m : ℕ) (later queue : List ℕ) → IsReached st → Stands st s (Look b won m later) queue
+    → (are_distinct (m ∷ later) ≡ true) × (won + length (m ∷ later) ≤ length (batch_at st b).values)
+looks_tidy = states.looks_tidy
+
+pub tries_tidy : (st : State) (s b won m : ℕ) (later saw queue : List ℕ) → IsReached st → Stands st s (Try b won m later saw) queue
+    → (are_distinct (m ∷ later) ≡ true) × (won + length (m ∷ later) ≤ length (batch_at st b).values)
+tries_tidy = states.tries_tidy
+
+pub adds_tidy : (st : State) (s b won : ℕ) (queue : List ℕ) → IsReached st → Stands st s (Add b won) queue → won ≤ length (batch_at st b).values
+adds_tidy = states.adds_tidy
+
+-- Counts in a reached state.
+
+-- each lies between minus and plus the number of slots
+pub counts_near : (st : State) → IsReached st → (b : ℕ) → (neg_ℤ (pos (length st.slots)) ≤ℤ (batch_at st b).count) × ((batch_at st b).count ≤ℤ pos (length st.slots))
+counts_near = states.counts_near
+
+-- at most one call has detached a batch and has still to add to it
+pub one_owner : (b i s : ℕ) (st : State) → IsReached st → detached_by (slot_at st i).call ≡ Some b → detached_by (slot_at st s).call ≡ Some b → i ≡ s
+one_owner = states.one_owner
+
+-- a batch whose count is 0 is held by nobody, unless a call has still to add to it
+pub zero_unheld : (st : State) → IsReached st → (b : ℕ) → (batch_at st b).count ≡ pos 0 → ((s : ℕ) → detached_by (slot_at st s).call ≢ Some b) → (s : ℕ) → (Lists st s b → ⊥) × (Walks st s b → ⊥)
+zero_unheld = states.zero_unheld
+
+-- and where an event brings a count to 0, nobody holds the batch, and no call has still to add to it
+pub arrives_unheld : (size : ℕ) (st : State) (event : Event) (d : State × Answer) (b : ℕ) → IsReached st → Step size st event d → d.1 ≡ Count (pos 0) → changes_batch st b event ≡ true
+    → (s : ℕ) → (Lists d.0 s b → ⊥) × (Walks d.0 s b → ⊥) × (detached_by (slot_at d.0 s).call ≢ Some b)
+arrives_unheld = states.arrives_unheld
+
+-- Keeping back: `KeptIn s v st` holds from a link read on, every event but the slot's own swap keeps it, and while it holds v isn't
+-- handed.
+
+pub kept_from_link : (s v l : ℕ) (st : State) → IsReached st → can_link st s l ≡ true → link_at st l ≡ Some v → KeptIn s v st
+kept_from_link s v l st r may found =
+    let sees : protection.Sees s v st = protection.seen s v st s l may (grind arith) found in
+    let once = (reached.reached_inv st r).once v in
+    reclaiming.keeps_new s v st (omega (arith, once.once, protection.unretired v st, sees.1)) sees.0
+
+pub kept_step : (s v size : ℕ) (st : State) (event : Event) (d : State × Answer) → IsReached st → Step size st event d → event ≢ SwapOut s → KeptIn s v st → KeptIn s v d.0
+kept_step s v size st event d r step stays k = kept.kept_step s v size st event d step stays (reached.reached_inv st r).sound k
+
+pub kept_not_handed : (s v size : ℕ) (st : State) (event : Event) (d : State × Answer) → Step size st event d → KeptIn s v st → handed_value d.1 ≢ Some v
+kept_not_handed s v size st event d step k h = omega (arith, invariants.handed_given v size st event d step h, k.not_given)

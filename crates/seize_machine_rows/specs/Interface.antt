@@ -1,0 +1,56 @@
+-- What the tests of the machine's facts say.
+use Rattle.std.specs.Prelude.{◌≡◌, ◌≢◌, ℕ, ◌+◌, ◌<◌, ◌≤◌, pos, neg_ℤ, ◌≤ℤ◌, Bool, true, false, List, ◌∷◌, length, Some}
+use Rattle.std.specs.List.{Contains}
+use Rattle.seize_machine.specs.Machine.State.{State, Place, Mark, Look, Try, Add, Out, slot_at, head_at, link_at, batch_at, is_active, has, are_distinct}
+use Rattle.seize_machine.specs.Machine.Event.{Event}
+use Rattle.seize_machine.specs.Machine.Next.{next}
+use Rattle.seize_machine.specs.Machine.History.{Timed, history}
+use Rattle.seize_machine.specs.Machine.Laws.{AtMostOnce, After, Quiet, Protection, Parts, Gone, Holders, NoLaterHolders, Tries, detached_by, Lists, Walks}
+use Rattle.seize_machine.specs.Machine.Frames.{changes_slot, used, changes_used, changes_head_of, changes_link, changes_batch, changes_value, slots_added, batches_added, begins_retiring}
+
+-- what an event leaves as it was
+pub record Unmoved (st : State) (event : Event) (later : State) : Type 0 where
+  pub slot : (k : ℕ) → changes_slot k event ≡ false
+      → (slot_at later k ≡ slot_at st k) × (is_active (head_at later k) ≡ is_active (head_at st k))
+  pub head : (m : ℕ) → changes_head_of m event ≡ false → head_at later m ≡ head_at st m
+  pub batch : (b : ℕ) → b < length st.batches → changes_batch st b event ≡ false → batch_at later b ≡ batch_at st b
+  pub link : (l : ℕ) → changes_link l event ≡ false → link_at later l ≡ link_at st l
+  pub numbers : changes_used event ≡ false → used later ≡ used st
+  pub value : (v : ℕ) → changes_value st v event ≡ false → (has v later.named ≡ has v st.named) × (has v later.loose ≡ has v st.loose)
+  pub named : (v : ℕ) → has v st.named ≡ true → has v later.named ≡ true
+  pub loose : (v : ℕ) → begins_retiring v event ≡ false → has v st.loose ≡ true → has v later.loose ≡ true
+  pub slots : length later.slots ≡ length st.slots + slots_added st event
+  pub batches : length later.batches ≡ length st.batches + batches_added event
+  pub links : length later.links ≡ length st.links
+
+-- slot s has a call under way that stands there
+abbrev pub StandsAt : State → ℕ → Place → List ℕ → Type 0
+StandsAt st s place queue = (slot_at st s).call ≡ Some (record { place = place; queue = queue })
+
+-- what holds of calls and counts
+pub record CallsTidy (st : State) : Type 0 where
+  pub heads : length st.heads ≡ length st.slots
+  pub out : (s : ℕ) (stays : Bool) (queue : List ℕ) → StandsAt st s (Out stays) queue → is_active (head_at st s) ≡ true
+  pub marks : (s next note : ℕ) (marks queue : List ℕ) → StandsAt st s (Mark next note marks) queue
+      → (are_distinct marks ≡ true) × ((v : ℕ) → Contains marks v → v < next) × (length marks ≤ length (slot_at st s).batch)
+  pub looks : (s b won m : ℕ) (later queue : List ℕ) → StandsAt st s (Look b won m later) queue
+      → (are_distinct (m ∷ later) ≡ true) × (won + length (m ∷ later) ≤ length (batch_at st b).values)
+  pub tries : (s b won m : ℕ) (later saw queue : List ℕ) → StandsAt st s (Try b won m later saw) queue
+      → (are_distinct (m ∷ later) ≡ true) × (won + length (m ∷ later) ≤ length (batch_at st b).values)
+  pub adds : (s b won : ℕ) (queue : List ℕ) → StandsAt st s (Add b won) queue → won ≤ length (batch_at st b).values
+  pub counts : (b : ℕ) → (neg_ℤ (pos (length st.slots)) ≤ℤ (batch_at st b).count) × ((batch_at st b).count ≤ℤ pos (length st.slots))
+  pub owners : (b i s : ℕ) → detached_by (slot_at st i).call ≡ Some b → detached_by (slot_at st s).call ≡ Some b → i ≡ s
+  pub unheld : (b : ℕ) → (batch_at st b).count ≡ pos 0 → ((s : ℕ) → detached_by (slot_at st s).call ≢ Some b)
+      → (s : ℕ) → ¬ (Lists st s b) × ¬ (Walks st s b)
+
+-- every law of these events
+pub record Obeys (st : State) (events : List Timed) : Type 0 where
+  pub at_most_once : AtMostOnce st (history next st events)
+  pub after : After st (history next st events)
+  pub quiet : Quiet st (history next st events)
+  pub protection : Protection st (history next st events)
+  pub parts : Parts st (history next st events)
+  pub gone : Gone st (history next st events)
+  pub holders : Holders st (history next st events)
+  pub no_later_holders : NoLaterHolders st (history next st events)
+  pub tries : Tries st (history next st events)
