@@ -1,0 +1,22 @@
+-- The proofs that the two models agree.
+pub mod Runs
+pub mod Events
+pub mod Attempts
+pub mod Coupling
+pub mod Releases
+pub mod Detachment
+pub mod Names
+pub mod Work
+pub mod Walks
+pub mod Queues
+pub mod Beginnings
+pub mod Jobs
+pub mod Guards
+pub mod Links
+pub mod Numbers
+pub mod Calls
+pub mod Pairs
+pub mod Renaming
+pub mod Descendants
+pub mod Namings
+pub mod Openings
