@@ -1,14 +1,19 @@
 -- The proofs that the two models agree.
-pub mod Runs
 pub mod Events
-pub mod Attempts
+pub mod Determinism
 pub mod Coupling
+pub mod Views
+pub mod Paths
+pub mod Attempts
 pub mod Releases
 pub mod Detachment
 pub mod Names
 pub mod Work
 pub mod Walks
 pub mod Queues
+pub mod Plays
+pub mod Runs
+pub mod Lists
 pub mod Beginnings
 pub mod Jobs
 pub mod Guards

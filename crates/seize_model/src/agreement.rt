@@ -7,7 +7,7 @@ ghost use Rattle.seize_model.specs.Waiting.State.{new};
 ghost use Rattle.seize_model.specs.Waiting.Further.{Lighter};
 ghost use Rattle.seize_model.specs.Waiting.Runs as runs;
 ghost use Rattle.seize_model.specs.Agreement.Shows.{Shows};
-ghost use Rattle.seize_model.specs.Agreement.Statement.{HasNames, Agreement, AgreementAnew};
+ghost use Rattle.seize_model.specs.Agreement.Statement.{HasNames, Agreement, AgreementAnew, AgreementOnLists};
 ghost use Rattle.seize_model.specs.Agreement.Runs.{by_events, by_sets};
 
 /// The worked runs of waiting sets, each from a collector just made of the given size and number of links, up to its first reclaim
@@ -29,12 +29,18 @@ pub fn runs_agree()
     ensures links { by_events 1 1 runs.links ≡ by_sets 1 1 runs.links }
 {}
 
-/// A machine just opened shows a collector just made; and from every two states that show each other, each call but a reclaim of all
-/// is a list of legal events of the machine, where what a reclaimer puts weighs less than its value and there is always a fresh
-/// number for a value. For values of any type, which may have no such numbers, each list of calls has some: a function from numbers
-/// to values that is as before at any numbers that are to be kept, and under which each call in turn is a list of legal events.
+/// A machine just opened shows a collector just made. From every two states that show each other, where what a reclaimer puts weighs
+/// less than its value, each call but a reclaim of all agrees with the machine in both directions.
+///
+/// It is a list of legal events, of the call's own slot, where there is always a fresh number for a value. For values of any type, which
+/// may have no such numbers, each list of calls has some: a function from numbers to values that is as before at any numbers that are
+/// to be kept, and under which each call in turn is a list of legal events.
+///
+/// And each legal list of events that the call makes alone, from its beginning to its return, has its reply and its values gone, and
+/// ends where it ends, under whatever fresh numbers the reclaimers put.
 pub fn models_agree<T, R>()
     ensures made { (of : ℕ → T) (size links : ℕ) → Shows T R of (new size links) (opening 0 (replicate links None)) }
     ensures call { (puts : R → T → List T) (weight : T → ℕ) (of : ℕ → T) → Lighter puts weight → HasNames of → Agreement puts weight of }
     ensures any { (puts : R → T → List T) (weight : T → ℕ) → Lighter puts weight → AgreementAnew puts weight }
+    ensures every { (puts : R → T → List T) (weight : T → ℕ) → Lighter puts weight → AgreementOnLists puts weight }
 {}

@@ -8,7 +8,8 @@ use Rattle.seize_machine.specs.Machine.Next.{next, look, marked_place, looked}
 use Rattle.seize_machine.specs.declared.machine.event.Try.TheVariants.{Won}
 use Rattle.seize_machine.specs.declared.machine.event.Answer.TheVariants.{Done, Head as Found}
 use Rattle.seize_machine.proofs.Laws.Steps.{lt_true}
-use Rattle.seize_model.proofs.Simulation.Runs.{Leads, and_then}
+use Rattle.seize_model.proofs.Simulation.Paths.{Path, and_then, same_state}
+use Rattle.seize_model.proofs.Simulation.Determinism.{only_mark, only_detach, only_look, only_insert, only_add}
 use Rattle.seize_model.proofs.Simulation.Events.{busy, if_yes, mark_step, detach_step, look_step, insert_step, add_step, with_batch, with_count, counted_place}
 
 -- the numbers of the active heads, where the first of these heads has number n
@@ -24,9 +25,6 @@ with_front b (Active waiting) = Active (b ∷ waiting)
 abbrev pub with_heads : State → List Head → State
 with_heads base heads = record base { heads = heads }
 
-pub same_state : (size : ℕ) (a b : State) → a ≡ b → Leads size a [] b
-same_state size a b e = subst (λ (st : State). Leads size a [] st) e (Leads.stays a)
-
 pub set_seam : {X : Type 0} (pre : List X) (x y : X) (xs : List X) → set (pre ++ x ∷ xs) (length pre) y ≡ pre ++ y ∷ xs
 set_seam [] x y xs = refl
 set_seam (p ∷ pre) x y xs = ap (λ l. p ∷ l) (set_seam pre x y xs)
@@ -41,73 +39,76 @@ read size base s n note batch marked queue pre hs head e h k =
     ∙ ap (λ (x : Head). Some (busy st s batch (marked_place (is_active x) n note marked batch) queue, Found (is_active x))) is
 
 pub marks_on : (size : ℕ) (base : State) (s n note : ℕ) (batch marked queue : List ℕ) (pre hs : List Head) → n ≡ length pre → s < length base.slots
-    → length pre + length hs ≡ length base.slots → length marked + length (actives n hs) ≤ length batch
-    → Leads size (busy (with_heads base (pre ++ hs)) s batch (Mark n note marked) queue) [] (busy (with_heads base (pre ++ hs)) s batch (Mark (length base.slots) note (marked ++ actives n hs)) queue)
-marks_on size base s n note batch marked queue pre [] e h r le =
+    → length pre + length hs ≡ length base.slots → length marked + length (actives n hs) ≤ length batch → length base.slots ≤ note
+    → Path size s (busy (with_heads base (pre ++ hs)) s batch (Mark n note marked) queue) (busy (with_heads base (pre ++ hs)) s batch (Mark (length base.slots) note (marked ++ actives n hs)) queue)
+marks_on size base s n note batch marked queue pre [] e h r le many =
     let all : n ≡ length base.slots = omega arith in
-    same_state size _ _ (ap (λ k. busy (with_heads base (pre ++ [])) s batch (Mark k note marked) queue) all ∙ ap (λ l. busy (with_heads base (pre ++ [])) s batch (Mark (length base.slots) note l) queue) (sym (append-nil marked)))
-marks_on size base s n note batch marked queue pre (Inactive ∷ hs) e h r le =
+    same_state size s _ _ (ap (λ k. busy (with_heads base (pre ++ [])) s batch (Mark k note marked) queue) all ∙ ap (λ l. busy (with_heads base (pre ++ [])) s batch (Mark (length base.slots) note l) queue) (sym (append-nil marked)))
+marks_on size base s n note batch marked queue pre (Inactive ∷ hs) e h r le many =
     let len : length (pre ++ Inactive ∷ []) ≡ length pre + 1 = length-append pre (Inactive ∷ []) in
-    Leads.goes _ (ReadHead s n) _ _ _ [] (read size base s n note batch marked queue pre hs Inactive e h (omega arith)) refl
-    (subst (λ (l : List Head). Leads size (busy (with_heads base l) s batch (Mark (n + 1) note marked) queue) [] (busy (with_heads base l) s batch (Mark (length base.slots) note (marked ++ actives (n + 1) hs)) queue))
+    Path.goes _ (ReadHead s n) _ _ _ (read size base s n note batch marked queue pre hs Inactive e h (omega arith)) refl (refl, refl, refl)
+    (only_mark size (with_heads base (pre ++ Inactive ∷ hs)) s n note batch marked queue h (omega arith))
+    (subst (λ (l : List Head). Path size s (busy (with_heads base l) s batch (Mark (n + 1) note marked) queue) (busy (with_heads base l) s batch (Mark (length base.slots) note (marked ++ actives (n + 1) hs)) queue))
     (append_assoc pre (Inactive ∷ []) hs)
-    (marks_on size base s (n + 1) note batch marked queue (pre ++ Inactive ∷ []) hs (omega arith) h (omega arith) le))
-marks_on size base s n note batch marked queue pre (Active w ∷ hs) e h r le =
+    (marks_on size base s (n + 1) note batch marked queue (pre ++ Inactive ∷ []) hs (omega arith) h (omega arith) le many))
+marks_on size base s n note batch marked queue pre (Active w ∷ hs) e h r le many =
     let len : length (pre ++ Active w ∷ []) ≡ length pre + 1 = length-append pre (Active w ∷ []) in
     let more : length (marked ++ n ∷ []) ≡ length marked + 1 = length-append marked (n ∷ []) in
     let st : State = with_heads base (pre ++ Active w ∷ hs) in
     let room : nat_lt (length marked) (length batch) ≡ true = grind arith in
-    Leads.goes _ (ReadHead s n) _ _ _ []
+    Path.goes _ (ReadHead s n) _ _ _
     (read size base s n note batch marked queue pre hs (Active w) e h (omega arith)
     ∙ ap (λ (p : Place). Some (busy st s batch p queue, Found true)) (if_yes (nat_lt (length marked) (length batch)) (Mark (n + 1) note (marked ++ n ∷ [])) (Rest [] []) room))
-    refl
-    (subst (λ (m : List ℕ). Leads size (busy st s batch (Mark (n + 1) note (marked ++ n ∷ [])) queue) [] (busy st s batch (Mark (length base.slots) note m) queue))
+    refl (refl, refl, refl) (only_mark size st s n note batch marked queue h (omega arith))
+    (subst (λ (m : List ℕ). Path size s (busy st s batch (Mark (n + 1) note (marked ++ n ∷ [])) queue) (busy st s batch (Mark (length base.slots) note m) queue))
     (append_assoc marked (n ∷ []) (actives (n + 1) hs))
-    (subst (λ (l : List Head). Leads size (busy (with_heads base l) s batch (Mark (n + 1) note (marked ++ n ∷ [])) queue) [] (busy (with_heads base l) s batch (Mark (length base.slots) note ((marked ++ n ∷ []) ++ actives (n + 1) hs)) queue))
+    (subst (λ (l : List Head). Path size s (busy (with_heads base l) s batch (Mark (n + 1) note (marked ++ n ∷ [])) queue) (busy (with_heads base l) s batch (Mark (length base.slots) note ((marked ++ n ∷ []) ++ actives (n + 1) hs)) queue))
     (append_assoc pre (Active w ∷ []) hs)
-    (marks_on size base s (n + 1) note batch (marked ++ n ∷ []) queue (pre ++ Active w ∷ []) hs (omega arith) h (omega arith) (omega arith))))
+    (marks_on size base s (n + 1) note batch (marked ++ n ∷ []) queue (pre ++ Active w ∷ []) hs (omega arith) h (omega arith) (omega arith) many)))
 
 -- the marking gives up where more slots are active than there are values
 pub marks_stop : (size : ℕ) (base : State) (s n note : ℕ) (batch marked queue : List ℕ) (pre hs : List Head) → n ≡ length pre → s < length base.slots
-    → length pre + length hs ≡ length base.slots → length marked ≤ length batch → length batch < length marked + length (actives n hs)
-    → Leads size (busy (with_heads base (pre ++ hs)) s batch (Mark n note marked) queue) [] (busy (with_heads base (pre ++ hs)) s batch (Rest [] []) queue)
-marks_stop size base s n note batch marked queue pre [] e h r room lt = absurd (omega arith)
-marks_stop size base s n note batch marked queue pre (Inactive ∷ hs) e h r room lt =
+    → length pre + length hs ≡ length base.slots → length marked ≤ length batch → length batch < length marked + length (actives n hs) → length base.slots ≤ note
+    → Path size s (busy (with_heads base (pre ++ hs)) s batch (Mark n note marked) queue) (busy (with_heads base (pre ++ hs)) s batch (Rest [] []) queue)
+marks_stop size base s n note batch marked queue pre [] e h r room lt many = absurd (omega arith)
+marks_stop size base s n note batch marked queue pre (Inactive ∷ hs) e h r room lt many =
     let len : length (pre ++ Inactive ∷ []) ≡ length pre + 1 = length-append pre (Inactive ∷ []) in
-    Leads.goes _ (ReadHead s n) _ _ _ [] (read size base s n note batch marked queue pre hs Inactive e h (omega arith)) refl
-    (subst (λ (l : List Head). Leads size (busy (with_heads base l) s batch (Mark (n + 1) note marked) queue) [] (busy (with_heads base l) s batch (Rest [] []) queue))
+    Path.goes _ (ReadHead s n) _ _ _ (read size base s n note batch marked queue pre hs Inactive e h (omega arith)) refl (refl, refl, refl)
+    (only_mark size (with_heads base (pre ++ Inactive ∷ hs)) s n note batch marked queue h (omega arith))
+    (subst (λ (l : List Head). Path size s (busy (with_heads base l) s batch (Mark (n + 1) note marked) queue) (busy (with_heads base l) s batch (Rest [] []) queue))
     (append_assoc pre (Inactive ∷ []) hs)
-    (marks_stop size base s (n + 1) note batch marked queue (pre ++ Inactive ∷ []) hs (omega arith) h (omega arith) room lt))
-marks_stop size base s n note batch marked queue pre (Active w ∷ hs) e h r room lt =
+    (marks_stop size base s (n + 1) note batch marked queue (pre ++ Inactive ∷ []) hs (omega arith) h (omega arith) room lt many))
+marks_stop size base s n note batch marked queue pre (Active w ∷ hs) e h r room lt many =
     let len : length (pre ++ Active w ∷ []) ≡ length pre + 1 = length-append pre (Active w ∷ []) in
-    Leads.goes _ (ReadHead s n) _ _ _ [] (read size base s n note batch marked queue pre hs (Active w) e h (omega arith)) refl
+    Path.goes _ (ReadHead s n) _ _ _ (read size base s n note batch marked queue pre hs (Active w) e h (omega arith)) refl (refl, refl, refl)
+    (only_mark size (with_heads base (pre ++ Active w ∷ hs)) s n note batch marked queue h (omega arith))
     (go (nat_lt (length marked) (length batch)) refl (λ is.
     let more : length (marked ++ n ∷ []) ≡ length marked + 1 = length-append marked (n ∷ []) in
     let fits : length marked < length batch = lt_true _ _ is in
-    subst (λ (l : List Head). Leads size (busy (with_heads base l) s batch (Mark (n + 1) note (marked ++ n ∷ [])) queue) [] (busy (with_heads base l) s batch (Rest [] []) queue))
+    subst (λ (l : List Head). Path size s (busy (with_heads base l) s batch (Mark (n + 1) note (marked ++ n ∷ [])) queue) (busy (with_heads base l) s batch (Rest [] []) queue))
     (append_assoc pre (Active w ∷ []) hs)
-    (marks_stop size base s (n + 1) note batch (marked ++ n ∷ []) queue (pre ++ Active w ∷ []) hs (omega arith) h (omega arith) (omega arith) (omega arith))))
+    (marks_stop size base s (n + 1) note batch (marked ++ n ∷ []) queue (pre ++ Active w ∷ []) hs (omega arith) h (omega arith) (omega arith) (omega arith) many)))
   where
     st : State
     st = with_heads base (pre ++ Active w ∷ hs)
 
     go : (b : Bool) → nat_lt (length marked) (length batch) ≡ b
-        → (nat_lt (length marked) (length batch) ≡ true → Leads size (busy st s batch (Mark (n + 1) note (marked ++ n ∷ [])) queue) [] (busy st s batch (Rest [] []) queue))
-        → Leads size (busy st s batch (if b then Mark (n + 1) note (marked ++ n ∷ []) else Rest [] []) queue) [] (busy st s batch (Rest [] []) queue)
-    go false is on = Leads.stays _
+        → (nat_lt (length marked) (length batch) ≡ true → Path size s (busy st s batch (Mark (n + 1) note (marked ++ n ∷ [])) queue) (busy st s batch (Rest [] []) queue))
+        → Path size s (busy st s batch (if b then Mark (n + 1) note (marked ++ n ∷ []) else Rest [] []) queue) (busy st s batch (Rest [] []) queue)
+    go false is on = Path.stays _
     go true is on = on is
 
 pub inserts_on : (size : ℕ) (base : State) (s b won n : ℕ) (batch queue : List ℕ) (pre hs : List Head) → n ≡ length pre → s < length base.slots
-    → Leads size (busy (with_heads base (pre ++ hs)) s batch (look b won (actives n hs)) queue) []
+    → Path size s (busy (with_heads base (pre ++ hs)) s batch (look b won (actives n hs)) queue)
     (busy (with_heads base (pre ++ map (with_front b) hs)) s batch (Add b (won + length (actives n hs))) queue)
 inserts_on size base s b won n batch queue pre [] e h =
     let none : won ≡ won + 0 = omega arith in
-    same_state size _ _ (ap (λ k. busy (with_heads base (pre ++ [])) s batch (Add b k) queue) none)
+    same_state size s _ _ (ap (λ k. busy (with_heads base (pre ++ [])) s batch (Add b k) queue) none)
 inserts_on size base s b won n batch queue pre (Inactive ∷ hs) e h =
     let len : length (pre ++ Inactive ∷ []) ≡ length pre + 1 = length-append pre (Inactive ∷ []) in
-    subst (λ (l : List Head). Leads size (busy (with_heads base l) s batch (look b won (actives (n + 1) hs)) queue) [] (busy (with_heads base (pre ++ Inactive ∷ map (with_front b) hs)) s batch (Add b (won + length (actives (n + 1) hs))) queue))
+    subst (λ (l : List Head). Path size s (busy (with_heads base l) s batch (look b won (actives (n + 1) hs)) queue) (busy (with_heads base (pre ++ Inactive ∷ map (with_front b) hs)) s batch (Add b (won + length (actives (n + 1) hs))) queue))
     (append_assoc pre (Inactive ∷ []) hs)
-    (subst (λ (l : List Head). Leads size (busy (with_heads base ((pre ++ Inactive ∷ []) ++ hs)) s batch (look b won (actives (n + 1) hs)) queue) [] (busy (with_heads base l) s batch (Add b (won + length (actives (n + 1) hs))) queue))
+    (subst (λ (l : List Head). Path size s (busy (with_heads base ((pre ++ Inactive ∷ []) ++ hs)) s batch (look b won (actives (n + 1) hs)) queue) (busy (with_heads base l) s batch (Add b (won + length (actives (n + 1) hs))) queue))
     (append_assoc pre (Inactive ∷ []) (map (with_front b) hs))
     (inserts_on size base s b won (n + 1) batch queue (pre ++ Inactive ∷ []) hs (omega arith) h))
 inserts_on size base s b won n batch queue pre (Active w ∷ hs) e h =
@@ -118,13 +119,15 @@ inserts_on size base s b won n batch queue pre (Active w ∷ hs) e h =
     rw e (set_seam pre (Active w) (Active (b ∷ w)) hs) ∙ sym (append_assoc pre (Active (b ∷ w) ∷ []) hs) in
     let len : length (pre ++ Active (b ∷ w) ∷ []) ≡ length pre + 1 = length-append pre (Active (b ∷ w) ∷ []) in
     let total : won + 1 + length later ≡ won + length (n ∷ later) = omega arith in
-    Leads.goes _ (ReadHead s n) _ _ _ []
-    (look_step size st s b won n batch later queue h ∙ ap (λ (x : Head). Some (busy st s batch (looked x b won n later) queue, Found (is_active x))) is) refl
-    (Leads.goes _ (Insert s n Won) _ _ _ []
-    (insert_step size st s b won n batch later w queue w h is ∙ ap (λ (l : List Head). Some (busy (with_heads base l) s batch (look b (won + 1) later) queue, Done)) put_in) refl
-    (subst (λ (l : List Head). Leads size (busy (with_heads base ((pre ++ Active (b ∷ w) ∷ []) ++ hs)) s batch (look b (won + 1) later) queue) [] (busy (with_heads base l) s batch (Add b (won + length (n ∷ later))) queue))
+    Path.goes _ (ReadHead s n) _ _ _
+    (look_step size st s b won n batch later queue h ∙ ap (λ (x : Head). Some (busy st s batch (looked x b won n later) queue, Found (is_active x))) is) refl (refl, refl, refl)
+    (only_look size st s b won n batch later queue h)
+    (Path.goes _ (Insert s n Won) _ _ _
+    (insert_step size st s b won n batch later w queue w h is ∙ ap (λ (l : List Head). Some (busy (with_heads base l) s batch (look b (won + 1) later) queue, Done)) put_in) refl (refl, refl, refl)
+    (only_insert size st s b won n batch later w queue h is)
+    (subst (λ (l : List Head). Path size s (busy (with_heads base ((pre ++ Active (b ∷ w) ∷ []) ++ hs)) s batch (look b (won + 1) later) queue) (busy (with_heads base l) s batch (Add b (won + length (n ∷ later))) queue))
     (append_assoc pre (Active (b ∷ w) ∷ []) (map (with_front b) hs))
-    (subst (λ (k : ℕ). Leads size (busy (with_heads base ((pre ++ Active (b ∷ w) ∷ []) ++ hs)) s batch (look b (won + 1) later) queue) [] (busy (with_heads base ((pre ++ Active (b ∷ w) ∷ []) ++ map (with_front b) hs)) s batch (Add b k) queue))
+    (subst (λ (k : ℕ). Path size s (busy (with_heads base ((pre ++ Active (b ∷ w) ∷ []) ++ hs)) s batch (look b (won + 1) later) queue) (busy (with_heads base ((pre ++ Active (b ∷ w) ∷ []) ++ map (with_front b) hs)) s batch (Add b k) queue))
     total
     (inserts_on size base s b (won + 1) (n + 1) batch queue (pre ++ Active (b ∷ w) ∷ []) hs (omega arith) h))))
 
@@ -145,14 +148,14 @@ plus_none n = let e : 0 + n ≡ n = omega arith in ap (λ (k : ℕ). pos k) e
 
 pub attempts_on : (size : ℕ) (base : State) (s : ℕ) (batch queue : List ℕ) → s < length base.slots → length base.heads ≡ length base.slots
     → length (actives 0 base.heads) ≤ length batch
-    → Leads size (busy base s batch (Mark 0 (length base.slots) []) queue) [] (busy (waited base batch) s [] (waited_place base batch) queue)
+    → Path size s (busy base s batch (Mark 0 (length base.slots) []) queue) (busy (waited base batch) s [] (waited_place base batch) queue)
 attempts_on size base s batch queue h all le =
     let b : ℕ = length base.batches in
     let won : ℕ = length (actives 0 base.heads) in
     let fresh : Batch = record { values = batch; count = pos 0 } in
-    let marking : Leads size (busy base s batch (Mark 0 (length base.slots) []) queue) [] (busy base s batch (Mark (length base.slots) (length base.slots) (actives 0 base.heads)) queue)
-    = marks_on size base s 0 (length base.slots) batch [] queue [] base.heads refl h (omega arith) (omega arith) in
-    let inserting : Leads size (busy (with_batch base batch) s [] (look b 0 (actives 0 base.heads)) queue) [] (busy (with_heads (with_batch base batch) (map (with_front b) base.heads)) s [] (Add b (0 + won)) queue)
+    let marking : Path size s (busy base s batch (Mark 0 (length base.slots) []) queue) (busy base s batch (Mark (length base.slots) (length base.slots) (actives 0 base.heads)) queue)
+    = marks_on size base s 0 (length base.slots) batch [] queue [] base.heads refl h (omega arith) (omega arith) (omega arith) in
+    let inserting : Path size s (busy (with_batch base batch) s [] (look b 0 (actives 0 base.heads)) queue) (busy (with_heads (with_batch base batch) (map (with_front b) base.heads)) s [] (Add b (0 + won)) queue)
     = inserts_on size (with_batch base batch) s b 0 0 [] queue [] base.heads refl h in
     let total : 0 + won ≡ won = omega arith in
     let own : batch_at (with_batch base batch) b ≡ fresh = get_or-append_seam base.batches fresh [] no_batch in
@@ -160,14 +163,16 @@ attempts_on size base s batch queue h all le =
     let ends : busy (with_count (with_heads (with_batch base batch) (map (with_front b) base.heads)) b (pos won)) s [] (counted_place (with_batch base batch) b (pos won) []) queue ≡ busy (waited base batch) s [] (waited_place base batch) queue
     = ap (λ (x : Batch). busy (record (with_heads (with_batch base batch) (map (with_front b) base.heads)) { batches = set (base.batches ++ fresh ∷ []) b (record { values = if won == 0 then [] else x.values; count = pos won }) }) s [] (Rest (if won == 0 then x.values else []) []) queue) own
     ∙ ap (λ (l : List Batch). busy (record (with_heads (with_batch base batch) (map (with_front b) base.heads)) { batches = l }) s [] (waited_place base batch) queue) (set_seam base.batches fresh (record { values = if won == 0 then [] else batch; count = pos won }) []) in
-    and_then size _ _ _ [] [] marking
-    (Leads.goes _ (Detach s) _ _ _ [] (detach_step size base s (length base.slots) (length base.slots) batch (actives 0 base.heads) queue h (omega arith)) refl
-    (and_then size _ _ _ [] [] inserting
-    (Leads.goes _ (AddCount s) _ _ _ [] (add_step size (with_heads (with_batch base batch) (map (with_front b) base.heads)) s b (0 + won) [] queue (pos won) h adds) refl
-    (same_state size _ _ ends))))
+    and_then size s _ _ _ marking
+    (Path.goes _ (Detach s) _ _ _ (detach_step size base s (length base.slots) (length base.slots) batch (actives 0 base.heads) queue h (omega arith)) refl (refl, refl, refl)
+    (only_detach size base s (length base.slots) (length base.slots) batch (actives 0 base.heads) queue h (omega arith))
+    (and_then size s _ _ _ inserting
+    (Path.goes _ (AddCount s) _ _ _ (add_step size (with_heads (with_batch base batch) (map (with_front b) base.heads)) s b (0 + won) [] queue (pos won) h adds) refl (refl, refl, refl)
+    (only_add size (with_heads (with_batch base batch) (map (with_front b) base.heads)) s b (0 + won) [] queue h)
+    (same_state size s _ _ ends))))
 
 pub attempts_stop : (size : ℕ) (base : State) (s : ℕ) (batch queue : List ℕ) → s < length base.slots → length base.heads ≡ length base.slots
     → length batch < length (actives 0 base.heads)
-    → Leads size (busy base s batch (Mark 0 (length base.slots) []) queue) [] (busy base s batch (Rest [] []) queue)
+    → Path size s (busy base s batch (Mark 0 (length base.slots) []) queue) (busy base s batch (Rest [] []) queue)
 attempts_stop size base s batch queue h all lt =
-    marks_stop size base s 0 (length base.slots) batch [] queue [] base.heads refl h (omega arith) (omega arith) (omega arith)
+    marks_stop size base s 0 (length base.slots) batch [] queue [] base.heads refl h (omega arith) (omega arith) (omega arith) (omega arith)

@@ -1,5 +1,5 @@
 -- What the machine shows while the only call under way walks a list: the counts have still to fall by the batches of the walk.
-use Rattle.std.proofs.Common.{◌≡◌, ◌≢◌, ℕ, zero, suc, ◌+◌, ◌-◌, ◌^◌, ◌<◌, ◌≤◌, pos, Bool, true, false, not, ◌==◌, List, [], ◌∷◌, length, map, get_or, set, Option, refl, sym, ◌∙◌, ap, subst, ◌⊎◌, inl, inr, arith}
+use Rattle.std.proofs.Common.{◌≡◌, ◌≢◌, ℕ, zero, suc, ◌+◌, ◌-◌, ◌^◌, ◌<◌, ◌≤◌, pos, Bool, true, false, not, ◌==◌, List, [], ◌∷◌, length, map, get_or, set, Option, None, refl, sym, ◌∙◌, ap, subst, ◌⊎◌, inl, inr, arith}
 use Rattle.std.specs.List.{count_by, list_any}
 use Rattle.std.proofs.lemmas.Grind.{common_steps}
 use Rattle.std.proofs.lemmas.List.{get_or-set_same, get_or-set_other, length-set, map-set}
@@ -8,46 +8,44 @@ use Rattle.seize_machine.specs.Machine.State as machine
 use Rattle.seize_machine.specs.Machine.State.{Head, Batch, has, no_batch, are_distinct}
 use Rattle.seize_model.specs.Waiting.State as waiting
 use Rattle.seize_model.specs.Waiting.State.{keeps, retired_at}
-use Rattle.seize_model.specs.Agreement.Shows.{Stand, held, head_of, ShowsSlot, Shows}
+use Rattle.seize_model.specs.Waiting.Calls.{is_free, is_owned}
+use Rattle.seize_model.specs.Agreement.Shows.{held, head_of}
 use Rattle.seize_machine.proofs.Laws.Steps.{is_true, eq_true}
 use Rattle.seize_machine.proofs.Laws.Sums.{one, occ, has_none, has_some, distinct_once}
 
-pub record Near (T R : Type 0) (of : ℕ → T) (walk : List ℕ) (st : waiting.State T R) (slots : List machine.Slot) (heads : List Head) (batches : List Batch) (links : List (Option ℕ)) : Type 0 where
+-- What numbers stand for: in links for what they hold, and in batches for what is seen of values with their reclaimers. It is what they
+-- hold where a run of events is sought, whose reclaimers nobody knows, and the values with their reclaimers where one is given.
+pub record Naming (T R X : Type 0) : Type 0 where
+  pub link : ℕ → T
+  pub name : ℕ → X
+  pub view : T × R → X
+
+-- these numbers stand for these values, in order
+abbrev pub Denote : {T R X : Type 0} → Naming T R X → List ℕ → List (T × R) → Type 0
+Denote of numbers values = map of.name numbers ≡ map of.view values
+
+-- the two sides of one slot
+pub record CoupledSlot {T R X : Type 0} (of : Naming T R X) (slot : waiting.Slot T R) (shown : machine.Slot) : Type 0 where
+  pub used : shown.used ≡ not (is_free slot.kind)
+  pub idle : shown.call ≡ None
+  pub batch : Denote of shown.batch slot.batch
+  pub free : is_free slot.kind ≡ true → slot.guards ≡ 0
+  pub owned : is_owned slot.kind ≡ true → slot.guards ≤ 1
+  pub inactive : waiting.is_active slot ≡ false → slot.order ≡ []
+  pub once : machine.are_distinct slot.order ≡ true
+
+pub record Near {T R X : Type 0} (of : Naming T R X) (walk : List ℕ) (st : waiting.State T R) (slots : List machine.Slot) (heads : List Head) (batches : List Batch) (links : List (Option ℕ)) : Type 0 where
   pub numbers : length st.slots ≤ 2 ^ 64 - 32
   pub as_many : length slots ≡ length st.slots
-  pub slot : (s : ℕ) → ShowsSlot T R of (waiting.slot_at st s) (get_or slots s machine.no_slot)
+  pub slot : (s : ℕ) → CoupledSlot of (waiting.slot_at st s) (get_or slots s machine.no_slot)
   pub heads_are : heads ≡ map head_of st.slots
   pub retired : length batches ≡ length st.retired
-  pub values : (b : ℕ) → Stand of (get_or batches b no_batch).values (retired_at st b)
+  pub values : (b : ℕ) → Denote of (get_or batches b no_batch).values (retired_at st b)
   pub counts : (b : ℕ) → (get_or batches b no_batch).count ≡ pos (count_by (keeps b) st.slots + occ b walk)
-  pub links_are : map (held of) links ≡ st.links
+  pub links_are : map (held of.link) links ≡ st.links
 
-abbrev pub NearAt : {T R : Type 0} → (ℕ → T) → List ℕ → waiting.State T R → machine.State → Type 0
-NearAt {T} {R} of walk st ms = Near T R of walk st ms.slots ms.heads ms.batches ms.links
-
-pub near_of : {T R : Type 0} (of : ℕ → T) (st : waiting.State T R) (ms : machine.State) → Shows T R of st ms → NearAt of [] st ms
-near_of of st ms h = record {
-  numbers = h.numbers;
-  as_many = h.slots;
-  slot = h.slot;
-  heads_are = h.heads;
-  retired = h.retired;
-  values = h.values;
-  counts = λ b. h.counts b ∙ ap (λ (n : ℕ). pos n) (omega arith);
-  links_are = h.links;
-}
-
-pub shows_of : {T R : Type 0} (of : ℕ → T) (st : waiting.State T R) (ms : machine.State) → NearAt of [] st ms → Shows T R of st ms
-shows_of of st ms h = record {
-  numbers = h.numbers;
-  slots = h.as_many;
-  slot = h.slot;
-  heads = h.heads_are;
-  retired = h.retired;
-  values = h.values;
-  counts = λ b. h.counts b ∙ ap (λ (n : ℕ). pos n) (omega arith);
-  links = h.links_are;
-}
+abbrev pub NearAt : {T R X : Type 0} → Naming T R X → List ℕ → waiting.State T R → machine.State → Type 0
+NearAt of walk st ms = Near of walk st ms.slots ms.heads ms.batches ms.links
 
 -- Counts over a list where one element changes.
 
@@ -76,25 +74,25 @@ or_same a b = elim (is_true (a == b)) [ inl t ↦ inl (eq_true a b t) | inr f �
 
 -- One slot changes on both sides.
 
-slots_change : {T R : Type 0} (of : ℕ → T) (xs : List (waiting.Slot T R)) (ys : List machine.Slot) (s : ℕ) (new : waiting.Slot T R) (shown : machine.Slot) → s < length xs → length ys ≡ length xs
-    → ((i : ℕ) → ShowsSlot T R of (get_or xs i waiting.no_slot) (get_or ys i machine.no_slot)) → ShowsSlot T R of new shown
-    → (i : ℕ) → ShowsSlot T R of (get_or (set xs s new) i waiting.no_slot) (get_or (set ys s shown) i machine.no_slot)
+slots_change : {T R X : Type 0} (of : Naming T R X) (xs : List (waiting.Slot T R)) (ys : List machine.Slot) (s : ℕ) (new : waiting.Slot T R) (shown : machine.Slot) → s < length xs → length ys ≡ length xs
+    → ((i : ℕ) → CoupledSlot of (get_or xs i waiting.no_slot) (get_or ys i machine.no_slot)) → CoupledSlot of new shown
+    → (i : ℕ) → CoupledSlot of (get_or (set xs s new) i waiting.no_slot) (get_or (set ys s shown) i machine.no_slot)
 slots_change {T} {R} of xs ys s new shown h e old now i = go (or_same i s)
   where
-    go : (i ≡ s) ⊎ (i ≢ s) → ShowsSlot T R of (get_or (set xs s new) i waiting.no_slot) (get_or (set ys s shown) i machine.no_slot)
+    go : (i ≡ s) ⊎ (i ≢ s) → CoupledSlot of (get_or (set xs s new) i waiting.no_slot) (get_or (set ys s shown) i machine.no_slot)
     go (inl is) =
         let a : get_or (set xs s new) i waiting.no_slot ≡ new = rw is (get_or-set_same xs s new waiting.no_slot h) in
         let b : get_or (set ys s shown) i machine.no_slot ≡ shown = rw is (get_or-set_same ys s shown machine.no_slot (rw e h)) in
-        subst (λ y. ShowsSlot T R of (get_or (set xs s new) i waiting.no_slot) y) (sym b) (subst (λ x. ShowsSlot T R of x shown) (sym a) now)
+        subst (λ y. CoupledSlot of (get_or (set xs s new) i waiting.no_slot) y) (sym b) (subst (λ x. CoupledSlot of x shown) (sym a) now)
     go (inr not) =
         let a : get_or (set xs s new) i waiting.no_slot ≡ get_or xs i waiting.no_slot = get_or-set_other xs s i new waiting.no_slot not in
         let b : get_or (set ys s shown) i machine.no_slot ≡ get_or ys i machine.no_slot = get_or-set_other ys s i shown machine.no_slot not in
-        subst (λ y. ShowsSlot T R of (get_or (set xs s new) i waiting.no_slot) y) (sym b) (subst (λ x. ShowsSlot T R of x (get_or ys i machine.no_slot)) (sym a) (old i))
+        subst (λ y. CoupledSlot of (get_or (set xs s new) i waiting.no_slot) y) (sym b) (subst (λ x. CoupledSlot of x (get_or ys i machine.no_slot)) (sym a) (old i))
 
 -- a change of a slot that leaves its head
-pub near_set : {T R : Type 0} (of : ℕ → T) (walk : List ℕ) (st : waiting.State T R) (slots : List machine.Slot) (heads : List Head) (batches : List Batch) (links : List (Option ℕ)) (s : ℕ) (new : waiting.Slot T R) (shown : machine.Slot)
-    → Near T R of walk st slots heads batches links → s < length st.slots → ShowsSlot T R of new shown → head_of new ≡ head_of (waiting.slot_at st s) → new.order ≡ (waiting.slot_at st s).order
-    → Near T R of walk (waiting.set_slot st s new) (set slots s shown) heads batches links
+pub near_set : {T R X : Type 0} (of : Naming T R X) (walk : List ℕ) (st : waiting.State T R) (slots : List machine.Slot) (heads : List Head) (batches : List Batch) (links : List (Option ℕ)) (s : ℕ) (new : waiting.Slot T R) (shown : machine.Slot)
+    → Near of walk st slots heads batches links → s < length st.slots → CoupledSlot of new shown → head_of new ≡ head_of (waiting.slot_at st s) → new.order ≡ (waiting.slot_at st s).order
+    → Near of walk (waiting.set_slot st s new) (set slots s shown) heads batches links
 near_set of walk st slots heads batches links s new shown n h now head order = record {
   numbers = rw (length-set st.slots s new) n.numbers;
   as_many = length-set slots s shown ∙ n.as_many ∙ sym (length-set st.slots s new);
@@ -107,9 +105,9 @@ near_set of walk st slots heads batches links s new shown n h now head order = r
 }
 
 -- a change of a slot's head that leaves no batch in its order: the batches that were there are walked
-pub near_out : {T R : Type 0} (of : ℕ → T) (st : waiting.State T R) (slots : List machine.Slot) (heads : List Head) (batches : List Batch) (links : List (Option ℕ)) (s : ℕ) (new : waiting.Slot T R) (shown : machine.Slot)
-    → Near T R of [] st slots heads batches links → s < length st.slots → ShowsSlot T R of new shown → new.order ≡ []
-    → Near T R of (waiting.slot_at st s).order (waiting.set_slot st s new) (set slots s shown) (set heads s (head_of new)) batches links
+pub near_out : {T R X : Type 0} (of : Naming T R X) (st : waiting.State T R) (slots : List machine.Slot) (heads : List Head) (batches : List Batch) (links : List (Option ℕ)) (s : ℕ) (new : waiting.Slot T R) (shown : machine.Slot)
+    → Near of [] st slots heads batches links → s < length st.slots → CoupledSlot of new shown → new.order ≡ []
+    → Near of (waiting.slot_at st s).order (waiting.set_slot st s new) (set slots s shown) (set heads s (head_of new)) batches links
 near_out of st slots heads batches links s new shown n h now order = record {
   numbers = rw (length-set st.slots s new) n.numbers;
   as_many = length-set slots s shown ∙ n.as_many ∙ sym (length-set st.slots s new);

@@ -11,9 +11,9 @@ use Rattle.seize_machine.specs.Machine.State.{Head, Inactive, Active, Batch, no_
 use Rattle.seize_model.specs.Waiting.State as waiting
 use Rattle.seize_model.specs.Waiting.State.{keeps, slot_at}
 use Rattle.seize_model.specs.Waiting.Attempt.{wait_if_active}
-use Rattle.seize_model.specs.Agreement.Shows.{Stand, head_of, ShowsSlot}
+use Rattle.seize_model.specs.Agreement.Shows.{head_of}
 use Rattle.seize_model.proofs.Simulation.Attempts.{actives, with_front}
-use Rattle.seize_model.proofs.Simulation.Coupling.{Near, or_same, none_passes}
+use Rattle.seize_model.proofs.Simulation.Coupling.{Near, or_same, none_passes, Denote, CoupledSlot, Naming}
 
 -- what holds of a slot with the batch in front where it is active, and without where it isn't
 pub by_active : {T R : Type 0} (P : waiting.Slot T R → Bool → Type 0) (b : ℕ) (slot : waiting.Slot T R) → (waiting.is_active slot ≡ true → P (record slot { order = b ∷ slot.order }) true) → (waiting.is_active slot ≡ false → P slot false)
@@ -78,9 +78,9 @@ beside [] y d (suc i) h = refl
 beside (x ∷ xs) y d zero h = refl
 beside (x ∷ xs) y d (suc i) h = beside xs y d i (λ e. h (omega arith))
 
-slot_waits : {T R : Type 0} (of : ℕ → T) (b : ℕ) (slot : waiting.Slot T R) (shown : machine.Slot) → keeps b slot ≡ false → ShowsSlot T R of slot shown → ShowsSlot T R of (wait_if_active b slot) shown
+slot_waits : {T R X : Type 0} (of : Naming T R X) (b : ℕ) (slot : waiting.Slot T R) (shown : machine.Slot) → keeps b slot ≡ false → CoupledSlot of slot shown → CoupledSlot of (wait_if_active b slot) shown
 slot_waits {T} {R} of b slot shown none h =
-    by_active (λ x t. ShowsSlot T R of x shown) b slot (λ e. record {
+    by_active (λ x t. CoupledSlot of x shown) b slot (λ e. record {
       used = h.used;
       idle = h.idle;
       batch = h.batch;
@@ -95,23 +95,23 @@ abbrev pub waiting_more : {T R : Type 0} → waiting.State T R → List (T × R)
 waiting_more st values = record st { slots = map (wait_if_active (length st.retired)) st.slots; retired = st.retired ++ values ∷ [] }
 
 -- no batch that was never retired waits for a slot
-unmade : {T R : Type 0} (of : ℕ → T) (st : waiting.State T R) (slots : List machine.Slot) (heads : List Head) (batches : List Batch) (links : List (Option ℕ)) → Near T R of [] st slots heads batches links
+unmade : {T R X : Type 0} (of : Naming T R X) (st : waiting.State T R) (slots : List machine.Slot) (heads : List Head) (batches : List Batch) (links : List (Option ℕ)) → Near of [] st slots heads batches links
     → count_by (keeps (length st.retired)) st.slots ≡ 0
 unmade of st slots heads batches links n =
     let past : get_or batches (length st.retired) no_batch ≡ no_batch = get_or_past batches (length st.retired) no_batch (omega (arith, n.retired)) in
     let zero_is : pos 0 ≡ pos (count_by (keeps (length st.retired)) st.slots + 0) = sym (ap (λ (k : Batch). k.count) past) ∙ n.counts (length st.retired) in
     omega (arith, ints)
 
-pub near_waits : {T R : Type 0} (of : ℕ → T) (numbers : List ℕ) (values : List (T × R)) (st : waiting.State T R) (slots : List machine.Slot) (heads : List Head) (batches : List Batch) (links : List (Option ℕ))
-    → Near T R of [] st slots heads batches links → Stand of numbers values
+pub near_waits : {T R X : Type 0} (of : Naming T R X) (numbers : List ℕ) (values : List (T × R)) (st : waiting.State T R) (slots : List machine.Slot) (heads : List Head) (batches : List Batch) (links : List (Option ℕ))
+    → Near of [] st slots heads batches links → Denote of numbers values
     → (count_by (keeps (length st.retired)) (waiting_more st values).slots ≡ length (actives 0 heads))
-    × Near T R of [] (waiting_more st values) slots (map (with_front (length st.retired)) heads) (batches ++ record { values = numbers; count = pos (length (actives 0 heads)) } ∷ []) links
+    × Near of [] (waiting_more st values) slots (map (with_front (length st.retired)) heads) (batches ++ record { values = numbers; count = pos (length (actives 0 heads)) } ∷ []) links
 near_waits {T} {R} of numbers values st slots heads batches links n stand = (
   won,
   record {
     numbers = rw (length-map st.slots (wait_if_active b)) n.numbers;
     as_many = n.as_many ∙ sym (length-map st.slots (wait_if_active b));
-    slot = λ s. subst (λ x. ShowsSlot T R of x (get_or slots s machine.no_slot)) (sym (get_or-map (wait_if_active b) st.slots s waiting.no_slot))
+    slot = λ s. subst (λ x. CoupledSlot of x (get_or slots s machine.no_slot)) (sym (get_or-map (wait_if_active b) st.slots s waiting.no_slot))
         (slot_waits of b (slot_at st s) (get_or slots s machine.no_slot) (none_passes (keeps b) st.slots s waiting.no_slot none refl) (n.slot s));
     heads_are = ap (λ (l : List Head). map (with_front b) l) n.heads_are ∙ heads_wait b st.slots;
     retired = length-append batches (new ∷ []) ∙ ap (λ (k : ℕ). k + 1) n.retired ∙ sym (length-append st.retired (values ∷ []));
@@ -134,15 +134,15 @@ near_waits {T} {R} of numbers values st slots heads batches links n stand = (
     won = new_count (length st.retired) st.slots (unmade of st slots heads batches links n) ∙ sym (ap (λ (l : List Head). length (actives 0 l)) n.heads_are ∙ actives_count 0 st.slots)
 
     values_at : (i : ℕ) → (i ≡ length st.retired) ⊎ (i ≢ length st.retired)
-        → Stand of (get_or (batches ++ record { values = numbers; count = pos (length (actives 0 heads)) } ∷ []) i no_batch).values (get_or (st.retired ++ values ∷ []) i [])
+        → Denote of (get_or (batches ++ record { values = numbers; count = pos (length (actives 0 heads)) } ∷ []) i no_batch).values (get_or (st.retired ++ values ∷ []) i [])
     values_at i (inl is) =
         let x : get_or (batches ++ record { values = numbers; count = pos (length (actives 0 heads)) } ∷ []) i no_batch ≡ record { values = numbers; count = pos (length (actives 0 heads)) } = rw (is, ← n.retired) (get_or-append_seam batches _ [] no_batch) in
         let y : get_or (st.retired ++ values ∷ []) i [] ≡ values = rw is (get_or-append_seam st.retired values [] []) in
-        subst (λ (k : Batch). Stand of k.values (get_or (st.retired ++ values ∷ []) i [])) (sym x) (subst (λ (k : List (T × R)). Stand of numbers k) (sym y) stand)
+        subst (λ (k : Batch). Denote of k.values (get_or (st.retired ++ values ∷ []) i [])) (sym x) (subst (λ (k : List (T × R)). Denote of numbers k) (sym y) stand)
     values_at i (inr other) =
         let x : get_or (batches ++ record { values = numbers; count = pos (length (actives 0 heads)) } ∷ []) i no_batch ≡ get_or batches i no_batch = beside batches _ no_batch i (rw n.retired other) in
         let y : get_or (st.retired ++ values ∷ []) i [] ≡ get_or st.retired i [] = beside st.retired values [] i other in
-        subst (λ (k : Batch). Stand of k.values (get_or (st.retired ++ values ∷ []) i [])) (sym x) (subst (λ (k : List (T × R)). Stand of (get_or batches i no_batch).values k) (sym y) (n.values i))
+        subst (λ (k : Batch). Denote of k.values (get_or (st.retired ++ values ∷ []) i [])) (sym x) (subst (λ (k : List (T × R)). Denote of (get_or batches i no_batch).values k) (sym y) (n.values i))
 
     counts_at : (i : ℕ) → (i ≡ length st.retired) ⊎ (i ≢ length st.retired)
         → (get_or (batches ++ record { values = numbers; count = pos (length (actives 0 heads)) } ∷ []) i no_batch).count ≡ pos (count_by (keeps i) (map (wait_if_active (length st.retired)) st.slots) + 0)

@@ -24,17 +24,28 @@ pub record Holds (T R : Type 0) (P : T × R → Type 0) (st : State T R) : Type 
 abbrev pub HoldsAfter : {T R : Type 0} → (T × R → Type 0) → Outcome T R → Type 0
 HoldsAfter {T} {R} P o = Holds T R P o.0 × AllByRecursion P o.1
 
+-- a property that every value has
+abbrev pub Always : {X : Type 0} → X → Type 0
+Always x = Unit {0}
+
+pub all_always : {X : Type 0} (xs : List X) → AllByRecursion Always xs
+all_always [] = tt
+all_always (x ∷ xs) = (tt, all_always xs)
+
+pub holds_always : {T R : Type 0} (st : State T R) → Holds T R Always st
+holds_always st = record { batches = λ s. all_always (slot_at st s).batch; retired = λ b. all_always (retired_at st b) }
+
 -- Lists.
 
 pub all_append : {X : Type 0} (P : X → Type 0) (xs ys : List X) → AllByRecursion P xs → AllByRecursion P ys → AllByRecursion P (xs ++ ys)
 all_append P [] ys h k = k
 all_append P (x ∷ xs) ys h k = (h.0, all_append P xs ys h.1 k)
 
-pub all_further : {T R : Type 0} (puts : R → T → List T) (of : ℕ → T) (P : T × R → Type 0) → Names T R puts of P → (gone : List (T × R)) → AllByRecursion P gone → AllByRecursion P (further puts gone)
-all_further puts of P names [] h = tt
-all_further puts of P names (v ∷ gone) h =
+pub all_further : {T R : Type 0} (puts : R → T → List T) (P : T × R → Type 0) → ((v : T × R) → P v → AllByRecursion P (put_by puts v)) → (gone : List (T × R)) → AllByRecursion P gone → AllByRecursion P (further puts gone)
+all_further puts P closed [] h = tt
+all_further puts P closed (v ∷ gone) h =
     subst (λ l. AllByRecursion P l) (sym (flat_map-cons (put_by puts) v gone))
-    (all_append P (put_by puts v) (further puts gone) (names.closed v h.0) (all_further puts of P names gone h.1))
+    (all_append P (put_by puts v) (further puts gone) (closed v h.0) (all_further puts P closed gone h.1))
 
 -- what holds of an element and of those before holds in a list where it was written, or pushed
 at_set : {X : Type 0} (Q : X → Type 0) (xs : List X) (s : ℕ) (y : X) (i : ℕ) (d : X) → Q y → Q (get_or xs i d) → Q (get_or (set xs s y) i d)

@@ -1,7 +1,11 @@
 -- Each list of calls has a naming under which each call in turn is a list of events, whatever the values are.
-use Rattle.std.proofs.Common.{◌≡◌, ℕ, zero, suc, ◌+◌, ◌≤◌, List, [], ◌∷◌, ◌++◌, length, get_or, Option, Some, None, refl, ◌∙◌, ap, arith}
+use Rattle.std.proofs.Common.{◌≡◌, ℕ, zero, suc, ◌+◌, ◌≤◌, List, [], ◌∷◌, ◌++◌, length, get_or, Option, Some, None, option_to_list, refl, ◌∙◌, ap, arith}
 use Rattle.std.specs.List.{All, slice_get}
 use Rattle.seize_machine.specs.Machine.State as machine
+use Rattle.seize_machine.specs.Machine.Event.{Event, Begin, ExchangeLink}
+use Rattle.seize_machine.specs.declared.machine.event.Job.TheVariants.{Retire as RetireJob}
+use Rattle.seize_machine.specs.declared.machine.event.Exchange.TheVariants.{Swap as SwapLink}
+use Rattle.seize_model.specs.Agreement.Events.{NamesOwn}
 use Rattle.seize_model.specs.Waiting.State as waiting
 use Rattle.seize_model.specs.Waiting.State.{slot_at, retired_at}
 use Rattle.seize_model.specs.Waiting.Calls.{link_at}
@@ -76,7 +80,7 @@ own_holds {T} {R} puts st (Swap s l new r) = (
 
 -- one call is a run under a naming that is as before below a bound
 pub call_anew : {T R : Type 0} (puts : R → T → List T) (weight : T → ℕ) → Lighter puts weight → (bound : ℕ) (of : ℕ → T) (st : waiting.State T R) (before : machine.State) (call : Call T R) → HasLink st call → Shows T R of st before → past_state before ≤ bound
-    → (other : ℕ → T) × AgreeBelow bound of other × IsRun T R other call st.size before (step puts weight st call)
+    → (other : ℕ → T) × AgreeBelow bound of other × IsRun T R other call st before (step puts weight st call)
 call_anew {T} {R} puts weight lighter bound of st before call link shows h =
     let same : AgreeBelow bound of (renamed puts (roots st (own_values st call)) bound of) = renamed_below puts (roots st (own_values st call)) bound of in (
       renamed puts (roots st (own_values st call)) bound of,
@@ -98,17 +102,35 @@ still_linked st later (Retire s v r) e h = tt
 still_linked st later (Protect s l) e h = omega arith
 still_linked st later (Swap s l new r) e h = omega arith
 
+-- past the number with which a call begins
+abbrev pub number_in : Event → List ℕ
+number_in (Begin s (RetireJob n)) = n ∷ []
+number_in (ExchangeLink s l (SwapLink n)) = option_to_list n
+number_in e = []
+
+abbrev pub past_first : List Event → ℕ
+past_first [] = 0
+past_first (e ∷ es) = past (number_in e)
+
+-- that number stands for the same
+names_same : {T R : Type 0} (bound : ℕ) (of other : ℕ → T) (call : Call T R) (events : List Event) → AgreeBelow bound of other → past_first events ≤ bound → NamesOwn of call events → NamesOwn other call events
+names_same bound of other call [] same h names = tt
+names_same bound of other (Retire s v r) (Begin i (RetireJob n) ∷ es) same h names = same n (omega arith) ∙ names
+names_same bound of other (Swap s l new r) (ExchangeLink i k (SwapLink None) ∷ es) same h names = names
+names_same bound of other (Swap s l new r) (ExchangeLink i k (SwapLink (Some n)) ∷ es) same h names = ap (λ x. Some x) (same n (omega arith)) ∙ names
+names_same bound of other call (e ∷ es) same h names = names
+
 -- Each call of a list is a run, all under one naming: a later naming is as before on the numbers that stand in the state at which a
 -- call was made and on those that it handed.
 pub calls_anew : {T R : Type 0} (puts : R → T → List T) (weight : T → ℕ) → Lighter puts weight → (bound : ℕ) (of : ℕ → T) (st : waiting.State T R) (before : machine.State) (calls : List (Call T R)) → All (HasLink st) calls → Shows T R of st before
     → (other : ℕ → T) × AgreeBelow bound of other × Shows T R other st before × AreRuns puts weight other st before calls
 calls_anew puts weight lighter bound of st before [] links shows = (of, λ n h. refl, shows, tt)
 calls_anew {T} {R} puts weight lighter bound of st before (call ∷ calls) links shows =
-    let one : (other : ℕ → T) × AgreeBelow (bound + past_state before) of other × IsRun T R other call st.size before (step puts weight st call)
+    let one : (other : ℕ → T) × AgreeBelow (bound + past_state before) of other × IsRun T R other call st before (step puts weight st call)
     = call_anew puts weight lighter (bound + past_state before) of st before call (links 0 call (omega arith)) shows (omega arith) in
-    let run : IsRun T R one.0 call st.size before (step puts weight st call) = one.2 in
-    let rest : (other : ℕ → T) × AgreeBelow (bound + past_state before + past (handed run.answers)) one.0 other × Shows T R other (step puts weight st call).1.0 run.later × AreRuns puts weight other (step puts weight st call).1.0 run.later calls
-    = calls_anew puts weight lighter (bound + past_state before + past (handed run.answers)) one.0 (step puts weight st call).1.0 run.later calls
+    let run : IsRun T R one.0 call st before (step puts weight st call) = one.2 in
+    let rest : (other : ℕ → T) × AgreeBelow (bound + past_state before + past (handed run.answers) + past_first run.events) one.0 other × Shows T R other (step puts weight st call).1.0 run.later × AreRuns puts weight other (step puts weight st call).1.0 run.later calls
+    = calls_anew puts weight lighter (bound + past_state before + past (handed run.answers) + past_first run.events) one.0 (step puts weight st call).1.0 run.later calls
     (λ k d h. still_linked st (step puts weight st call).1.0 (get_or calls k d) (step_kept puts weight st call (length st.links) refl) (links (suc k) d (omega arith))) run.shows in
     let same : AgreeBelow (bound + past_state before) of rest.0 = λ n h. rest.1 n (omega arith) ∙ one.1 n h in (
       rest.0,
@@ -119,9 +141,11 @@ calls_anew {T} {R} puts weight lighter bound of st before (call ∷ calls) links
           events = run.events;
           answers = run.answers;
           later = run.later;
+          makes = run.makes;
+          names = names_same (bound + past_state before + past (handed run.answers) + past_first run.events) one.0 rest.0 call run.events rest.1 (omega arith) run.names;
           legal = run.legal;
           shows = rest.2;
-          gone = stand_same (bound + past_state before + past (handed run.answers)) one.0 rest.0 (handed run.answers) (step puts weight st call).1.1 rest.1 (omega arith) run.gone;
+          gone = stand_same (bound + past_state before + past (handed run.answers) + past_first run.events) one.0 rest.0 (handed run.answers) (step puts weight st call).1.1 rest.1 (omega arith) run.gone;
           reply = run.reply;
         },
         rest.3,

@@ -8,9 +8,8 @@ use Rattle.seize_machine.specs.Machine.State.{Head, Batch, has, no_batch}
 use Rattle.seize_model.specs.Waiting.State as waiting
 use Rattle.seize_model.specs.Waiting.State.{keeps, is_kept, retired_at}
 use Rattle.seize_model.specs.Waiting.Attempt.{Outcome, release}
-use Rattle.seize_model.specs.Agreement.Shows.{Stand}
 use Rattle.seize_machine.proofs.Laws.Sums.{one, occ, has_none}
-use Rattle.seize_model.proofs.Simulation.Coupling.{Near, any_counts, or_same}
+use Rattle.seize_model.proofs.Simulation.Coupling.{Near, any_counts, or_same, Denote, Naming}
 use Rattle.seize_model.proofs.Cases.{in_or_past}
 
 -- the batch in its place
@@ -18,20 +17,20 @@ abbrev pub batch_with : List Batch → ℕ → Bool → ℤ → List Batch
 batch_with batches b gives_up count = set batches b (record { values = if gives_up then [] else (get_or batches b no_batch).values; count = count })
 
 -- one batch changes on both sides
-values_change : {T R : Type 0} (of : ℕ → T) (xs : List (List (T × R))) (ys : List Batch) (b : ℕ) (new : List (T × R)) (shown : Batch) → b < length xs → length ys ≡ length xs
-    → ((i : ℕ) → Stand of (get_or ys i no_batch).values (get_or xs i [])) → Stand of shown.values new
-    → (i : ℕ) → Stand of (get_or (set ys b shown) i no_batch).values (get_or (set xs b new) i [])
+values_change : {T R X : Type 0} (of : Naming T R X) (xs : List (List (T × R))) (ys : List Batch) (b : ℕ) (new : List (T × R)) (shown : Batch) → b < length xs → length ys ≡ length xs
+    → ((i : ℕ) → Denote of (get_or ys i no_batch).values (get_or xs i [])) → Denote of shown.values new
+    → (i : ℕ) → Denote of (get_or (set ys b shown) i no_batch).values (get_or (set xs b new) i [])
 values_change {T} {R} of xs ys b new shown h e old now i = go (or_same i b)
   where
-    go : (i ≡ b) ⊎ (i ≢ b) → Stand of (get_or (set ys b shown) i no_batch).values (get_or (set xs b new) i [])
+    go : (i ≡ b) ⊎ (i ≢ b) → Denote of (get_or (set ys b shown) i no_batch).values (get_or (set xs b new) i [])
     go (inl is) =
         let x : get_or (set xs b new) i [] ≡ new = rw is (get_or-set_same xs b new [] h) in
         let y : get_or (set ys b shown) i no_batch ≡ shown = rw is (get_or-set_same ys b shown no_batch (rw e h)) in
-        subst (λ (k : Batch). Stand of k.values (get_or (set xs b new) i [])) (sym y) (subst (λ (k : List (T × R)). Stand of shown.values k) (sym x) now)
+        subst (λ (k : Batch). Denote of k.values (get_or (set xs b new) i [])) (sym y) (subst (λ (k : List (T × R)). Denote of shown.values k) (sym x) now)
     go (inr other) =
         let x : get_or (set xs b new) i [] ≡ get_or xs i [] = get_or-set_other xs b i new [] other in
         let y : get_or (set ys b shown) i no_batch ≡ get_or ys i no_batch = get_or-set_other ys b i shown no_batch other in
-        subst (λ (k : Batch). Stand of k.values (get_or (set xs b new) i [])) (sym y) (subst (λ (k : List (T × R)). Stand of (get_or ys i no_batch).values k) (sym x) (old i))
+        subst (λ (k : Batch). Denote of k.values (get_or (set xs b new) i [])) (sym y) (subst (λ (k : List (T × R)). Denote of (get_or ys i no_batch).values k) (sym x) (old i))
 
 counts_change : (ys : List Batch) (b : ℕ) (shown : Batch) (f g : ℕ → ℕ) → ((i : ℕ) → (get_or ys i no_batch).count ≡ pos (f i)) → b < length ys → shown.count ≡ pos (g b) → ((i : ℕ) → i ≢ b → f i ≡ g i)
     → (i : ℕ) → (get_or (set ys b shown) i no_batch).count ≡ pos (g i)
@@ -52,10 +51,10 @@ made batches b n e = go (in_or_past b (length batches))
         absurd (omega (arith, ints))
 
 -- The first batch of the walk is counted down.
-pub near_less : {T R : Type 0} (of : ℕ → T) (b : ℕ) (walk : List ℕ) (st : waiting.State T R) (slots : List machine.Slot) (heads : List Head) (batches : List Batch) (links : List (Option ℕ))
-    → Near T R of (b ∷ walk) st slots heads batches links → has b walk ≡ false
+pub near_less : {T R X : Type 0} (of : Naming T R X) (b : ℕ) (walk : List ℕ) (st : waiting.State T R) (slots : List machine.Slot) (heads : List Head) (batches : List Batch) (links : List (Option ℕ))
+    → Near of (b ∷ walk) st slots heads batches links → has b walk ≡ false
     → (b < length batches) × ((get_or batches b no_batch).count -ℤ pos 1 ≡ pos (count_by (keeps b) st.slots))
-    × Near T R of walk st slots heads (batch_with batches b false (pos (count_by (keeps b) st.slots))) links
+    × Near of walk st slots heads (batch_with batches b false (pos (count_by (keeps b) st.slots))) links
 near_less {T} {R} of b walk st slots heads batches links n first =
     let none : occ b walk ≡ 0 = has_none b walk first in
     let own : one (b == b) ≡ 1 = grind arith in
@@ -72,7 +71,7 @@ near_less {T} {R} of b walk st slots heads batches links n first =
         slot = n.slot;
         heads_are = n.heads_are;
         retired = length-set batches b shown ∙ n.retired;
-        values = λ i. values_kept batches b shown (λ k. Stand of k (retired_at st i)) refl i (n.values i);
+        values = λ i. values_kept batches b shown (λ k. Denote of k (retired_at st i)) refl i (n.values i);
         counts = counts_change batches b shown (λ i. count_by (keeps i) st.slots + occ i (b ∷ walk)) (λ i. count_by (keeps i) st.slots + occ i walk) n.counts there now (λ i other. other_count b i walk (count_by (keeps i) st.slots) other);
         links_are = n.links_are;
       },
@@ -95,13 +94,13 @@ near_less {T} {R} of b walk st slots heads batches links n first =
             subst (λ (k : Batch). P k.values) (before ∙ sym past) p
 
 -- what both sides have once batch b with count k was looked at: it is gone where z says so
-abbrev pub BothGone : {T R : Type 0} → (ℕ → T) → ℕ → List ℕ → List machine.Slot → List Head → List Batch → List (Option ℕ) → ℕ → Bool → Outcome T R → Type 0
+abbrev pub BothGone : {T R X : Type 0} → Naming T R X → ℕ → List ℕ → List machine.Slot → List Head → List Batch → List (Option ℕ) → ℕ → Bool → Outcome T R → Type 0
 BothGone {T} {R} of b walk slots heads batches links k z o =
-    Near T R of walk o.0 slots heads (batch_with batches b z (pos k)) links × Stand of (if z then (get_or batches b no_batch).values else []) o.1
+    Near of walk o.0 slots heads (batch_with batches b z (pos k)) links × Denote of (if z then (get_or batches b no_batch).values else []) o.1
 
 -- A batch that nothing walks is gone if its count is 0.
-pub near_release : {T R : Type 0} (of : ℕ → T) (b : ℕ) (walk : List ℕ) (st : waiting.State T R) (slots : List machine.Slot) (heads : List Head) (batches : List Batch) (links : List (Option ℕ))
-    → Near T R of walk st slots heads batches links → b < length batches → has b walk ≡ false
+pub near_release : {T R X : Type 0} (of : Naming T R X) (b : ℕ) (walk : List ℕ) (st : waiting.State T R) (slots : List machine.Slot) (heads : List Head) (batches : List Batch) (links : List (Option ℕ))
+    → Near of walk st slots heads batches links → b < length batches → has b walk ≡ false
     → BothGone of b walk slots heads batches links (count_by (keeps b) st.slots) (count_by (keeps b) st.slots == 0) (release st b)
 near_release {T} {R} of b walk st slots heads batches links n there first =
     go (count_by (keeps b) st.slots == 0) (is_kept st b) (any_counts (keeps b) st.slots)
@@ -140,7 +139,7 @@ near_release {T} {R} of b walk st slots heads batches links n there first =
         slot = n.slot;
         heads_are = n.heads_are;
         retired = length-set batches b _ ∙ n.retired;
-        values = λ i. subst (λ (l : List (List (T × R))). Stand of (get_or (batch_with batches b false (pos k)) i no_batch).values (get_or l i [])) as_was
+        values = λ i. subst (λ (l : List (List (T × R))). Denote of (get_or (batch_with batches b false (pos k)) i no_batch).values (get_or l i [])) as_was
             (values_change of st.retired batches b (retired_at st b) (record { values = (get_or batches b no_batch).values; count = pos k }) within n.retired n.values (n.values b) i);
         counts = counts_change batches b (record { values = (get_or batches b no_batch).values; count = pos k }) (λ i. count_by (keeps i) st.slots + occ i walk) (λ i. count_by (keeps i) st.slots + occ i walk) n.counts there same_count (λ i other. refl);
         links_are = n.links_are;

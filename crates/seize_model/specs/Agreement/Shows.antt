@@ -10,6 +10,10 @@ use Rattle.seize_model.specs.Waiting.Calls.{is_free, is_owned}
 abbrev pub Stand : {T R : Type 0} → (ℕ → T) → List ℕ → List (T × R) → Type 0
 Stand of numbers values = map of numbers ≡ map (λ v. v.0) values
 
+-- the same of values with their reclaimers
+abbrev pub StandFor : {T R : Type 0} → (ℕ → T) → (ℕ → R) → List ℕ → List (T × R) → Type 0
+StandFor {T} {R} of by numbers values = map {B = T × R} (λ n. (of n, by n)) numbers ≡ values
+
 -- what a link holds by the number in it
 abbrev pub held : {T : Type 0} → (ℕ → T) → Option ℕ → Option T
 held of None = None
@@ -40,3 +44,8 @@ pub record Shows (T R : Type 0) (of : ℕ → T) (st : waiting.State T R) (shown
   pub values : (b : ℕ) → Stand of (machine.batch_at shown b).values (waiting.retired_at st b)
   pub counts : (b : ℕ) → (machine.batch_at shown b).count ≡ pos (count_by (waiting.keeps b) st.slots)
   pub links : map (held of) shown.links ≡ st.links
+
+-- Besides, where each number has a reclaimer too: the values that wait or are retired are to be reclaimed by those of their numbers.
+pub record ShowsReclaimers (T R : Type 0) (of : ℕ → T) (by : ℕ → R) (st : waiting.State T R) (shown : machine.State) : Type 0 where
+  pub batches : (s : ℕ) → StandFor of by (machine.slot_at shown s).batch (waiting.slot_at st s).batch
+  pub retired : (b : ℕ) → StandFor of by (machine.batch_at shown b).values (waiting.retired_at st b)
