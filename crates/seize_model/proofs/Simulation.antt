@@ -18,6 +18,7 @@ pub mod Beginnings
 pub mod Jobs
 pub mod Guards
 pub mod Links
+pub mod Exchanges
 pub mod Numbers
 pub mod Calls
 pub mod Pairs

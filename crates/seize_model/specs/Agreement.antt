@@ -3,5 +3,6 @@ pub mod Shows
 pub mod Events
 pub mod Play
 pub mod Statement
+pub mod Exchange
 pub mod Driver
 pub mod Runs

@@ -7,6 +7,7 @@ ghost use Rattle.seize_model.specs.Waiting.State.{new};
 ghost use Rattle.seize_model.specs.Waiting.Further.{Lighter};
 ghost use Rattle.seize_model.specs.Waiting.Runs as runs;
 ghost use Rattle.seize_model.specs.Agreement.Shows.{Shows};
+ghost use Rattle.seize_model.specs.Agreement.Exchange.{ExchangeAgreement, ExchangeOnLists};
 ghost use Rattle.seize_model.specs.Agreement.Statement.{HasNames, Agreement, AgreementAnew, AgreementOnLists};
 ghost use Rattle.seize_model.specs.Agreement.Runs.{by_events, by_sets};
 
@@ -43,4 +44,11 @@ pub fn models_agree<T, R>()
     ensures call { (puts : R → T → List T) (weight : T → ℕ) (of : ℕ → T) → Lighter puts weight → HasNames of → Agreement puts weight of }
     ensures any { (puts : R → T → List T) (weight : T → ℕ) → Lighter puts weight → AgreementAnew puts weight }
     ensures every { (puts : R → T → List T) (weight : T → ℕ) → Lighter puts weight → AgreementOnLists puts weight }
+{}
+
+/// A swap of a link, without the retirement of what it held, agrees in both directions: from every two states that show each other it
+/// is one legal event, or none where it is refused, which finds the number of what the link held.
+pub fn exchanges_agree<T, R>()
+    ensures call { (of : ℕ → T) → HasNames of → ExchangeAgreement R of }
+    ensures every { ExchangeOnLists T R }
 {}

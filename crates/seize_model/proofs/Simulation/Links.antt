@@ -75,7 +75,7 @@ end_list {T} {R} puts weight of by st before s n = go (waiting.is_active (slot_a
         (makes ∙ ap (λ (b : Bool). if b then [] else Give s ∷ []) e) legal refl refl)
 
 -- what both sides find in a link
-same_link : {T R X : Type 0} (of : Naming T R X) (st : waiting.State T R) (ms : State) (l : ℕ) → NearAt of [] st ms → link_at st l ≡ held of.link (machine.link_at ms l)
+pub same_link : {T R X : Type 0} (of : Naming T R X) (st : waiting.State T R) (ms : State) (l : ℕ) → NearAt of [] st ms → link_at st l ≡ held of.link (machine.link_at ms l)
 same_link of st ms l n = sym (ap (λ k. get_or k l None) n.links_are) ∙ get_or-map (held of.link) ms.links l None
 
 link_there : {T R X : Type 0} (of : Naming T R X) (st : waiting.State T R) (ms : State) (s l : ℕ) → NearAt of [] st ms → waiting.is_active (slot_at st s) ≡ true → l < length st.links → machine_next.can_link ms s l ≡ true
@@ -122,11 +122,11 @@ has_last v (x ∷ xs) = grind (arith, has_last v xs)
 
 -- The exchange of a link.
 
-swaps : {T R X : Type 0} (of : Naming T R X) (st : waiting.State T R) (before : State) (s l : ℕ) (number : Option ℕ) → NearAt of [] st before → waiting.is_active (slot_at st s) ≡ true → l < length st.links → is_none_or_fresh before number ≡ true
+pub swaps : {T R X : Type 0} (of : Naming T R X) (st : waiting.State T R) (before : State) (s l : ℕ) (number : Option ℕ) → NearAt of [] st before → waiting.is_active (slot_at st s) ≡ true → l < length st.links → is_none_or_fresh before number ≡ true
     → next st.size before (ExchangeLink s l (SwapLink number)) ≡ Some (machine_next.swapped before l number, Link (machine.link_at before l))
 swaps of st before s l number n active h fresh = if_yes _ _ _ (ap (λ (t : Bool). t && is_none_or_fresh before number) (link_there of st before s l n active h) ∙ fresh)
 
-swapped_near : {T R X : Type 0} (of : Naming T R X) (st : waiting.State T R) (before : State) (l : ℕ) (number : Option ℕ) (new : Option T) → NearAt of [] st before → held of.link number ≡ new
+pub swapped_near : {T R X : Type 0} (of : Naming T R X) (st : waiting.State T R) (before : State) (l : ℕ) (number : Option ℕ) (new : Option T) → NearAt of [] st before → held of.link number ≡ new
     → NearAt of [] (record st { links = set st.links l new }) (machine_next.swapped before l number)
 swapped_near of st before l number new n is = record {
   numbers = n.numbers;
