@@ -26,3 +26,4 @@ pub mod Renaming
 pub mod Descendants
 pub mod Namings
 pub mod Openings
+pub mod Reopenings

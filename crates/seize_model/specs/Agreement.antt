@@ -3,6 +3,7 @@ pub mod Shows
 pub mod Events
 pub mod Play
 pub mod Statement
-pub mod Exchange
+pub mod Links
+pub mod Reopening
 pub mod Driver
 pub mod Runs

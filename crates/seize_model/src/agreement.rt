@@ -7,7 +7,8 @@ ghost use Rattle.seize_model.specs.Waiting.State.{new};
 ghost use Rattle.seize_model.specs.Waiting.Further.{Lighter};
 ghost use Rattle.seize_model.specs.Waiting.Runs as runs;
 ghost use Rattle.seize_model.specs.Agreement.Shows.{Shows};
-ghost use Rattle.seize_model.specs.Agreement.Exchange.{ExchangeAgreement, ExchangeOnLists};
+ghost use Rattle.seize_model.specs.Agreement.Links.{ReadAgreement, ExchangeAgreement, ExchangeOnLists};
+ghost use Rattle.seize_model.specs.Agreement.Reopening.{ReopenedLaw};
 ghost use Rattle.seize_model.specs.Agreement.Statement.{HasNames, Agreement, AgreementAnew, AgreementOnLists};
 ghost use Rattle.seize_model.specs.Agreement.Runs.{by_events, by_sets};
 
@@ -46,9 +47,17 @@ pub fn models_agree<T, R>()
     ensures every { (puts : R → T → List T) (weight : T → ℕ) → Lighter puts weight → AgreementOnLists puts weight }
 {}
 
-/// A swap of a link, without the retirement of what it held, agrees in both directions: from every two states that show each other it
-/// is one legal event, or none where it is refused, which finds the number of what the link held.
-pub fn exchanges_agree<T, R>()
-    ensures call { (of : ℕ → T) → HasNames of → ExchangeAgreement R of }
-    ensures every { ExchangeOnLists T R }
+/// A read of a link, and an exchange of it without the retirement of what it held, agree with the machine: from every two states that
+/// show each other each is one legal event, or none where it is refused, which finds the number of what the link held; and each legal
+/// exchange does what the exchange does.
+pub fn links_agree<T, R>()
+    ensures read { (of : ℕ → T) → ReadAgreement R of }
+    ensures exchange { (of : ℕ → T) → HasNames of → ExchangeAgreement R of }
+    ensures every_exchange { ExchangeOnLists T R }
+{}
+
+/// Reclaiming all leads to a state that a machine just opened shows, with as many slots and what the links held, but for its table of
+/// retired batches: they are as many as before, and none waits for a slot.
+pub fn reclaiming_reopens<T, R>()
+    ensures { (puts : R → T → List T) (weight : T → ℕ) → ReopenedLaw puts weight }
 {}

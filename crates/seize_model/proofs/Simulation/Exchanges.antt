@@ -1,9 +1,9 @@
--- The exchange of a link without the retirement of what it held.
-use Rattle.std.proofs.Common.{◌≡◌, ℕ, ◌<◌, Bool, true, false, not, ◌&&◌, List, [], ◌∷◌, length, set, Option, Some, None, Ok, Err, refl, sym, ◌∙◌, ap, subst}
+-- A link's read, and its exchange without the retirement of what it held.
+use Rattle.std.proofs.Common.{◌≡◌, ℕ, Bool, true, false, not, ◌&&◌, List, [], ◌∷◌, set, Option, Some, None, Ok, refl, sym, ap, subst}
 use Rattle.seize_table.specs.declared.refusal.Refusal.{Refusal}
 use Rattle.seize_machine.specs.Machine.State as machine
 use Rattle.seize_machine.specs.Machine.State.{State}
-use Rattle.seize_machine.specs.Machine.Event.{ExchangeLink}
+use Rattle.seize_machine.specs.Machine.Event.{ReadLink, ExchangeLink}
 use Rattle.seize_machine.specs.Machine.Next.{is_none_or_fresh}
 use Rattle.seize_machine.specs.Machine.Next as machine_next
 use Rattle.seize_machine.specs.declared.machine.event.Exchange.TheVariants.{Swap as SwapLink}
@@ -16,14 +16,13 @@ use Rattle.seize_model.specs.Waiting.Calls.{no_guard, unless, link_at}
 use Rattle.seize_model.specs.Agreement.Shows.{held, Shows, ShowsReclaimers}
 use Rattle.seize_model.specs.Agreement.Play.{play}
 use Rattle.seize_model.specs.Agreement.Statement.{HasNames}
-use Rattle.seize_model.specs.Agreement.Exchange.{exchange_events, IsFound, IsExchanged, IsExchange, ExchangeAgreement, ExchangeOnLists}
+use Rattle.seize_model.specs.Agreement.Links.{read_events, ReadAgreement, exchange_events, IsFound, IsExchanged, ExchangeAgreement, ExchangeOnLists}
 use Rattle.seize_model.proofs.Simulation.Coupling.{Naming, NearAt}
 use Rattle.seize_model.proofs.Simulation.Views.{contents, with_reclaimers, near_of, near_with, shows_of, shows_with}
 use Rattle.seize_model.proofs.Simulation.Plays.{play_first, play_none, First, first_of}
 use Rattle.seize_model.proofs.Simulation.Beginnings.{OneEvent, one_of}
-use Rattle.seize_model.proofs.Simulation.Names.{Always, all_always}
 use Rattle.seize_model.proofs.Simulation.Jobs.{guard_of}
-use Rattle.seize_model.proofs.Simulation.Links.{swaps, swapped_near, same_link}
+use Rattle.seize_model.proofs.Simulation.Links.{reads, swaps, swapped_near, same_link}
 
 -- what the exchange answers
 abbrev pub exchange_answer : {T R : Type 0} → waiting.State T R → ℕ → Option T → Option Refusal → calls.Answer (Option T) T R
@@ -31,6 +30,19 @@ exchange_answer st l new refusal = unless refusal st (Ok (link_at st l), (record
 
 found_link : {T R X : Type 0} (of : Naming T R X) (st : waiting.State T R) (before : State) (l : ℕ) → NearAt of [] st before → held of.link (machine.link_at before l) ≡ link_at st l
 found_link of st before l n = sym (same_link of st before l n)
+
+pub each_read : {T : Type 0} (R : Type 0) (of : ℕ → T) → ReadAgreement R of
+each_read {T} R of st before s l h shows = go (no_guard st s) refl
+  where
+    go : (refusal : Option Refusal) → no_guard st s ≡ refusal
+        → (let told = unless {A = Option T} {T = T} {R = R} refusal st (Ok (link_at st l), (st, [])) in (answers : List Answer) × (play st.size before (read_events told.0 s l) ≡ Some (before, answers)) × IsFound of told.0 answers)
+    go None e =
+        let n : NearAt (contents of) [] st before = near_of of st before shows in (
+          Link (machine.link_at before l) ∷ [],
+          play_first st.size before (ReadLink s l) [] _ _ (reads (contents of) st before s l n (guard_of st s e).1 h),
+          (machine.link_at before l, refl, found_link (contents of) st before l n),
+        )
+    go (Some r) e = ([], refl, refl)
 
 -- a fresh number for what the link is to hold
 fresh_number : {T : Type 0} (of : ℕ → T) → HasNames of → (before : State) (new : Option T) → (n : Option ℕ) × (is_none_or_fresh before n ≡ true) × (held of n ≡ new)

@@ -83,7 +83,7 @@ link_there of st ms s l n active h =
     let many : length ms.links ≡ length st.links = sym (length-map ms.links (held of.link)) ∙ ap length n.links_are in
     ap (λ (t : Bool). t && nat_lt l (length ms.links)) (active_head of st ms s true n active) ∙ lt_yes l (length ms.links) (omega arith)
 
-reads : {T R X : Type 0} (of : Naming T R X) (st : waiting.State T R) (before : State) (s l : ℕ) → NearAt of [] st before → waiting.is_active (slot_at st s) ≡ true → l < length st.links
+pub reads : {T R X : Type 0} (of : Naming T R X) (st : waiting.State T R) (before : State) (s l : ℕ) → NearAt of [] st before → waiting.is_active (slot_at st s) ≡ true → l < length st.links
     → next st.size before (ReadLink s l) ≡ Some (before, Link (machine.link_at before l))
 reads of st before s l n active h = if_yes _ _ _ (link_there of st before s l n active h)
 
