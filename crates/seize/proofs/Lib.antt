@@ -1,10 +1,8 @@
-pub mod Emptying
-pub mod Firsts
-pub mod Giving
-pub mod Joining
-pub mod Linked
-pub mod Models
+pub mod EmptiedBatches
+pub mod FurtherLoops
+pub mod JoinedPuts
+pub mod LeastNumber
+pub mod QueuedPuts
 pub mod Quieting
-pub mod Reaching
+pub mod ReachedStates
 pub mod Running
-pub mod Settling

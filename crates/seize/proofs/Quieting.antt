@@ -4,10 +4,10 @@ use Rattle.std.specs.List.{flat_map, range_with_len}
 use Rattle.std.proofs.lemmas.List.{append_assoc}
 use Rattle.std.proofs.lemmas.List.Sums.{fold-append}
 use Rattle.std.proofs.lemmas.Grind.{flat_map-append}
-use Rattle.seize.specs.Waiting.State.{State}
-use Rattle.seize.specs.Waiting.Attempt.{part}
-use Rattle.seize.specs.Waiting.Further.{put_by, further, drained}
-use Rattle.seize.specs.Waiting.Calls.{freed, quieted, without_batch, reclaim_all}
+use Rattle.seize_model.specs.Waiting.State.{State}
+use Rattle.seize_model.specs.Waiting.Attempt.{part}
+use Rattle.seize_model.specs.Waiting.Further.{put_by, further, drained}
+use Rattle.seize_model.specs.Waiting.Calls.{freed, quieted, without_batch, reclaim_all}
 use Rattle.seize.specs.Told.{told_of, Did, Queued}
 
 pub range_step : (s e : ℕ) → s < e → range_with_len s (e - s) ≡ s ∷ range_with_len (s + 1) (e - (s + 1))

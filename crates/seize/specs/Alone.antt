@@ -6,9 +6,9 @@ use Rattle.seize.specs.declared.collector.alone.Reply.{Reply as CodeReply}
 use Rattle.seize.specs.declared.collector.alone.Reply.TheVariants.{Done as CodeDone, Slot as CodeSlot, Kept as CodeKept, Found as CodeFound, Refused as CodeRefused}
 use Rattle.seize.specs.Blocks.{content}
 use Rattle.seize.specs.Told.{Did}
-use Rattle.seize.specs.Waiting.State.{State}
-use Rattle.seize.specs.Waiting.Attempt.{Outcome}
-use Rattle.seize.specs.Waiting.Lists.{Call, Register, EnterOwned, Enter, Leave, End, Refresh, Flush, Retire, Protect, Swap, Reply, Done, Number, Kept, Found, Refused, step, takes_number, Replied}
+use Rattle.seize_model.specs.Waiting.State.{State}
+use Rattle.seize_model.specs.Waiting.Attempt.{Outcome}
+use Rattle.seize_model.specs.Waiting.Lists.{Call, Register, EnterOwned, Enter, Leave, End, Refresh, Flush, Retire, Protect, Swap, Reply, Done, Number, Kept, Found, Refused, step, takes_number, Replied}
 use Rattle.seize_table.specs.declared.refusal.Refusal.TheVariants.{NoMemory}
 
 -- a call, with values in the place of blocks

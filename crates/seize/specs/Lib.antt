@@ -1,10 +1,10 @@
-pub mod Agreement
 pub mod Alone
 pub mod Blocks
 pub mod Making
 pub mod Told
-pub mod Waiting
 pub use Rattle.seize_machine.specs.Machine
+pub use Rattle.seize_model.specs.Agreement
+pub use Rattle.seize_model.specs.Waiting
 pub use Rattle.seize_table.specs.Free
 pub use Rattle.seize_table.specs.Place
 pub use Rattle.seize_table.specs.Refusals

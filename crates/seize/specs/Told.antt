@@ -1,11 +1,11 @@
 -- What a watch is told, and what a call answered and did.
 use Rattle.std.specs.Prelude.{◌≡◌, ℕ, Bool, true, List, ◌++◌, length, Result, Ok, Err, ◌⊎◌}
 use Rattle.std.specs.List.{fold}
-use Rattle.seize.specs.Waiting.State.{State}
-use Rattle.seize.specs.Waiting.Attempt.{Outcome}
-use Rattle.seize.specs.Waiting.Further.{further}
-use Rattle.seize.specs.Waiting.Calls.{Answer, reclaim_all}
-use Rattle.seize.specs.Waiting.Reached.{Reached}
+use Rattle.seize_model.specs.Waiting.State.{State}
+use Rattle.seize_model.specs.Waiting.Attempt.{Outcome}
+use Rattle.seize_model.specs.Waiting.Further.{further}
+use Rattle.seize_model.specs.Waiting.Calls.{Answer, reclaim_all}
+use Rattle.seize_model.specs.Waiting.Reached.{Reached}
 use Rattle.seize_table.specs.declared.refusal.Refusal.{Refusal}
 use Rattle.seize_table.specs.declared.refusal.Refusal.TheVariants.{NoMemory}
 

@@ -3,9 +3,9 @@
 ghost use Rattle.std.specs.Prelude.{◌≡◌, ◌⊎◌, ℕ, ◌+◌, ◌==◌, false, max as greater, length, IfOk, IfErr};
 ghost use Rattle.std.specs.Int.{IsNextPowerOfTwo};
 ghost use Rattle.seize.specs.Making.{refusal_for};
-ghost use Rattle.seize.specs.Waiting.State as waiting;
-ghost use Rattle.seize.specs.Waiting.Calls as calls;
-ghost use Rattle.seize.specs.Waiting.Reached.{IsReached};
+ghost use Rattle.seize_model.specs.Waiting.State as waiting;
+ghost use Rattle.seize_model.specs.Waiting.Calls as calls;
+ghost use Rattle.seize_model.specs.Waiting.Reached.{IsReached};
 ghost use Rattle.seize.specs.Told.{AllDone, ReclaimedAll};
 ghost use Rattle.seize_table.specs.declared.refusal.Refusal.TheVariants.{NoMemory as no_memory};
 

@@ -1,15 +1,13 @@
 //! Memory reclamation for concurrent data structures by the Hyaline-1 scheme.
 #![tactic(auto)]
 
-pub mod agreement;
 pub mod block;
 pub mod collector;
 mod plain;
 pub mod reclaim;
-mod usage;
-pub mod waiting;
 
 pub use block::{Further, Owned, Shared, Unlinked, Weigh};
 pub use collector::{Alone, Call, Collector, IdSource, Reply, Watch};
 pub use seize_machine::machine;
+pub use seize_model::{agreement, waiting};
 pub use seize_table::{Refusal, thread_id, tls};

@@ -2,18 +2,18 @@
 //! no words and no counts, so that it can be believed at sight: each of its functions is one line of the model of waiting sets.
 //! The collector keeps its state in one.
 ghost use Rattle.std.specs.Prelude.{◌≡◌, ◌<◌, ◌≤◌, [], length, slice_set, replicate, map, None, Some, IfOk, if◌then◌else◌};
-ghost use Rattle.seize.specs.Waiting.State as state;
-ghost use Rattle.seize.specs.Waiting.Attempt as waiting;
-ghost use Rattle.seize.specs.Waiting.Calls as calls;
+ghost use Rattle.seize_model.specs.Waiting.State as state;
+ghost use Rattle.seize_model.specs.Waiting.Attempt as waiting;
+ghost use Rattle.seize_model.specs.Waiting.Calls as calls;
 ghost use Rattle.seize.specs.Told.{Queued};
 
 use crate::block::{Owned, Weigh};
 use crate::collector::Watch;
 use crate::reclaim::Reclaim;
-use crate::usage::Kind;
 use batch::Batch;
 use give::give_all;
 use link::Link;
+use seize_model::Kind;
 use seize_table::Refusal;
 use slot::Slot;
 use std::alloc::{AllocError, Global};
@@ -43,7 +43,7 @@ pub(crate) struct Plain<T, R: Copy> {
 }
 
 impl<T, R: Copy> Model for Plain<T, R> {
-    ghost use Rattle.seize.specs.Waiting.State as state;
+    ghost use Rattle.seize_model.specs.Waiting.State as state;
 
     ghost Value = { state.State T R };
 

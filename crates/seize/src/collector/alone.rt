@@ -2,17 +2,17 @@
 //! waiting sets, by the collector's lists and sets. Guards of threads make the same calls beside one another.
 ghost use Rattle.std.specs.Prelude.{◌≡◌, ◌⊎◌, ◌+◌, ◌<◌, true, false, length, map, option_map, IfOk, IfErr, IfSome, MatchResult};
 ghost use Rattle.seize.specs.Blocks.{content, shared_content};
-ghost use Rattle.seize.specs.Waiting.Calls as calls;
-ghost use Rattle.seize.specs.Waiting.Lists as lists;
+ghost use Rattle.seize_model.specs.Waiting.Calls as calls;
+ghost use Rattle.seize_model.specs.Waiting.Lists as lists;
 ghost use Rattle.seize.specs.Alone.{call_of, reply_of, InRange, AllInRange, Stepped, Ran};
 ghost use Rattle.seize.specs.Told.{Answers, AllDone, Grew, Said, without_block};
-ghost use Rattle.seize.specs.declared.usage.Kind.TheVariants.{Registered as registered, Owned as owned_slot};
+ghost use Rattle.seize_model.specs.declared.kind.Kind.TheVariants.{Registered as registered, Owned as owned_slot};
 ghost use Rattle.seize_table.specs.declared.refusal.Refusal.TheVariants.{NoMemory as no_memory};
 
 use crate::block::{Owned, Shared, Unlinked, Weigh};
 use crate::collector::{Collector, Watch};
 use crate::reclaim::{Boxed, Reclaim};
-use crate::usage::Kind;
+use seize_model::Kind;
 use seize_table::Refusal;
 use std::collections::VecDeque;
 

@@ -1,9 +1,9 @@
 //! How the plain collector reclaims all.
 ghost use Rattle.std.specs.Prelude.{◌≡◌, length, map, IfOk};
 ghost use Rattle.std.specs.List.{flat_map, range_with_len};
-ghost use Rattle.seize.specs.Waiting.State as state;
-ghost use Rattle.seize.specs.Waiting.Further.{drained};
-ghost use Rattle.seize.specs.Waiting.Calls as calls;
+ghost use Rattle.seize_model.specs.Waiting.State as state;
+ghost use Rattle.seize_model.specs.Waiting.Further.{drained};
+ghost use Rattle.seize_model.specs.Waiting.Calls as calls;
 ghost use Rattle.seize.specs.Told.{told_of, Did, Queued};
 
 use crate::block::Weigh;

@@ -1,13 +1,13 @@
 //! The calls of the plain collector that tell nobody: numbers, guards and links.
 ghost use Rattle.std.specs.Prelude.{◌≡◌, ◌≤◌, ◌<◌, length, slice_set, IfOk, OnErr, MatchResult, option_map, None, Some};
 ghost use Rattle.seize.specs.Blocks.{content};
-ghost use Rattle.seize.specs.Waiting.Calls as calls;
+ghost use Rattle.seize_model.specs.Waiting.Calls as calls;
 ghost use Rattle.seize.specs.Told.{Grew, Said};
 
 use crate::block::Owned;
 use crate::plain::slot::Slot;
 use crate::plain::{NUMBERS, Plain, least_unused};
-use crate::usage::Kind;
+use seize_model::Kind;
 use seize_table::Refusal;
 use std::alloc::AllocError;
 

@@ -1,14 +1,14 @@
 //! The calls of the plain collector by which values end.
 ghost use Rattle.std.specs.Prelude.{◌≡◌, IfOk};
-ghost use Rattle.seize.specs.Waiting.Further as further;
-ghost use Rattle.seize.specs.Waiting.Calls as calls;
+ghost use Rattle.seize_model.specs.Waiting.Further as further;
+ghost use Rattle.seize_model.specs.Waiting.Calls as calls;
 ghost use Rattle.seize.specs.Told.{Did, Queued, Answered};
 
 use crate::block::Weigh;
 use crate::collector::Watch;
 use crate::plain::Plain;
 use crate::reclaim::Reclaim;
-use crate::usage::Kind;
+use seize_model::Kind;
 use seize_table::Refusal;
 use std::alloc::AllocError;
 use std::collections::VecDeque;

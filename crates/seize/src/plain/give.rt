@@ -1,7 +1,7 @@
 //! How the plain collector gives values to their reclaimers.
 ghost use Rattle.std.specs.Prelude.{◌≡◌, ◌++◌, map, IfOk};
 ghost use Rattle.seize.specs.Blocks.{content};
-ghost use Rattle.seize.specs.Waiting.Further.{put_by, further};
+ghost use Rattle.seize_model.specs.Waiting.Further.{put_by, further};
 ghost use Rattle.seize.specs.Told.{told_of};
 
 use crate::block::{Further, Owned, Weigh};

@@ -1,10 +1,10 @@
 //! A slot of the plain collector: whether its number is in use, its guards, its batch, and the retired batches that wait for it.
 ghost use Rattle.std.specs.Prelude.{◌≡◌, ◌∷◌, ◌++◌, [], length, IfOk};
-ghost use Rattle.seize.specs.Waiting.State.{is_active as active, keeps as waits};
-ghost use Rattle.seize.specs.Waiting.Attempt.{wait_if_active};
-ghost use Rattle.seize.specs.Waiting.Calls as calls;
+ghost use Rattle.seize_model.specs.Waiting.State.{is_active as active, keeps as waits};
+ghost use Rattle.seize_model.specs.Waiting.Attempt.{wait_if_active};
+ghost use Rattle.seize_model.specs.Waiting.Calls as calls;
 
-use crate::usage::Kind;
+use seize_model::Kind;
 use std::alloc::{AllocError, Global};
 use std::collections::VecDeque;
 use std::marker::Model;
@@ -19,7 +19,7 @@ pub(crate) struct Slot<T, R> {
 }
 
 impl<T, R> Model for Slot<T, R> {
-    ghost use Rattle.seize.specs.Waiting.State as state;
+    ghost use Rattle.seize_model.specs.Waiting.State as state;
 
     ghost Value = { state.Slot T R };
 

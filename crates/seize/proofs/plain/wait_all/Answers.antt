@@ -1,5 +1,5 @@
 use Rattle.std.proofs.lemmas.List.Edits.{map_over_more}
-use Rattle.seize.specs.Waiting.Attempt.{wait_if_active}
+use Rattle.seize_model.specs.Waiting.Attempt.{wait_if_active}
 use Rattle.seize.proofs.plain.wait_all.Goals as goal
 
 pub loop-i-preserved : goal.loop-i-preserved

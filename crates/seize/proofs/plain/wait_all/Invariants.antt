@@ -1,5 +1,5 @@
 use Rattle.std.proofs.Common.{◌≡◌, ◌++◌, map, take, drop}
-use Rattle.seize.specs.Waiting.Attempt.{wait_if_active}
+use Rattle.seize_model.specs.Waiting.Attempt.{wait_if_active}
 use Rattle.seize.proofs.plain.wait_all.Given as goal
 
 abbrev pub invariant-loop-i : goal.invariant-loop-i

@@ -1,4 +1,4 @@
-use Rattle.seize.proofs.Reaching.{resized_is_reached}
+use Rattle.seize.proofs.ReachedStates.{resized_is_reached}
 use Rattle.seize.proofs.collector.Collector.batch_size.Goals as goal
 
 pub invariant_of-self : goal.invariant_of-self

@@ -1,4 +1,4 @@
-use Rattle.seize.proofs.Reaching.{reclaimed_is_reached}
+use Rattle.seize.proofs.ReachedStates.{reclaimed_is_reached}
 use Rattle.std.proofs.Common.{rules}
 use Rattle.seize.proofs.collector.Collector.empty.Goals as goal
 

@@ -1,4 +1,4 @@
-use Rattle.seize.proofs.Reaching.{made_is_reached}
+use Rattle.seize.proofs.ReachedStates.{made_is_reached}
 use Rattle.std.proofs.Common.{false}
 use Rattle.seize.proofs.collector.Collector.new.Goals as goal
 

@@ -1,4 +1,4 @@
-use Rattle.seize.proofs.Reaching.{reclaimed_all}
+use Rattle.seize.proofs.ReachedStates.{reclaimed_all}
 use Rattle.seize.proofs.collector.Collector.reclaim_all.Goals as goal
 
 pub returns-clause-told : goal.returns-clause-told

@@ -1,5 +1,5 @@
 use Rattle.std.proofs.Common.{sym, ◌∙◌}
-use Rattle.seize.proofs.Settling.Turns.{settles_on, settles_none}
+use Rattle.seize.proofs.FurtherLoops.{settles_on, settles_none}
 use Rattle.seize.proofs.plain.Plain.afterwards.Goals as goal
 
 pub loop-value-smaller : goal.loop-value-smaller

@@ -1,6 +1,6 @@
 use Rattle.std.proofs.Common.{◌≡◌}
-use Rattle.seize.specs.Waiting.State.{slot_at}
-use Rattle.seize.specs.Waiting.Further.{still_to_come, afterwards}
+use Rattle.seize_model.specs.Waiting.State.{slot_at}
+use Rattle.seize_model.specs.Waiting.Further.{still_to_come, afterwards}
 use Rattle.seize.specs.Told.{told_of}
 use Rattle.seize.proofs.plain.Plain.afterwards.Given as goal
 

@@ -1,5 +1,5 @@
 use Rattle.std.proofs.Common.{◌≡◌, ap, ◌∙◌, length, arith}
-use Rattle.seize.proofs.Emptying.{batches_on, batches_end}
+use Rattle.seize.proofs.EmptiedBatches.{batches_on, batches_end}
 use Rattle.seize.proofs.plain.Plain.give_batches.Goals as goal
 
 pub loop-s-preserved : goal.loop-s-preserved

@@ -1,8 +1,8 @@
 use Rattle.std.proofs.Common.{◌≡◌, ◌++◌, take}
 use Rattle.std.specs.List.{flat_map}
-use Rattle.seize.specs.Waiting.Further.{further}
+use Rattle.seize_model.specs.Waiting.Further.{further}
 use Rattle.seize.specs.Told.{told_of}
-use Rattle.seize.proofs.Emptying.{emptied_to}
+use Rattle.seize.proofs.EmptiedBatches.{emptied_to}
 use Rattle.seize.proofs.plain.Plain.give_batches.Given as goal
 
 abbrev pub invariant-loop-s : goal.invariant-loop-s

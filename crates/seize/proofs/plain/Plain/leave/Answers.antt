@@ -1,6 +1,6 @@
-use Rattle.seize.specs.Waiting.Calls as calls
-use Rattle.seize.specs.Waiting.State.{slot_at}
-use Rattle.seize.proofs.Settling.Turns.{answered_freed}
+use Rattle.seize_model.specs.Waiting.Calls as calls
+use Rattle.seize_model.specs.Waiting.State.{slot_at}
+use Rattle.seize.proofs.FurtherLoops.{answered_freed}
 use Rattle.seize.proofs.plain.Plain.leave.Goals as goal
 
 pub returns-clause-done : goal.returns-clause-done

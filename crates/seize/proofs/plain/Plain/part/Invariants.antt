@@ -1,6 +1,6 @@
 use Rattle.std.proofs.Common.{◌≡◌, ◌++◌, length}
-use Rattle.seize.specs.Waiting.Attempt.{release_all}
-use Rattle.seize.specs.Waiting.Further.{further}
+use Rattle.seize_model.specs.Waiting.Attempt.{release_all}
+use Rattle.seize_model.specs.Waiting.Further.{further}
 use Rattle.seize.specs.Told.{told_of}
 use Rattle.seize.proofs.plain.Plain.part.Given as goal
 

@@ -1,7 +1,7 @@
 use Rattle.std.proofs.Common.{◌≡◌, ◌++◌, ◌-◌}
 use Rattle.std.specs.List.{range_with_len}
-use Rattle.seize.specs.Waiting.Further.{further}
-use Rattle.seize.specs.Waiting.Calls.{quieted}
+use Rattle.seize_model.specs.Waiting.Further.{further}
+use Rattle.seize_model.specs.Waiting.Calls.{quieted}
 use Rattle.seize.specs.Told.{told_of}
 use Rattle.seize.proofs.plain.Plain.quiet.Given as goal
 

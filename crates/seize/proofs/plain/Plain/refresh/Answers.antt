@@ -1,5 +1,5 @@
-use Rattle.seize.specs.Waiting.Calls as calls
-use Rattle.seize.proofs.Settling.Turns.{answered_settled}
+use Rattle.seize_model.specs.Waiting.Calls as calls
+use Rattle.seize.proofs.FurtherLoops.{answered_settled}
 use Rattle.seize.proofs.plain.Plain.refresh.Goals as goal
 
 pub returns-clause-done : goal.returns-clause-done

@@ -1,6 +1,6 @@
-use Rattle.seize.specs.Waiting.Attempt as waiting
-use Rattle.seize.specs.Waiting.Calls as calls
-use Rattle.seize.proofs.Settling.Turns.{answered_settled}
+use Rattle.seize_model.specs.Waiting.Attempt as waiting
+use Rattle.seize_model.specs.Waiting.Calls as calls
+use Rattle.seize.proofs.FurtherLoops.{answered_settled}
 use Rattle.seize.proofs.plain.Plain.retire.Goals as goal
 
 pub returns-clause-done : goal.returns-clause-done

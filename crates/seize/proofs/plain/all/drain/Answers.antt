@@ -1,5 +1,5 @@
 use Rattle.std.proofs.Common.{◌∙◌}
-use Rattle.seize.proofs.Settling.Drained.{drains_on}
+use Rattle.seize.proofs.FurtherLoops.{drains_on}
 use Rattle.seize.proofs.plain.all.drain.Goals as goal
 
 pub loop-value-preserved : goal.loop-value-preserved

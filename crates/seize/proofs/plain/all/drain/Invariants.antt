@@ -1,6 +1,6 @@
 use Rattle.std.proofs.Common.{◌≡◌}
 use Rattle.std.specs.List.{sum_by}
-use Rattle.seize.specs.Waiting.Further.{drained}
+use Rattle.seize_model.specs.Waiting.Further.{drained}
 use Rattle.seize.specs.Told.{told_of}
 use Rattle.seize.proofs.plain.all.drain.Given as goal
 

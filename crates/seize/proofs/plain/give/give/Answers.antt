@@ -1,6 +1,6 @@
 use Rattle.std.proofs.Common.{◌≡◌, ◌++◌, IfOk, subst, map}
 use Rattle.seize.specs.Blocks.{content, Joined}
-use Rattle.seize.proofs.Giving.{joined_first, queued_puts}
+use Rattle.seize.proofs.QueuedPuts.{joined_first, queued_puts}
 use Rattle.seize.proofs.plain.give.give.Goals as goal
 
 pub returns-clause-queue : goal.returns-clause-queue

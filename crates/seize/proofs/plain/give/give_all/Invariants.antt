@@ -1,5 +1,5 @@
 use Rattle.std.proofs.Common.{◌≡◌, ◌++◌}
-use Rattle.seize.specs.Waiting.Further.{further}
+use Rattle.seize_model.specs.Waiting.Further.{further}
 use Rattle.seize.specs.Told.{told_of}
 use Rattle.seize.proofs.plain.give.give_all.Given as goal
 

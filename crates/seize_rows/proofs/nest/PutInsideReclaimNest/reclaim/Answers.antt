@@ -4,7 +4,7 @@ use Rattle.std.proofs.lemmas.Iterator.Adapters.{YieldsList-from_vec}
 use Rattle.std.proofs.lemmas.Iterator.Consumers.{YieldsList-end}
 use Rattle.seize.specs.Blocks.{content, Joined}
 use Rattle.seize_rows.specs.declared.nest.Nest.TheViews.{out-Nest}
-use Rattle.seize.proofs.Joining.{joined_block}
+use Rattle.seize.proofs.JoinedPuts.{joined_block}
 use Rattle.seize_rows.proofs.nest.PutInsideReclaimNest.reclaim.Goals as goal
 
 pub returns : goal.returns

@@ -4,7 +4,7 @@ use Rattle.std.proofs.lemmas.Iterator.Adapters.{YieldsList-from_vec}
 use Rattle.std.proofs.lemmas.Iterator.Consumers.{YieldsList-end}
 use Rattle.seize.specs.Blocks.{content, Joined}
 use Rattle.seize_run.specs.declared.value.Value.TheViews.{out-Value}
-use Rattle.seize.proofs.Joining.{joined_block}
+use Rattle.seize.proofs.JoinedPuts.{joined_block}
 use Rattle.seize_run.proofs.value.PutInsideReclaimValue.reclaim.Goals as goal
 
 pub returns : goal.returns

@@ -1,5 +1,5 @@
-use Rattle.seize.proofs.Reaching.{called_is_reached}
-use Rattle.seize.specs.Waiting.Lists.{Enter}
+use Rattle.seize.proofs.ReachedStates.{called_is_reached}
+use Rattle.seize_model.specs.Waiting.Lists.{Enter}
 use Rattle.seize.proofs.collector.alone.Alone.enter.Goals as goal
 
 pub invariant_of-collector : goal.invariant_of-collector

@@ -1,5 +1,5 @@
-use Rattle.seize.proofs.Reaching.{noted_is_reached}
-use Rattle.seize.specs.Waiting.Lists.{Flush}
+use Rattle.seize.proofs.ReachedStates.{noted_is_reached}
+use Rattle.seize_model.specs.Waiting.Lists.{Flush}
 use Rattle.seize.proofs.collector.alone.Alone.flush.Goals as goal
 
 pub invariant_of-collector : goal.invariant_of-collector

@@ -1,5 +1,5 @@
-use Rattle.seize.proofs.Reaching.{taken_is_reached}
-use Rattle.seize.specs.Waiting.Lists.{Register}
+use Rattle.seize.proofs.ReachedStates.{taken_is_reached}
+use Rattle.seize_model.specs.Waiting.Lists.{Register}
 use Rattle.seize.proofs.collector.alone.Alone.register.Goals as goal
 
 pub invariant_of-collector : goal.invariant_of-collector

@@ -1,4 +1,4 @@
-use Rattle.seize.proofs.Reaching.{swapped_is_reached}
+use Rattle.seize.proofs.ReachedStates.{swapped_is_reached}
 use Rattle.std.proofs.Common.{rules, option_map}
 use Rattle.seize.specs.Blocks.{content}
 use Rattle.seize.proofs.collector.alone.Alone.swap.Goals as goal

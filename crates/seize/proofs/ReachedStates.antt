@@ -1,0 +1,66 @@
+-- Each call leads from a reached state to a reached one, unless a growth was refused.
+use Rattle.std.proofs.Common.{◌≡◌, ℕ, Bool, true, List, length, Option, Result, Ok, Err, ◌⊎◌, inl, inr, refl, sym, subst}
+use Rattle.std.proofs.Math.Logic.{∥∥₁_map}
+use Rattle.seize_table.specs.declared.refusal.Refusal.{Refusal}
+use Rattle.seize_table.specs.declared.refusal.Refusal.TheVariants.{NoMemory}
+use Rattle.seize_model.specs.Waiting.State.{State, new}
+use Rattle.seize_model.specs.Waiting.Calls as calls
+use Rattle.seize_model.specs.Waiting.Lists.{Call, step}
+use Rattle.seize_model.specs.Waiting.Reached.{Reached, IsReached}
+use Rattle.seize.specs.Told.{told_of, Did, AllDone, ReclaimedAll}
+
+module _ {T R : Type 0} (puts : R → T → List T) (weight : T → ℕ) where
+  -- from a reached state to a reached one
+  moved : (short : Bool) (st later next : State T R) → (Reached puts weight st → Reached puts weight later) → next ≡ later → IsReached puts weight short st → IsReached puts weight short next
+  moved short st later next lead same reached = ∥∥₁_map reached go
+    where
+      go : (short ≡ true) ⊎ Reached puts weight st → (short ≡ true) ⊎ Reached puts weight next
+      go (inl t) = inl t
+      go (inr r) = inr (subst (Reached puts weight) (sym same) (lead r))
+
+  pub made_is_reached : (short : Bool) (size links : ℕ) (st : State T R) → st ≡ new size links → IsReached puts weight short st
+  made_is_reached short size links st same = ∣ inr (subst (Reached puts weight) (sym same) (Reached.made size links)) ∣₁
+
+  pub resized_is_reached : (short : Bool) (st next : State T R) (size : ℕ) → next ≡ record st { size = size } → IsReached puts weight short st → IsReached puts weight short next
+  resized_is_reached short st next size same = moved short st (record st { size = size }) next (Reached.resized st size) same
+
+  pub called_is_reached : (short : Bool) (st next : State T R) (call : Call T R) → next ≡ (step puts weight st call).1.0 → IsReached puts weight short st → IsReached puts weight short next
+  called_is_reached short st next call same = moved short st (step puts weight st call).1.0 next (Reached.called st call) same
+
+  pub swapped_is_reached : (short : Bool) (st next : State T R) (s link : ℕ) (value : Option T) → next ≡ (calls.swap st s link value).1.0 → IsReached puts weight short st → IsReached puts weight short next
+  swapped_is_reached short st next s link value same = moved short st (calls.swap st s link value).1.0 next (Reached.swapped st s link value) same
+
+  pub reclaimed_is_reached : (short : Bool) (st next : State T R) → next ≡ (calls.reclaim_all puts weight st).0 → IsReached puts weight short st → IsReached puts weight short next
+  reclaimed_is_reached short st next same = moved short st (calls.reclaim_all puts weight st).0 next (Reached.reclaimed st) same
+
+  -- a call that takes note of a refused growth
+  pub noted_is_reached : {Seen : Type 0} (told : Seen → T → Seen) (short later : Bool) (st next : State T R) (call : Call T R) (answer expected : Result (Unit {0}) Refusal) (seen heard : Seen)
+      → (answer ≡ Err NoMemory) ⊎ ((answer ≡ expected) × Did told (step puts weight st call).1 next seen heard)
+      → (later ≡ true) ⊎ ((answer ≡ Ok tt) × (later ≡ short))
+      → IsReached puts weight short st → IsReached puts weight later next
+  noted_is_reached told short later st next call answer expected seen heard did (inl t) reached = ∣ inl t ∣₁
+  noted_is_reached told short later st next call answer expected seen heard (inl refused) (inr (ok, same)) reached = absurd cc
+  noted_is_reached told short later st next call answer expected seen heard (inr (is, did)) (inr (ok, same)) reached =
+      subst (λ b. IsReached puts weight b next) (sym same) (called_is_reached short st next call did.0 reached)
+
+  -- a call that takes a number, whose memory may be refused
+  pub taken_is_reached : (short : Bool) (st next : State T R) (call : Call T R) (result expected : Result ℕ Refusal)
+      → ((result ≡ Err NoMemory) × (next ≡ st)) ⊎ ((result ≡ expected) × (next ≡ (step puts weight st call).1.0))
+      → IsReached puts weight short st → IsReached puts weight short next
+  taken_is_reached short st next call result expected (inl refused) reached = subst (IsReached puts weight short) (sym refused.1) reached
+  taken_is_reached short st next call result expected (inr did) reached = called_is_reached short st next call did.1 reached
+
+  -- whoever knows the state knows what a watch is told of it
+  pub reclaimed_all : {Seen : Type 0} (told : Seen → T → Seen) (short_old short_new : Bool) (old next : State T R) (seen heard : Seen)
+      → IsReached puts weight short_old old
+      → AllDone told (calls.reclaim_all puts weight old) next short_new seen heard
+      → ReclaimedAll puts weight told old.size (length old.links) short_old short_new seen heard
+  reclaimed_all {Seen} told short_old short_new old next seen heard reached did = ∥∥₁_map reached (known did)
+    where
+      Known : Type 0
+      Known = (st : State T R) × Reached puts weight st × (st.size ≡ old.size) × (length st.links ≡ length old.links) × (heard ≡ told_of told seen (calls.reclaim_all puts weight st).1)
+
+      known : AllDone told (calls.reclaim_all puts weight old) next short_new seen heard → (short_old ≡ true) ⊎ Reached puts weight old → (short_old ≡ true) ⊎ (short_new ≡ true) ⊎ Known
+      known done (inl t) = inl t
+      known (inl t) (inr r) = inr (inl t)
+      known (inr done) (inr r) = inr (inr (old, r, refl, refl, done.1))

@@ -1,6 +1,0 @@
--- The two models agree: each call on waiting sets is a run of events of the machine.
-pub mod Shows
-pub mod Play
-pub mod Statement
-pub mod Driver
-pub mod Runs

@@ -1,0 +1,13 @@
+-- What holds in both cases of a test, and which case it is.
+use Rattle.std.proofs.Common.{ℕ, zero, suc, ◌<◌, ◌≤◌, Bool, true, false, if◌then◌else◌, ◌⊎◌, inl, inr, arith}
+
+-- what holds of both outcomes of a test
+pub either : {A : Type 0} (P : A → Type 0) (b : Bool) (x y : A) → P x → P y → P (if b then x else y)
+either P true x y p q = p
+either P false x y p q = q
+
+-- whether a number is below another
+pub in_or_past : (s n : ℕ) → (s < n) ⊎ (n ≤ s)
+in_or_past s zero = inr (omega arith)
+in_or_past zero (suc n) = inl (omega arith)
+in_or_past (suc s) (suc n) = elim (in_or_past s n) [ inl h ↦ inl (omega arith) | inr h ↦ inr (omega arith) ]

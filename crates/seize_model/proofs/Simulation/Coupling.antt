@@ -1,0 +1,132 @@
+-- What the machine shows while the only call under way walks a list: the counts have still to fall by the batches of the walk.
+use Rattle.std.proofs.Common.{◌≡◌, ◌≢◌, ℕ, zero, suc, ◌+◌, ◌-◌, ◌^◌, ◌<◌, ◌≤◌, pos, Bool, true, false, not, ◌==◌, List, [], ◌∷◌, length, map, get_or, set, Option, None, refl, sym, ◌∙◌, ap, subst, ◌⊎◌, inl, inr, arith}
+use Rattle.std.specs.List.{count_by, list_any}
+use Rattle.std.proofs.lemmas.Grind.{common_steps}
+use Rattle.std.proofs.lemmas.List.{get_or-set_same, get_or-set_other, length-set, map-set}
+use Rattle.std.proofs.Math.Seq.{map-set_same}
+use Rattle.seize_machine.specs.Machine.State as machine
+use Rattle.seize_machine.specs.Machine.State.{Head, Batch, has, no_batch, are_distinct}
+use Rattle.seize_model.specs.Waiting.State as waiting
+use Rattle.seize_model.specs.Waiting.State.{keeps, retired_at}
+use Rattle.seize_model.specs.Waiting.Calls.{is_free, is_owned}
+use Rattle.seize_model.specs.Agreement.Shows.{held, head_of}
+use Rattle.seize_machine.proofs.Laws.Steps.{is_true, eq_true}
+use Rattle.seize_machine.proofs.Laws.Sums.{one, occ, has_none, has_some, distinct_once}
+
+-- What numbers stand for: in links for what they hold, and in batches for what is seen of values with their reclaimers. It is what they
+-- hold where a run of events is sought, whose reclaimers nobody knows, and the values with their reclaimers where one is given.
+pub record Naming (T R X : Type 0) : Type 0 where
+  pub link : ℕ → T
+  pub name : ℕ → X
+  pub view : T × R → X
+
+-- these numbers stand for these values, in order
+abbrev pub Denote : {T R X : Type 0} → Naming T R X → List ℕ → List (T × R) → Type 0
+Denote of numbers values = map of.name numbers ≡ map of.view values
+
+-- the two sides of one slot
+pub record CoupledSlot {T R X : Type 0} (of : Naming T R X) (slot : waiting.Slot T R) (shown : machine.Slot) : Type 0 where
+  pub used : shown.used ≡ not (is_free slot.kind)
+  pub idle : shown.call ≡ None
+  pub batch : Denote of shown.batch slot.batch
+  pub free : is_free slot.kind ≡ true → slot.guards ≡ 0
+  pub owned : is_owned slot.kind ≡ true → slot.guards ≤ 1
+  pub inactive : waiting.is_active slot ≡ false → slot.order ≡ []
+  pub once : machine.are_distinct slot.order ≡ true
+
+pub record Near {T R X : Type 0} (of : Naming T R X) (walk : List ℕ) (st : waiting.State T R) (slots : List machine.Slot) (heads : List Head) (batches : List Batch) (links : List (Option ℕ)) : Type 0 where
+  pub numbers : length st.slots ≤ 2 ^ 64 - 32
+  pub as_many : length slots ≡ length st.slots
+  pub slot : (s : ℕ) → CoupledSlot of (waiting.slot_at st s) (get_or slots s machine.no_slot)
+  pub heads_are : heads ≡ map head_of st.slots
+  pub retired : length batches ≡ length st.retired
+  pub values : (b : ℕ) → Denote of (get_or batches b no_batch).values (retired_at st b)
+  pub counts : (b : ℕ) → (get_or batches b no_batch).count ≡ pos (count_by (keeps b) st.slots + occ b walk)
+  pub links_are : map (held of.link) links ≡ st.links
+
+abbrev pub NearAt : {T R X : Type 0} → Naming T R X → List ℕ → waiting.State T R → machine.State → Type 0
+NearAt of walk st ms = Near of walk st ms.slots ms.heads ms.batches ms.links
+
+-- Counts over a list where one element changes.
+
+pub count_same : {X : Type 0} (p : X → Bool) (xs : List X) (i : ℕ) (y d : X) → p y ≡ p (get_or xs i d) → count_by p (set xs i y) ≡ count_by p xs
+count_same p [] i y d e = refl
+count_same p (x ∷ xs) zero y d e = grind (arith, common_steps)
+count_same p (x ∷ xs) (suc i) y d e = let k = count_same p xs i y d e in grind (arith, common_steps)
+
+pub count_less : {X : Type 0} (p : X → Bool) (xs : List X) (i : ℕ) (y d : X) → i < length xs → p y ≡ false → count_by p (set xs i y) + one (p (get_or xs i d)) ≡ count_by p xs
+count_less p [] i y d h e = absurd (omega arith)
+count_less p (x ∷ xs) zero y d h e = grind (arith, common_steps)
+count_less p (x ∷ xs) (suc i) y d h e = let k = count_less p xs i y d (omega arith) e in grind (arith, common_steps)
+
+pub any_counts : {X : Type 0} (p : X → Bool) (xs : List X) → list_any p xs ≡ not (count_by p xs == 0)
+any_counts p [] = refl
+any_counts p (x ∷ xs) = grind (arith, common_steps, any_counts p xs)
+
+pub none_passes : {X : Type 0} (p : X → Bool) (xs : List X) (i : ℕ) (d : X) → count_by p xs ≡ 0 → p d ≡ false → p (get_or xs i d) ≡ false
+none_passes p [] i d e n = n
+none_passes p (x ∷ xs) zero d e n = grind (arith, common_steps)
+none_passes p (x ∷ xs) (suc i) d e n = none_passes p xs i d (grind (arith, common_steps)) n
+
+-- which of two numbers it is
+pub or_same : (a b : ℕ) → (a ≡ b) ⊎ (a ≢ b)
+or_same a b = elim (is_true (a == b)) [ inl t ↦ inl (eq_true a b t) | inr f ↦ inr (λ e. grind arith) ]
+
+-- One slot changes on both sides.
+
+slots_change : {T R X : Type 0} (of : Naming T R X) (xs : List (waiting.Slot T R)) (ys : List machine.Slot) (s : ℕ) (new : waiting.Slot T R) (shown : machine.Slot) → s < length xs → length ys ≡ length xs
+    → ((i : ℕ) → CoupledSlot of (get_or xs i waiting.no_slot) (get_or ys i machine.no_slot)) → CoupledSlot of new shown
+    → (i : ℕ) → CoupledSlot of (get_or (set xs s new) i waiting.no_slot) (get_or (set ys s shown) i machine.no_slot)
+slots_change {T} {R} of xs ys s new shown h e old now i = go (or_same i s)
+  where
+    go : (i ≡ s) ⊎ (i ≢ s) → CoupledSlot of (get_or (set xs s new) i waiting.no_slot) (get_or (set ys s shown) i machine.no_slot)
+    go (inl is) =
+        let a : get_or (set xs s new) i waiting.no_slot ≡ new = rw is (get_or-set_same xs s new waiting.no_slot h) in
+        let b : get_or (set ys s shown) i machine.no_slot ≡ shown = rw is (get_or-set_same ys s shown machine.no_slot (rw e h)) in
+        subst (λ y. CoupledSlot of (get_or (set xs s new) i waiting.no_slot) y) (sym b) (subst (λ x. CoupledSlot of x shown) (sym a) now)
+    go (inr not) =
+        let a : get_or (set xs s new) i waiting.no_slot ≡ get_or xs i waiting.no_slot = get_or-set_other xs s i new waiting.no_slot not in
+        let b : get_or (set ys s shown) i machine.no_slot ≡ get_or ys i machine.no_slot = get_or-set_other ys s i shown machine.no_slot not in
+        subst (λ y. CoupledSlot of (get_or (set xs s new) i waiting.no_slot) y) (sym b) (subst (λ x. CoupledSlot of x (get_or ys i machine.no_slot)) (sym a) (old i))
+
+-- a change of a slot that leaves its head
+pub near_set : {T R X : Type 0} (of : Naming T R X) (walk : List ℕ) (st : waiting.State T R) (slots : List machine.Slot) (heads : List Head) (batches : List Batch) (links : List (Option ℕ)) (s : ℕ) (new : waiting.Slot T R) (shown : machine.Slot)
+    → Near of walk st slots heads batches links → s < length st.slots → CoupledSlot of new shown → head_of new ≡ head_of (waiting.slot_at st s) → new.order ≡ (waiting.slot_at st s).order
+    → Near of walk (waiting.set_slot st s new) (set slots s shown) heads batches links
+near_set of walk st slots heads batches links s new shown n h now head order = record {
+  numbers = rw (length-set st.slots s new) n.numbers;
+  as_many = length-set slots s shown ∙ n.as_many ∙ sym (length-set st.slots s new);
+  slot = slots_change of st.slots slots s new shown h n.as_many n.slot now;
+  heads_are = n.heads_are ∙ sym (map-set_same head_of st.slots s new waiting.no_slot head);
+  retired = n.retired;
+  values = n.values;
+  counts = λ b. n.counts b ∙ ap (λ (k : ℕ). pos (k + occ b walk)) (sym (count_same (keeps b) st.slots s new waiting.no_slot (ap (λ (l : List ℕ). list_any (λ x. x == b) l) order)));
+  links_are = n.links_are;
+}
+
+-- a change of a slot's head that leaves no batch in its order: the batches that were there are walked
+pub near_out : {T R X : Type 0} (of : Naming T R X) (st : waiting.State T R) (slots : List machine.Slot) (heads : List Head) (batches : List Batch) (links : List (Option ℕ)) (s : ℕ) (new : waiting.Slot T R) (shown : machine.Slot)
+    → Near of [] st slots heads batches links → s < length st.slots → CoupledSlot of new shown → new.order ≡ []
+    → Near of (waiting.slot_at st s).order (waiting.set_slot st s new) (set slots s shown) (set heads s (head_of new)) batches links
+near_out of st slots heads batches links s new shown n h now order = record {
+  numbers = rw (length-set st.slots s new) n.numbers;
+  as_many = length-set slots s shown ∙ n.as_many ∙ sym (length-set st.slots s new);
+  slot = slots_change of st.slots slots s new shown h n.as_many n.slot now;
+  heads_are = ap (λ (l : List Head). set l s (head_of new)) n.heads_are ∙ sym (map-set head_of st.slots s new);
+  retired = n.retired;
+  values = n.values;
+  counts = λ b.
+      let none : keeps b new ≡ false = ap (λ (l : List ℕ). list_any (λ x. x == b) l) order in
+      let less : count_by (keeps b) (set st.slots s new) + one (keeps b (waiting.slot_at st s)) ≡ count_by (keeps b) st.slots = count_less (keeps b) st.slots s new waiting.no_slot h none in
+      let own : occ b (waiting.slot_at st s).order ≡ one (keeps b (waiting.slot_at st s)) = once_counts b (waiting.slot_at st s).order (n.slot s).once in
+      let all : count_by (keeps b) st.slots + occ b [] ≡ count_by (keeps b) (set st.slots s new) + occ b (waiting.slot_at st s).order = omega arith in
+      n.counts b ∙ ap (λ (k : ℕ). pos k) all;
+  links_are = n.links_are;
+}
+  where
+    once_counts : (b : ℕ) (order : List ℕ) → are_distinct order ≡ true → occ b order ≡ one (has b order)
+    once_counts b order e = count_has (has b order) refl (distinct_once b order e)
+      where
+        count_has : (t : Bool) → has b order ≡ t → (occ b order ≤ 1 → occ b order ≡ one t)
+        count_has true e le = omega (arith, has_some b order e)
+        count_has false e le = has_none b order e

@@ -1,0 +1,155 @@
+-- A detached batch waits for all active slots on both sides.
+use Rattle.std.proofs.Common.{◌≡◌, ◌≢◌, ℕ, zero, suc, ◌+◌, pos, Bool, true, false, not, ◌&&◌, ◌||◌, ◌==◌, if◌then◌else◌, List, [], ◌∷◌, ◌++◌, length, map, get_or, Option, refl, sym, ◌∙◌, ap, subst, ◌⊎◌, inl, inr, arith, length-append}
+use Rattle.std.specs.List.{count_by, list_any}
+use Rattle.std.proofs.lemmas.Grind.{common_steps}
+use Rattle.std.proofs.lemmas.Int.{ints}
+use Rattle.std.proofs.lemmas.List.{get_or_past, length-map}
+use Rattle.std.proofs.Math.ListN.{get_or-map}
+use Rattle.std.proofs.Math.Seq.{get_or-append_seam}
+use Rattle.seize_machine.specs.Machine.State as machine
+use Rattle.seize_machine.specs.Machine.State.{Head, Inactive, Active, Batch, no_batch, are_distinct}
+use Rattle.seize_model.specs.Waiting.State as waiting
+use Rattle.seize_model.specs.Waiting.State.{keeps, slot_at}
+use Rattle.seize_model.specs.Waiting.Attempt.{wait_if_active}
+use Rattle.seize_model.specs.Agreement.Shows.{head_of}
+use Rattle.seize_model.proofs.Simulation.Attempts.{actives, with_front}
+use Rattle.seize_model.proofs.Simulation.Coupling.{Near, or_same, none_passes, Denote, CoupledSlot, Naming}
+
+-- what holds of a slot with the batch in front where it is active, and without where it isn't
+pub by_active : {T R : Type 0} (P : waiting.Slot T R → Bool → Type 0) (b : ℕ) (slot : waiting.Slot T R) → (waiting.is_active slot ≡ true → P (record slot { order = b ∷ slot.order }) true) → (waiting.is_active slot ≡ false → P slot false)
+    → P (wait_if_active b slot) (waiting.is_active slot)
+by_active {T} {R} P b slot on off = go (waiting.is_active slot) refl
+  where
+    go : (t : Bool) → waiting.is_active slot ≡ t → P (if t then record slot { order = b ∷ slot.order } else slot) t
+    go true e = on e
+    go false e = off e
+
+waits_new : {T R : Type 0} (b : ℕ) (slot : waiting.Slot T R) → keeps b slot ≡ false → keeps b (wait_if_active b slot) ≡ waiting.is_active slot
+waits_new b slot none = by_active (λ x t. keeps b x ≡ t) b slot (λ e. let own : (b == b) ≡ true = grind arith in ap (λ (t : Bool). t || list_any (λ x. x == b) slot.order) own) (λ e. none)
+
+waits_other : {T R : Type 0} (b i : ℕ) (slot : waiting.Slot T R) → i ≢ b → keeps i (wait_if_active b slot) ≡ keeps i slot
+waits_other b i slot other = by_active (λ x t. keeps i x ≡ keeps i slot) b slot (λ e. let own : (b == i) ≡ false = grind arith in ap (λ (t : Bool). t || list_any (λ x. x == i) slot.order) own) (λ e. refl)
+
+waits_head : {T R : Type 0} (b : ℕ) (slot : waiting.Slot T R) → head_of (wait_if_active b slot) ≡ with_front b (head_of slot)
+waits_head {T} {R} b slot = go (waiting.is_active slot) refl
+  where
+    go : (t : Bool) → waiting.is_active slot ≡ t → head_of (if t then record slot { order = b ∷ slot.order } else slot) ≡ with_front b (head_of slot)
+    go true e = ap (λ (t : Bool). if t then Active (b ∷ slot.order) else Inactive) e ∙ sym (ap (λ (t : Bool). with_front b (if t then Active slot.order else Inactive)) e)
+    go false e = ap (λ (t : Bool). if t then Active slot.order else Inactive) e ∙ sym (ap (λ (t : Bool). with_front b (if t then Active slot.order else Inactive)) e)
+
+counts_cons : {X : Type 0} (p q : X → Bool) (x y : X) (xs ys : List X) → p x ≡ q y → count_by p xs ≡ count_by q ys → count_by p (x ∷ xs) ≡ count_by q (y ∷ ys)
+counts_cons p q x y xs ys e f = grind (arith, common_steps)
+
+new_count : {T R : Type 0} (b : ℕ) (xs : List (waiting.Slot T R)) → count_by (keeps b) xs ≡ 0 → count_by (keeps b) (map (wait_if_active b) xs) ≡ count_by waiting.is_active xs
+new_count b [] e = refl
+new_count b (x ∷ xs) e =
+    let none : keeps b x ≡ false = none_passes (keeps b) (x ∷ xs) 0 x e (none_first b x xs e) in
+    let rest : count_by (keeps b) xs ≡ 0 = none_rest b x xs e in
+    let own : keeps b (wait_if_active b x) ≡ waiting.is_active x = waits_new b x none in
+    let more : count_by (keeps b) (map (wait_if_active b) xs) ≡ count_by waiting.is_active xs = new_count b xs rest in
+    counts_cons (keeps b) waiting.is_active (wait_if_active b x) x (map (wait_if_active b) xs) xs own more
+  where
+    none_first : {T R : Type 0} (b : ℕ) (x : waiting.Slot T R) (xs : List (waiting.Slot T R)) → count_by (keeps b) (x ∷ xs) ≡ 0 → keeps b x ≡ false
+    none_first b x xs e = grind (arith, common_steps)
+
+    none_rest : {T R : Type 0} (b : ℕ) (x : waiting.Slot T R) (xs : List (waiting.Slot T R)) → count_by (keeps b) (x ∷ xs) ≡ 0 → count_by (keeps b) xs ≡ 0
+    none_rest b x xs e = grind (arith, common_steps)
+
+old_count : {T R : Type 0} (b i : ℕ) (xs : List (waiting.Slot T R)) → i ≢ b → count_by (keeps i) (map (wait_if_active b) xs) ≡ count_by (keeps i) xs
+old_count b i [] other = refl
+old_count b i (x ∷ xs) other = counts_cons (keeps i) (keeps i) (wait_if_active b x) x (map (wait_if_active b) xs) xs (waits_other b i x other) (old_count b i xs other)
+
+pub actives_count : {T R : Type 0} (n : ℕ) (xs : List (waiting.Slot T R)) → length (actives n (map head_of xs)) ≡ count_by waiting.is_active xs
+actives_count n [] = refl
+actives_count {T} {R} n (x ∷ xs) = go (waiting.is_active x) refl (actives_count (n + 1) xs)
+  where
+    go : (t : Bool) → waiting.is_active x ≡ t → length (actives (n + 1) (map head_of xs)) ≡ count_by waiting.is_active xs
+        → length (actives n ((if t then Active x.order else Inactive) ∷ map head_of xs)) ≡ count_by waiting.is_active (x ∷ xs)
+    go true e more = grind (arith, common_steps)
+    go false e more = grind (arith, common_steps)
+
+heads_wait : {T R : Type 0} (b : ℕ) (xs : List (waiting.Slot T R)) → map (with_front b) (map head_of xs) ≡ map head_of (map (wait_if_active b) xs)
+heads_wait b [] = refl
+heads_wait b (x ∷ xs) = ap (λ (h : Head). h ∷ map (with_front b) (map head_of xs)) (sym (waits_head b x)) ∙ ap (λ (hs : List Head). head_of (wait_if_active b x) ∷ hs) (heads_wait b xs)
+
+pub beside : {X : Type 0} (xs : List X) (y d : X) (i : ℕ) → i ≢ length xs → get_or (xs ++ y ∷ []) i d ≡ get_or xs i d
+beside [] y d zero h = absurd (h refl)
+beside [] y d (suc i) h = refl
+beside (x ∷ xs) y d zero h = refl
+beside (x ∷ xs) y d (suc i) h = beside xs y d i (λ e. h (omega arith))
+
+slot_waits : {T R X : Type 0} (of : Naming T R X) (b : ℕ) (slot : waiting.Slot T R) (shown : machine.Slot) → keeps b slot ≡ false → CoupledSlot of slot shown → CoupledSlot of (wait_if_active b slot) shown
+slot_waits {T} {R} of b slot shown none h =
+    by_active (λ x t. CoupledSlot of x shown) b slot (λ e. record {
+      used = h.used;
+      idle = h.idle;
+      batch = h.batch;
+      free = h.free;
+      owned = h.owned;
+      inactive = λ f. absurd (let k : true ≡ false = sym e ∙ f in cc);
+      once = ap (λ (t : Bool). not t && are_distinct slot.order) none ∙ h.once;
+    }) (λ e. h)
+
+-- with one retired batch more, which waits for all active slots
+abbrev pub waiting_more : {T R : Type 0} → waiting.State T R → List (T × R) → waiting.State T R
+waiting_more st values = record st { slots = map (wait_if_active (length st.retired)) st.slots; retired = st.retired ++ values ∷ [] }
+
+-- no batch that was never retired waits for a slot
+unmade : {T R X : Type 0} (of : Naming T R X) (st : waiting.State T R) (slots : List machine.Slot) (heads : List Head) (batches : List Batch) (links : List (Option ℕ)) → Near of [] st slots heads batches links
+    → count_by (keeps (length st.retired)) st.slots ≡ 0
+unmade of st slots heads batches links n =
+    let past : get_or batches (length st.retired) no_batch ≡ no_batch = get_or_past batches (length st.retired) no_batch (omega (arith, n.retired)) in
+    let zero_is : pos 0 ≡ pos (count_by (keeps (length st.retired)) st.slots + 0) = sym (ap (λ (k : Batch). k.count) past) ∙ n.counts (length st.retired) in
+    omega (arith, ints)
+
+pub near_waits : {T R X : Type 0} (of : Naming T R X) (numbers : List ℕ) (values : List (T × R)) (st : waiting.State T R) (slots : List machine.Slot) (heads : List Head) (batches : List Batch) (links : List (Option ℕ))
+    → Near of [] st slots heads batches links → Denote of numbers values
+    → (count_by (keeps (length st.retired)) (waiting_more st values).slots ≡ length (actives 0 heads))
+    × Near of [] (waiting_more st values) slots (map (with_front (length st.retired)) heads) (batches ++ record { values = numbers; count = pos (length (actives 0 heads)) } ∷ []) links
+near_waits {T} {R} of numbers values st slots heads batches links n stand = (
+  won,
+  record {
+    numbers = rw (length-map st.slots (wait_if_active b)) n.numbers;
+    as_many = n.as_many ∙ sym (length-map st.slots (wait_if_active b));
+    slot = λ s. subst (λ x. CoupledSlot of x (get_or slots s machine.no_slot)) (sym (get_or-map (wait_if_active b) st.slots s waiting.no_slot))
+        (slot_waits of b (slot_at st s) (get_or slots s machine.no_slot) (none_passes (keeps b) st.slots s waiting.no_slot none refl) (n.slot s));
+    heads_are = ap (λ (l : List Head). map (with_front b) l) n.heads_are ∙ heads_wait b st.slots;
+    retired = length-append batches (new ∷ []) ∙ ap (λ (k : ℕ). k + 1) n.retired ∙ sym (length-append st.retired (values ∷ []));
+    values = λ i. values_at i (or_same i b);
+    counts = λ i. counts_at i (or_same i b);
+    links_are = n.links_are;
+  },
+)
+  where
+    b : ℕ
+    b = length st.retired
+
+    none : count_by (keeps (length st.retired)) st.slots ≡ 0
+    none = unmade of st slots heads batches links n
+
+    new : Batch
+    new = record { values = numbers; count = pos (length (actives 0 heads)) }
+
+    won : count_by (keeps (length st.retired)) (waiting_more st values).slots ≡ length (actives 0 heads)
+    won = new_count (length st.retired) st.slots (unmade of st slots heads batches links n) ∙ sym (ap (λ (l : List Head). length (actives 0 l)) n.heads_are ∙ actives_count 0 st.slots)
+
+    values_at : (i : ℕ) → (i ≡ length st.retired) ⊎ (i ≢ length st.retired)
+        → Denote of (get_or (batches ++ record { values = numbers; count = pos (length (actives 0 heads)) } ∷ []) i no_batch).values (get_or (st.retired ++ values ∷ []) i [])
+    values_at i (inl is) =
+        let x : get_or (batches ++ record { values = numbers; count = pos (length (actives 0 heads)) } ∷ []) i no_batch ≡ record { values = numbers; count = pos (length (actives 0 heads)) } = rw (is, ← n.retired) (get_or-append_seam batches _ [] no_batch) in
+        let y : get_or (st.retired ++ values ∷ []) i [] ≡ values = rw is (get_or-append_seam st.retired values [] []) in
+        subst (λ (k : Batch). Denote of k.values (get_or (st.retired ++ values ∷ []) i [])) (sym x) (subst (λ (k : List (T × R)). Denote of numbers k) (sym y) stand)
+    values_at i (inr other) =
+        let x : get_or (batches ++ record { values = numbers; count = pos (length (actives 0 heads)) } ∷ []) i no_batch ≡ get_or batches i no_batch = beside batches _ no_batch i (rw n.retired other) in
+        let y : get_or (st.retired ++ values ∷ []) i [] ≡ get_or st.retired i [] = beside st.retired values [] i other in
+        subst (λ (k : Batch). Denote of k.values (get_or (st.retired ++ values ∷ []) i [])) (sym x) (subst (λ (k : List (T × R)). Denote of (get_or batches i no_batch).values k) (sym y) (n.values i))
+
+    counts_at : (i : ℕ) → (i ≡ length st.retired) ⊎ (i ≢ length st.retired)
+        → (get_or (batches ++ record { values = numbers; count = pos (length (actives 0 heads)) } ∷ []) i no_batch).count ≡ pos (count_by (keeps i) (map (wait_if_active (length st.retired)) st.slots) + 0)
+    counts_at i (inl is) =
+        let x : get_or (batches ++ record { values = numbers; count = pos (length (actives 0 heads)) } ∷ []) i no_batch ≡ record { values = numbers; count = pos (length (actives 0 heads)) } = rw (is, ← n.retired) (get_or-append_seam batches _ [] no_batch) in
+        let w : length (actives 0 heads) ≡ count_by (keeps i) (map (wait_if_active (length st.retired)) st.slots) = rw is (sym won) in
+        ap (λ (k : Batch). k.count) x ∙ ap (λ (k : ℕ). pos k) (omega arith)
+    counts_at i (inr other) =
+        let x : get_or (batches ++ record { values = numbers; count = pos (length (actives 0 heads)) } ∷ []) i no_batch ≡ get_or batches i no_batch = beside batches _ no_batch i (rw n.retired other) in
+        ap (λ (k : Batch). k.count) x ∙ n.counts i ∙ ap (λ (k : ℕ). pos (k + 0)) (sym (old_count (length st.retired) i st.slots other))

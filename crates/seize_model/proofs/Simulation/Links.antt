@@ -1,0 +1,231 @@
+-- The calls of one event: end, protect and swap, which may go on with a retirement.
+use Rattle.std.proofs.Common.{◌≡◌, ℕ, ◌<◌, Bool, true, false, not, ◌&&◌, ◌||◌, ◌==◌, if◌then◌else◌, nat_lt, List, [], ◌∷◌, ◌++◌, length, map, get_or, set, Option, Some, None, Ok, is_some, option_to_list, refl, sym, ◌∙◌, ap, subst, arith}
+use Rattle.std.proofs.lemmas.List.{length-map, map-set}
+use Rattle.std.proofs.Math.ListN.{get_or-map}
+use Rattle.seize_machine.specs.Machine.State as machine
+use Rattle.seize_machine.specs.Machine.State.{State, has, is_active}
+use Rattle.seize_machine.specs.Machine.Event.{Event, Give, ReadLink, ExchangeLink}
+use Rattle.seize_machine.specs.Machine.Next.{next, is_none_or_fresh}
+use Rattle.seize_machine.specs.Machine.Next as machine_next
+use Rattle.seize_machine.specs.declared.machine.event.Job as job
+use Rattle.seize_machine.specs.declared.machine.event.Exchange.TheVariants.{Swap as SwapLink}
+use Rattle.seize_machine.proofs.Laws.Steps.{if_some, and_true}
+use Rattle.std.specs.List.{AllByRecursion}
+use Rattle.seize_machine.specs.declared.machine.event.Answer.{Answer}
+use Rattle.seize_machine.specs.declared.machine.event.Answer.TheVariants.{Done as DoneEvent, Link}
+use Rattle.seize_table.specs.declared.refusal.Refusal.{Refusal}
+use Rattle.seize_table.specs.declared.refusal.Refusal.TheVariants.{NotInUse}
+use Rattle.seize_model.specs.Waiting.State as waiting
+use Rattle.seize_model.specs.Waiting.State.{slot_at}
+use Rattle.seize_model.specs.Waiting.Attempt.{put}
+use Rattle.seize_model.specs.Waiting.Further.{settled, Lighter}
+use Rattle.seize_model.specs.Waiting.Calls.{no_guard, not_registered, unless, is_free, link_at, freed}
+use Rattle.seize_model.specs.Waiting.Lists.{End, Protect, Swap, Reply, Done, Kept, Found, Refused, done, ended, reply, swapped, step}
+use Rattle.seize_model.specs.Agreement.Shows.{held, Shows}
+use Rattle.seize_model.specs.Agreement.Play.{play, played, handed}
+use Rattle.seize_model.specs.Agreement.Events.{Makes, MakesFor, NamesOwn, IsRetiredFrom, IsRetiredWith, ArePutBy}
+use Rattle.seize_model.specs.Agreement.Statement.{IsRun, IsOutcome, EachList}
+use Rattle.seize_model.proofs.Simulation.Views.{contents, with_reclaimers, near_of, shows_of}
+use Rattle.seize_model.proofs.Simulation.Plays.{play_first, both_same, First, first_of}
+use Rattle.seize_model.proofs.Simulation.Events.{if_yes, lt_yes}
+use Rattle.seize_model.proofs.Simulation.Coupling.{NearAt, Naming}
+use Rattle.seize_model.proofs.Simulation.Names.{Names, Holds}
+use Rattle.seize_model.proofs.Simulation.Beginnings.{give_step, in_use, in_machine, near_rested, JobEnds, JobRun, outcome_of, no_events, no_list, one_event, one_list, run_unless, list_unless}
+use Rattle.seize_model.proofs.Simulation.Jobs.{guard_of, active_head, at_idle, retire_job, retire_job_list}
+use Rattle.seize_model.proofs.Simulation.Guards.{registered_of, near_freed}
+
+no_guards : (k : ℕ) → not (k == 0) ≡ false → k ≡ 0
+no_guards k e = grind arith
+
+-- a slot in use without a guard gives its number back
+end_step : {T R X : Type 0} (of : Naming T R X) (st : waiting.State T R) (before : State) (s : ℕ) → NearAt of [] st before → is_free (slot_at st s).kind ≡ false → waiting.is_active (slot_at st s) ≡ false
+    → next st.size before (Give s) ≡ Some (machine_next.set_slot before s (record { used = false; batch = (machine.slot_at before s).batch; call = None }), DoneEvent)
+end_step of st before s n used e =
+    at_idle of st before st.size s (Give s) _ n used (give_step st.size before s _ (in_machine of st before s n (in_use st s used)) (active_head of st before s false n e))
+
+end_near : {T R X : Type 0} (of : Naming T R X) (st : waiting.State T R) (before : State) (s : ℕ) → NearAt of [] st before → is_free (slot_at st s).kind ≡ false → waiting.is_active (slot_at st s) ≡ false
+    → NearAt of [] (freed st s) (machine_next.set_slot before s (record { used = false; batch = (machine.slot_at before s).batch; call = None }))
+end_near of st before s n used e =
+    let within : s < length st.slots = in_use st s used in
+    near_freed of st before s (machine.slot_at before s).batch (near_rested of st before s n used) (in_machine of st before s n within) within (no_guards (slot_at st s).guards e)
+
+pub end_run : {T R : Type 0} (puts : R → T → List T) (weight : T → ℕ) (of : ℕ → T) (st : waiting.State T R) (before : State) (s : ℕ) → Shows T R of st before
+    → IsRun T R of (End s) st before (step puts weight st (End s))
+end_run {T} {R} puts weight of st before s shows = go (waiting.is_active (slot_at st s)) refl
+  where
+    go : (t : Bool) → waiting.is_active (slot_at st s) ≡ t → IsRun T R of (End s) st before (reply ended None (unless (not_registered st s) st (if t then (Ok false, (st, [])) else (Ok true, (freed st s, [])))))
+    go true e = run_unless of (End s) st before ended None (not_registered st s) false (st, []) shows (λ f.
+        no_events of (End s) st before Kept st (near_of of st before shows) (sym (ap (λ (b : Bool). if b then [] else Give s ∷ []) e)) refl)
+    go false e = run_unless of (End s) st before ended None (not_registered st s) true (freed st s, []) shows (λ f.
+        let n : NearAt (contents of) [] st before = near_of of st before shows in
+        let used : is_free (slot_at st s).kind ≡ false = (registered_of st s f).0 in
+        one_event of (End s) st before _ (Give s) DoneEvent Done (freed st s) (end_step (contents of) st before s n used e) (end_near (contents of) st before s n used e)
+        (sym (ap (λ (b : Bool). if b then [] else Give s ∷ []) e)) tt refl refl)
+
+pub end_list : {T R : Type 0} (puts : R → T → List T) (weight : T → ℕ) (of : ℕ → T) (by : ℕ → R) (st : waiting.State T R) (before : State) (s : ℕ) → NearAt (with_reclaimers of by) [] st before
+    → EachList puts of by (End s) st before (step puts weight st (End s))
+end_list {T} {R} puts weight of by st before s n = go (waiting.is_active (slot_at st s)) refl
+  where
+    go : (t : Bool) → waiting.is_active (slot_at st s) ≡ t → EachList puts of by (End s) st before (reply ended None (unless (not_registered st s) st (if t then (Ok false, (st, [])) else (Ok true, (freed st s, [])))))
+    go true e = list_unless puts of by (End s) st before ended None (not_registered st s) false (st, []) n (λ f events answers later makes legal names with put.
+        no_list of by (End s) st.size before Kept st events answers later n (makes ∙ ap (λ (b : Bool). if b then [] else Give s ∷ []) e) legal refl)
+    go false e = list_unless puts of by (End s) st before ended None (not_registered st s) true (freed st s, []) n (λ f events answers later makes legal names with put.
+        let used : is_free (slot_at st s).kind ≡ false = (registered_of st s f).0 in
+        one_list of by (End s) st.size before _ (Give s) DoneEvent Done (freed st s) events answers later (end_step (with_reclaimers of by) st before s n used e) (end_near (with_reclaimers of by) st before s n used e)
+        (makes ∙ ap (λ (b : Bool). if b then [] else Give s ∷ []) e) legal refl refl)
+
+-- what both sides find in a link
+pub same_link : {T R X : Type 0} (of : Naming T R X) (st : waiting.State T R) (ms : State) (l : ℕ) → NearAt of [] st ms → link_at st l ≡ held of.link (machine.link_at ms l)
+same_link of st ms l n = sym (ap (λ k. get_or k l None) n.links_are) ∙ get_or-map (held of.link) ms.links l None
+
+link_there : {T R X : Type 0} (of : Naming T R X) (st : waiting.State T R) (ms : State) (s l : ℕ) → NearAt of [] st ms → waiting.is_active (slot_at st s) ≡ true → l < length st.links → machine_next.can_link ms s l ≡ true
+link_there of st ms s l n active h =
+    let many : length ms.links ≡ length st.links = sym (length-map ms.links (held of.link)) ∙ ap length n.links_are in
+    ap (λ (t : Bool). t && nat_lt l (length ms.links)) (active_head of st ms s true n active) ∙ lt_yes l (length ms.links) (omega arith)
+
+pub reads : {T R X : Type 0} (of : Naming T R X) (st : waiting.State T R) (before : State) (s l : ℕ) → NearAt of [] st before → waiting.is_active (slot_at st s) ≡ true → l < length st.links
+    → next st.size before (ReadLink s l) ≡ Some (before, Link (machine.link_at before l))
+reads of st before s l n active h = if_yes _ _ _ (link_there of st before s l n active h)
+
+found_both : {T : Type 0} (of : ℕ → T) (x : Option ℕ) → is_some (held of x) ≡ is_some x
+found_both of None = refl
+found_both of (Some v) = refl
+
+found_reply : {T R X : Type 0} (of : Naming T R X) (st : waiting.State T R) (before : State) (l : ℕ) → NearAt of [] st before → ◌≡◌ {A = Reply T} (Found (is_some (link_at st l))) (Found (is_some (machine.link_at before l)))
+found_reply {T} {R} of st before l n = ap {B = Reply T} (λ (x : Option T). Found (is_some x)) (same_link of st before l n) ∙ ap {B = Reply T} (λ (b : Bool). Found b) (found_both of.link (machine.link_at before l))
+
+pub protect_run : {T R : Type 0} (puts : R → T → List T) (weight : T → ℕ) (of : ℕ → T) (st : waiting.State T R) (before : State) (s l : ℕ) → l < length st.links → Shows T R of st before
+    → IsRun T R of (Protect s l) st before (step puts weight st (Protect s l))
+protect_run {T} {R} puts weight of st before s l h shows =
+    run_unless of (Protect s l) st before (λ found. Found (is_some found)) None (no_guard st s) (link_at st l) (st, []) shows (λ e.
+    let n : NearAt (contents of) [] st before = near_of of st before shows in
+    one_event of (Protect s l) st before before (ReadLink s l) (Link (machine.link_at before l)) (Found (is_some (link_at st l))) st
+    (reads (contents of) st before s l n (guard_of st s e).1 h) n refl tt refl (found_reply (contents of) st before l n))
+
+pub protect_list : {T R : Type 0} (puts : R → T → List T) (weight : T → ℕ) (of : ℕ → T) (by : ℕ → R) (st : waiting.State T R) (before : State) (s l : ℕ) → l < length st.links → NearAt (with_reclaimers of by) [] st before
+    → EachList puts of by (Protect s l) st before (step puts weight st (Protect s l))
+protect_list {T} {R} puts weight of by st before s l h n =
+    list_unless puts of by (Protect s l) st before (λ found. Found (is_some found)) None (no_guard st s) (link_at st l) (st, []) n (λ e events answers later makes legal names with put.
+    one_list of by (Protect s l) st.size before before (ReadLink s l) (Link (machine.link_at before l)) (Found (is_some (link_at st l))) st events answers later
+    (reads (with_reclaimers of by) st before s l n (guard_of st s e).1 h) n makes legal refl (found_reply (with_reclaimers of by) st before l n))
+
+-- a fresh number for what a link is to hold
+new_number : {T R : Type 0} (puts : R → T → List T) (of : ℕ → T) (P : T × R → Type 0) → Names T R puts of P → (ms : State) (new : Option T) (r : R) → ((v : T) → new ≡ Some v → P (v, r)) → (n : Option ℕ) × (is_none_or_fresh ms n ≡ true) × (held of n ≡ new)
+new_number puts of P names ms None r holds = (None, refl, refl)
+new_number {T} {R} puts of P names ms (Some v) r holds =
+    let name : (n : ℕ) × (has n ms.named ≡ false) × (of n ≡ v) = names.number (v, r) (holds v refl) ms.named in
+    (Some name.0, ap (λ (t : Bool). not t) name.1, ap (λ (x : T). Option.Some x) name.2)
+
+has_last : (v : ℕ) (xs : List ℕ) → has v (xs ++ v ∷ []) ≡ true
+has_last v [] = grind arith
+has_last v (x ∷ xs) = grind (arith, has_last v xs)
+
+-- The exchange of a link.
+
+pub swaps : {T R X : Type 0} (of : Naming T R X) (st : waiting.State T R) (before : State) (s l : ℕ) (number : Option ℕ) → NearAt of [] st before → waiting.is_active (slot_at st s) ≡ true → l < length st.links → is_none_or_fresh before number ≡ true
+    → next st.size before (ExchangeLink s l (SwapLink number)) ≡ Some (machine_next.swapped before l number, Link (machine.link_at before l))
+swaps of st before s l number n active h fresh = if_yes _ _ _ (ap (λ (t : Bool). t && is_none_or_fresh before number) (link_there of st before s l n active h) ∙ fresh)
+
+pub swapped_near : {T R X : Type 0} (of : Naming T R X) (st : waiting.State T R) (before : State) (l : ℕ) (number : Option ℕ) (new : Option T) → NearAt of [] st before → held of.link number ≡ new
+    → NearAt of [] (record st { links = set st.links l new }) (machine_next.swapped before l number)
+swapped_near of st before l number new n is = record {
+  numbers = n.numbers;
+  as_many = n.as_many;
+  slot = n.slot;
+  heads_are = n.heads_are;
+  retired = n.retired;
+  values = n.values;
+  counts = n.counts;
+  links_are = map-set (held of.link) before.links l number ∙ ap (λ k. set k l (held of.link number)) n.links_are ∙ ap (λ x. set st.links l x) is;
+}
+
+pub swap_run : {T R : Type 0} (puts : R → T → List T) (weight : T → ℕ) → Lighter puts weight → (of : ℕ → T) (P : T × R → Type 0) → Names T R puts of P → (st : waiting.State T R) (before : State) (s l : ℕ) (new : Option T) (r : R) → l < length st.links → Holds T R P st
+    → ((v : T) → new ≡ Some v → P (v, r)) → ((v : T) → link_at st l ≡ Some v → P (v, r)) → Shows T R of st before
+    → IsRun T R of (Swap s l new r) st before (step puts weight st (Swap s l new r))
+swap_run {T} {R} puts weight lighter of P names st before s l new r h holds new_holds old_holds shows = go (no_guard st s) refl
+  where
+    n : NearAt (contents of) [] st before
+    n = near_of of st before shows
+
+    after_swap : (found : Option ℕ) → machine.link_at before l ≡ found → (name : (n : Option ℕ) × (is_none_or_fresh before n ≡ true) × (held of n ≡ new)) → no_guard st s ≡ None
+        → IsRun T R of (Swap s l new r) st before (swapped puts weight s new r (Ok (held of found)) (record st { links = set st.links l new }, []))
+    after_swap None is name e =
+        one_event of (Swap s l new r) st before _ (ExchangeLink s l (SwapLink name.0)) (Link (machine.link_at before l)) Done (record st { links = set st.links l new })
+        (swaps (contents of) st before s l name.0 (near_of of st before shows) (guard_of st s e).1 h name.1) (swapped_near (contents of) st before l name.0 new (near_of of st before shows) name.2)
+        (name.0, [], refl, subst (λ (x : Option ℕ). IsRetiredFrom s x []) (sym is) refl) name.2 refl refl
+    after_swap (Some old) is name e =
+        let used : is_free (slot_at st s).kind ≡ false = (guard_of st s e).0 in
+        let loose : has old (machine_next.swapped before l name.0).loose ≡ true = ap (λ (x : Option ℕ). has old (before.loose ++ option_to_list x)) is ∙ has_last old before.loose in
+        let run : JobRun of st.size s (slot_at st s).guards (job.TheVariants.Retire old) (machine_next.swapped before l name.0) (settled puts weight s (put (record st { links = set st.links l new }) s (of old, r)))
+        = retire_job puts weight lighter of P names (record st { links = set st.links l new }) (machine_next.swapped before l name.0) s old (of old, r)
+        (record { batches = holds.batches; retired = holds.retired }) (old_holds (of old) (same_link (contents of) st before l (near_of of st before shows) ∙ ap (held of) is))
+        (swapped_near (contents of) st before l name.0 new (near_of of st before shows) name.2) used (is_free_name (has old (machine_next.swapped before l name.0).named) _ loose) refl in
+        subst (λ (x : Option Refusal). IsRun T R of (Swap s l new r) st before (reply done (Some (of old)) (unless x (record st { links = set st.links l new }) (Ok tt, settled puts weight s (put (record st { links = set st.links l new }) s (of old, r))))))
+        (sym (ap (λ (t : Bool). if t then Some NotInUse else None) used))
+        (record {
+          events = ExchangeLink s l (SwapLink name.0) ∷ run.events;
+          answers = Link (machine.link_at before l) ∷ run.answers;
+          later = run.later;
+          makes = (name.0, run.events, refl, subst (λ (x : Option ℕ). IsRetiredFrom s x run.events) (sym is) run.makes);
+          names = name.2;
+          legal = play_first st.size before (ExchangeLink s l (SwapLink name.0)) run.events _ _ (swaps (contents of) st before s l name.0 (near_of of st before shows) (guard_of st s e).1 h name.1)
+              ∙ ap (λ (o : Option (State × List Answer)). played (Link (machine.link_at before l)) o) run.legal;
+          shows = shows_of of _ run.later (subst (λ (k : State). NearAt (contents of) [] (settled puts weight s (put (record st { links = set st.links l new }) s (of old, r))).0 k) (sym run.ends.is) run.ends.near);
+          gone = run.ends.gone;
+          reply = refl;
+        })
+      where
+        is_free_name : (a b : Bool) → b ≡ true → (not a || b) ≡ true
+        is_free_name true b e = e
+        is_free_name false b e = refl
+
+    go : (refusal : Option Refusal) → no_guard st s ≡ refusal
+        → (let a = unless refusal st (Ok (link_at st l), (record st { links = set st.links l new }, [])) in IsRun T R of (Swap s l new r) st before (swapped puts weight s new r a.0 a.1))
+    go None e = subst (λ x. IsRun T R of (Swap s l new r) st before (swapped puts weight s new r (Ok x) (record st { links = set st.links l new }, []))) (sym (same_link (contents of) st before l (near_of of st before shows)))
+        (after_swap (machine.link_at before l) refl (new_number puts of P names before new r new_holds) e)
+    go (Some f) e = no_events of (Swap s l new r) st before (Refused f new) st (near_of of st before shows) refl refl
+
+pub swap_list : {T R : Type 0} (puts : R → T → List T) (weight : T → ℕ) → Lighter puts weight → (of : ℕ → T) (by : ℕ → R) (st : waiting.State T R) (before : State) (s l : ℕ) (new : Option T) (r : R) → l < length st.links → NearAt (with_reclaimers of by) [] st before
+    → EachList puts of by (Swap s l new r) st before (step puts weight st (Swap s l new r))
+swap_list {T} {R} puts weight lighter of by st before s l new r h n = go (no_guard st s) refl
+  where
+    after_swap : (found : Option ℕ) → machine.link_at before l ≡ found → no_guard st s ≡ None → (events : List Event) (answers : List Answer) (later : State) (number : Option ℕ) (es : List Event) → held of number ≡ new → events ≡ ExchangeLink s l (SwapLink number) ∷ es
+        → IsRetiredFrom s found es → play st.size before events ≡ Some (later, answers) → AllByRecursion (IsRetiredWith by r) events → ArePutBy puts of by events answers
+        → IsOutcome T R of by (Swap s l new r) (swapped puts weight s new r (Ok (held of found)) (record st { links = set st.links l new }, [])) events answers later
+    after_swap None is e events answers later number es name made more legal with put_all =
+        let first : First st.size before (ExchangeLink s l (SwapLink number)) es later answers = first_of st.size before (ExchangeLink s l (SwapLink number)) es later answers (ap (λ (k : List Event). play st.size before k) (sym made) ∙ legal) in
+        let fresh : is_none_or_fresh before number ≡ true = (and_true (machine_next.can_link before s l) _ (if_some (machine_next.can_link before s l && is_none_or_fresh before number) _ _ first.step).0).1 in
+        one_list of by (Swap s l new r) st.size before _ (ExchangeLink s l (SwapLink number)) (Link (machine.link_at before l)) Done (record st { links = set st.links l new }) events answers later
+        (swaps (with_reclaimers of by) st before s l number n (guard_of st s e).1 h fresh) (swapped_near (with_reclaimers of by) st before l number new n name)
+        (made ∙ ap (λ (k : List Event). ExchangeLink s l (SwapLink number) ∷ k) more) legal refl refl
+    after_swap (Some old) is e events answers later number es name made more legal with put_all =
+        let used : is_free (slot_at st s).kind ≡ false = (guard_of st s e).0 in
+        let first : First st.size before (ExchangeLink s l (SwapLink number)) es later answers = first_of st.size before (ExchangeLink s l (SwapLink number)) es later answers (ap (λ (k : List Event). play st.size before k) (sym made) ∙ legal) in
+        let fresh : is_none_or_fresh before number ≡ true = (and_true (machine_next.can_link before s l) _ (if_some (machine_next.can_link before s l && is_none_or_fresh before number) _ _ first.step).0).1 in
+        let both : (first.later ≡ machine_next.swapped before l number) × (first.answer ≡ Link (machine.link_at before l))
+        = both_same (first.later, first.answer) (machine_next.swapped before l number, Link (machine.link_at before l)) (sym first.step ∙ swaps (with_reclaimers of by) st before s l number n (guard_of st s e).1 h fresh) in
+        let with_all : AllByRecursion (IsRetiredWith by r) (ExchangeLink s l (SwapLink number) ∷ es) = subst (λ (k : List Event). AllByRecursion (IsRetiredWith by r) k) made with in
+        let put_rest : ArePutBy puts of by (ExchangeLink s l (SwapLink number) ∷ es) (first.answer ∷ first.rest) = subst (λ (k : List Answer). ArePutBy puts of by (ExchangeLink s l (SwapLink number) ∷ es) k) first.all (subst (λ (k : List Event). ArePutBy puts of by k answers) made put_all) in
+        let none : handed answers ≡ handed first.rest = ap handed (first.all ∙ ap (λ (a : Answer). a ∷ first.rest) both.1) in
+        let ends : JobEnds (with_reclaimers of by) s (slot_at st s).guards (settled puts weight s (put (record st { links = set st.links l new }) s (of old, r))) later first.rest
+        = retire_job_list puts weight lighter of by (record st { links = set st.links l new }) (machine_next.swapped before l number) s old (of old) r es first.rest later
+        (swapped_near (with_reclaimers of by) st before l number new n name) used refl more (ap (λ (k : State). play st.size k es) (sym both.0) ∙ first.legal) with_all.1 put_rest.1 in
+        subst (λ (x : Option Refusal). IsOutcome T R of by (Swap s l new r) (reply done (Some (of old)) (unless x (record st { links = set st.links l new }) (Ok tt, settled puts weight s (put (record st { links = set st.links l new }) s (of old, r))))) events answers later)
+        (sym (ap (λ (t : Bool). if t then Some NotInUse else None) used))
+        (outcome_of of by (Swap s l new r) Done (settled puts weight s (put (record st { links = set st.links l new }) s (of old, r))) events answers later
+        (subst (λ (k : State). NearAt (with_reclaimers of by) [] (settled puts weight s (put (record st { links = set st.links l new }) s (of old, r))).0 k) (sym ends.is) ends.near)
+        (ap (λ (hs : List ℕ). map {B = T × R} (λ n. (of n, by n)) hs) none ∙ ends.gone) refl)
+
+    not_refused : (found : Option ℕ) (events : List Event) → MakesFor (swapped puts weight s new r (Ok (held of found)) (record st { links = set st.links l new }, [])).0 st before (Swap s l new r) events → no_guard st s ≡ None → Makes st before (Swap s l new r) events
+    not_refused None events makes e = makes
+    not_refused (Some old) events makes e =
+        subst (λ (x : Option Refusal). MakesFor (reply done (Some (of old)) (unless x (record st { links = set st.links l new }) (Ok tt, settled puts weight s (put (record st { links = set st.links l new }) s (of old, r))))).0 st before (Swap s l new r) events)
+        (ap (λ (t : Bool). if t then Some NotInUse else None) (guard_of st s e).0) makes
+
+    go : (refusal : Option Refusal) → no_guard st s ≡ refusal
+        → (let a = unless refusal st (Ok (link_at st l), (record st { links = set st.links l new }, [])) in EachList puts of by (Swap s l new r) st before (swapped puts weight s new r a.0 a.1))
+    go None e = subst (λ x. EachList puts of by (Swap s l new r) st before (swapped puts weight s new r (Ok x) (record st { links = set st.links l new }, []))) (sym (same_link (with_reclaimers of by) st before l n))
+        (λ events answers later makes legal names with put_all.
+        let made : Makes st before (Swap s l new r) events = not_refused (machine.link_at before l) events makes e in
+        after_swap (machine.link_at before l) refl e events answers later made.0 made.1 (subst (λ (k : List Event). NamesOwn of (Swap s l new r) k) made.2 names) made.2 made.3 legal with put_all)
+    go (Some f) e = λ events answers later makes legal names with put_all. no_list of by (Swap s l new r) st.size before (Refused f new) st events answers later n makes legal refl

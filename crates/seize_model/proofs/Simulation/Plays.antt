@@ -1,0 +1,96 @@
+-- Lists of legal events: their first events, and what two lists do one after the other.
+use Rattle.std.proofs.Common.{◌≡◌, ℕ, List, [], ◌∷◌, ◌++◌, Option, Some, None, refl, sym, ◌∙◌, ap, subst, append_assoc, option_to_list}
+use Rattle.std.proofs.lemmas.List.Concat.{flat_map-cons}
+use Rattle.seize_machine.specs.Machine.State.{State}
+use Rattle.seize_machine.specs.Machine.Event.{Event}
+use Rattle.seize_machine.specs.Machine.Next.{next}
+use Rattle.seize_machine.specs.Machine.History.{handed_value}
+use Rattle.seize_machine.specs.declared.machine.event.Answer.{Answer}
+use Rattle.seize_machine.proofs.Laws.Steps.{some_is}
+use Rattle.seize_model.specs.Agreement.Play.{play, played, handed}
+use Rattle.seize_model.specs.Agreement.Events.{ArePutBy}
+
+pub play_first : (size : ℕ) (st : State) (e : Event) (es : List Event) (later : State) (answer : Answer) → next size st e ≡ Some (later, answer) → play size st (e ∷ es) ≡ played answer (play size later es)
+play_first size st e es later answer h = ap (λ (o : Option (State × Answer)). elim o [ None ↦ None | Some d ↦ played d.1 (play size d.0 es) ]) h
+
+-- two outcomes are the same in both parts
+pub both_same : {A B : Type 0} (x y : A × B) → Some x ≡ Some y → (x.0 ≡ y.0) × (x.1 ≡ y.1)
+both_same {A} {B} x y h = let e : x ≡ y = some_is x y h in (ap (λ (p : A × B). p.0) e, ap (λ (p : A × B). p.1) e)
+
+-- the first event of a legal list
+pub record First (size : ℕ) (st : State) (e : Event) (es : List Event) (end : State) (answers : List Answer) : Type 0 where
+  pub later : State
+  pub answer : Answer
+  pub rest : List Answer
+  pub step : next size st e ≡ Some (later, answer)
+  pub legal : play size later es ≡ Some (end, rest)
+  pub all : answers ≡ answer ∷ rest
+
+pub first_of : (size : ℕ) (st : State) (e : Event) (es : List Event) (end : State) (answers : List Answer) → play size st (e ∷ es) ≡ Some (end, answers) → First size st e es end answers
+first_of size st e es end answers legal = go (next size st e) refl legal
+  where
+    go : (o : Option (State × Answer)) → next size st e ≡ o → ◌≡◌ {A = Option (State × List Answer)} (elim o [ None ↦ None | Some d ↦ played d.1 (play size d.0 es) ]) (Some (end, answers)) → First size st e es end answers
+    go None is h = absurd (cc)
+    go (Some d) is h = on (play size d.0 es) refl h
+      where
+        on : (r : Option (State × List Answer)) → play size d.0 es ≡ r → played d.1 r ≡ Some (end, answers) → First size st e es end answers
+        on None same h = absurd (cc)
+        on (Some r) same h =
+            let told : (r.0 ≡ end) × (d.1 ∷ r.1 ≡ answers) = both_same (r.0, d.1 ∷ r.1) (end, answers) h in
+            record { later = d.0; answer = d.1; rest = r.1; step = is; legal = same ∙ ap (λ (x : State). Some (x, r.1)) told.0; all = sym told.1 }
+
+pub play_none : (size : ℕ) (st end : State) (answers : List Answer) → play size st [] ≡ Some (end, answers) → (end ≡ st) × (answers ≡ [])
+play_none size st end answers h =
+    let both : (st ≡ end) × ([] ≡ answers) = both_same (st, []) (end, answers) h in
+    (sym both.0, sym both.1)
+
+pub handed_first : (answer : Answer) (answers : List Answer) → handed (answer ∷ answers) ≡ option_to_list (handed_value answer) ++ handed answers
+handed_first answer answers = flat_map-cons (λ a. option_to_list (handed_value a)) answer answers
+
+pub handed_append : (xs ys : List Answer) → handed (xs ++ ys) ≡ handed xs ++ handed ys
+handed_append [] ys = refl
+handed_append (x ∷ xs) ys =
+    handed_first x (xs ++ ys) ∙ ap (λ (l : List ℕ). option_to_list (handed_value x) ++ l) (handed_append xs ys)
+    ∙ sym (append_assoc (option_to_list (handed_value x)) (handed xs) (handed ys)) ∙ ap (λ (l : List ℕ). l ++ handed ys) (sym (handed_first x xs))
+
+-- one list after another
+pub play_append : (size : ℕ) (st middle end : State) (es fs : List Event) (first last : List Answer) → play size st es ≡ Some (middle, first) → play size middle fs ≡ Some (end, last) → play size st (es ++ fs) ≡ Some (end, first ++ last)
+play_append size st middle end [] fs first last h k =
+    let none : (middle ≡ st) × (first ≡ []) = play_none size st middle first h in
+    ap (λ (x : State). play size x fs) (sym none.0) ∙ k ∙ ap (λ (l : List Answer). Some (end, l ++ last)) (sym none.1)
+play_append size st middle end (e ∷ es) fs first last h k =
+    let one : First size st e es middle first = first_of size st e es middle first h in
+    play_first size st e (es ++ fs) one.later one.answer one.step
+    ∙ ap (λ (r : Option (State × List Answer)). played one.answer r) (play_append size one.later middle end es fs one.rest last one.legal k)
+    ∙ ap (λ (l : List Answer). Some (end, l ++ last)) (sym one.all)
+
+pub record Split (size : ℕ) (st : State) (es fs : List Event) (end : State) (answers : List Answer) : Type 0 where
+  pub middle : State
+  pub first : List Answer
+  pub last : List Answer
+  pub begins : play size st es ≡ Some (middle, first)
+  pub goes_on : play size middle fs ≡ Some (end, last)
+  pub all : answers ≡ first ++ last
+
+pub split_of : (size : ℕ) (st : State) (es fs : List Event) (end : State) (answers : List Answer) → play size st (es ++ fs) ≡ Some (end, answers) → Split size st es fs end answers
+split_of size st [] fs end answers h = record { middle = st; first = []; last = answers; begins = refl; goes_on = h; all = refl }
+split_of size st (e ∷ es) fs end answers h =
+    let one : First size st e (es ++ fs) end answers = first_of size st e (es ++ fs) end answers h in
+    let rest : Split size one.later es fs end one.rest = split_of size one.later es fs end one.rest one.legal in
+    record {
+      middle = rest.middle;
+      first = one.answer ∷ rest.first;
+      last = rest.last;
+      begins = play_first size st e es one.later one.answer one.step ∙ ap (λ (r : Option (State × List Answer)). played one.answer r) rest.begins;
+      goes_on = rest.goes_on;
+      all = one.all ∙ ap (λ (l : List Answer). one.answer ∷ l) rest.all;
+    }
+
+-- what the first of two lists puts
+pub put_first : {T R : Type 0} (puts : R → T → List T) (of : ℕ → T) (by : ℕ → R) (size : ℕ) (st middle : State) (es fs : List Event) (first last : List Answer) → play size st es ≡ Some (middle, first)
+    → ArePutBy puts of by (es ++ fs) (first ++ last) → ArePutBy puts of by es first
+put_first puts of by size st middle [] fs first last h put = tt
+put_first puts of by size st middle (e ∷ es) fs first last h put =
+    let one : First size st e es middle first = first_of size st e es middle first h in
+    let all : ArePutBy puts of by (e ∷ (es ++ fs)) (one.answer ∷ (one.rest ++ last)) = subst (λ (l : List Answer). ArePutBy puts of by (e ∷ (es ++ fs)) (l ++ last)) one.all put in
+    subst (λ (l : List Answer). ArePutBy puts of by (e ∷ es) l) (sym one.all) (all.0, put_first puts of by size one.later middle es fs one.rest last one.legal all.1)

@@ -1,0 +1,5 @@
+-- The laws of waiting sets.
+pub mod FurtherValues
+pub mod Drain
+pub mod LinkCounts
+pub mod Lists

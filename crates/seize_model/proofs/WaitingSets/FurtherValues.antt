@@ -1,0 +1,182 @@
+-- The further values come to an end, and how the definition unfolds.
+use Rattle.std.proofs.Common.{◌≡◌, ℕ, zero, suc, ◌+◌, ◌-◌, ◌*◌, ◌<◌, ◌≤◌, nat_le, max, List, [], ◌∷◌, ◌++◌, length, map, sum, refl, ◌∙◌, ap, subst, ◌⊎◌, inl, inr, arith, drop}
+use Rattle.std.specs.List.{sum_by}
+use Rattle.std.proofs.lemmas.List.{get_or-set_same, length-set, length-map, get_or-map, get_or_past}
+use Rattle.std.proofs.lemmas.List.Sums.{sum_by-append, sum_by-cons, sum_by_push, sum-map}
+use Rattle.std.proofs.lemmas.List.Concat.{flat_map-cons}
+use Rattle.std.proofs.Math.Seq.{get_or-append_seam}
+use Rattle.seize_model.specs.Waiting.State.{Slot, State, slot_at, retired_at, set_slot, is_active, is_kept, no_slot}
+use Rattle.seize_model.specs.Waiting.Attempt.{Outcome, after, release, attempt, gives_up, wait_if_active, detached, put, appended}
+use Rattle.seize_model.specs.Waiting.Further.{Lighter, put_by, further, settle, still_to_come, afterwards}
+use Rattle.seize_model.proofs.Cases.{either, in_or_past}
+
+-- what a queued value counts, and what one in the batch counts
+abbrev pub twice : {T R : Type 0} → (T → ℕ) → T × R → ℕ
+twice weight v = 2 * weight v.0
+
+abbrev pub less : {T R : Type 0} → (T → ℕ) → T × R → ℕ
+less weight v = 2 * weight v.0 - 1
+
+abbrev pub queued : {T R : Type 0} → (T → ℕ) → List (T × R) → ℕ
+queued weight queue = sum_by (twice weight) queue
+
+abbrev pub held : {T R : Type 0} → (T → ℕ) → List (T × R) → ℕ
+held weight batch = sum_by (less weight) batch
+
+queued-one : {T R : Type 0} (weight : T → ℕ) (r : R) (vs : List T) → queued weight (map (λ x. (x, r)) vs) ≡ 2 * sum (map weight vs)
+queued-one weight r [] = refl
+queued-one weight r (v ∷ vs) =
+    omega (arith, sum_by-cons (twice weight) (v, r) (map (λ x. (x, r)) vs), sum-map weight (v ∷ vs), sum-map weight vs, sum_by-cons weight v vs, queued-one weight r vs)
+
+pub further_weighs : {T R : Type 0} (puts : R → T → List T) (weight : T → ℕ) → Lighter puts weight → (gone : List (T × R))
+    → queued weight (further puts gone) ≤ held weight gone
+further_weighs puts weight h [] = omega arith
+further_weighs puts weight h (v ∷ gone) =
+    let e : further puts (v ∷ gone) ≡ put_by puts v ++ further puts gone = flat_map-cons (put_by puts) v gone in
+    rw e (omega (
+      arith,
+      sum_by-append (twice weight) (put_by puts v) (further puts gone),
+      queued-one weight v.1 (puts v.1 v.0),
+      h v.1 v.0,
+      sum_by-cons (less weight) v gone,
+      further_weighs puts weight h gone,
+    ))
+
+-- what an attempt or a retirement makes of the batch of s: it stays, or it is taken, and its values are gone or wait
+abbrev pub Shape : {T R : Type 0} → ℕ → List (T × R) → Outcome T R → Type 0
+Shape s batch o =
+    (((slot_at o.0 s).batch ≡ batch) × (o.1 ≡ [])) ⊎ (((slot_at o.0 s).batch ≡ []) × ((o.1 ≡ []) ⊎ (o.1 ≡ batch)))
+
+waits_batch : {T R : Type 0} (b : ℕ) (slot : Slot T R) → (wait_if_active b slot).batch ≡ slot.batch
+waits_batch b slot = either (λ k. k.batch ≡ slot.batch) (is_active slot) (record slot { order = b ∷ slot.order }) slot refl refl
+
+emptied_batch : {T R : Type 0} (st : State T R) (s : ℕ) → (slot_at (detached st s) s).batch ≡ []
+emptied_batch {T} {R} st s = go (in_or_past s (length st.slots))
+  where
+    next : State T R
+    next = set_slot st s (record (slot_at st s) { batch = [] })
+
+    slots : length next.slots ≡ length st.slots
+    slots = length-set st.slots s (record (slot_at st s) { batch = [] })
+
+    waiting : length (detached st s).slots ≡ length st.slots
+    waiting = length-map next.slots (wait_if_active (length st.retired)) ∙ slots
+
+    go : (s < length st.slots) ⊎ (length st.slots ≤ s) → (slot_at (detached st s) s).batch ≡ []
+    go (inl h) =
+        let at : slot_at next s ≡ record (slot_at st s) { batch = [] } = get_or-set_same st.slots s _ no_slot h in
+        let waits : slot_at (detached st s) s ≡ wait_if_active (length st.retired) (slot_at next s) = get_or-map (wait_if_active (length st.retired)) next.slots s no_slot no_slot (rw slots h) in
+        ap (λ k. k.batch) waits ∙ waits_batch (length st.retired) (slot_at next s) ∙ ap (λ k. k.batch) at
+    go (inr h) = ap (λ k. k.batch) (get_or_past (detached st s).slots s no_slot (rw waiting h))
+
+retired_last : {T R : Type 0} (st : State T R) (s : ℕ) → retired_at (detached st s) (length st.retired) ≡ (slot_at st s).batch
+retired_last st s = get_or-append_seam st.retired (slot_at st s).batch [] []
+
+attempt_shape : {T R : Type 0} (st : State T R) (s : ℕ) → Shape s (slot_at st s).batch (attempt st s)
+attempt_shape st s =
+    either (Shape s (slot_at st s).batch) (gives_up st s) (st, []) (release (detached st s) (length st.retired)) (inl (refl, refl)) released
+  where
+    released : Shape s (slot_at st s).batch (release (detached st s) (length st.retired))
+    released = either (Shape s (slot_at st s).batch) (is_kept (detached st s) (length st.retired)) _ _
+        (inr (emptied_batch st s, inl refl))
+        (inr (emptied_batch st s, inr (retired_last st s)))
+
+-- a slot that was never made has no batch
+none_shape : {T R : Type 0} (s : ℕ) (batch : List (T × R)) (o : Outcome T R) → Shape s [] o → Shape s batch o
+none_shape s batch o (inl h) = inr (h.0, inl h.1)
+none_shape s batch o (inr (h, inl e)) = inr (h, inl e)
+none_shape s batch o (inr (h, inr e)) = inr (h, inl e)
+
+pub put_shape : {T R : Type 0} (st : State T R) (s : ℕ) (v : T × R) → Shape s ((slot_at st s).batch ++ v ∷ []) (put st s v)
+put_shape {T} {R} st s v = go (in_or_past s (length st.slots))
+  where
+    batch : List (T × R)
+    batch = (slot_at st s).batch ++ v ∷ []
+
+    next : State T R
+    next = appended st s v
+
+    own : Shape s (slot_at next s).batch (put st s v)
+    own = either (Shape s (slot_at next s).batch) (nat_le (max 1 st.size) (length (slot_at next s).batch)) (attempt next s) (next, []) (attempt_shape next s) (inl (refl, refl))
+
+    go : (s < length st.slots) ⊎ (length st.slots ≤ s) → Shape s batch (put st s v)
+    go (inl h) =
+        let at : (slot_at next s).batch ≡ batch = ap (λ k. k.batch) (get_or-set_same st.slots s (record (slot_at st s) { batch = batch }) no_slot h) in
+        subst (λ b. Shape s b (put st s v)) at own
+    go (inr h) =
+        let at : (slot_at next s).batch ≡ [] = ap (λ k. k.batch) (get_or_past next.slots s no_slot (rw (length-set st.slots s (record (slot_at st s) { batch = batch })) h)) in
+        none_shape s batch (put st s v) (subst (λ b. Shape s b (put st s v)) at own)
+
+-- each retirement of a queued value leaves less to do
+pub falls : {T R : Type 0} (puts : R → T → List T) (weight : T → ℕ) → Lighter puts weight → (st : State T R) (s : ℕ) (v : T × R) (queue : List (T × R))
+    → still_to_come weight (slot_at (put st s v).0 s).batch (queue ++ further puts (put st s v).1) < still_to_come weight (slot_at st s).batch (v ∷ queue)
+falls puts weight h st s v queue = go (put_shape st s v)
+  where
+    one : 1 ≤ weight v.0
+    one = omega (arith, h v.1 v.0)
+
+    both : held weight ((slot_at st s).batch ++ v ∷ []) ≡ held weight (slot_at st s).batch + (2 * weight v.0 - 1)
+    both = sum_by_push (less weight) (slot_at st s).batch v
+
+    queues : queued weight (queue ++ further puts (put st s v).1) ≡ queued weight queue + queued weight (further puts (put st s v).1)
+    queues = sum_by-append (twice weight) queue (further puts (put st s v).1)
+
+    first : queued weight (v ∷ queue) ≡ 2 * weight v.0 + queued weight queue
+    first = sum_by-cons (twice weight) v queue
+
+    weighs : queued weight (further puts (put st s v).1) ≤ held weight (put st s v).1
+    weighs = further_weighs puts weight h (put st s v).1
+
+    go : (((slot_at (put st s v).0 s).batch ≡ (slot_at st s).batch ++ v ∷ []) × ((put st s v).1 ≡ [])) ⊎ (((slot_at (put st s v).0 s).batch ≡ []) × (((put st s v).1 ≡ []) ⊎ ((put st s v).1 ≡ (slot_at st s).batch ++ v ∷ [])))
+        → still_to_come weight (slot_at (put st s v).0 s).batch (queue ++ further puts (put st s v).1) < still_to_come weight (slot_at st s).batch (v ∷ queue)
+    go (inl (batch, none)) =
+        let b : held weight (slot_at (put st s v).0 s).batch ≡ held weight ((slot_at st s).batch ++ v ∷ []) = ap (held weight) batch in
+        let n : held weight (put st s v).1 ≡ 0 = ap (held weight) none in
+        omega (arith, one, both, queues, first, weighs, b, n)
+    go (inr (batch, inl none)) =
+        let b : held weight (slot_at (put st s v).0 s).batch ≡ 0 = ap (held weight) batch in
+        let n : held weight (put st s v).1 ≡ 0 = ap (held weight) none in
+        omega (arith, one, both, queues, first, weighs, b, n)
+    go (inr (batch, inr all)) =
+        let b : held weight (slot_at (put st s v).0 s).batch ≡ 0 = ap (held weight) batch in
+        let n : held weight (put st s v).1 ≡ held weight ((slot_at st s).batch ++ v ∷ []) = ap (held weight) all in
+        omega (arith, one, both, queues, first, weighs, b, n)
+
+-- more fuel than is needed changes nothing
+enough : {T R : Type 0} (puts : R → T → List T) (weight : T → ℕ) → Lighter puts weight → (n m : ℕ) (st : State T R) (s : ℕ) (queue : List (T × R))
+    → still_to_come weight (slot_at st s).batch queue ≤ n → still_to_come weight (slot_at st s).batch queue ≤ m → settle puts n st s queue ≡ settle puts m st s queue
+enough puts weight h zero zero st s queue a b = refl
+enough puts weight h zero (suc m) st s [] a b = refl
+enough puts weight h (suc n) zero st s [] a b = refl
+enough puts weight h (suc n) (suc m) st s [] a b = refl
+enough puts weight h zero (suc m) st s (v ∷ queue) a b = absurd (omega (arith, falls puts weight h st s v queue))
+enough puts weight h (suc n) zero st s (v ∷ queue) a b = absurd (omega (arith, falls puts weight h st s v queue))
+enough puts weight h (suc n) (suc m) st s (v ∷ queue) a b =
+    let f : still_to_come weight (slot_at (put st s v).0 s).batch (queue ++ further puts (put st s v).1) < still_to_come weight (slot_at st s).batch (v ∷ queue) = falls puts weight h st s v queue in
+    ap (after (put st s v).1) (enough puts weight h n m (put st s v).0 s (queue ++ further puts (put st s v).1) (omega arith) (omega arith))
+
+-- how the definition unfolds
+pub afterwards-nil : {T R : Type 0} (puts : R → T → List T) (weight : T → ℕ) (st : State T R) (s : ℕ) → afterwards puts weight st s [] ≡ (st, [])
+afterwards-nil {T} {R} puts weight st s = go (still_to_come weight (slot_at st s).batch [])
+  where
+    go : (n : ℕ) → settle puts n st s [] ≡ (st, [])
+    go zero = refl
+    go (suc n) = refl
+
+unfolds : {T R : Type 0} (puts : R → T → List T) (weight : T → ℕ) → Lighter puts weight → (n : ℕ) (st : State T R) (s : ℕ) (v : T × R) (queue : List (T × R))
+    → still_to_come weight (slot_at st s).batch (v ∷ queue) ≤ n
+    → settle puts n st s (v ∷ queue) ≡ after (put st s v).1 (afterwards puts weight (put st s v).0 s (queue ++ further puts (put st s v).1))
+unfolds puts weight h zero st s v queue a = absurd (omega (arith, falls puts weight h st s v queue))
+unfolds puts weight h (suc n) st s v queue a =
+    let f : still_to_come weight (slot_at (put st s v).0 s).batch (queue ++ further puts (put st s v).1) < still_to_come weight (slot_at st s).batch (v ∷ queue) = falls puts weight h st s v queue in
+    ap (after (put st s v).1) (enough puts weight h n (still_to_come weight (slot_at (put st s v).0 s).batch (queue ++ further puts (put st s v).1)) (put st s v).0 s (queue ++ further puts (put st s v).1) (omega arith) (omega arith))
+
+pub afterwards-cons : {T R : Type 0} (puts : R → T → List T) (weight : T → ℕ) → Lighter puts weight → (st : State T R) (s : ℕ) (v : T × R) (queue : List (T × R))
+    → afterwards puts weight st s (v ∷ queue) ≡ after (put st s v).1 (afterwards puts weight (put st s v).0 s (queue ++ further puts (put st s v).1))
+afterwards-cons puts weight h st s v queue =
+    unfolds puts weight h (still_to_come weight (slot_at st s).batch (v ∷ queue)) st s v queue (omega arith)
+
+-- a queue whose rest is the queue itself is empty
+pub no_rest : {X : Type 0} (xs : List X) → xs ≡ drop 1 xs → xs ≡ []
+no_rest [] e = refl
+no_rest (x ∷ xs) e = absurd (omega (arith, ap length e))

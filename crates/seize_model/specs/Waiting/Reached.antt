@@ -1,0 +1,18 @@
+-- The states that a collector comes to, whatever calls are made.
+use Rattle.std.specs.Prelude.{◌≡◌, ◌⊎◌, ℕ, Bool, true, List, Option}
+use Rattle.seize_model.specs.Waiting.State.{State, new}
+use Rattle.seize_model.specs.Waiting.Calls as calls
+use Rattle.seize_model.specs.Waiting.Lists.{Call, step}
+
+-- **Reached.** The state of a collector just made, and each state that a call, a swap without its retirement, a reclaim of all or a
+-- change of the size leads to.
+pub data Reached {T R : Type 0} (puts : R → T → List T) (weight : T → ℕ) : State T R → Type 0 where
+  made : (size links : ℕ) → Reached puts weight (new size links)
+  resized : (st : State T R) (size : ℕ) → Reached puts weight st → Reached puts weight (record st { size = size })
+  called : (st : State T R) (call : Call T R) → Reached puts weight st → Reached puts weight (step puts weight st call).1.0
+  swapped : (st : State T R) (s link : ℕ) (value : Option T) → Reached puts weight st → Reached puts weight (calls.swap st s link value).1.0
+  reclaimed : (st : State T R) → Reached puts weight st → Reached puts weight (calls.reclaim_all puts weight st).0
+
+-- the state is reached, or a growth was refused
+abbrev pub IsReached : {T R : Type 0} → (R → T → List T) → (T → ℕ) → Bool → State T R → Type 0
+IsReached puts weight short st = ∥ (short ≡ true) ⊎ Reached puts weight st ∥₁
