@@ -1,19 +1,21 @@
 -- What other crates may build on: the facts of the machine, each with its statement. The modules of `proofs/Laws` behind them are no
 -- interface, and may change. The definitions that the statements cite are in `specs/Machine`.
 pub use Rattle.seize_machine.proofs.Laws.Steps.{Step, Stands, go_on, counted, swapped, beginning, after_put}
-use Rattle.std.proofs.Common.{◌≡◌, ◌≢◌, ℕ, ◌+◌, ◌<◌, ◌≤◌, pos, neg_ℤ, ◌≤ℤ◌, Bool, true, false, List, [], ◌∷◌, ◌++◌, length, take, drop, Option, Some, arith}
+pub use Rattle.seize_machine.proofs.Laws.Forced.{Forced}
+use Rattle.std.proofs.Common.{◌≡◌, ◌≢◌, ℕ, ◌+◌, ◌<◌, ◌≤◌, pos, neg_ℤ, ◌≤ℤ◌, Bool, true, false, List, [], ◌∷◌, ◌++◌, length, take, drop, Option, Some, ◌⊎◌, arith}
 use Rattle.std.specs.List.{Contains}
-use Rattle.seize_machine.specs.Machine.State.{State, Mark, Look, Try, Add, Out, slot_at, head_at, link_at, batch_at, is_active, has, linked, are_distinct, opening}
-use Rattle.seize_machine.specs.Machine.Event.{Event, SwapOut}
-use Rattle.seize_machine.specs.Machine.Next.{next, can_link}
-use Rattle.seize_machine.specs.Machine.History.{Timed, Legal, IsReached, handed_value}
+use Rattle.seize_machine.specs.Machine.State.{State, Mark, Look, Try, Add, Out, slot_at, head_at, link_at, batch_at, is_active, has, linked, are_distinct, opening, Place, Append, Rest}
+use Rattle.seize_machine.specs.Machine.Event.{Event, Put, SwapOut, slot_of}
+use Rattle.seize_machine.specs.Machine.Next.{next, set_slot, can_link}
+use Rattle.seize_machine.specs.Machine.History.{Timed, Legal, IsReached, handed_value, is_link_event}
 use Rattle.seize_machine.specs.Machine.Laws.{HoldsOfAll, AtMostOnce, After, Quiet, Protection, Parts, Gone, Holders, NoLaterHolders, Tries, detached_by, Lists, Walks}
 use Rattle.seize_machine.specs.Machine.Frames.{changes_slot, used, changes_used, changes_head_of, changes_link, changes_batch, changes_value, slots_added, batches_added, begins_retiring}
 use Rattle.seize_machine.specs.Machine.Kept.{KeptIn}
 use Rattle.seize_machine.specs.declared.machine.event.Answer.{Answer}
-use Rattle.seize_machine.specs.declared.machine.event.Answer.TheVariants.{Count}
+use Rattle.seize_machine.specs.declared.machine.event.Answer.TheVariants.{Done, Count}
 use Rattle.seize_machine.proofs.Laws.Exactness as exactness
 use Rattle.seize_machine.proofs.Laws.Steps as steps
+use Rattle.seize_machine.proofs.Laws.Forced as forcing
 use Rattle.seize_machine.proofs.Laws.Frames as frames
 use Rattle.seize_machine.proofs.Laws.LegalLists as lists
 use Rattle.seize_machine.proofs.Laws.Reached as reached
@@ -37,6 +39,17 @@ step_of = steps.step_of
 
 pub next_of : (size : ℕ) (st : State) (event : Event) (d : State × Answer) → Step size st event d → next size st event ≡ Some d
 next_of = exactness.next_of
+
+-- a put as it is computed
+pub step_put : (size : ℕ) (st : State) (s v : ℕ) (from : Place) (before after : List ℕ) → Stands st s from before
+    → ((from ≡ Append v) × (before ≡ after)) ⊎ ((from ≡ Rest [] []) × (before ≡ v ∷ after))
+    → Step size st (Put s) (set_slot st s (record { used = (slot_at st s).used; batch = (slot_at st s).batch ++ v ∷ []; call = Some (record { place = after_put size (length st.slots) ((slot_at st s).batch ++ v ∷ []); queue = after }) }), Done)
+step_put = steps.step_put_from
+
+-- where a call of a slot is under way, its place tells the next event of that slot, links aside
+pub forced : (size : ℕ) (st : State) (s : ℕ) (place : Place) (queue : List ℕ) (e : Event) (d : State × Answer) → Step size st e d → slot_of e ≡ s → is_link_event s e ≡ false
+    → (slot_at st s).used ≡ true → Stands st s place queue → Forced st s place queue e
+forced = forcing.forced
 
 -- Legal lists: nothing, one event, one event more at the end, a list that goes on; and a list taken apart after a beginning or
 -- after its first event.

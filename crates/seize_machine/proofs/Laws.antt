@@ -1,6 +1,7 @@
 -- The proofs of the laws.
 pub mod Steps
 pub mod Exactness
+pub mod Forced
 pub mod Sums
 pub mod Counts
 pub mod Once

@@ -257,6 +257,11 @@ step_put size st s slot h =
     at (Rest [] []) (v ∷ queue) e h = puts v (Rest [] []) (v ∷ queue) queue e (inr (refl, refl)) h
     at _ queue e h = absurd (cc)
 
+-- a put, from the value about to be appended or from the queue
+pub step_put_from : (size : ℕ) (st : State) (s v : ℕ) (from : Place) (before after : List ℕ) → Stands st s from before → ((from ≡ Append v) × (before ≡ after)) ⊎ ((from ≡ Rest [] []) × (before ≡ v ∷ after))
+    → Step size st (Put s) (set_slot st s (record { used = (slot_at st s).used; batch = (slot_at st s).batch ++ v ∷ []; call = Some (record { place = after_put size (length st.slots) ((slot_at st s).batch ++ v ∷ []); queue = after }) }), Done)
+step_put_from size st s v from before after e which = put s v from before after _ e which (put_place (max 1 size) (length st.slots) ((slot_at st s).batch ++ v ∷ [])) refl
+
 step_mark : (size : ℕ) (st : State) (s n : ℕ) (slot : Slot) → slot_mark scheme (length st.slots) n (is_active (head_at st n)) (slot_at st s) ≡ Some slot
     → Step size st (ReadHead s n) (set_slot st s slot, HeadRead (is_active (head_at st n)))
 step_mark size st s n slot h =
