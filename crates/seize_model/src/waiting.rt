@@ -2,34 +2,34 @@
 //! The contracts of `Alone` are by the same definitions.
 
 ghost use Rattle.std.specs.Prelude.{◌≡◌, ℕ, List, ◌∷◌, []};
-ghost use Rattle.seize_model.specs.Waiting.State as state;
+ghost use Rattle.seize_model.specs.Waiting.State.{new, slot_at};
 ghost use Rattle.seize_model.specs.Waiting.Further.{Lighter, AfterwardsLaws, DrainedLaws};
 ghost use Rattle.seize_model.specs.Waiting.Lists.{AmpleLaw};
 ghost use Rattle.seize_model.specs.Waiting.Runs as runs;
 
 /// Worked runs, each from a collector just made of the given size and number of links: what is told of each group of calls.
 pub fn calls_in_turn()
-    ensures single { runs.told (state.new 2 0) runs.single ≡ runs.single_told }
-    ensures flushes { runs.told (state.new 5 0) runs.flushes ≡ runs.flushes_told }
-    ensures fives { runs.told (state.new 5 0) runs.fives ≡ runs.fives_told }
-    ensures reentrant { runs.told (state.new 5 0) runs.reentrant ≡ runs.reentrant_told }
-    ensures refreshing { runs.told (state.new 5 0) runs.refreshing ≡ runs.refreshing_told }
-    ensures enough { runs.told (state.new 1 0) runs.enough ≡ runs.enough_told }
-    ensures enough_before_third { (state.slot_at (runs.state_after (state.new 1 0) runs.enough_before_third) 0).batch ≡ (1, tt) ∷ (2, tt) ∷ [] }
-    ensures nobody_active_at_size_0 { runs.told (state.new 0 0) runs.nobody_active ≡ runs.nobody_active_told }
-    ensures nobody_active_at_size_1 { runs.told (state.new 1 0) runs.nobody_active ≡ runs.nobody_active_told }
-    ensures further_values { runs.told (state.new 2 0) runs.further_values ≡ runs.further_values_told }
-    ensures furthered { (state.slot_at (runs.state_after (state.new 2 0) runs.furthered) 0).batch ≡ (15, tt) ∷ [] }
-    ensures reclaimed { runs.told (state.new 2 0) runs.reclaimed ≡ runs.reclaimed_told }
-    ensures reclaimed_deep { runs.told (state.new 8 0) runs.reclaimed_deep ≡ runs.reclaimed_deep_told }
-    ensures many { runs.told (state.new 20 0) runs.many ≡ runs.many_told }
-    ensures crowd { runs.told (state.new 1 0) runs.crowd ≡ runs.crowd_told }
-    ensures reuse { runs.told (state.new 4 0) runs.reuse ≡ runs.reuse_told }
-    ensures forgotten { runs.told (state.new 4 0) runs.forgotten ≡ runs.forgotten_told }
-    ensures left_behind { runs.told (state.new 3 0) runs.left_behind ≡ runs.left_behind_told }
-    ensures inherited { runs.told (state.new 3 0) runs.inherited ≡ runs.inherited_told }
-    ensures refused { runs.told (state.new 1 0) runs.refused ≡ runs.refused_told }
-    ensures links { runs.told (state.new 1 1) runs.links ≡ runs.links_told }
+    ensures single { runs.told (new 2 0) runs.single ≡ runs.single_told }
+    ensures flushes { runs.told (new 5 0) runs.flushes ≡ runs.flushes_told }
+    ensures fives { runs.told (new 5 0) runs.fives ≡ runs.fives_told }
+    ensures reentrant { runs.told (new 5 0) runs.reentrant ≡ runs.reentrant_told }
+    ensures refreshing { runs.told (new 5 0) runs.refreshing ≡ runs.refreshing_told }
+    ensures enough { runs.told (new 1 0) runs.enough ≡ runs.enough_told }
+    ensures enough_before_third { (slot_at (runs.state_after (new 1 0) runs.enough_before_third) 0).batch ≡ (1, tt) ∷ (2, tt) ∷ [] }
+    ensures nobody_active_at_size_0 { runs.told (new 0 0) runs.nobody_active ≡ runs.nobody_active_told }
+    ensures nobody_active_at_size_1 { runs.told (new 1 0) runs.nobody_active ≡ runs.nobody_active_told }
+    ensures further_values { runs.told (new 2 0) runs.further_values ≡ runs.further_values_told }
+    ensures furthered { (slot_at (runs.state_after (new 2 0) runs.furthered) 0).batch ≡ (15, tt) ∷ [] }
+    ensures reclaimed { runs.told (new 2 0) runs.reclaimed ≡ runs.reclaimed_told }
+    ensures reclaimed_deep { runs.told (new 8 0) runs.reclaimed_deep ≡ runs.reclaimed_deep_told }
+    ensures many { runs.told (new 20 0) runs.many ≡ runs.many_told }
+    ensures crowd { runs.told (new 1 0) runs.crowd ≡ runs.crowd_told }
+    ensures reuse { runs.told (new 4 0) runs.reuse ≡ runs.reuse_told }
+    ensures forgotten { runs.told (new 4 0) runs.forgotten ≡ runs.forgotten_told }
+    ensures left_behind { runs.told (new 3 0) runs.left_behind ≡ runs.left_behind_told }
+    ensures inherited { runs.told (new 3 0) runs.inherited ≡ runs.inherited_told }
+    ensures refused { runs.told (new 1 0) runs.refused ≡ runs.refused_told }
+    ensures links { runs.told (new 1 1) runs.links ≡ runs.links_told }
 {}
 
 /// How further values are retired and reclaimed, for every reclaimer and every state, where what a reclaimer puts weighs less than its

@@ -19,7 +19,7 @@ use Rattle.seize_model.specs.Waiting.Calls.{first, no_guard, unused, is_free, is
 use Rattle.seize_model.specs.Waiting.Lists.{Flush, Retire, Refresh, Done, done, step}
 use Rattle.seize_model.specs.Agreement.Shows.{Shows, head_of}
 use Rattle.seize_model.specs.Agreement.Play.{play, handed}
-use Rattle.seize_model.specs.Agreement.Events.{IsJob, Where, NamesOwn, IsRetiredWith, ArePutBy}
+use Rattle.seize_model.specs.Agreement.Events.{IsJob, Where, NamesOwn, RetiresWith, ArePutBy}
 use Rattle.seize_model.specs.Agreement.Statement.{IsRun, IsOutcome, EachList}
 use Rattle.seize_model.proofs.Simulation.Views.{contents, with_reclaimers, near_of}
 use Rattle.seize_model.proofs.Simulation.Paths.{Carried}
@@ -145,7 +145,7 @@ retire_run {T} {R} puts weight lighter of P names st before s v r holds own show
 
 -- each list of the job that retires number n
 pub retire_job_list : {T R : Type 0} (puts : R → T → List T) (weight : T → ℕ) → Lighter puts weight → (of : ℕ → T) (by : ℕ → R) (st : waiting.State T R) (before : State) (s n : ℕ) (v : T) (r : R) (events : List Event) (answers : List Answer) (later : State) → NearAt (with_reclaimers of by) [] st before
-    → is_free (slot_at st s).kind ≡ false → of n ≡ v → IsJob s (job.TheVariants.Retire n) events → play st.size before events ≡ Some (later, answers) → AllByRecursion (IsRetiredWith by r) events → ArePutBy puts of by events answers
+    → is_free (slot_at st s).kind ≡ false → of n ≡ v → IsJob s (job.TheVariants.Retire n) events → play st.size before events ≡ Some (later, answers) → by n ≡ r → ArePutBy puts of by events answers
     → JobEnds (with_reclaimers of by) s (slot_at st s).guards (settled puts weight s (put st s (v, r))) later answers
 retire_job_list {T} {R} puts weight lighter of by st before s n v r events answers later near used stands makes legal with puts_all =
     job_list puts of by st.size s (slot_at st s).guards (job.TheVariants.Retire n) before _ later (settled puts weight s (put st s (v, r))) events answers (begins_retire (with_reclaimers of by) st before s n near used free) makes legal puts_all (λ now.
@@ -157,18 +157,15 @@ retire_job_list {T} {R} puts weight lighter of by st before s n v r events answe
     free : (not (has n before.named) || has n before.loose) ≡ true
     free = (and_true (is_idle (machine.slot_at before s)) (not (has n before.named) || has n before.loose) (if_some (is_idle (machine.slot_at before s) && (not (has n before.named) || has n before.loose)) _ _ begun.step).0).1
 
-    first : AllByRecursion (IsRetiredWith by r) (Begin s (job.TheVariants.Retire n) ∷ makes.0)
-    first = subst (λ (l : List Event). AllByRecursion (IsRetiredWith by r) l) makes.1 with
-
     pair : ◌≡◌ {A = T × R} (of n, by n) (v, r)
-    pair = ap (λ (x : T). (x, by n)) stands ∙ ap (λ (x : R). (v, x)) first.0
+    pair = ap (λ (x : T). (x, by n)) stands ∙ ap (λ (x : R). (v, x)) with
 
 pub retire_list : {T R : Type 0} (puts : R → T → List T) (weight : T → ℕ) → Lighter puts weight → (of : ℕ → T) (by : ℕ → R) (st : waiting.State T R) (before : State) (s : ℕ) (v : T) (r : R) → NearAt (with_reclaimers of by) [] st before
     → EachList puts of by (Retire s v r) st before (step puts weight st (Retire s v r))
 retire_list {T} {R} puts weight lighter of by st before s v r n =
     list_unless puts of by (Retire s v r) st before done (Some v) (unused st s) tt (settled puts weight s (put st s (v, r))) n (λ e events answers later makes legal names with puts_all.
     job_outcome of by (Retire s v r) s (slot_at st s).guards Done (settled puts weight s (put st s (v, r))) events answers later
-    (retire_job_list puts weight lighter of by st before s makes.0 v r events answers later n (used_of st s e) (subst (λ (l : List Event). NamesOwn of (Retire s v r) l) makes.1.1 names) makes.1 legal with puts_all)
+    (retire_job_list puts weight lighter of by st before s makes.0 v r events answers later n (used_of st s e) (subst (λ (l : List Event). NamesOwn of (Retire s v r) l) makes.1.1 names) makes.1 legal (subst (λ (l : List Event). RetiresWith by (Retire s v r) l) makes.1.1 with) puts_all)
     refl)
 
 -- Refresh and leave: the slot parts.

@@ -23,7 +23,7 @@ use Rattle.seize_model.specs.Waiting.Calls.{no_guard, not_registered, unless, is
 use Rattle.seize_model.specs.Waiting.Lists.{End, Protect, Swap, Reply, Done, Kept, Found, Refused, done, ended, reply, swapped, step}
 use Rattle.seize_model.specs.Agreement.Shows.{held, Shows}
 use Rattle.seize_model.specs.Agreement.Play.{play, played, handed}
-use Rattle.seize_model.specs.Agreement.Events.{Makes, MakesFor, NamesOwn, IsRetiredFrom, IsRetiredWith, ArePutBy}
+use Rattle.seize_model.specs.Agreement.Events.{Makes, MakesFor, NamesOwn, IsRetiredFrom, RetiresWith, ArePutBy}
 use Rattle.seize_model.specs.Agreement.Statement.{IsRun, IsOutcome, EachList}
 use Rattle.seize_model.proofs.Simulation.Views.{contents, with_reclaimers, near_of, shows_of}
 use Rattle.seize_model.proofs.Simulation.Plays.{play_first, both_same, First, first_of}
@@ -190,7 +190,7 @@ pub swap_list : {T R : Type 0} (puts : R → T → List T) (weight : T → ℕ) 
 swap_list {T} {R} puts weight lighter of by st before s l new r h n = go (no_guard st s) refl
   where
     after_swap : (found : Option ℕ) → machine.link_at before l ≡ found → no_guard st s ≡ None → (events : List Event) (answers : List Answer) (later : State) (number : Option ℕ) (es : List Event) → held of number ≡ new → events ≡ ExchangeLink s l (SwapLink number) ∷ es
-        → IsRetiredFrom s found es → play st.size before events ≡ Some (later, answers) → AllByRecursion (IsRetiredWith by r) events → ArePutBy puts of by events answers
+        → IsRetiredFrom s found es → play st.size before events ≡ Some (later, answers) → RetiresWith by (Swap s l new r) events → ArePutBy puts of by events answers
         → IsOutcome T R of by (Swap s l new r) (swapped puts weight s new r (Ok (held of found)) (record st { links = set st.links l new }, [])) events answers later
     after_swap None is e events answers later number es name made more legal with put_all =
         let first : First st.size before (ExchangeLink s l (SwapLink number)) es later answers = first_of st.size before (ExchangeLink s l (SwapLink number)) es later answers (ap (λ (k : List Event). play st.size before k) (sym made) ∙ legal) in
@@ -204,12 +204,12 @@ swap_list {T} {R} puts weight lighter of by st before s l new r h n = go (no_gua
         let fresh : is_none_or_fresh before number ≡ true = (and_true (machine_next.can_link before s l) _ (if_some (machine_next.can_link before s l && is_none_or_fresh before number) _ _ first.step).0).1 in
         let both : (first.later ≡ machine_next.swapped before l number) × (first.answer ≡ Link (machine.link_at before l))
         = both_same (first.later, first.answer) (machine_next.swapped before l number, Link (machine.link_at before l)) (sym first.step ∙ swaps (with_reclaimers of by) st before s l number n (guard_of st s e).1 h fresh) in
-        let with_all : AllByRecursion (IsRetiredWith by r) (ExchangeLink s l (SwapLink number) ∷ es) = subst (λ (k : List Event). AllByRecursion (IsRetiredWith by r) k) made with in
+        let with_old : by old ≡ r = subst (λ (k : List Event). RetiresWith by (Swap s l new r) k) (made ∙ ap (λ (k : List Event). ExchangeLink s l (SwapLink number) ∷ k) more.1) with in
         let put_rest : ArePutBy puts of by (ExchangeLink s l (SwapLink number) ∷ es) (first.answer ∷ first.rest) = subst (λ (k : List Answer). ArePutBy puts of by (ExchangeLink s l (SwapLink number) ∷ es) k) first.all (subst (λ (k : List Event). ArePutBy puts of by k answers) made put_all) in
         let none : handed answers ≡ handed first.rest = ap handed (first.all ∙ ap (λ (a : Answer). a ∷ first.rest) both.1) in
         let ends : JobEnds (with_reclaimers of by) s (slot_at st s).guards (settled puts weight s (put (record st { links = set st.links l new }) s (of old, r))) later first.rest
         = retire_job_list puts weight lighter of by (record st { links = set st.links l new }) (machine_next.swapped before l number) s old (of old) r es first.rest later
-        (swapped_near (with_reclaimers of by) st before l number new n name) used refl more (ap (λ (k : State). play st.size k es) (sym both.0) ∙ first.legal) with_all.1 put_rest.1 in
+        (swapped_near (with_reclaimers of by) st before l number new n name) used refl more (ap (λ (k : State). play st.size k es) (sym both.0) ∙ first.legal) with_old put_rest.1 in
         subst (λ (x : Option Refusal). IsOutcome T R of by (Swap s l new r) (reply done (Some (of old)) (unless x (record st { links = set st.links l new }) (Ok tt, settled puts weight s (put (record st { links = set st.links l new }) s (of old, r))))) events answers later)
         (sym (ap (λ (t : Bool). if t then Some NotInUse else None) used))
         (outcome_of of by (Swap s l new r) Done (settled puts weight s (put (record st { links = set st.links l new }) s (of old, r))) events answers later

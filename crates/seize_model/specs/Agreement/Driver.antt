@@ -74,7 +74,8 @@ unless_refused (Refused r back) events = []
 unless_refused _ events = events
 
 -- the state of the machine after these calls and the values handed, where a value is its number, or none where an event is illegal
-abbrev pub driven : {R : Type 0} → (R → ℕ → List ℕ) → (ℕ → ℕ) → Puts → waiting.State ℕ R → machine.State → List (Call ℕ R) → Option (machine.State × List ℕ)
+abbrev pub driven : {R : Type 0} → (R → ℕ → List ℕ) → (ℕ → ℕ) → Puts → waiting.State ℕ R → machine.State → List (Call ℕ R)
+    → Option (machine.State × List ℕ)
 driven by weight puts st shown [] = Some (shown, [])
 driven by weight puts st shown (c ∷ cs) =
     let told = step by weight st c in

@@ -1,6 +1,5 @@
 -- The events that a call makes when it is made alone, and what they put.
 use Rattle.std.specs.Prelude.{◌≡◌, ℕ, Bool, true, false, ◌||◌, ◌==◌, if◌then◌else◌, List, [], ◌∷◌, ◌++◌, Option, Some, None}
-use Rattle.std.specs.List.{AllByRecursion}
 use Rattle.seize_machine.specs.Machine.State as machine
 use Rattle.seize_machine.specs.Machine.Event.{Event, Take, Give, Enter as EnterHead, Begin, Hand, Return, ReadLink, ExchangeLink, slot_of}
 use Rattle.seize_machine.specs.Machine.History.{is_link_event}
@@ -22,7 +21,8 @@ is_return _ = false
 -- events of slot s, none of them of a link, up to a return, which is the last one
 pub data IsToReturn (s : ℕ) : List Event → Type 0 where
   returns : IsToReturn s (Return s ∷ [])
-  goes_on : (e : Event) (es : List Event) → slot_of e ≡ s → is_link_event s e ≡ false → is_return e ≡ false → IsToReturn s es → IsToReturn s (e ∷ es)
+  goes_on : (e : Event) (es : List Event) → slot_of e ≡ s → is_link_event s e ≡ false → is_return e ≡ false → IsToReturn s es
+      → IsToReturn s (e ∷ es)
 
 -- a job of slot s, from its beginning to its return
 abbrev pub IsJob : ℕ → Job → List Event → Type 0
@@ -73,15 +73,15 @@ abbrev pub NamesOwn : {T R : Type 0} → (ℕ → T) → Call T R → List Event
 NamesOwn of call [] = Unit {0}
 NamesOwn of call (e ∷ es) = IsNamed of call e
 
--- the value that begins to be retired is retired with this reclaimer
+-- the number that the call retires has the reclaimer that the call names
 abbrev pub IsRetiredWith : {R : Type 0} → (ℕ → R) → R → Event → Type 0
-IsRetiredWith by r (Begin s (RetireJob n)) = by n ≡ r
-IsRetiredWith by r _ = Unit {0}
+IsRetiredWith by r (Begin i (RetireJob n)) = by n ≡ r
+IsRetiredWith by r e = Unit {0}
 
 abbrev pub RetiresWith : {T R : Type 0} → (ℕ → R) → Call T R → List Event → Type 0
-RetiresWith by (Retire s v r) events = AllByRecursion (IsRetiredWith by r) events
-RetiresWith by (Swap s l new r) events = AllByRecursion (IsRetiredWith by r) events
-RetiresWith by _ events = Unit {0}
+RetiresWith by (Retire s v r) (e ∷ es) = IsRetiredWith by r e
+RetiresWith by (Swap s l new r) (swap ∷ e ∷ es) = IsRetiredWith by r e
+RetiresWith by call events = Unit {0}
 
 -- the numbers put stand for what the reclaimer of the value handed puts, to be reclaimed by it
 abbrev pub IsPutBy : {T R : Type 0} → (R → T → List T) → (ℕ → T) → (ℕ → R) → Event → Answer → Type 0

@@ -34,12 +34,14 @@ exchange_events (Ok found) s l n = ExchangeLink s l (SwapLink n) ∷ []
 exchange_events (Err r) s l n = []
 
 -- these answers and this state after them are those of the exchange
-pub record IsExchanged (T R : Type 0) (of : ℕ → T) (told : calls.Answer (Option T) T R) (answers : List Answer) (later : machine.State) : Type 0 where
+pub record IsExchanged (T R : Type 0) (of : ℕ → T) (told : calls.Answer (Option T) T R)
+    (answers : List Answer) (later : machine.State) : Type 0 where
   pub shows : Shows T R of told.1.0 later
   pub found : IsFound of told.0 answers
 
 -- an exchange for number n
-pub record IsExchange (T R : Type 0) (of : ℕ → T) (st : waiting.State T R) (before : machine.State) (s l : ℕ) (new : Option T) : Type 0 where
+pub record IsExchange (T R : Type 0) (of : ℕ → T) (st : waiting.State T R) (before : machine.State)
+    (s l : ℕ) (new : Option T) : Type 0 where
   pub number : Option ℕ
   pub answers : List Answer
   pub later : machine.State

@@ -10,9 +10,11 @@ use Rattle.seize_model.specs.Agreement.Shows.{Shows, ShowsReclaimers}
 abbrev pub reopened : ℕ → machine.State → List machine.Batch → machine.State
 reopened slots before batches = record (opening slots before.links) { batches = batches }
 
--- **Reclaiming all** leads to a state that a machine just opened shows, with its retired batches, for which nobody waits.
+-- **Reclaiming all** leads to a state that a machine just opened shows, with its retired batches, which wait for no slot.
 abbrev pub ReopenedLaw : {T R : Type 0} → (R → T → List T) → (T → ℕ) → Type 0
 ReopenedLaw {T} {R} puts weight =
     (of : ℕ → T) (by : ℕ → R) (st : waiting.State T R) (before : machine.State) → Shows T R of st before
-    → (batches : List machine.Batch) × Shows T R of (reclaim_all puts weight st).0 (reopened (length st.slots) before batches)
-    × (ShowsReclaimers T R of by st before → ShowsReclaimers T R of by (reclaim_all puts weight st).0 (reopened (length st.slots) before batches))
+    → (batches : List machine.Batch)
+    × Shows T R of (reclaim_all puts weight st).0 (reopened (length st.slots) before batches)
+    × (ShowsReclaimers T R of by st before
+    → ShowsReclaimers T R of by (reclaim_all puts weight st).0 (reopened (length st.slots) before batches))

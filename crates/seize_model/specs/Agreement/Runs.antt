@@ -16,7 +16,10 @@ calls_of (All ∷ groups) = []
 -- the heads after these calls and the values handed, in order, by the events of the machine: none where one is illegal
 abbrev pub by_events : ℕ → ℕ → List Group → Option (List Head × List ℕ)
 by_events size links groups =
-    elim (driven puts weight (puts tt) (new size links) (opening 0 (replicate links None)) (calls_of groups)) [ None ↦ None | Some d ↦ Some (d.0.heads, d.1) ]
+    elim (driven puts weight (puts tt) (new size links) (opening 0 (replicate links None)) (calls_of groups)) [
+      | None ↦ None
+      | Some d ↦ Some (d.0.heads, d.1)
+    ]
 
 -- the same by waiting sets
 abbrev pub by_sets : ℕ → ℕ → List Group → Option (List Head × List ℕ)

@@ -7,7 +7,7 @@ use Rattle.seize_machine.specs.Machine.Event.{Event}
 use Rattle.seize_machine.specs.declared.machine.event.Answer.{Answer}
 use Rattle.seize_model.specs.Waiting.State as waiting
 use Rattle.seize_model.specs.Waiting.Attempt.{Outcome}
-use Rattle.seize_model.specs.Waiting.Lists.{Call, Protect, Swap, Reply, Refused, step}
+use Rattle.seize_model.specs.Waiting.Lists.{Call, Protect, Swap, Reply, Refused, Effect, step}
 use Rattle.seize_model.specs.Agreement.Shows.{Stand, Shows, ShowsReclaimers}
 use Rattle.seize_model.specs.Agreement.Events.{MakesFor, NamesOwn, RetiresWith, ArePutBy}
 use Rattle.seize_model.specs.Agreement.Play.{play, handed, reply_by}
@@ -29,7 +29,8 @@ IsReply call events answers reply = reply ≡ reply_by call events answers
 
 -- A call is such a list of events: it is one that the call makes alone, its first number stands for the value that the call names, each
 -- event is legal, the state after them shows the new state, the values handed are those gone, in order, and the reply is as told.
-pub record IsRun (T R : Type 0) (of : ℕ → T) (call : Call T R) (st : waiting.State T R) (before : machine.State) (told : Reply T × Outcome T R) : Type 0 where
+pub record IsRun (T R : Type 0) (of : ℕ → T) (call : Call T R) (st : waiting.State T R) (before : machine.State) (told : Effect T R)
+    : Type 0 where
   pub events : List Event
   pub answers : List Answer
   pub later : machine.State
@@ -47,17 +48,20 @@ Agreement {T} {R} puts weight of =
     → IsRun T R of call st before (step puts weight st call)
 
 -- These events, with these answers and this state after them, do what the call does.
-pub record IsOutcome (T R : Type 0) (of : ℕ → T) (by : ℕ → R) (call : Call T R) (told : Reply T × Outcome T R) (events : List Event) (answers : List Answer) (later : machine.State) : Type 0 where
+pub record IsOutcome (T R : Type 0) (of : ℕ → T) (by : ℕ → R) (call : Call T R) (told : Effect T R)
+    (events : List Event) (answers : List Answer) (later : machine.State) : Type 0 where
   pub shows : Shows T R of told.1.0 later
   pub reclaimers : ShowsReclaimers T R of by told.1.0 later
   pub gone : Stand of (handed answers) told.1.1
   pub reply : IsReply call events answers told.0
 
 -- each legal list of events that the call makes alone, and in which each value handed puts what its reclaimer puts, does so
-abbrev pub EachList : {T R : Type 0} → (R → T → List T) → (ℕ → T) → (ℕ → R) → Call T R → waiting.State T R → machine.State → Reply T × Outcome T R → Type 0
+abbrev pub EachList : {T R : Type 0} → (R → T → List T) → (ℕ → T) → (ℕ → R) → Call T R → waiting.State T R → machine.State
+    → Effect T R → Type 0
 EachList {T} {R} puts of by call st before told =
     (events : List Event) (answers : List Answer) (later : machine.State) → MakesFor told.0 st before call events
-    → play st.size before events ≡ Some (later, answers) → NamesOwn of call events → RetiresWith by call events → ArePutBy puts of by events answers
+    → play st.size before events ≡ Some (later, answers)
+    → NamesOwn of call events → RetiresWith by call events → ArePutBy puts of by events answers
     → IsOutcome T R of by call told events answers later
 
 -- **The two models agree on every list.** From each two states that show each other, with the reclaimers, each legal list of events
@@ -71,7 +75,8 @@ AgreementOnLists {T} {R} puts weight =
 abbrev pub AreRuns : {T R : Type 0} → (R → T → List T) → (T → ℕ) → (ℕ → T) → waiting.State T R → machine.State → List (Call T R) → Type 0
 AreRuns puts weight of st before [] = Unit {0}
 AreRuns {T} {R} puts weight of st before (call ∷ calls) =
-    (first : IsRun T R of call st before (step puts weight st call)) × AreRuns puts weight of (step puts weight st call).1.0 first.later calls
+    (first : IsRun T R of call st before (step puts weight st call))
+    × AreRuns puts weight of (step puts weight st call).1.0 first.later calls
 
 -- **The two models agree on values of every type**, also where no naming has fresh numbers for all of them. From each two states
 -- that show each other under a naming, each list of calls has a naming under which these states show each other and each call in
@@ -79,5 +84,6 @@ AreRuns {T} {R} puts weight of st before (call ∷ calls) =
 -- that were ever named.
 abbrev pub AgreementAnew : {T R : Type 0} → (R → T → List T) → (T → ℕ) → Type 0
 AgreementAnew {T} {R} puts weight =
-    (of : ℕ → T) (kept : List ℕ) (st : waiting.State T R) (before : machine.State) (calls : List (Call T R)) → All (HasLink st) calls → Shows T R of st before
+    (of : ℕ → T) (kept : List ℕ) (st : waiting.State T R) (before : machine.State) (calls : List (Call T R))
+    → All (HasLink st) calls → Shows T R of st before
     → (other : ℕ → T) × (map other kept ≡ map of kept) × Shows T R other st before × AreRuns puts weight other st before calls

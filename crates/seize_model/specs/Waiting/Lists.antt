@@ -33,12 +33,16 @@ pub data Reply (T : Type 0) : Type 0 where
   -- the call was refused, and the value that was given comes back
   Refused : (refusal : Refusal) → (back : Option T) → Reply T
 
+-- what a call does: its reply, and its outcome
+abbrev pub Effect : (T R : Type 0) → Type 0
+Effect T R = Reply T × Outcome T R
+
 -- the reply to an answer; a refusal gives this value back
 abbrev pub reply_of : {A T : Type 0} → (A → Reply T) → Option T → Result A Refusal → Reply T
 reply_of f back (Ok a) = f a
 reply_of f back (Err r) = Refused r back
 
-abbrev pub reply : {A T R : Type 0} → (A → Reply T) → Option T → Answer A T R → Reply T × Outcome T R
+abbrev pub reply : {A T R : Type 0} → (A → Reply T) → Option T → Answer A T R → Effect T R
 reply f back a = (reply_of f back a.0, a.1)
 
 abbrev pub done : {A T : Type 0} → A → Reply T
@@ -48,13 +52,13 @@ abbrev pub ended : {T : Type 0} → Bool → Reply T
 ended freed = if freed then Done else Kept
 
 -- what a swap took out is retired
-abbrev pub swapped : {T R : Type 0} → (R → T → List T) → (T → ℕ) → ℕ → Option T → R → Result (Option T) Refusal → Outcome T R → Reply T × Outcome T R
+abbrev pub swapped : {T R : Type 0} → (R → T → List T) → (T → ℕ) → ℕ → Option T → R → Result (Option T) Refusal → Outcome T R → Effect T R
 swapped puts weight s new reclaim (Err r) o = (Refused r new, o)
 swapped puts weight s new reclaim (Ok None) o = (Done, o)
 swapped puts weight s new reclaim (Ok (Some v)) o = reply done (Some v) (retire puts weight o.0 s v reclaim)
 
 -- **One call.**
-abbrev pub step : {T R : Type 0} → (R → T → List T) → (T → ℕ) → State T R → Call T R → Reply T × Outcome T R
+abbrev pub step : {T R : Type 0} → (R → T → List T) → (T → ℕ) → State T R → Call T R → Effect T R
 step puts weight st Register = reply Number None (take_number st Registered 0)
 step puts weight st EnterOwned = reply Number None (take_number st Owned 1)
 step puts weight st (Enter s) = reply done None (enter st s)
@@ -87,9 +91,11 @@ Answered puts weight st call answer o =
     ⊎ ((takes_number call ≡ true) × (answer ≡ Refused NoMemory None) × (o ≡ (st, [])))
 
 -- **A list of calls where memory may be refused**: these calls were made one after another, with these replies and this outcome.
-pub data Replied {T R : Type 0} (puts : R → T → List T) (weight : T → ℕ) : State T R → List (Call T R) → List (Reply T) → Outcome T R → Type 0 where
+pub data Replied {T R : Type 0} (puts : R → T → List T) (weight : T → ℕ)
+    : State T R → List (Call T R) → List (Reply T) → Outcome T R → Type 0 where
   no_call : (st : State T R) → Replied puts weight st [] [] (st, [])
-  first_call : (st : State T R) (call : Call T R) (answer : Reply T) (o : Outcome T R) (calls : List (Call T R)) (answers : List (Reply T)) (rest : Outcome T R)
+  first_call : (st : State T R) (call : Call T R) (answer : Reply T) (o : Outcome T R)
+      (calls : List (Call T R)) (answers : List (Reply T)) (rest : Outcome T R)
       → Answered puts weight st call answer o
       → Replied puts weight o.0 calls answers rest
       → Replied puts weight st (call ∷ calls) (answer ∷ answers) (after o.1 rest)

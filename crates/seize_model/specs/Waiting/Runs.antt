@@ -188,7 +188,8 @@ forgotten_told =
 -- **Left behind.** What a slot retired under earlier guards stays in its batch, and goes with it, in order of retirement.
 abbrev pub left_behind : List Group
 left_behind =
-    Calls (Register ∷ Register ∷ Enter 0 ∷ gives 0 1 ∷ Leave 0 ∷ Enter 0 ∷ gives 0 2 ∷ Leave 0 ∷ Enter 1 ∷ Enter 0 ∷ gives 0 3 ∷ Leave 1 ∷ [])
+    Calls (Register ∷ Register ∷ Enter 0 ∷ gives 0 1 ∷ Leave 0 ∷ Enter 0 ∷ gives 0 2 ∷ Leave 0 ∷ Enter 1 ∷ Enter 0 ∷ gives 0 3 ∷ Leave 1
+    ∷ [])
     ∷ Calls (Leave 0 ∷ []) ∷ []
 
 abbrev pub left_behind_told : List Telling
@@ -214,7 +215,8 @@ refused_told =
 -- **Links.** A value that a link held is retired, and the value that it holds then is not.
 abbrev pub links : List Group
 links =
-    Calls (Register ∷ Enter 0 ∷ Protect 0 0 ∷ Swap 0 0 (Some 1) tt ∷ Protect 0 0 ∷ Swap 0 0 (Some 2) tt ∷ []) ∷ Calls (Leave 0 ∷ []) ∷ All ∷ []
+    Calls (Register ∷ Enter 0 ∷ Protect 0 0 ∷ Swap 0 0 (Some 1) tt ∷ Protect 0 0 ∷ Swap 0 0 (Some 2) tt ∷ [])
+    ∷ Calls (Leave 0 ∷ []) ∷ All ∷ []
 
 abbrev pub links_told : List Telling
 links_told =
