@@ -2,6 +2,9 @@
 -- interface, and may change. The definitions that the statements cite are in `specs/Machine`.
 pub use Rattle.seize_machine.proofs.Laws.Steps.{Step, Stands, go_on, counted, swapped, beginning, after_put}
 pub use Rattle.seize_machine.proofs.Laws.Forced.{Forced}
+-- on tests, and on how often a value stands in a list
+pub use Rattle.seize_machine.proofs.Laws.Steps.{if_some, and_true, or_true, not_true, is_true, eq_true, lt_true, le_true, some_is}
+pub use Rattle.seize_machine.proofs.Laws.Sums.{one, occ, occ-append, occ-push, has_none, has_some, distinct_once}
 use Rattle.std.proofs.Common.{◌≡◌, ◌≢◌, ℕ, ◌+◌, ◌<◌, ◌≤◌, pos, neg_ℤ, ◌≤ℤ◌, Bool, true, false, List, [], ◌∷◌, ◌++◌, length, take, drop, Option, Some, ◌⊎◌, arith}
 use Rattle.std.specs.List.{Contains}
 use Rattle.seize_machine.specs.Machine.State.{State, Mark, Look, Try, Add, Out, slot_at, head_at, link_at, batch_at, is_active, has, linked, are_distinct, opening, Place, Append, Rest}

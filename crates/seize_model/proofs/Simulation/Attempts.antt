@@ -7,7 +7,7 @@ use Rattle.seize_machine.specs.Machine.Event.{ReadHead, Detach, Insert, AddCount
 use Rattle.seize_machine.specs.Machine.Next.{next, look, marked_place, looked}
 use Rattle.seize_machine.specs.declared.machine.event.Try.TheVariants.{Won}
 use Rattle.seize_machine.specs.declared.machine.event.Answer.TheVariants.{Done, Head as Found}
-use Rattle.seize_machine.proofs.Laws.Steps.{lt_true}
+use Rattle.seize_machine.proofs.Facts.{lt_true}
 use Rattle.seize_model.proofs.Simulation.Paths.{Path, and_then, same_state}
 use Rattle.seize_model.proofs.Simulation.Determinism.{only_mark, only_detach, only_look, only_insert, only_add}
 use Rattle.seize_model.proofs.Simulation.Events.{busy, if_yes, mark_step, detach_step, look_step, insert_step, add_step, with_batch, with_count, counted_place}

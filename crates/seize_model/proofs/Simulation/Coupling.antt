@@ -10,8 +10,8 @@ use Rattle.seize_model.specs.Waiting.State as waiting
 use Rattle.seize_model.specs.Waiting.State.{keeps, retired_at}
 use Rattle.seize_model.specs.Waiting.Calls.{is_free, is_owned}
 use Rattle.seize_model.specs.Agreement.Shows.{held, head_of}
-use Rattle.seize_machine.proofs.Laws.Steps.{is_true, eq_true}
-use Rattle.seize_machine.proofs.Laws.Sums.{one, occ, has_none, has_some, distinct_once}
+use Rattle.seize_machine.proofs.Facts.{is_true, eq_true}
+use Rattle.seize_machine.proofs.Facts.{one, occ, has_none, has_some, distinct_once}
 
 -- What numbers stand for: in links for what they hold, and in batches for what is seen of values with their reclaimers. It is what they
 -- hold where a run of events is sought, whose reclaimers nobody knows, and the values with their reclaimers where one is given.

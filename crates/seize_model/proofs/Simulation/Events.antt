@@ -1,11 +1,13 @@
 -- What each event does to a slot whose call is under way.
-use Rattle.std.proofs.Common.{◌≡◌, ℕ, zero, suc, ◌+◌, ◌<◌, ◌≤◌, ℤ, pos, ◌+ℤ◌, ◌-ℤ◌, Bool, true, false, ◌&&◌, ◌||◌, ◌==◌, if◌then◌else◌, nat_lt, nat_le, max, List, [], ◌∷◌, ◌++◌, length, set, Some, None, refl, ◌∙◌, ap, arith}
+use Rattle.std.proofs.Common.{◌≡◌, ℕ, zero, suc, ◌+◌, ◌<◌, ◌≤◌, ℤ, pos, ◌+ℤ◌, ◌-ℤ◌, Bool, true, false, ◌==◌, if◌then◌else◌, nat_lt, nat_le, List, [], ◌∷◌, ◌++◌, length, set, Some, None, refl, ◌∙◌, ap, ◌⊎◌, inl, inr, arith}
 use Rattle.std.proofs.lemmas.List.{get_or-set_same, length-set}
-use Rattle.seize_machine.specs.Machine.State.{State, Slot, Head, Inactive, Active, Place, Append, Mark, Look, Try, Add, Out, Rest, slot_at, head_at, batch_at, is_active, waiting_at, no_slot}
+use Rattle.seize_machine.specs.Machine.State.{State, Slot, Inactive, Active, Place, Append, Mark, Look, Try, Add, Out, Rest, slot_at, head_at, batch_at, is_active, waiting_at, no_slot}
 use Rattle.seize_machine.specs.Machine.Event.{Put, ReadHead, Detach, Insert, AddCount, SwapOut, SubCount, Hand, Return}
-use Rattle.seize_machine.specs.Machine.Next.{Outcome, next, set_slot, set_head, go_on, appended, append, look, marked_place, looked, read_head, detach, insert_into, insert, is_zero, counted, add_count, sub_count, swap_out, are_fresh, hand, return, in_call}
+use Rattle.seize_machine.specs.Machine.Next.{Outcome, next, set_slot, set_head, look, marked_place, looked, is_zero, are_fresh}
 use Rattle.seize_machine.specs.declared.machine.event.Try.TheVariants.{Won}
-use Rattle.seize_machine.specs.declared.machine.event.Answer.TheVariants.{Done, Head as Found, Count, Handed}
+use Rattle.seize_machine.specs.declared.machine.event.Answer.{Answer}
+use Rattle.seize_machine.specs.declared.machine.event.Answer.TheVariants.{Done, Head as HeadRead, Count, Handed}
+use Rattle.seize_machine.proofs.Facts.{Step, Stands, next_of, step_put as put_of, after_put, counted}
 
 -- slot s has this batch, and its call stands so; all else is as in base
 abbrev pub busy_slot : List ℕ → Place → List ℕ → Slot
@@ -46,49 +48,50 @@ there base s slot h = get_or-set_same base.slots s slot no_slot h
 pub twice : (base : State) (s : ℕ) (a b : Slot) → set_slot (set_slot base s a) s b ≡ set_slot base s b
 twice base s a b = ap (λ (l : List Slot). record base { slots = l }) (set_twice base.slots s a b)
 
--- what the slot's call does is what it does at its place
-pub in_busy : (base : State) (s : ℕ) (batch : List ℕ) (place : Place) (queue : List ℕ) (event : Place → List ℕ → Outcome) → s < length base.slots
-    → in_call (busy base s batch place queue) s event (slot_at (busy base s batch place queue) s).call ≡ event place queue
-in_busy base s batch place queue event h = ap (λ (slot : Slot). in_call (busy base s batch place queue) s event slot.call) (there base s (busy_slot batch place queue) h)
+pub stands : (base : State) (s : ℕ) (batch : List ℕ) (place : Place) (queue : List ℕ) → s < length base.slots → Stands (busy base s batch place queue) s place queue
+stands base s batch place queue h = ap (λ (slot : Slot). slot.call) (there base s (busy_slot batch place queue) h)
 
-pub goes_on : (base : State) (s : ℕ) (batch : List ℕ) (place later : Place) (queue more : List ℕ) → s < length base.slots
-    → go_on (busy base s batch place queue) s (record { place = later; queue = more }) ≡ busy base s batch later more
-goes_on base s batch place later queue more h =
-    ap (λ (slot : Slot). set_slot (busy base s batch place queue) s (record slot { call = Some (record { place = later; queue = more }) })) (there base s (busy_slot batch place queue) h)
-    ∙ twice base s _ _
+-- what a step does to the slot's record, where the rest is as told
+abbrev outcome : State → Answer → Outcome
+outcome st answer = Some (st, answer)
 
--- the place of a call that has just put a value
-abbrev pub put_place : ℕ → ℕ → List ℕ → Place
-put_place size slots batch = if nat_le (max 1 size) (length batch) then Mark 0 slots [] else Rest [] []
+goes : (base now : State) (s : ℕ) (batch : List ℕ) (place : Place) (queue : List ℕ) (answer : Answer) (new : Slot → Slot) → s < length base.slots
+    → outcome (set_slot (record now { slots = (busy base s batch place queue).slots }) s (new (slot_at (busy base s batch place queue) s))) answer
+    ≡ outcome (record now { slots = set base.slots s (new (busy_slot batch place queue)) }) answer
+goes base now s batch place queue answer new h =
+    ap (λ (slot : Slot). Some (set_slot (record now { slots = (busy base s batch place queue).slots }) s (new slot), answer)) (there base s (busy_slot batch place queue) h)
+    ∙ ap (λ (l : List Slot). Some (record now { slots = l }, answer)) (set_twice base.slots s (busy_slot batch place queue) (new (busy_slot batch place queue)))
 
-puts_on : (size : ℕ) (base : State) (s v : ℕ) (batch : List ℕ) (place : Place) (queue more : List ℕ) → s < length base.slots
-    → appended size (busy base s batch place more) s v queue ≡ Some (busy base s (batch ++ v ∷ []) (put_place size (length base.slots) (batch ++ v ∷ [])) queue, Done)
-puts_on size base s v batch place queue more h =
-    ap (λ (slot : Slot). Some (set_slot (busy base s batch place more) s (record { used = slot.used; batch = slot.batch ++ v ∷ []; call = Some (record { place = put_place size (length (busy base s batch place more).slots) (slot.batch ++ v ∷ []); queue = queue }) }), Done)) (there base s (busy_slot batch place more) h)
-    ∙ ap (λ (n : ℕ). Some (set_slot (busy base s batch place more) s (busy_slot (batch ++ v ∷ []) (put_place size n (batch ++ v ∷ [])) queue), Done)) (length-set base.slots s (busy_slot batch place more))
-    ∙ ap (λ (st : State). Some (st, Done)) (twice base s _ _)
+-- a call that goes on
+abbrev on : Place → List ℕ → Slot → Slot
+on place queue slot = record slot { call = Some (record { place = place; queue = queue }) }
+
+puts : (size : ℕ) (base : State) (s v : ℕ) (batch : List ℕ) (place : Place) (before after : List ℕ) → s < length base.slots
+    → ((place ≡ Append v) × (before ≡ after)) ⊎ ((place ≡ Rest [] []) × (before ≡ v ∷ after))
+    → next size (busy base s batch place before) (Put s) ≡ Some (busy base s (batch ++ v ∷ []) (after_put size (length base.slots) (batch ++ v ∷ [])) after, Done)
+puts size base s v batch place before after h which =
+    let st : State = busy base s batch place before in
+    next_of size st (Put s) _ (put_of size st s v place before after (stands base s batch place before h) which)
+    ∙ goes base base s batch place before Done (λ slot. record { used = slot.used; batch = slot.batch ++ v ∷ []; call = Some (record { place = after_put size (length st.slots) (slot.batch ++ v ∷ []); queue = after }) }) h
+    ∙ ap (λ (n : ℕ). Some (set_slot base s (busy_slot (batch ++ v ∷ []) (after_put size n (batch ++ v ∷ [])) after), Done)) (length-set base.slots s (busy_slot batch place before))
 
 pub put_step : (size : ℕ) (base : State) (s v : ℕ) (batch queue : List ℕ) → s < length base.slots
-    → next size (busy base s batch (Append v) queue) (Put s) ≡ Some (busy base s (batch ++ v ∷ []) (put_place size (length base.slots) (batch ++ v ∷ [])) queue, Done)
-put_step size base s v batch queue h =
-    in_busy base s batch (Append v) queue (append size (busy base s batch (Append v) queue) s) h ∙ puts_on size base s v batch (Append v) queue queue h
+    → next size (busy base s batch (Append v) queue) (Put s) ≡ Some (busy base s (batch ++ v ∷ []) (after_put size (length base.slots) (batch ++ v ∷ [])) queue, Done)
+put_step size base s v batch queue h = puts size base s v batch (Append v) queue queue h (inl (refl, refl))
 
 pub put_next_step : (size : ℕ) (base : State) (s v : ℕ) (batch queue : List ℕ) → s < length base.slots
-    → next size (busy base s batch (Rest [] []) (v ∷ queue)) (Put s) ≡ Some (busy base s (batch ++ v ∷ []) (put_place size (length base.slots) (batch ++ v ∷ [])) queue, Done)
-put_next_step size base s v batch queue h =
-    in_busy base s batch (Rest [] []) (v ∷ queue) (append size (busy base s batch (Rest [] []) (v ∷ queue)) s) h ∙ puts_on size base s v batch (Rest [] []) queue (v ∷ queue) h
+    → next size (busy base s batch (Rest [] []) (v ∷ queue)) (Put s) ≡ Some (busy base s (batch ++ v ∷ []) (after_put size (length base.slots) (batch ++ v ∷ [])) queue, Done)
+put_next_step size base s v batch queue h = puts size base s v batch (Rest [] []) (v ∷ queue) queue h (inr (refl, refl))
 
 pub mark_step : (size : ℕ) (base : State) (s n note : ℕ) (batch marked queue : List ℕ) → s < length base.slots → n < length base.slots
     → next size (busy base s batch (Mark n note marked) queue) (ReadHead s n)
-    ≡ Some (busy base s batch (marked_place (is_active (head_at base n)) n note marked batch) queue, Found (is_active (head_at base n)))
+    ≡ Some (busy base s batch (marked_place (is_active (head_at base n)) n note marked batch) queue, HeadRead (is_active (head_at base n)))
 mark_step size base s n note batch marked queue h k =
     let st : State = busy base s batch (Mark n note marked) queue in
     let slots : length st.slots ≡ length base.slots = length-set base.slots s _ in
-    let yes : (nat_lt n (length st.slots) && ((n == n) || (nat_le note n && nat_lt n n))) ≡ true = rw (slots, lt_yes n (length base.slots) k, same n) refl in
-    in_busy base s batch (Mark n note marked) queue (read_head st s n) h
-    ∙ if_yes _ _ _ yes
-    ∙ ap (λ (slot : Slot). Some (go_on st s (record { place = marked_place (is_active (head_at base n)) n note marked slot.batch; queue = queue }), Found (is_active (head_at base n)))) (there base s (busy_slot batch (Mark n note marked) queue) h)
-    ∙ ap (λ (k : State). Some (k, Found (is_active (head_at base n)))) (goes_on base s batch (Mark n note marked) (marked_place (is_active (head_at base n)) n note marked batch) queue queue h)
+    let within : n < length st.slots = omega (arith, slots) in
+    next_of size st (ReadHead s n) _ (Step.marked s n n note marked queue (stands base s batch (Mark n note marked) queue h) within (inl refl))
+    ∙ goes base base s batch (Mark n note marked) queue (HeadRead (is_active (head_at base n))) (λ slot. on (marked_place (is_active (head_at base n)) n note marked slot.batch) queue slot) h
 
 -- the batch becomes a retired batch
 abbrev pub with_batch : State → List ℕ → State
@@ -98,27 +101,21 @@ pub detach_step : (size : ℕ) (base : State) (s n note : ℕ) (batch marked que
     → next size (busy base s batch (Mark n note marked) queue) (Detach s) ≡ Some (busy (with_batch base batch) s [] (look (length base.batches) 0 marked) queue, Done)
 detach_step size base s n note batch marked queue h k =
     let st : State = busy base s batch (Mark n note marked) queue in
-    in_busy base s batch (Mark n note marked) queue (detach st s) h
-    ∙ if_yes _ _ _ (le_yes note n k)
+    next_of size st (Detach s) _ (Step.detached s n note marked queue (stands base s batch (Mark n note marked) queue h) k)
     ∙ ap (λ (slot : Slot). Some (record st { slots = set st.slots s (record { used = slot.used; batch = []; call = Some (record { place = look (length st.batches) 0 marked; queue = queue }) }); batches = st.batches ++ record { values = slot.batch; count = pos 0 } ∷ [] }, Done)) (there base s (busy_slot batch (Mark n note marked) queue) h)
     ∙ ap (λ (k : State). Some (k, Done)) (twice (with_batch base batch) s _ _)
 
 pub look_step : (size : ℕ) (base : State) (s b won m : ℕ) (batch later queue : List ℕ) → s < length base.slots
-    → next size (busy base s batch (Look b won m later) queue) (ReadHead s m) ≡ Some (busy base s batch (looked (head_at base m) b won m later) queue, Found (is_active (head_at base m)))
+    → next size (busy base s batch (Look b won m later) queue) (ReadHead s m) ≡ Some (busy base s batch (looked (head_at base m) b won m later) queue, HeadRead (is_active (head_at base m)))
 look_step size base s b won m batch later queue h =
-    let st : State = busy base s batch (Look b won m later) queue in
-    in_busy base s batch (Look b won m later) queue (read_head st s m) h
-    ∙ if_yes _ _ _ (same m)
-    ∙ ap (λ (k : State). Some (k, Found (is_active (head_at base m)))) (goes_on base s batch (Look b won m later) (looked (head_at base m) b won m later) queue queue h)
+    next_of size (busy base s batch (Look b won m later) queue) (ReadHead s m) _ (Step.looked_at s b won m later queue (stands base s batch (Look b won m later) queue h))
+    ∙ goes base base s batch (Look b won m later) queue (HeadRead (is_active (head_at base m))) (on (looked (head_at base m) b won m later) queue) h
 
 pub insert_step : (size : ℕ) (base : State) (s b won m : ℕ) (batch later saw queue waiting : List ℕ) → s < length base.slots → head_at base m ≡ Active waiting
     → next size (busy base s batch (Try b won m later saw) queue) (Insert s m Won) ≡ Some (busy (set_head base m (Active (b ∷ waiting))) s batch (look b (won + 1) later) queue, Done)
 insert_step size base s b won m batch later saw queue waiting h active =
-    let st : State = busy base s batch (Try b won m later saw) queue in
-    in_busy base s batch (Try b won m later saw) queue (insert st s m Won) h
-    ∙ if_yes _ _ _ (same m)
-    ∙ ap (λ (k : Head). insert_into st s m k b won later queue) active
-    ∙ ap (λ (k : State). Some (k, Done)) (goes_on (set_head base m (Active (b ∷ waiting))) s batch (Try b won m later saw) (look b (won + 1) later) queue queue h)
+    next_of size (busy base s batch (Try b won m later saw) queue) (Insert s m Won) _ (Step.inserted s m b won later saw queue waiting (stands base s batch (Try b won m later saw) queue h) active)
+    ∙ goes base (set_head base m (Active (b ∷ waiting))) s batch (Try b won m later saw) queue Done (on (look b (won + 1) later) queue) h
 
 -- batch b has this count, and has given its values up if that is 0
 abbrev pub with_count : State → ℕ → ℤ → State
@@ -127,35 +124,25 @@ with_count base b count = record base { batches = set base.batches b (record { v
 abbrev pub counted_place : State → ℕ → ℤ → List ℕ → Place
 counted_place base b count walk = Rest (if is_zero count then (batch_at base b).values else []) walk
 
-counts_on : (base : State) (s b : ℕ) (batch : List ℕ) (place : Place) (count : ℤ) (walk queue : List ℕ) → s < length base.slots
-    → counted (busy base s batch place queue) s b count walk queue ≡ Some (busy (with_count base b count) s batch (counted_place base b count walk) queue, Count count)
-counts_on base s b batch place count walk queue h =
-    let st : State = busy base s batch place queue in
-    ap (λ (slot : Slot). Some (record st { slots = set st.slots s (record slot { call = Some (record { place = counted_place base b count walk; queue = queue }) }); batches = (with_count base b count).batches }, Count count)) (there base s (busy_slot batch place queue) h)
-    ∙ ap (λ (k : State). Some (k, Count count)) (twice (with_count base b count) s _ _)
-
 pub add_step : (size : ℕ) (base : State) (s b won : ℕ) (batch queue : List ℕ) (count : ℤ) → s < length base.slots → (batch_at base b).count +ℤ pos won ≡ count
     → next size (busy base s batch (Add b won) queue) (AddCount s) ≡ Some (busy (with_count base b count) s batch (counted_place base b count []) queue, Count count)
 add_step size base s b won batch queue count h e =
-    let st : State = busy base s batch (Add b won) queue in
-    in_busy base s batch (Add b won) queue (add_count st s) h
-    ∙ ap (λ (c : ℤ). counted st s b c [] queue) e
-    ∙ counts_on base s b batch (Add b won) count [] queue h
+    next_of size (busy base s batch (Add b won) queue) (AddCount s) _ (Step.added s b won queue _ (stands base s batch (Add b won) queue h) refl)
+    ∙ ap (λ (c : ℤ). counted (busy base s batch (Add b won) queue) s b c [] queue) e
+    ∙ goes base (with_count base b count) s batch (Add b won) queue (Count count) (on (counted_place base b count []) queue) h
 
 pub sub_step : (size : ℕ) (base : State) (s b : ℕ) (batch walk queue : List ℕ) (count : ℤ) → s < length base.slots → (batch_at base b).count -ℤ pos 1 ≡ count
     → next size (busy base s batch (Rest [] (b ∷ walk)) queue) (SubCount s) ≡ Some (busy (with_count base b count) s batch (counted_place base b count walk) queue, Count count)
 sub_step size base s b batch walk queue count h e =
-    let st : State = busy base s batch (Rest [] (b ∷ walk)) queue in
-    in_busy base s batch (Rest [] (b ∷ walk)) queue (sub_count st s) h
-    ∙ ap (λ (c : ℤ). counted st s b c walk queue) e
-    ∙ counts_on base s b batch (Rest [] (b ∷ walk)) count walk queue h
+    next_of size (busy base s batch (Rest [] (b ∷ walk)) queue) (SubCount s) _ (Step.subtracted s b walk queue _ (stands base s batch (Rest [] (b ∷ walk)) queue h) refl)
+    ∙ ap (λ (c : ℤ). counted (busy base s batch (Rest [] (b ∷ walk)) queue) s b c walk queue) e
+    ∙ goes base (with_count base b count) s batch (Rest [] (b ∷ walk)) queue (Count count) (on (counted_place base b count walk) queue) h
 
 pub out_step : (size : ℕ) (base : State) (s : ℕ) (stays : Bool) (batch queue : List ℕ) → s < length base.slots
     → next size (busy base s batch (Out stays) queue) (SwapOut s) ≡ Some (busy (set_head base s (if stays then Active [] else Inactive)) s batch (Rest [] (waiting_at (head_at base s))) queue, Done)
 out_step size base s stays batch queue h =
-    let st : State = busy base s batch (Out stays) queue in
-    in_busy base s batch (Out stays) queue (swap_out st s) h
-    ∙ ap (λ (k : State). Some (k, Done)) (goes_on (set_head base s (if stays then Active [] else Inactive)) s batch (Out stays) (Rest [] (waiting_at (head_at base s))) queue queue h)
+    next_of size (busy base s batch (Out stays) queue) (SwapOut s) _ (Step.swapped_out s stays queue (stands base s batch (Out stays) queue h))
+    ∙ goes base (set_head base s (if stays then Active [] else Inactive)) s batch (Out stays) queue Done (on (Rest [] (waiting_at (head_at base s))) queue) h
 
 -- value v is reclaimed, and these are named
 abbrev pub with_gone : State → ℕ → List ℕ → State
@@ -164,16 +151,11 @@ with_gone base v puts = record base { gone = base.gone ++ v ∷ []; named = base
 pub hand_step : (size : ℕ) (base : State) (s v : ℕ) (puts batch given walk queue : List ℕ) → s < length base.slots → are_fresh base.named puts ≡ true
     → next size (busy base s batch (Rest (v ∷ given) walk) queue) (Hand s puts) ≡ Some (busy (with_gone base v puts) s batch (Rest given walk) (queue ++ puts), Handed v)
 hand_step size base s v puts batch given walk queue h fresh =
-    let st : State = busy base s batch (Rest (v ∷ given) walk) queue in
-    in_busy base s batch (Rest (v ∷ given) walk) queue (hand st s puts) h
-    ∙ if_yes _ _ _ fresh
-    ∙ ap (λ (slot : Slot). Some (record (with_gone st v puts) { slots = set st.slots s (record slot { call = Some (record { place = Rest given walk; queue = queue ++ puts }) }) }, Handed v)) (there base s (busy_slot batch (Rest (v ∷ given) walk) queue) h)
-    ∙ ap (λ (k : State). Some (k, Handed v)) (twice (with_gone base v puts) s _ _)
+    next_of size (busy base s batch (Rest (v ∷ given) walk) queue) (Hand s puts) _ (Step.handed s v puts given walk queue (stands base s batch (Rest (v ∷ given) walk) queue h) fresh)
+    ∙ goes base (with_gone base v puts) s batch (Rest (v ∷ given) walk) queue (Handed v) (on (Rest given walk) (queue ++ puts)) h
 
 pub return_step : (size : ℕ) (base : State) (s : ℕ) (batch : List ℕ) → s < length base.slots
     → next size (busy base s batch (Rest [] []) []) (Return s) ≡ Some (rested base s batch, Done)
 return_step size base s batch h =
-    let st : State = busy base s batch (Rest [] []) [] in
-    in_busy base s batch (Rest [] []) [] (return st s) h
-    ∙ ap (λ (slot : Slot). Some (set_slot st s (record slot { call = None }), Done)) (there base s (busy_slot batch (Rest [] []) []) h)
-    ∙ ap (λ (k : State). Some (k, Done)) (twice base s _ _)
+    next_of size (busy base s batch (Rest [] []) []) (Return s) _ (Step.returned s (stands base s batch (Rest [] []) [] h))
+    ∙ goes base base s batch (Rest [] []) [] Done (λ slot. record slot { call = None }) h

@@ -9,7 +9,7 @@ use Rattle.seize_machine.specs.Machine.Next as machine_next
 use Rattle.seize_machine.specs.declared.machine.event.Exchange.TheVariants.{Swap as SwapLink}
 use Rattle.seize_machine.specs.declared.machine.event.Answer.{Answer}
 use Rattle.seize_machine.specs.declared.machine.event.Answer.TheVariants.{Link}
-use Rattle.seize_machine.proofs.Laws.Steps.{if_some, and_true}
+use Rattle.seize_machine.proofs.Facts.{swapped as link_swapped, if_some, and_true}
 use Rattle.seize_model.specs.Waiting.State as waiting
 use Rattle.seize_model.specs.Waiting.Calls as calls
 use Rattle.seize_model.specs.Waiting.Calls.{no_guard, unless, link_at}
@@ -67,7 +67,7 @@ exchanges {T} R of names st before s l new h shows =
         let name : (n : Option ℕ) × (is_none_or_fresh before n ≡ true) × (held of n ≡ new) = fresh_number of names before new in (
           name.0,
           Link (machine.link_at before l) ∷ [],
-          machine_next.swapped before l name.0,
+          link_swapped before l name.0,
           name.2,
           play_first st.size before (ExchangeLink s l (SwapLink name.0)) [] _ _ (swaps (contents of) st before s l name.0 n (guard_of st s e).1 h name.1),
           record { shows = shows_of of _ _ (swapped_near (contents of) st before l name.0 new n name.2); found = (machine.link_at before l, refl, found_link (contents of) st before l n) },
@@ -88,7 +88,7 @@ each_exchange {T} {R} of by st before later s l new n answers h shows reclaimers
         let near : NearAt (with_reclaimers of by) [] st before = near_with of by st before shows reclaimers in
         let first : First st.size before (ExchangeLink s l (SwapLink n)) [] later answers = first_of st.size before (ExchangeLink s l (SwapLink n)) [] later answers played in
         let fresh : is_none_or_fresh before n ≡ true = (and_true (machine_next.can_link before s l) _ (if_some (machine_next.can_link before s l && is_none_or_fresh before n) _ _ first.step).0).1 in
-        let ends : OneEvent _ _ later answers = one_of st.size before (machine_next.swapped before l n) (ExchangeLink s l (SwapLink n)) (Link (machine.link_at before l)) later answers (swaps (with_reclaimers of by) st before s l n near (guard_of st s e).1 h fresh) played in
+        let ends : OneEvent _ _ later answers = one_of st.size before (link_swapped before l n) (ExchangeLink s l (SwapLink n)) (Link (machine.link_at before l)) later answers (swaps (with_reclaimers of by) st before s l n near (guard_of st s e).1 h fresh) played in
         let both : Shows T R of (record st { links = set st.links l new }) later × ShowsReclaimers T R of by (record st { links = set st.links l new }) later
         = shows_with of by (record st { links = set st.links l new }) later (subst (λ (k : State). NearAt (with_reclaimers of by) [] (record st { links = set st.links l new }) k) (sym ends.0) (swapped_near (with_reclaimers of by) st before l n new near names)) in
         (record { shows = both.0; found = (machine.link_at before l, ends.1, found_link (with_reclaimers of by) st before l near) }, both.1)

@@ -6,8 +6,7 @@ use Rattle.seize_machine.specs.Machine.State.{State, Slot, Head, Inactive, Activ
 use Rattle.seize_machine.specs.Machine.Event.{Event, Begin, Put, SwapOut}
 use Rattle.seize_machine.specs.Machine.Next.{next, set_head, retiring, is_empty}
 use Rattle.seize_machine.specs.declared.machine.event.Answer.{Answer}
-use Rattle.seize_machine.proofs.Laws.Steps.{if_some, and_true}
-use Rattle.std.specs.List.{AllByRecursion}
+use Rattle.seize_machine.proofs.Facts.{if_some, and_true}
 use Rattle.seize_machine.specs.declared.machine.event.Job as job
 use Rattle.seize_machine.specs.declared.machine.event.Answer.TheVariants.{Done as DoneEvent}
 use Rattle.seize_table.specs.declared.refusal.Refusal.TheVariants.{NotInUse, NotActive}

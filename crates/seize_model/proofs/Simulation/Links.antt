@@ -9,8 +9,7 @@ use Rattle.seize_machine.specs.Machine.Next.{next, is_none_or_fresh}
 use Rattle.seize_machine.specs.Machine.Next as machine_next
 use Rattle.seize_machine.specs.declared.machine.event.Job as job
 use Rattle.seize_machine.specs.declared.machine.event.Exchange.TheVariants.{Swap as SwapLink}
-use Rattle.seize_machine.proofs.Laws.Steps.{if_some, and_true}
-use Rattle.std.specs.List.{AllByRecursion}
+use Rattle.seize_machine.proofs.Facts.{swapped as link_swapped, if_some, and_true}
 use Rattle.seize_machine.specs.declared.machine.event.Answer.{Answer}
 use Rattle.seize_machine.specs.declared.machine.event.Answer.TheVariants.{Done as DoneEvent, Link}
 use Rattle.seize_table.specs.declared.refusal.Refusal.{Refusal}
@@ -123,11 +122,11 @@ has_last v (x ∷ xs) = grind (arith, has_last v xs)
 -- The exchange of a link.
 
 pub swaps : {T R X : Type 0} (of : Naming T R X) (st : waiting.State T R) (before : State) (s l : ℕ) (number : Option ℕ) → NearAt of [] st before → waiting.is_active (slot_at st s) ≡ true → l < length st.links → is_none_or_fresh before number ≡ true
-    → next st.size before (ExchangeLink s l (SwapLink number)) ≡ Some (machine_next.swapped before l number, Link (machine.link_at before l))
+    → next st.size before (ExchangeLink s l (SwapLink number)) ≡ Some (link_swapped before l number, Link (machine.link_at before l))
 swaps of st before s l number n active h fresh = if_yes _ _ _ (ap (λ (t : Bool). t && is_none_or_fresh before number) (link_there of st before s l n active h) ∙ fresh)
 
 pub swapped_near : {T R X : Type 0} (of : Naming T R X) (st : waiting.State T R) (before : State) (l : ℕ) (number : Option ℕ) (new : Option T) → NearAt of [] st before → held of.link number ≡ new
-    → NearAt of [] (record st { links = set st.links l new }) (machine_next.swapped before l number)
+    → NearAt of [] (record st { links = set st.links l new }) (link_swapped before l number)
 swapped_near of st before l number new n is = record {
   numbers = n.numbers;
   as_many = n.as_many;
@@ -155,11 +154,11 @@ swap_run {T} {R} puts weight lighter of P names st before s l new r h holds new_
         (name.0, [], refl, subst (λ (x : Option ℕ). IsRetiredFrom s x []) (sym is) refl) name.2 refl refl
     after_swap (Some old) is name e =
         let used : is_free (slot_at st s).kind ≡ false = (guard_of st s e).0 in
-        let loose : has old (machine_next.swapped before l name.0).loose ≡ true = ap (λ (x : Option ℕ). has old (before.loose ++ option_to_list x)) is ∙ has_last old before.loose in
-        let run : JobRun of st.size s (slot_at st s).guards (job.TheVariants.Retire old) (machine_next.swapped before l name.0) (settled puts weight s (put (record st { links = set st.links l new }) s (of old, r)))
-        = retire_job puts weight lighter of P names (record st { links = set st.links l new }) (machine_next.swapped before l name.0) s old (of old, r)
+        let loose : has old (link_swapped before l name.0).loose ≡ true = ap (λ (x : Option ℕ). has old (before.loose ++ option_to_list x)) is ∙ has_last old before.loose in
+        let run : JobRun of st.size s (slot_at st s).guards (job.TheVariants.Retire old) (link_swapped before l name.0) (settled puts weight s (put (record st { links = set st.links l new }) s (of old, r)))
+        = retire_job puts weight lighter of P names (record st { links = set st.links l new }) (link_swapped before l name.0) s old (of old, r)
         (record { batches = holds.batches; retired = holds.retired }) (old_holds (of old) (same_link (contents of) st before l (near_of of st before shows) ∙ ap (held of) is))
-        (swapped_near (contents of) st before l name.0 new (near_of of st before shows) name.2) used (is_free_name (has old (machine_next.swapped before l name.0).named) _ loose) refl in
+        (swapped_near (contents of) st before l name.0 new (near_of of st before shows) name.2) used (is_free_name (has old (link_swapped before l name.0).named) _ loose) refl in
         subst (λ (x : Option Refusal). IsRun T R of (Swap s l new r) st before (reply done (Some (of old)) (unless x (record st { links = set st.links l new }) (Ok tt, settled puts weight s (put (record st { links = set st.links l new }) s (of old, r))))))
         (sym (ap (λ (t : Bool). if t then Some NotInUse else None) used))
         (record {
@@ -202,13 +201,13 @@ swap_list {T} {R} puts weight lighter of by st before s l new r h n = go (no_gua
         let used : is_free (slot_at st s).kind ≡ false = (guard_of st s e).0 in
         let first : First st.size before (ExchangeLink s l (SwapLink number)) es later answers = first_of st.size before (ExchangeLink s l (SwapLink number)) es later answers (ap (λ (k : List Event). play st.size before k) (sym made) ∙ legal) in
         let fresh : is_none_or_fresh before number ≡ true = (and_true (machine_next.can_link before s l) _ (if_some (machine_next.can_link before s l && is_none_or_fresh before number) _ _ first.step).0).1 in
-        let both : (first.later ≡ machine_next.swapped before l number) × (first.answer ≡ Link (machine.link_at before l))
-        = both_same (first.later, first.answer) (machine_next.swapped before l number, Link (machine.link_at before l)) (sym first.step ∙ swaps (with_reclaimers of by) st before s l number n (guard_of st s e).1 h fresh) in
+        let both : (first.later ≡ link_swapped before l number) × (first.answer ≡ Link (machine.link_at before l))
+        = both_same (first.later, first.answer) (link_swapped before l number, Link (machine.link_at before l)) (sym first.step ∙ swaps (with_reclaimers of by) st before s l number n (guard_of st s e).1 h fresh) in
         let with_old : by old ≡ r = subst (λ (k : List Event). RetiresWith by (Swap s l new r) k) (made ∙ ap (λ (k : List Event). ExchangeLink s l (SwapLink number) ∷ k) more.1) with in
         let put_rest : ArePutBy puts of by (ExchangeLink s l (SwapLink number) ∷ es) (first.answer ∷ first.rest) = subst (λ (k : List Answer). ArePutBy puts of by (ExchangeLink s l (SwapLink number) ∷ es) k) first.all (subst (λ (k : List Event). ArePutBy puts of by k answers) made put_all) in
         let none : handed answers ≡ handed first.rest = ap handed (first.all ∙ ap (λ (a : Answer). a ∷ first.rest) both.1) in
         let ends : JobEnds (with_reclaimers of by) s (slot_at st s).guards (settled puts weight s (put (record st { links = set st.links l new }) s (of old, r))) later first.rest
-        = retire_job_list puts weight lighter of by (record st { links = set st.links l new }) (machine_next.swapped before l number) s old (of old) r es first.rest later
+        = retire_job_list puts weight lighter of by (record st { links = set st.links l new }) (link_swapped before l number) s old (of old) r es first.rest later
         (swapped_near (with_reclaimers of by) st before l number new n name) used refl more (ap (λ (k : State). play st.size k es) (sym both.0) ∙ first.legal) with_old put_rest.1 in
         subst (λ (x : Option Refusal). IsOutcome T R of by (Swap s l new r) (reply done (Some (of old)) (unless x (record st { links = set st.links l new }) (Ok tt, settled puts weight s (put (record st { links = set st.links l new }) s (of old, r))))) events answers later)
         (sym (ap (λ (t : Bool). if t then Some NotInUse else None) used))

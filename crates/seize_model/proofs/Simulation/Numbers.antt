@@ -8,7 +8,7 @@ use Rattle.std.proofs.Math.Seq.{get_or-append_seam}
 use Rattle.seize_machine.specs.Machine.State as machine
 use Rattle.seize_machine.specs.Machine.State.{State, Slot, Inactive, Active}
 use Rattle.seize_machine.specs.declared.machine.event.Answer.{Answer}
-use Rattle.seize_machine.proofs.Laws.Steps.{if_some, and_true, eq_true}
+use Rattle.seize_machine.proofs.Facts.{if_some, and_true, eq_true}
 use Rattle.seize_machine.specs.Machine.Event.{Event, Take, Enter as EnterHead}
 use Rattle.seize_machine.specs.Machine.Next as machine_next
 use Rattle.seize_machine.specs.Machine.Next.{next, set_head, first_free}

@@ -6,7 +6,7 @@ use Rattle.seize_machine.specs.Machine.Event.{Event}
 use Rattle.seize_machine.specs.Machine.Next.{next}
 use Rattle.seize_machine.specs.Machine.History.{handed_value}
 use Rattle.seize_machine.specs.declared.machine.event.Answer.{Answer}
-use Rattle.seize_machine.proofs.Laws.Steps.{some_is}
+use Rattle.seize_machine.proofs.Facts.{some_is}
 use Rattle.seize_model.specs.Agreement.Play.{play, played, handed}
 use Rattle.seize_model.specs.Agreement.Events.{ArePutBy}
 

@@ -9,7 +9,8 @@ use Rattle.seize_model.specs.Waiting.Attempt.{Outcome, after, put}
 use Rattle.seize_model.specs.Waiting.Further.{further, settle, settled, still_to_come, Lighter}
 use Rattle.seize_model.proofs.Simulation.Paths.{Carried}
 use Rattle.seize_model.proofs.Simulation.Determinism.{only_queue}
-use Rattle.seize_model.proofs.Simulation.Events.{busy, rested, put_place, put_next_step}
+use Rattle.seize_machine.proofs.Facts.{after_put as put_place}
+use Rattle.seize_model.proofs.Simulation.Events.{busy, rested, put_next_step}
 use Rattle.seize_model.proofs.Simulation.Coupling.{NearAt, Denote, Naming}
 use Rattle.seize_model.proofs.Simulation.Names.{Holds, HoldsAfter, all_append, all_further, holds_put}
 use Rattle.seize_model.proofs.Simulation.Work.{Does, denote_append}

@@ -8,7 +8,7 @@ use Rattle.seize_machine.specs.Machine.State.{Head, Batch, has, no_batch}
 use Rattle.seize_model.specs.Waiting.State as waiting
 use Rattle.seize_model.specs.Waiting.State.{keeps, is_kept, retired_at}
 use Rattle.seize_model.specs.Waiting.Attempt.{Outcome, release}
-use Rattle.seize_machine.proofs.Laws.Sums.{one, occ, has_none}
+use Rattle.seize_machine.proofs.Facts.{one, occ, has_none}
 use Rattle.seize_model.proofs.Simulation.Coupling.{Near, any_counts, or_same, Denote, Naming}
 use Rattle.seize_model.proofs.Cases.{in_or_past}
 

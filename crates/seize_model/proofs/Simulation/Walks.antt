@@ -10,10 +10,11 @@ use Rattle.seize_model.specs.Waiting.State as waiting
 use Rattle.seize_model.specs.Waiting.State.{slot_at, keeps, is_kept}
 use Rattle.seize_model.specs.Waiting.Attempt.{Outcome, after, release, release_all, attempt, put, appended}
 use Rattle.seize_model.specs.Waiting.Further.{further, put_by}
-use Rattle.seize_machine.proofs.Laws.Steps.{and_true, not_true}
+use Rattle.seize_machine.proofs.Facts.{and_true, not_true}
 use Rattle.seize_model.proofs.Simulation.Paths.{Carried}
 use Rattle.seize_model.proofs.Simulation.Determinism.{only_sub}
-use Rattle.seize_model.proofs.Simulation.Events.{busy, rested, set_twice, sub_step, put_place, with_count}
+use Rattle.seize_machine.proofs.Facts.{after_put as put_place}
+use Rattle.seize_model.proofs.Simulation.Events.{busy, rested, set_twice, sub_step, with_count}
 use Rattle.seize_model.proofs.Simulation.Coupling.{Near, NearAt, near_set, Denote, CoupledSlot, Naming}
 use Rattle.seize_model.proofs.Simulation.Releases.{near_less, near_release, BothGone, batch_with}
 use Rattle.seize_model.proofs.Simulation.Names.{Holds, HoldsAfter, holds_release, holds_appended}

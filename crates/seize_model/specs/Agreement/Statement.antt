@@ -6,7 +6,6 @@ use Rattle.seize_machine.specs.Machine.State.{has}
 use Rattle.seize_machine.specs.Machine.Event.{Event}
 use Rattle.seize_machine.specs.declared.machine.event.Answer.{Answer}
 use Rattle.seize_model.specs.Waiting.State as waiting
-use Rattle.seize_model.specs.Waiting.Attempt.{Outcome}
 use Rattle.seize_model.specs.Waiting.Lists.{Call, Protect, Swap, Reply, Refused, Effect, step}
 use Rattle.seize_model.specs.Agreement.Shows.{Stand, Shows, ShowsReclaimers}
 use Rattle.seize_model.specs.Agreement.Events.{MakesFor, NamesOwn, RetiresWith, ArePutBy}
