@@ -9,11 +9,14 @@ use Rattle.seize_model.specs.Waiting.Attempt.{Outcome, release, release_all, wai
 use Rattle.seize_model.specs.Waiting.Further.{put_by, further}
 use Rattle.seize_model.proofs.Simulation.Detachment.{by_active}
 use Rattle.seize_model.proofs.Cases.{either}
+use Rattle.seize_model.proofs.Simulation.Coupling.{Naming}
 
--- Each value with the property has fresh numbers, and each that it puts has the property.
-pub record Names (T R : Type 0) (puts : R → T → List T) (of : ℕ → T) (P : T × R → Type 0) : Type 0 where
-  pub number : (v : T × R) → P v → (named : List ℕ) → (n : ℕ) × (has n named ≡ false) × (of n ≡ v.0)
+-- Each value with the property has fresh numbers, and each that it puts has the property. A number that stands for a value in a batch
+-- stands for it in a link.
+pub record Names {T R X : Type 0} (puts : R → T → List T) (of : Naming T R X) (P : T × R → Type 0) : Type 0 where
+  pub number : (v : T × R) → P v → (named : List ℕ) → (n : ℕ) × (has n named ≡ false) × (of.name n ≡ of.view v)
   pub closed : (v : T × R) → P v → AllByRecursion P (put_by puts v)
+  pub link : (n : ℕ) (v : T × R) → of.name n ≡ of.view v → of.link n ≡ v.0
 
 -- each value of the state has the property
 pub record Holds (T R : Type 0) (P : T × R → Type 0) (st : State T R) : Type 0 where
