@@ -1,4 +1,4 @@
--- How a call begins and returns, and what its run is.
+-- How calls begin and return, what a run of a call is, and what is shown of each list of its events.
 use Rattle.std.proofs.Common.{◌≡◌, ℕ, ◌<◌, ◌≤◌, Bool, true, false, not, ◌&&◌, ◌||◌, if◌then◌else◌, List, [], ◌∷◌, ◌++◌, length, map, get_or, Option, Some, None, Ok, refl, sym, ◌∙◌, ap, subst, ◌⊎◌, inl, inr, option_to_list}
 use Rattle.std.proofs.lemmas.List.{get_or_past, length-set, set-get_or}
 use Rattle.std.proofs.Math.ListN.{get_or-map}

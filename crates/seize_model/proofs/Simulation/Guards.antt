@@ -1,4 +1,4 @@
--- The calls that change a slot's guards: leave, enter and end.
+-- The calls that change a slot's guards: leave and enter.
 use Rattle.std.proofs.Common.{◌≡◌, ℕ, ◌+◌, ◌-◌, ◌<◌, ◌≤◌, Bool, true, false, not, ◌&&◌, ◌==◌, if◌then◌else◌, List, [], ◌∷◌, ◌++◌, length, set, Option, Some, None, refl, sym, ◌∙◌, ap, subst, arith, append-nil, is_some, map}
 use Rattle.std.proofs.lemmas.List.{get_or-set_same, length-set, set-get_or}
 use Rattle.seize_machine.specs.Machine.State as machine

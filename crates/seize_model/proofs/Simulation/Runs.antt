@@ -16,17 +16,13 @@ use Rattle.seize_model.proofs.Simulation.Coupling.{Naming, Denote}
 use Rattle.seize_model.proofs.Simulation.Paths.{IsOwn, Carried}
 use Rattle.seize_model.proofs.Simulation.Names.{Names}
 use Rattle.seize_model.proofs.Simulation.Plays.{play_first, play_none, First, first_of}
+use Rattle.seize_model.proofs.Cases.{or_false}
 
 -- Fresh numbers.
 
 has_append : (v : ℕ) (xs ys : List ℕ) → has v (xs ++ ys) ≡ (has v xs || has v ys)
 has_append v [] ys = refl
 has_append v (x ∷ xs) ys = grind (arith, has_append v xs ys)
-
-or_false : (a b : Bool) → (a || b) ≡ false → (a ≡ false) × (b ≡ false)
-or_false false false e = (refl, refl)
-or_false false true e = absurd (cc)
-or_false true b e = absurd (cc)
 
 -- each of these values has a name of its own
 pub fresh_names : {T R X : Type 0} (puts : R → T → List T) (of : Naming T R X) (P : T × R → Type 0) → Names puts of P → (named : List ℕ) (vs : List (T × R)) → AllByRecursion P vs
