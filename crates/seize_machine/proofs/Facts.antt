@@ -10,7 +10,7 @@ use Rattle.std.specs.List.{Contains}
 use Rattle.seize_machine.specs.Machine.State.{State, Mark, Look, Try, Add, Out, slot_at, head_at, link_at, batch_at, is_active, has, linked, are_distinct, opening, Place, Append, Rest}
 use Rattle.seize_machine.specs.Machine.Event.{Event, Put, SwapOut, slot_of}
 use Rattle.seize_machine.specs.Machine.Next.{next, set_slot, can_link}
-use Rattle.seize_machine.specs.Machine.History.{Timed, Legal, IsReached, handed_value, is_link_event}
+use Rattle.seize_machine.specs.Machine.History.{Timed, is_legal, Legal, IsReached, handed_value, is_link_event}
 use Rattle.seize_machine.specs.Machine.Laws.{HoldsOfAll, AtMostOnce, After, Quiet, Protection, Parts, Gone, Holders, NoLaterHolders, Tries, detached_by, Lists, Walks}
 use Rattle.seize_machine.specs.Machine.Frames.{changes_slot, used, changes_used, changes_head_of, changes_link, changes_batch, changes_value, slots_added, batches_added, begins_retiring}
 use Rattle.seize_machine.specs.Machine.Kept.{KeptIn}
@@ -56,6 +56,10 @@ forced = forcing.forced
 
 -- Legal lists: nothing, one event, one event more at the end, a list that goes on; and a list taken apart after a beginning or
 -- after its first event.
+
+-- no legal event is answered as an illegal one
+pub legal_answer : (size : ℕ) (st : State) (event : Event) (d : State × Answer) → Step size st event d → is_legal d.1 ≡ true
+legal_answer = lists.legal_answer
 
 pub no_event : (st : State) → Legal next st [] [] st
 no_event = lists.no_event

@@ -1,5 +1,5 @@
 -- What holds in both cases of a test, and which case it is.
-use Rattle.std.proofs.Common.{ℕ, zero, suc, ◌<◌, ◌≤◌, Bool, true, false, if◌then◌else◌, ◌⊎◌, inl, inr, arith}
+use Rattle.std.proofs.Common.{◌≡◌, ◌||◌, refl, ℕ, zero, suc, ◌<◌, ◌≤◌, Bool, true, false, if◌then◌else◌, ◌⊎◌, inl, inr, arith}
 
 -- what holds of both outcomes of a test
 pub either : {A : Type 0} (P : A → Type 0) (b : Bool) (x y : A) → P x → P y → P (if b then x else y)
@@ -11,3 +11,9 @@ pub in_or_past : (s n : ℕ) → (s < n) ⊎ (n ≤ s)
 in_or_past s zero = inr (omega arith)
 in_or_past zero (suc n) = inl (omega arith)
 in_or_past (suc s) (suc n) = elim (in_or_past s n) [ inl h ↦ inl (omega arith) | inr h ↦ inr (omega arith) ]
+
+-- where none of two holds
+pub or_false : (a b : Bool) → (a || b) ≡ false → (a ≡ false) × (b ≡ false)
+or_false false false e = (refl, refl)
+or_false false true e = absurd (cc)
+or_false true b e = absurd (cc)

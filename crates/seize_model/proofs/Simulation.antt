@@ -1,4 +1,9 @@
 -- The proofs that the two models agree.
+--
+-- Both directions are one proof. Where one call is under way, its next event is forced, but for the numbers that a reclaimer puts
+-- (`Determinism`). So a call's work is shown once, for anything that is carried along forced events and hands (`Paths`): from `Work` to
+-- `Queues`. What is carried is a run so far, which picks fresh numbers (`Runs`), or what is left of a given list of events, which has
+-- them (`Lists`). What numbers stand for is a parameter (`Coupling`): what values hold, or values with their reclaimers (`Views`).
 pub mod Events
 pub mod Determinism
 pub mod Coupling

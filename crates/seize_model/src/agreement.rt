@@ -9,7 +9,8 @@ ghost use Rattle.seize_model.specs.Waiting.Runs as runs;
 ghost use Rattle.seize_model.specs.Agreement.Shows.{Shows};
 ghost use Rattle.seize_model.specs.Agreement.Links.{ReadAgreement, ExchangeAgreement, ExchangeOnLists};
 ghost use Rattle.seize_model.specs.Agreement.Reopening.{ReopenedLaw};
-ghost use Rattle.seize_model.specs.Agreement.Statement.{HasNames, Agreement, AgreementAnew, AgreementOnLists};
+ghost use Rattle.seize_model.specs.Agreement.Statement.{HasNames, HasNamesFor, Agreement, AgreementWith, AgreementAnew, AgreementOnLists};
+ghost use Rattle.seize_model.specs.Agreement.Play.{PlaysAreLegal};
 ghost use Rattle.seize_model.specs.Agreement.Runs.{by_events, by_sets};
 
 /// The worked runs of waiting sets, each from a collector just made of the given size and number of links, up to its first reclaim
@@ -31,18 +32,26 @@ pub fn runs_agree()
     ensures links { by_events 1 1 runs.links ≡ by_sets 1 1 runs.links }
 {}
 
+/// What is said here of lists that are played is said of the machine's legal lists, at one size.
+pub fn plays_are_legal_lists()
+    ensures { PlaysAreLegal }
+{}
+
 /// A machine just opened shows a collector just made. From every two states that show each other, where what a reclaimer puts weighs
 /// less than its value, each call but a reclaim of all agrees with the machine in both directions.
 ///
-/// It is a list of legal events, of the call's own slot, where there is always a fresh number for a value. For values of any type, which
-/// may have no such numbers, each list of calls has some: a function from numbers to values that is as before at any numbers that are
-/// to be kept, and under which each call in turn is a list of legal events.
+/// It is a list of legal events, of the call's own slot, where there is always a fresh number for a value; and where there is one for a
+/// value with its reclaimer, a list in which each value handed puts what its reclaimer puts. For values of any type, which may have no
+/// such numbers, each list of calls has some: a function from numbers to values that is as before at any numbers that are to be kept,
+/// and under which each call in turn is a list of legal events.
 ///
-/// And each legal list of events that the call makes alone, from its beginning to its return, has its reply and its values gone, and
-/// ends where it ends, under whatever fresh numbers the reclaimers put.
+/// And every legal list of events that the call makes alone, from its beginning to its return, has its reply and its values gone, and
+/// ends where it ends, under whatever fresh numbers for what the reclaimers put.
 pub fn models_agree<T, R>()
     ensures made { (of : ℕ → T) (size links : ℕ) → Shows T R of (new size links) (opening 0 (replicate links None)) }
     ensures call { (puts : R → T → List T) (weight : T → ℕ) (of : ℕ → T) → Lighter puts weight → HasNames of → Agreement puts weight of }
+    ensures with_reclaimers { (puts : R → T → List T) (weight : T → ℕ) (of : ℕ → T) (by : ℕ → R)
+        → Lighter puts weight → HasNamesFor of by → AgreementWith puts weight of by }
     ensures any { (puts : R → T → List T) (weight : T → ℕ) → Lighter puts weight → AgreementAnew puts weight }
     ensures every { (puts : R → T → List T) (weight : T → ℕ) → Lighter puts weight → AgreementOnLists puts weight }
 {}

@@ -32,12 +32,14 @@ or_illegal st (Some done) = done
 abbrev pub done_by : Transition → State → Timed → State × Answer
 done_by transition st t = or_illegal st (transition t.size st t.event)
 
+-- an event that did this, and what follows from the state after it
+abbrev pub and_then : State → Timed → State × Answer → (State → List Moment) → List Moment
+and_then st t done rest = record { before = st; timed = t; answer = done.1; after = done.0 } ∷ rest done.0
+
 -- the moments of a list of events that begins in this state
 abbrev pub history : Transition → State → List Timed → List Moment
 history transition st [] = []
-history transition st (t ∷ ts) =
-    let done = done_by transition st t in
-    record { before = st; timed = t; answer = done.1; after = done.0 } ∷ history transition done.0 ts
+history transition st (t ∷ ts) = and_then st t (done_by transition st t) (λ later. history transition later ts)
 
 abbrev pub answers_of : List Moment → List Answer
 answers_of ms = map (λ m. m.answer) ms

@@ -1,5 +1,5 @@
--- How a call begins and returns, and what its run is.
-use Rattle.std.proofs.Common.{◌≡◌, ℕ, ◌<◌, ◌≤◌, Bool, true, false, not, ◌&&◌, ◌||◌, if◌then◌else◌, List, [], ◌∷◌, length, map, get_or, Option, Some, None, Ok, refl, sym, ◌∙◌, ap, subst, ◌⊎◌, inl, inr}
+-- How calls begin and return, what a run of a call is, and what is shown of each list of its events.
+use Rattle.std.proofs.Common.{◌≡◌, ℕ, ◌<◌, ◌≤◌, Bool, true, false, not, ◌&&◌, ◌||◌, if◌then◌else◌, List, [], ◌∷◌, ◌++◌, length, map, get_or, Option, Some, None, Ok, refl, sym, ◌∙◌, ap, subst, ◌⊎◌, inl, inr, option_to_list}
 use Rattle.std.proofs.lemmas.List.{get_or_past, length-set, set-get_or}
 use Rattle.std.proofs.Math.ListN.{get_or-map}
 use Rattle.seize_machine.specs.Machine.State as machine
@@ -15,19 +15,21 @@ use Rattle.seize_model.specs.Waiting.State as waiting
 use Rattle.seize_model.specs.Waiting.State.{slot_at}
 use Rattle.seize_model.specs.Waiting.Attempt.{Outcome}
 use Rattle.seize_model.specs.Waiting.Calls.{unless, is_free}
-use Rattle.seize_model.specs.Waiting.Lists.{Call, Reply, Refused, reply}
+use Rattle.seize_model.specs.Waiting.Lists.{Call, Reply, Refused, Effect, reply}
+use Rattle.seize_model.specs.Waiting.Lists as calls
 use Rattle.seize_model.specs.Agreement.Shows.{Shows, ShowsReclaimers, head_of}
-use Rattle.seize_model.specs.Agreement.Play.{play, played, handed}
+use Rattle.seize_model.specs.Agreement.Play.{play, played}
 use Rattle.seize_model.specs.Agreement.Events.{IsJob, MakesFor, IsNamed, NamesOwn, ArePutBy}
-use Rattle.seize_model.specs.Agreement.Statement.{IsRun, IsReply, IsOutcome, EachList}
-use Rattle.seize_model.proofs.Simulation.Views.{contents, with_reclaimers, near_of, shows_of, shows_with, stand_of}
-use Rattle.seize_model.proofs.Simulation.Runs.{Leads, Returns, to_return}
+use Rattle.seize_model.specs.Agreement.Statement.{IsReply, IsOutcome, EachList}
+use Rattle.seize_model.proofs.Simulation.Views.{with_reclaimers, shows_with, stand_of}
+use Rattle.seize_model.proofs.Simulation.Runs.{Leads, Returns, to_return, ArePutFor, put_none}
 use Rattle.seize_model.proofs.Simulation.Lists.{Left, left_returns}
 use Rattle.seize_model.proofs.Simulation.Events.{busy, rested, if_yes, there, twice, return_step}
 use Rattle.seize_model.proofs.Simulation.Coupling.{Near, NearAt, Denote, CoupledSlot, Naming}
 use Rattle.seize_model.proofs.Simulation.Queues.{Ends}
 use Rattle.seize_model.proofs.Cases.{in_or_past}
-use Rattle.seize_model.proofs.Simulation.Plays.{First, first_of, both_same, play_none, play_first}
+use Rattle.seize_model.proofs.Simulation.Plays.{First, first_of, both_same, play_none, play_first, handed_first}
+use Rattle.seize_machine.specs.Machine.History.{handed_value, handed}
 
 pub begin_flush : (size : ℕ) (base : State) (s : ℕ) (batch : List ℕ) → s < length base.slots → is_active (head_at base s) ≡ true
     → next size (rested base s batch) (Begin s Flush) ≡ Some (busy base s batch (if is_empty batch then Rest [] [] else Mark 0 (length base.slots) []) [], Done)
@@ -118,18 +120,19 @@ pub record JobEnds {T R X : Type 0} (of : Naming T R X) (s guards : ℕ) (o : Ou
   pub same_guards : (slot_at o.0 s).guards ≡ guards
 
 -- a run of a job
-pub record JobRun {T R : Type 0} (of : ℕ → T) (size s guards : ℕ) (j : Job) (before : State) (o : Outcome T R) : Type 0 where
+pub record JobRun {T R X : Type 0} (puts : R → T → List T) (of : Naming T R X) (size s guards : ℕ) (j : Job) (before : State) (o : Outcome T R) : Type 0 where
   pub events : List Event
   pub answers : List Answer
   pub later : State
   pub makes : IsJob s j events
   pub legal : play size before events ≡ Some (later, answers)
-  pub ends : JobEnds (contents of) s guards o later answers
+  pub ends : JobEnds of s guards o later answers
+  pub put : ArePutFor puts of events answers
 
-pub job_run : {T R : Type 0} (of : ℕ → T) (size s guards : ℕ) (j : Job) (before start : State) (o : Outcome T R) → next size before (Begin s j) ≡ Some (start, Done)
-    → Ends (contents of) (λ st hs. Leads size s start hs st) size s guards [] o → JobRun of size s guards j before o
-job_run of size s guards j before start o begin ends =
-    let run : Returns size s start ends.handed (rested ends.base s ends.batch) = to_return size s start ends.handed _ (rested ends.base s ends.batch) (return_step size ends.base s ends.batch ends.within) ends.comes in
+pub job_run : {T R X : Type 0} (puts : R → T → List T) (of : Naming T R X) (size s guards : ℕ) (j : Job) (before start : State) (o : Outcome T R) → next size before (Begin s j) ≡ Some (start, Done)
+    → Ends of (λ st hs. Leads puts of size s start hs st) size s guards [] o → JobRun puts of size s guards j before o
+job_run puts of size s guards j before start o begin ends =
+    let run : Returns puts of size s start ends.handed (rested ends.base s ends.batch) = to_return puts of size s start ends.handed _ (rested ends.base s ends.batch) (return_step size ends.base s ends.batch ends.within) ends.comes in
     record {
       events = Begin s j ∷ run.events;
       answers = Done ∷ run.answers;
@@ -141,10 +144,11 @@ job_run of size s guards j before start o begin ends =
         batch = ends.batch;
         is = refl;
         near = ends.near;
-        gone = ap (λ (hs : List ℕ). map of hs) run.handed_are ∙ ends.gone;
+        gone = ap (λ (hs : List ℕ). map of.name hs) run.handed_are ∙ ends.gone;
         within = ends.within;
         same_guards = ends.same_guards;
       };
+      put = (tt, run.put);
     }
 
 -- each list of a job
@@ -178,18 +182,44 @@ pub names_none : {T R : Type 0} (of : ℕ → T) (call : Call T R) (events : Lis
 names_none of call [] h = tt
 names_none of call (e ∷ es) h = h e
 
-pub run_of : {T R : Type 0} (of : ℕ → T) (call : Call T R) (st : waiting.State T R) (before : State) (size s guards : ℕ) (j : Job) (told : Reply T) (o : Outcome T R) → st.size ≡ size
-    → (run : JobRun of size s guards j before o) → MakesFor told st before call run.events → NamesOwn of call run.events → IsReply call run.events run.answers told → IsRun T R of call st before (told, o)
-run_of of call st before size s guards j told o same run makes names r = record {
+-- the number that the call retires stands for its value with the reclaimer that the call names
+abbrev pub RetiresFor : {T R X : Type 0} → Naming T R X → R → Event → Type 0
+RetiresFor of r (Begin i (Retire n)) = of.name n ≡ of.view (of.link n, r)
+RetiresFor of r e = Unit {0}
+
+abbrev pub StartsFor : {T R X : Type 0} → Naming T R X → Call T R → List Event → Type 0
+StartsFor of (calls.Retire s v r) (e ∷ es) = RetiresFor of r e
+StartsFor of (calls.Swap s l new r) (swap ∷ e ∷ es) = RetiresFor of r e
+StartsFor of call events = Unit {0}
+
+-- A run of a call.
+pub record Run {T R X : Type 0} (puts : R → T → List T) (of : Naming T R X) (call : Call T R) (st : waiting.State T R) (before : State) (told : Effect T R) : Type 0 where
+  pub events : List Event
+  pub answers : List Answer
+  pub later : State
+  pub makes : MakesFor told.0 st before call events
+  pub names : NamesOwn of.link call events
+  pub starts : StartsFor of call events
+  pub legal : play st.size before events ≡ Some (later, answers)
+  pub near : NearAt of [] told.1.0 later
+  pub gone : Denote of (handed answers) told.1.1
+  pub reply : IsReply call events answers told.0
+  pub put : ArePutFor puts of events answers
+
+pub run_of : {T R X : Type 0} (puts : R → T → List T) (of : Naming T R X) (call : Call T R) (st : waiting.State T R) (before : State) (size s guards : ℕ) (j : Job) (told : Reply T) (o : Outcome T R) → st.size ≡ size
+    → (run : JobRun puts of size s guards j before o) → MakesFor told st before call run.events → NamesOwn of.link call run.events → StartsFor of call run.events → IsReply call run.events run.answers told → Run puts of call st before (told, o)
+run_of puts of call st before size s guards j told o same run makes names starts r = record {
   events = run.events;
   answers = run.answers;
   later = run.later;
   makes = makes;
   names = names;
+  starts = starts;
   legal = ap (λ (k : ℕ). play k before run.events) same ∙ run.legal;
-  shows = shows_of of o.0 run.later (subst (λ (k : State). NearAt (contents of) [] o.0 k) (sym run.ends.is) run.ends.near);
+  near = subst (λ (k : State). NearAt of [] o.0 k) (sym run.ends.is) run.ends.near;
   gone = run.ends.gone;
   reply = r;
+  put = run.put;
 }
 
 pub outcome_of : {T R : Type 0} (of : ℕ → T) (by : ℕ → R) (call : Call T R) (told : Reply T) (o : Outcome T R) (events : List Event) (answers : List Answer) (later : State)
@@ -204,18 +234,32 @@ job_outcome of by call s guards told o events answers later d r =
     outcome_of of by call told o events answers later (subst (λ (k : State). NearAt (with_reclaimers of by) [] o.0 k) (sym d.is) d.near) d.gone r
 
 -- a call without events
-pub no_events : {T R : Type 0} (of : ℕ → T) (call : Call T R) (st : waiting.State T R) (before : State) (told : Reply T) (later : waiting.State T R) → NearAt (contents of) [] later before → MakesFor told st before call [] → IsReply call [] [] told
-    → IsRun T R of call st before (told, (later, []))
-no_events of call st before told later n makes r = record {
+starts_none : {T R X : Type 0} (of : Naming T R X) (call : Call T R) → StartsFor of call []
+starts_none of calls.Register = tt
+starts_none of calls.EnterOwned = tt
+starts_none of (calls.Enter s) = tt
+starts_none of (calls.Leave s) = tt
+starts_none of (calls.End s) = tt
+starts_none of (calls.Refresh s) = tt
+starts_none of (calls.Flush s) = tt
+starts_none of (calls.Retire s v r) = tt
+starts_none of (calls.Protect s l) = tt
+starts_none of (calls.Swap s l new r) = tt
+
+pub no_events : {T R X : Type 0} (puts : R → T → List T) (of : Naming T R X) (call : Call T R) (st : waiting.State T R) (before : State) (told : Reply T) (later : waiting.State T R) → NearAt of [] later before → MakesFor told st before call [] → IsReply call [] [] told
+    → Run puts of call st before (told, (later, []))
+no_events puts of call st before told later n makes r = record {
   events = [];
   answers = [];
   later = before;
   makes = makes;
   names = tt;
+  starts = starts_none of call;
   legal = refl;
-  shows = shows_of of later before n;
+  near = n;
   gone = refl;
   reply = r;
+  put = tt;
 }
 
 pub no_list : {T R : Type 0} (of : ℕ → T) (by : ℕ → R) (call : Call T R) (size : ℕ) (before : State) (told : Reply T) (st : waiting.State T R) (events : List Event) (answers : List Answer) (later : State) → NearAt (with_reclaimers of by) [] st before
@@ -237,18 +281,20 @@ one_of size before end e answer later answers is legal =
     let none : (later ≡ first.later) × (first.rest ≡ []) = play_none size first.later later first.rest first.legal in
     (none.0 ∙ both.0, first.all ∙ ap (λ (a : Answer). a ∷ first.rest) both.1 ∙ ap (λ (l : List Answer). answer ∷ l) none.1)
 
-pub one_event : {T R : Type 0} (of : ℕ → T) (call : Call T R) (st : waiting.State T R) (before later : State) (e : Event) (answer : Answer) (told : Reply T) (after : waiting.State T R) → next st.size before e ≡ Some (later, answer) → NearAt (contents of) [] after later
-    → MakesFor told st before call (e ∷ []) → IsNamed of call e → handed (answer ∷ []) ≡ [] → IsReply call (e ∷ []) (answer ∷ []) told → IsRun T R of call st before (told, (after, []))
-one_event of call st before later e answer told after n near makes names none r = record {
+pub one_event : {T R X : Type 0} (puts : R → T → List T) (of : Naming T R X) (call : Call T R) (st : waiting.State T R) (before later : State) (e : Event) (answer : Answer) (told : Reply T) (after : waiting.State T R) → next st.size before e ≡ Some (later, answer) → NearAt of [] after later
+    → MakesFor told st before call (e ∷ []) → IsNamed of.link call e → StartsFor of call (e ∷ []) → handed_value answer ≡ None → IsReply call (e ∷ []) (answer ∷ []) told → Run puts of call st before (told, (after, []))
+one_event puts of call st before later e answer told after n near makes names starts none r = record {
   events = e ∷ [];
   answers = answer ∷ [];
   later = later;
   makes = makes;
   names = names;
+  starts = starts;
   legal = play_first st.size before e [] later answer n;
-  shows = shows_of of after later near;
-  gone = ap (λ (hs : List ℕ). map of hs) none;
+  near = near;
+  gone = ap (λ (hs : List ℕ). map of.name hs) (handed_first answer [] ∙ ap (λ (o : Option ℕ). option_to_list o ++ handed []) none);
   reply = r;
+  put = (put_none puts of e answer none, tt);
 }
 
 pub one_list : {T R : Type 0} (of : ℕ → T) (by : ℕ → R) (call : Call T R) (size : ℕ) (before end : State) (e : Event) (answer : Answer) (told : Reply T) (after : waiting.State T R) (events : List Event) (answers : List Answer) (later : State) → next size before e ≡ Some (end, answer)
@@ -262,10 +308,10 @@ one_list {T} {R} of by call size before end e answer told after events answers l
     (ap (λ (hs : List ℕ). map {B = T × R} (λ n. (of n, by n)) hs) none) r))
 
 -- a refused call has no events
-pub run_unless : {A T R : Type 0} (of : ℕ → T) (call : Call T R) (st : waiting.State T R) (before : State) (f : A → Reply T) (back : Option T) (refusal : Option Refusal) (a : A) (o : Outcome T R) → Shows T R of st before
-    → (refusal ≡ None → IsRun T R of call st before (f a, o)) → IsRun T R of call st before (reply f back (unless refusal st (Ok a, o)))
-run_unless of call st before f back None a o h on = on refl
-run_unless of call st before f back (Some r) a o h on = no_events of call st before (Refused r back) st (near_of of st before h) refl refl
+pub run_unless : {A T R X : Type 0} (puts : R → T → List T) (of : Naming T R X) (call : Call T R) (st : waiting.State T R) (before : State) (f : A → Reply T) (back : Option T) (refusal : Option Refusal) (a : A) (o : Outcome T R) → NearAt of [] st before
+    → (refusal ≡ None → Run puts of call st before (f a, o)) → Run puts of call st before (reply f back (unless refusal st (Ok a, o)))
+run_unless puts of call st before f back None a o n on = on refl
+run_unless puts of call st before f back (Some r) a o n on = no_events puts of call st before (Refused r back) st n refl refl
 
 pub list_unless : {A T R : Type 0} (puts : R → T → List T) (of : ℕ → T) (by : ℕ → R) (call : Call T R) (st : waiting.State T R) (before : State) (f : A → Reply T) (back : Option T) (refusal : Option Refusal) (a : A) (o : Outcome T R) → NearAt (with_reclaimers of by) [] st before
     → (refusal ≡ None → EachList puts of by call st before (f a, o)) → EachList puts of by call st before (reply f back (unless refusal st (Ok a, o)))

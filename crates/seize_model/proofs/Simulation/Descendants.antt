@@ -8,6 +8,7 @@ use Rattle.seize_model.proofs.Simulation.Events.{if_yes, if_no, lt_yes}
 use Rattle.seize_model.proofs.Simulation.Names.{Names}
 use Rattle.seize_model.proofs.Simulation.Pairs.{pair_of, number_of}
 use Rattle.seize_model.proofs.Simulation.Renaming.{AgreeBelow, past}
+use Rattle.seize_model.proofs.Simulation.Views.{contents}
 
 -- what a value puts, by its place
 abbrev pub put_at : {T R : Type 0} → (R → T → List T) → Option (T × R) → ℕ → Option (T × R)
@@ -53,7 +54,7 @@ has_past : (n : ℕ) (ns : List ℕ) → past ns ≤ n → has n ns ≡ false
 has_past n [] h = refl
 has_past n (m ∷ ns) h = let rest : has n ns ≡ false = has_past n ns (omega arith) in grind (arith, common_steps)
 
-pub renamed_names : {T R : Type 0} (puts : R → T → List T) (roots : ℕ → Option (T × R)) (bound : ℕ) (of : ℕ → T) → Names T R puts (renamed puts roots bound of) (Comes puts roots)
+pub renamed_names : {T R : Type 0} (puts : R → T → List T) (roots : ℕ → Option (T × R)) (bound : ℕ) (of : ℕ → T) → Names puts (contents (renamed puts roots bound of)) (Comes puts roots)
 renamed_names {T} {R} puts roots bound of = record {
   number = λ v c named.
       let code : (n : ℕ) × (pair_of n ≡ (c.0, c.1)) × (c.0 ≤ n) = number_of c.0 c.1 in
@@ -63,6 +64,7 @@ renamed_names {T} {R} puts roots bound of = record {
       = ap (λ (k : ℕ). stage puts roots (pair_of k).0 (pair_of k).1) second ∙ ap (λ (p : ℕ × ℕ). stage puts roots p.0 p.1) code.1 ∙ c.2 in
       (far.0, has_past far.0 named (omega arith), if_no (nat_lt far.0 bound) _ _ (lt_no far.0 bound (omega arith)) ∙ ap (λ (o : Option (T × R)). value_or (of far.0) o) found);
   closed = comes_on puts roots;
+  link = λ n v e. e;
 }
   where
     lt_no : (a b : ℕ) → b ≤ a → nat_lt a b ≡ false

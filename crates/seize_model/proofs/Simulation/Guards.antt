@@ -1,4 +1,4 @@
--- The calls that change a slot's guards: leave, enter and end.
+-- The calls that change a slot's guards: leave and enter.
 use Rattle.std.proofs.Common.{◌≡◌, ℕ, ◌+◌, ◌-◌, ◌<◌, ◌≤◌, Bool, true, false, not, ◌&&◌, ◌==◌, if◌then◌else◌, List, [], ◌∷◌, ◌++◌, length, set, Option, Some, None, refl, sym, ◌∙◌, ap, subst, arith, append-nil, is_some, map}
 use Rattle.std.proofs.lemmas.List.{get_or-set_same, length-set, set-get_or}
 use Rattle.seize_machine.specs.Machine.State as machine
@@ -17,21 +17,22 @@ use Rattle.seize_model.specs.Waiting.Attempt.{Outcome, release_all, part}
 use Rattle.seize_model.specs.Waiting.Further.{settled, Lighter}
 use Rattle.seize_model.specs.Waiting.Calls.{first, no_guard, not_registered, too_many, is_free, is_owned, left_by, freed, freed_if, set_guards}
 use Rattle.seize_model.specs.Waiting.Lists.{Leave, Enter, Done, done, step}
-use Rattle.seize_model.specs.Agreement.Shows.{Shows, head_of}
-use Rattle.seize_model.specs.Agreement.Play.{play, handed}
+use Rattle.seize_model.specs.Agreement.Shows.{head_of}
+use Rattle.seize_model.specs.Agreement.Play.{play}
+use Rattle.seize_machine.specs.Machine.History.{handed}
 use Rattle.seize_model.specs.Agreement.Events.{IsJob, IsLeft, Where, ArePutBy}
-use Rattle.seize_model.specs.Agreement.Statement.{IsRun, IsOutcome, EachList}
-use Rattle.seize_model.proofs.Simulation.Views.{contents, with_reclaimers, near_of, shows_of}
+use Rattle.seize_model.specs.Agreement.Statement.{IsOutcome, EachList}
+use Rattle.seize_model.proofs.Simulation.Views.{with_reclaimers}
 use Rattle.seize_model.proofs.Simulation.Paths.{Carried}
 use Rattle.seize_model.proofs.Simulation.Plays.{play_first, play_append, handed_append, Split, split_of, put_first}
-use Rattle.seize_model.proofs.Simulation.Runs.{Leads, run_carried}
+use Rattle.seize_model.proofs.Simulation.Runs.{Leads, run_carried, put_append}
 use Rattle.seize_model.proofs.Simulation.Lists.{left_carried}
 use Rattle.seize_model.proofs.Simulation.Events.{busy, rested, set_twice, if_yes}
 use Rattle.seize_model.proofs.Simulation.Coupling.{Near, NearAt, near_set, near_out, CoupledSlot, Naming}
 use Rattle.seize_model.proofs.Simulation.Work.{Does, own_slot}
 use Rattle.seize_model.proofs.Simulation.Names.{Names, Holds, Always, holds_always, holds_same, holds_part}
 use Rattle.seize_model.proofs.Simulation.Queues.{Ends, settled_ends}
-use Rattle.seize_model.proofs.Simulation.Beginnings.{begin_leave, give_step, in_use, in_machine, near_rested, JobEnds, JobRun, job_run, job_list, names_none, run_of, outcome_of, job_outcome, no_events, no_list, OneEvent, one_of, one_event, one_list, run_unless, list_unless}
+use Rattle.seize_model.proofs.Simulation.Beginnings.{begin_leave, give_step, in_use, in_machine, near_rested, JobEnds, JobRun, job_run, job_list, names_none, run_of, outcome_of, job_outcome, no_events, no_list, OneEvent, one_of, one_event, one_list, run_unless, list_unless, Run}
 use Rattle.seize_model.proofs.Simulation.Jobs.{guard_of, active_head, at_idle, out_does, settled_nothing}
 
 -- An active slot has some other number of guards.
@@ -135,43 +136,45 @@ given_near of s o later answers d =
     (omega (arith, d.within, d.near.as_many, length-set d.base.slots s (record { used = true; batch = d.batch; call = None })))
     d.same_guards
 
-left_run : {T R : Type 0} (of : ℕ → T) (st : waiting.State T R) (before : State) (s : ℕ) (o : Outcome T R) → ((slot_at st s).guards == 1) ≡ true → JobRun of st.size s 0 job.TheVariants.Leave before o
-    → (owned : Bool) → is_owned (slot_at st s).kind ≡ owned → IsRun T R of (Leave s) st before (Done, freed_if owned s o)
-left_run {T} {R} of st before s o last run false is =
-    run_of of (Leave s) st before st.size s 0 job.TheVariants.Leave Done o refl run
-    (subst (λ (b : Bool). Where b (IsLeft s (is_owned (slot_at st s).kind)) run.events) (sym last) (subst (λ (b : Bool). IsLeft s b run.events) (sym is) (run.events, sym (append-nil run.events), run.makes))) (names_none {R = R} of (Leave s) run.events (λ e. tt)) refl
-left_run {T} {R} of st before s o last run true is =
+left_run : {T R X : Type 0} (puts : R → T → List T) (of : Naming T R X) (st : waiting.State T R) (before : State) (s : ℕ) (o : Outcome T R) → ((slot_at st s).guards == 1) ≡ true → JobRun puts of st.size s 0 job.TheVariants.Leave before o
+    → (owned : Bool) → is_owned (slot_at st s).kind ≡ owned → Run puts of (Leave s) st before (Done, freed_if owned s o)
+left_run {T} {R} puts of st before s o last run false is =
+    run_of puts of (Leave s) st before st.size s 0 job.TheVariants.Leave Done o refl run
+    (subst (λ (b : Bool). Where b (IsLeft s (is_owned (slot_at st s).kind)) run.events) (sym last) (subst (λ (b : Bool). IsLeft s b run.events) (sym is) (run.events, sym (append-nil run.events), run.makes))) (names_none {R = R} of.link (Leave s) run.events (λ e. tt)) tt refl
+left_run {T} {R} puts of st before s o last run true is =
     let end : State = record run.ends.base { slots = set run.ends.base.slots s (record { used = false; batch = run.ends.batch; call = None }) } in
     record {
       events = run.events ++ Give s ∷ [];
       answers = run.answers ++ DoneEvent ∷ [];
       later = record run.ends.base { slots = set run.ends.base.slots s (record { used = false; batch = run.ends.batch; call = None }) };
       makes = subst (λ (b : Bool). Where b (IsLeft s (is_owned (slot_at st s).kind)) (run.events ++ Give s ∷ [])) (sym last) (subst (λ (b : Bool). IsLeft s b (run.events ++ Give s ∷ [])) (sym is) (run.events, refl, run.makes));
-      names = names_none {R = R} of (Leave s) (run.events ++ Give s ∷ []) (λ e. tt);
+      names = names_none {R = R} of.link (Leave s) (run.events ++ Give s ∷ []) (λ e. tt);
+      starts = tt;
       legal = play_append st.size before run.later _ run.events (Give s ∷ []) run.answers (DoneEvent ∷ []) run.legal
-          (play_first st.size run.later (Give s) [] _ DoneEvent (gives_back (contents of) st.size s o run.later run.answers run.ends));
-      shows = shows_of of (freed o.0 s) _ (given_near (contents of) s o run.later run.answers run.ends);
-      gone = ap (λ (hs : List ℕ). map of hs) (handed_append run.answers (DoneEvent ∷ []) ∙ append-nil (handed run.answers)) ∙ run.ends.gone;
+          (play_first st.size run.later (Give s) [] _ DoneEvent (gives_back of st.size s o run.later run.answers run.ends));
+      near = given_near of s o run.later run.answers run.ends;
+      gone = ap (λ (hs : List ℕ). map of.name hs) (handed_append run.answers (DoneEvent ∷ []) ∙ append-nil (handed run.answers)) ∙ run.ends.gone;
       reply = refl;
+      put = put_append puts of st.size before run.later run.events (Give s ∷ []) run.answers (DoneEvent ∷ []) run.legal run.put (tt, tt);
     }
 
-pub leave_run : {T R : Type 0} (puts : R → T → List T) (weight : T → ℕ) → Lighter puts weight → (of : ℕ → T) (P : T × R → Type 0) → Names T R puts of P → (st : waiting.State T R) (before : State) (s : ℕ) → Holds T R P st → Shows T R of st before
-    → IsRun T R of (Leave s) st before (step puts weight st (Leave s))
-leave_run {T} {R} puts weight lighter of P names st before s holds shows =
-    run_unless of (Leave s) st before done None (no_guard st s) tt (freed_if (is_owned (slot_at st s).kind) s (settled puts weight s (left_by st s))) shows (λ e. go ((slot_at st s).guards == 1) refl (guard_of st s e))
+pub leave_run : {T R X : Type 0} (puts : R → T → List T) (weight : T → ℕ) → Lighter puts weight → (of : Naming T R X) (P : T × R → Type 0) → Names puts of P → (st : waiting.State T R) (before : State) (s : ℕ) → Holds T R P st → NearAt of [] st before
+    → Run puts of (Leave s) st before (step puts weight st (Leave s))
+leave_run {T} {R} puts weight lighter of P names st before s holds near =
+    run_unless puts of (Leave s) st before done None (no_guard st s) tt (freed_if (is_owned (slot_at st s).kind) s (settled puts weight s (left_by st s))) near (λ e. go ((slot_at st s).guards == 1) refl (guard_of st s e))
   where
-    parts : (is_free (slot_at st s).kind ≡ false) × (waiting.is_active (slot_at st s) ≡ true) → JobRun of st.size s 0 job.TheVariants.Leave before (settled puts weight s (part (set_guards st s 0) s))
+    parts : (is_free (slot_at st s).kind ≡ false) × (waiting.is_active (slot_at st s) ≡ true) → JobRun puts of st.size s 0 job.TheVariants.Leave before (settled puts weight s (part (set_guards st s 0) s))
     parts g =
-        let n : NearAt (contents of) [] st before = near_of of st before shows in
+        let n : NearAt of [] st before = near in
         let within : s < length st.slots = in_use st s g.0 in
-        job_run of st.size s 0 job.TheVariants.Leave before _ (settled puts weight s (part (set_guards st s 0) s)) (begins_leave (contents of) st before s n g.0 g.1)
-        (leave_ends puts weight lighter (contents of) P _ st before s _ (run_carried puts of P names st.size s _) holds (near_rested (contents of) st before s n g.0) (in_machine (contents of) st before s n within) within g.1 (Leads.stays _))
+        job_run puts of st.size s 0 job.TheVariants.Leave before _ (settled puts weight s (part (set_guards st s 0) s)) (begins_leave of st before s n g.0 g.1)
+        (leave_ends puts weight lighter of P _ st before s _ (run_carried puts of P names st.size s _) holds (near_rested of st before s n g.0) (in_machine of st before s n within) within g.1 (Leads.stays _))
 
     go : (t : Bool) → ((slot_at st s).guards == 1) ≡ t → (is_free (slot_at st s).kind ≡ false) × (waiting.is_active (slot_at st s) ≡ true)
-        → IsRun T R of (Leave s) st before (Done, freed_if (is_owned (slot_at st s).kind) s (settled puts weight s (if t then part (set_guards st s 0) s else (set_guards st s ((slot_at st s).guards - 1), []))))
-    go true e g = left_run of st before s (settled puts weight s (part (set_guards st s 0) s)) e (parts g) (is_owned (slot_at st s).kind) refl
-    go false e g = subst (λ (o : Outcome T R). IsRun T R of (Leave s) st before (Done, o)) (sym (stays_as puts weight st s e g (shows.slot s).owned))
-        (no_events of (Leave s) st before Done (set_guards st s ((slot_at st s).guards - 1)) (near_stays (contents of) st before s (near_of of st before shows) e g)
+        → Run puts of (Leave s) st before (Done, freed_if (is_owned (slot_at st s).kind) s (settled puts weight s (if t then part (set_guards st s 0) s else (set_guards st s ((slot_at st s).guards - 1), []))))
+    go true e g = left_run puts of st before s (settled puts weight s (part (set_guards st s 0) s)) e (parts g) (is_owned (slot_at st s).kind) refl
+    go false e g = subst (λ (o : Outcome T R). Run puts of (Leave s) st before (Done, o)) (sym (stays_as puts weight st s e g (near.slot s).owned))
+        (no_events puts of (Leave s) st before Done (set_guards st s ((slot_at st s).guards - 1)) (near_stays of st before s (near) e g)
         (subst (λ (b : Bool). Where b (IsLeft s (is_owned (slot_at st s).kind)) []) (sym e) refl) refl)
 
 left_list : {T R : Type 0} (puts : R → T → List T) (of : ℕ → T) (by : ℕ → R) (st : waiting.State T R) (before : State) (s : ℕ) (o : Outcome T R)
@@ -268,19 +271,19 @@ near_first : {T R X : Type 0} (of : Naming T R X) (st : waiting.State T R) (ms :
     → NearAt of [] (set_guards st s ((slot_at st s).guards + 1)) (set_head ms s (Active []))
 near_first of st ms s n e g = near_entered of st ms s ((slot_at st s).guards + 1) n g.0 e (omega arith) (λ f. absurd (let c : true ≡ false = sym f ∙ g.1 in cc))
 
-pub enter_run : {T R : Type 0} (puts : R → T → List T) (weight : T → ℕ) (of : ℕ → T) (st : waiting.State T R) (before : State) (s : ℕ) → Shows T R of st before
-    → IsRun T R of (Enter s) st before (step puts weight st (Enter s))
-enter_run {T} {R} puts weight of st before s shows =
-    run_unless of (Enter s) st before done None (first (not_registered st s) (too_many st s)) tt (set_guards st s ((slot_at st s).guards + 1), []) shows (λ e. go (waiting.is_active (slot_at st s)) refl (registered_of st s (first_none _ _ e)))
+pub enter_run : {T R X : Type 0} (puts : R → T → List T) (weight : T → ℕ) (of : Naming T R X) (st : waiting.State T R) (before : State) (s : ℕ) → NearAt of [] st before
+    → Run puts of (Enter s) st before (step puts weight st (Enter s))
+enter_run {T} {R} puts weight of st before s near =
+    run_unless puts of (Enter s) st before done None (first (not_registered st s) (too_many st s)) tt (set_guards st s ((slot_at st s).guards + 1), []) near (λ e. go (waiting.is_active (slot_at st s)) refl (registered_of st s (first_none _ _ e)))
   where
     go : (t : Bool) → waiting.is_active (slot_at st s) ≡ t → (is_free (slot_at st s).kind ≡ false) × (is_owned (slot_at st s).kind ≡ false)
-        → IsRun T R of (Enter s) st before (Done, (set_guards st s ((slot_at st s).guards + 1), []))
-    go true e g = no_events of (Enter s) st before Done (set_guards st s ((slot_at st s).guards + 1)) (near_more (contents of) st before s (near_of of st before shows) e g)
+        → Run puts of (Enter s) st before (Done, (set_guards st s ((slot_at st s).guards + 1), []))
+    go true e g = no_events puts of (Enter s) st before Done (set_guards st s ((slot_at st s).guards + 1)) (near_more of st before s (near) e g)
         (sym (ap (λ (b : Bool). if b then [] else EnterHead s ∷ []) e)) refl
     go false e g =
-        let n : NearAt (contents of) [] st before = near_of of st before shows in
-        one_event of (Enter s) st before _ (EnterHead s) DoneEvent Done (set_guards st s ((slot_at st s).guards + 1)) (enter_step (contents of) st.size st before s n g.0 e)
-        (near_first (contents of) st before s n e g) (sym (ap (λ (b : Bool). if b then [] else EnterHead s ∷ []) e)) tt refl refl
+        let n : NearAt of [] st before = near in
+        one_event puts of (Enter s) st before _ (EnterHead s) DoneEvent Done (set_guards st s ((slot_at st s).guards + 1)) (enter_step of st.size st before s n g.0 e)
+        (near_first of st before s n e g) (sym (ap (λ (b : Bool). if b then [] else EnterHead s ∷ []) e)) tt tt refl refl
 
 pub enter_list : {T R : Type 0} (puts : R → T → List T) (weight : T → ℕ) (of : ℕ → T) (by : ℕ → R) (st : waiting.State T R) (before : State) (s : ℕ) → NearAt (with_reclaimers of by) [] st before
     → EachList puts of by (Enter s) st before (step puts weight st (Enter s))

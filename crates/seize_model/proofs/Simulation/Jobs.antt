@@ -16,11 +16,12 @@ use Rattle.seize_model.specs.Waiting.Attempt.{attempt, gives_up, active_slots, r
 use Rattle.seize_model.specs.Waiting.Further.{settled, settle, still_to_come, Lighter}
 use Rattle.seize_model.specs.Waiting.Calls.{first, no_guard, unused, is_free, is_owned, refreshed}
 use Rattle.seize_model.specs.Waiting.Lists.{Flush, Retire, Refresh, Done, done, step}
-use Rattle.seize_model.specs.Agreement.Shows.{Shows, head_of}
-use Rattle.seize_model.specs.Agreement.Play.{play, handed}
+use Rattle.seize_model.specs.Agreement.Shows.{head_of}
+use Rattle.seize_model.specs.Agreement.Play.{play}
+use Rattle.seize_machine.specs.Machine.History.{handed}
 use Rattle.seize_model.specs.Agreement.Events.{IsJob, Where, NamesOwn, RetiresWith, ArePutBy}
-use Rattle.seize_model.specs.Agreement.Statement.{IsRun, IsOutcome, EachList}
-use Rattle.seize_model.proofs.Simulation.Views.{contents, with_reclaimers, near_of}
+use Rattle.seize_model.specs.Agreement.Statement.{IsOutcome, EachList}
+use Rattle.seize_model.proofs.Simulation.Views.{with_reclaimers}
 use Rattle.seize_model.proofs.Simulation.Paths.{Carried}
 use Rattle.seize_model.proofs.Simulation.Determinism.{only_append, only_out}
 use Rattle.seize_model.proofs.Simulation.Runs.{Leads, run_carried}
@@ -31,7 +32,7 @@ use Rattle.seize_model.proofs.Simulation.Names.{Names, Holds, holds_always, hold
 use Rattle.seize_model.proofs.Simulation.Work.{Does, nothing_done, attempt_does, own_slot, in_slots}
 use Rattle.seize_model.proofs.Simulation.Walks.{walk_does, after_put}
 use Rattle.seize_model.proofs.Simulation.Queues.{Ends, settled_ends}
-use Rattle.seize_model.proofs.Simulation.Beginnings.{begin_flush, begin_refresh, begin_retire, in_use, in_machine, is_rested, near_rested, head_is, head_active, JobEnds, JobRun, job_run, job_list, names_none, run_of, job_outcome, no_events, no_list, run_unless, list_unless}
+use Rattle.seize_model.proofs.Simulation.Beginnings.{begin_flush, begin_refresh, begin_retire, in_use, in_machine, is_rested, near_rested, head_is, head_active, JobEnds, JobRun, job_run, job_list, names_none, run_of, job_outcome, no_events, no_list, run_unless, list_unless, Run, StartsFor}
 use Rattle.seize_model.proofs.Simulation.Plays.{First, first_of}
 
 -- a call that isn't refused has its slot in use, and a guard
@@ -90,16 +91,16 @@ begins_flush : {T R X : Type 0} (of : Naming T R X) (st : waiting.State T R) (be
 begins_flush of st before s n used active =
     at_idle of st before st.size s (Begin s job.TheVariants.Flush) _ n used (begin_flush st.size before s _ (in_machine of st before s n (in_use st s used)) (active_head of st before s true n active))
 
-pub flush_run : {T R : Type 0} (puts : R → T → List T) (weight : T → ℕ) → Lighter puts weight → (of : ℕ → T) (P : T × R → Type 0) → Names T R puts of P → (st : waiting.State T R) (before : State) (s : ℕ) → Holds T R P st → Shows T R of st before
-    → IsRun T R of (Flush s) st before (step puts weight st (Flush s))
-flush_run {T} {R} puts weight lighter of P names st before s holds shows =
-    run_unless of (Flush s) st before done None (no_guard st s) tt (settled puts weight s (attempt st s)) shows (λ e.
-    let n : NearAt (contents of) [] st before = near_of of st before shows in
+pub flush_run : {T R X : Type 0} (puts : R → T → List T) (weight : T → ℕ) → Lighter puts weight → (of : Naming T R X) (P : T × R → Type 0) → Names puts of P → (st : waiting.State T R) (before : State) (s : ℕ) → Holds T R P st → NearAt of [] st before
+    → Run puts of (Flush s) st before (step puts weight st (Flush s))
+flush_run {T} {R} puts weight lighter of P names st before s holds near =
+    run_unless puts of (Flush s) st before done None (no_guard st s) tt (settled puts weight s (attempt st s)) near (λ e.
+    let n : NearAt of [] st before = near in
     let g : (is_free (slot_at st s).kind ≡ false) × (waiting.is_active (slot_at st s) ≡ true) = guard_of st s e in
-    let run : JobRun of st.size s (slot_at st s).guards job.TheVariants.Flush before (settled puts weight s (attempt st s))
-    = job_run of st.size s (slot_at st s).guards job.TheVariants.Flush before _ (settled puts weight s (attempt st s)) (begins_flush (contents of) st before s n g.0 g.1)
-    (flush_ends puts weight lighter (contents of) P _ st before s _ (run_carried puts of P names st.size s _) holds (near_rested (contents of) st before s n g.0) (in_machine (contents of) st before s n (in_use st s g.0)) (Leads.stays _)) in
-    run_of of (Flush s) st before st.size s (slot_at st s).guards job.TheVariants.Flush Done (settled puts weight s (attempt st s)) refl run run.makes (names_none {R = R} of (Flush s) run.events (λ e. tt)) refl)
+    let run : JobRun puts of st.size s (slot_at st s).guards job.TheVariants.Flush before (settled puts weight s (attempt st s))
+    = job_run puts of st.size s (slot_at st s).guards job.TheVariants.Flush before _ (settled puts weight s (attempt st s)) (begins_flush of st before s n g.0 g.1)
+    (flush_ends puts weight lighter of P _ st before s _ (run_carried puts of P names st.size s _) holds (near_rested of st before s n g.0) (in_machine of st before s n (in_use st s g.0)) (Leads.stays _)) in
+    run_of puts of (Flush s) st before st.size s (slot_at st s).guards job.TheVariants.Flush Done (settled puts weight s (attempt st s)) refl run run.makes (names_none {R = R} of.link (Flush s) run.events (λ e. tt)) tt refl)
 
 pub flush_list : {T R : Type 0} (puts : R → T → List T) (weight : T → ℕ) → Lighter puts weight → (of : ℕ → T) (by : ℕ → R) (st : waiting.State T R) (before : State) (s : ℕ) → NearAt (with_reclaimers of by) [] st before
     → EachList puts of by (Flush s) st before (step puts weight st (Flush s))
@@ -126,21 +127,24 @@ begins_retire : {T R X : Type 0} (of : Naming T R X) (st : waiting.State T R) (b
 begins_retire of st before s n near used free =
     at_idle of st before st.size s (Begin s (job.TheVariants.Retire n)) _ near used (begin_retire st.size before s n _ (in_machine of st before s near (in_use st s used)) free)
 
-pub retire_job : {T R : Type 0} (puts : R → T → List T) (weight : T → ℕ) → Lighter puts weight → (of : ℕ → T) (P : T × R → Type 0) → Names T R puts of P → (st : waiting.State T R) (before : State) (s n : ℕ) (v : T × R) → Holds T R P st → P v → NearAt (contents of) [] st before → is_free (slot_at st s).kind ≡ false
-    → (not (has n before.named) || has n before.loose) ≡ true → of n ≡ v.0
-    → JobRun of st.size s (slot_at st s).guards (job.TheVariants.Retire n) before (settled puts weight s (put st s v))
+pub retire_job : {T R X : Type 0} (puts : R → T → List T) (weight : T → ℕ) → Lighter puts weight → (of : Naming T R X) (P : T × R → Type 0) → Names puts of P → (st : waiting.State T R) (before : State) (s n : ℕ) (v : T × R) → Holds T R P st → P v → NearAt of [] st before → is_free (slot_at st s).kind ≡ false
+    → (not (has n before.named) || has n before.loose) ≡ true → of.name n ≡ of.view v
+    → JobRun puts of st.size s (slot_at st s).guards (job.TheVariants.Retire n) before (settled puts weight s (put st s v))
 retire_job puts weight lighter of P names st before s n v holds own near used free stands =
-    job_run of st.size s (slot_at st s).guards (job.TheVariants.Retire n) before _ (settled puts weight s (put st s v)) (begins_retire (contents of) st before s n near used free)
-    (retire_ends puts weight lighter (contents of) P _ st before s n v _ (run_carried puts of P names st.size s _) holds own (near_rested (contents of) st before s near used) (in_machine (contents of) st before s near (in_use st s used)) stands (Leads.stays _))
+    job_run puts of st.size s (slot_at st s).guards (job.TheVariants.Retire n) before _ (settled puts weight s (put st s v)) (begins_retire of st before s n near used free)
+    (retire_ends puts weight lighter of P _ st before s n v _ (run_carried puts of P names st.size s _) holds own (near_rested of st before s near used) (in_machine of st before s near (in_use st s used)) stands (Leads.stays _))
 
-pub retire_run : {T R : Type 0} (puts : R → T → List T) (weight : T → ℕ) → Lighter puts weight → (of : ℕ → T) (P : T × R → Type 0) → Names T R puts of P → (st : waiting.State T R) (before : State) (s : ℕ) (v : T) (r : R) → Holds T R P st → P (v, r) → Shows T R of st before
-    → IsRun T R of (Retire s v r) st before (step puts weight st (Retire s v r))
-retire_run {T} {R} puts weight lighter of P names st before s v r holds own shows =
-    run_unless of (Retire s v r) st before done (Some v) (unused st s) tt (settled puts weight s (put st s (v, r))) shows (λ e.
-    let name : (n : ℕ) × (has n before.named ≡ false) × (of n ≡ v) = names.number (v, r) own before.named in
-    let run : JobRun of st.size s (slot_at st s).guards (job.TheVariants.Retire name.0) before (settled puts weight s (put st s (v, r)))
-    = retire_job puts weight lighter of P names st before s name.0 (v, r) holds own (near_of of st before shows) (used_of st s e) (ap (λ (t : Bool). not t || has name.0 before.loose) name.1) name.2 in
-    run_of of (Retire s v r) st before st.size s (slot_at st s).guards (job.TheVariants.Retire name.0) Done (settled puts weight s (put st s (v, r))) refl run (name.0, run.makes) (subst (λ (l : List Event). NamesOwn of (Retire s v r) l) (sym run.makes.1) name.2) refl)
+pub retire_run : {T R X : Type 0} (puts : R → T → List T) (weight : T → ℕ) → Lighter puts weight → (of : Naming T R X) (P : T × R → Type 0) → Names puts of P → (st : waiting.State T R) (before : State) (s : ℕ) (v : T) (r : R) → Holds T R P st → P (v, r) → NearAt of [] st before
+    → Run puts of (Retire s v r) st before (step puts weight st (Retire s v r))
+retire_run {T} {R} puts weight lighter of P names st before s v r holds own near =
+    run_unless puts of (Retire s v r) st before done (Some v) (unused st s) tt (settled puts weight s (put st s (v, r))) near (λ e.
+    let name : (n : ℕ) × (has n before.named ≡ false) × (of.name n ≡ of.view (v, r)) = names.number (v, r) own before.named in
+    let held : of.link name.0 ≡ v = names.link name.0 (v, r) name.2 in
+    let run : JobRun puts of st.size s (slot_at st s).guards (job.TheVariants.Retire name.0) before (settled puts weight s (put st s (v, r)))
+    = retire_job puts weight lighter of P names st before s name.0 (v, r) holds own near (used_of st s e) (ap (λ (t : Bool). not t || has name.0 before.loose) name.1) name.2 in
+    run_of puts of (Retire s v r) st before st.size s (slot_at st s).guards (job.TheVariants.Retire name.0) Done (settled puts weight s (put st s (v, r))) refl run (name.0, run.makes)
+    (subst (λ (l : List Event). NamesOwn of.link (Retire s v r) l) (sym run.makes.1) held)
+    (subst (λ (l : List Event). StartsFor of (Retire s v r) l) (sym run.makes.1) (name.2 ∙ ap (λ (x : T). of.view (x, r)) (sym held))) refl)
 
 -- each list of the job that retires number n
 pub retire_job_list : {T R : Type 0} (puts : R → T → List T) (weight : T → ℕ) → Lighter puts weight → (of : ℕ → T) (by : ℕ → R) (st : waiting.State T R) (before : State) (s n : ℕ) (v : T) (r : R) (events : List Event) (answers : List Answer) (later : State) → NearAt (with_reclaimers of by) [] st before
@@ -209,26 +213,26 @@ begins_refresh : {T R X : Type 0} (of : Naming T R X) (st : waiting.State T R) (
 begins_refresh of st before s n used active =
     at_idle of st before st.size s (Begin s job.TheVariants.Refresh) _ n used (begin_refresh st.size before s _ (in_machine of st before s n (in_use st s used)) (active_head of st before s true n active))
 
-pub refresh_run : {T R : Type 0} (puts : R → T → List T) (weight : T → ℕ) → Lighter puts weight → (of : ℕ → T) (P : T × R → Type 0) → Names T R puts of P → (st : waiting.State T R) (before : State) (s : ℕ) → Holds T R P st → Shows T R of st before
-    → IsRun T R of (Refresh s) st before (step puts weight st (Refresh s))
-refresh_run {T} {R} puts weight lighter of P names st before s holds shows =
-    run_unless of (Refresh s) st before done None (no_guard st s) tt (settled puts weight s (refreshed st s)) shows (λ e. go (is_owned (slot_at st s).kind || ((slot_at st s).guards == 1)) refl (guard_of st s e))
+pub refresh_run : {T R X : Type 0} (puts : R → T → List T) (weight : T → ℕ) → Lighter puts weight → (of : Naming T R X) (P : T × R → Type 0) → Names puts of P → (st : waiting.State T R) (before : State) (s : ℕ) → Holds T R P st → NearAt of [] st before
+    → Run puts of (Refresh s) st before (step puts weight st (Refresh s))
+refresh_run {T} {R} puts weight lighter of P names st before s holds near =
+    run_unless puts of (Refresh s) st before done None (no_guard st s) tt (settled puts weight s (refreshed st s)) near (λ e. go (is_owned (slot_at st s).kind || ((slot_at st s).guards == 1)) refl (guard_of st s e))
   where
-    n : NearAt (contents of) [] st before
-    n = near_of of st before shows
+    n : NearAt of [] st before
+    n = near
 
-    parts : (is_free (slot_at st s).kind ≡ false) × (waiting.is_active (slot_at st s) ≡ true) → JobRun of st.size s (slot_at st s).guards job.TheVariants.Refresh before (settled puts weight s (part st s))
+    parts : (is_free (slot_at st s).kind ≡ false) × (waiting.is_active (slot_at st s) ≡ true) → JobRun puts of st.size s (slot_at st s).guards job.TheVariants.Refresh before (settled puts weight s (part st s))
     parts g =
-        job_run of st.size s (slot_at st s).guards job.TheVariants.Refresh before _ (settled puts weight s (part st s)) (begins_refresh (contents of) st before s (near_of of st before shows) g.0 g.1)
-        (refresh_ends puts weight lighter (contents of) P _ st before s _ (run_carried puts of P names st.size s _) holds (near_rested (contents of) st before s (near_of of st before shows) g.0) (in_machine (contents of) st before s (near_of of st before shows) (in_use st s g.0)) g.1 (Leads.stays _))
+        job_run puts of st.size s (slot_at st s).guards job.TheVariants.Refresh before _ (settled puts weight s (part st s)) (begins_refresh of st before s (near) g.0 g.1)
+        (refresh_ends puts weight lighter of P _ st before s _ (run_carried puts of P names st.size s _) holds (near_rested of st before s (near) g.0) (in_machine of st before s (near) (in_use st s g.0)) g.1 (Leads.stays _))
 
-    go : (t : Bool) → (is_owned (slot_at st s).kind || ((slot_at st s).guards == 1)) ≡ t → (is_free (slot_at st s).kind ≡ false) × (waiting.is_active (slot_at st s) ≡ true) → IsRun T R of (Refresh s) st before (Done, settled puts weight s (if t then part st s else (st, [])))
+    go : (t : Bool) → (is_owned (slot_at st s).kind || ((slot_at st s).guards == 1)) ≡ t → (is_free (slot_at st s).kind ≡ false) × (waiting.is_active (slot_at st s) ≡ true) → Run puts of (Refresh s) st before (Done, settled puts weight s (if t then part st s else (st, [])))
     go true is g =
-        let run : JobRun of st.size s (slot_at st s).guards job.TheVariants.Refresh before (settled puts weight s (part st s)) = parts g in
-        run_of of (Refresh s) st before st.size s (slot_at st s).guards job.TheVariants.Refresh Done (settled puts weight s (part st s)) refl run
-        (subst (λ (b : Bool). Where b (IsJob s job.TheVariants.Refresh) run.events) (sym is) run.makes) (names_none {R = R} of (Refresh s) run.events (λ e. tt)) refl
-    go false is g = subst (λ o. IsRun T R of (Refresh s) st before (Done, o)) (sym (settled_nothing puts weight st s))
-        (no_events of (Refresh s) st before Done st (near_of of st before shows) (subst (λ (b : Bool). Where b (IsJob s job.TheVariants.Refresh) []) (sym is) refl) refl)
+        let run : JobRun puts of st.size s (slot_at st s).guards job.TheVariants.Refresh before (settled puts weight s (part st s)) = parts g in
+        run_of puts of (Refresh s) st before st.size s (slot_at st s).guards job.TheVariants.Refresh Done (settled puts weight s (part st s)) refl run
+        (subst (λ (b : Bool). Where b (IsJob s job.TheVariants.Refresh) run.events) (sym is) run.makes) (names_none {R = R} of.link (Refresh s) run.events (λ e. tt)) tt refl
+    go false is g = subst (λ o. Run puts of (Refresh s) st before (Done, o)) (sym (settled_nothing puts weight st s))
+        (no_events puts of (Refresh s) st before Done st (near) (subst (λ (b : Bool). Where b (IsJob s job.TheVariants.Refresh) []) (sym is) refl) refl)
 
 pub refresh_list : {T R : Type 0} (puts : R → T → List T) (weight : T → ℕ) → Lighter puts weight → (of : ℕ → T) (by : ℕ → R) (st : waiting.State T R) (before : State) (s : ℕ) → NearAt (with_reclaimers of by) [] st before
     → EachList puts of by (Refresh s) st before (step puts weight st (Refresh s))

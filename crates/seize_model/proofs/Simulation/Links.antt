@@ -20,16 +20,17 @@ use Rattle.seize_model.specs.Waiting.Attempt.{put}
 use Rattle.seize_model.specs.Waiting.Further.{settled, Lighter}
 use Rattle.seize_model.specs.Waiting.Calls.{no_guard, not_registered, unless, is_free, link_at, freed}
 use Rattle.seize_model.specs.Waiting.Lists.{End, Protect, Swap, Reply, Done, Kept, Found, Refused, done, ended, reply, swapped, step}
-use Rattle.seize_model.specs.Agreement.Shows.{held, Shows}
-use Rattle.seize_model.specs.Agreement.Play.{play, played, handed}
+use Rattle.seize_model.specs.Agreement.Shows.{held}
+use Rattle.seize_model.specs.Agreement.Play.{play, played}
+use Rattle.seize_machine.specs.Machine.History.{handed}
 use Rattle.seize_model.specs.Agreement.Events.{Makes, MakesFor, NamesOwn, IsRetiredFrom, RetiresWith, ArePutBy}
-use Rattle.seize_model.specs.Agreement.Statement.{IsRun, IsOutcome, EachList}
-use Rattle.seize_model.proofs.Simulation.Views.{contents, with_reclaimers, near_of, shows_of}
+use Rattle.seize_model.specs.Agreement.Statement.{IsOutcome, EachList}
+use Rattle.seize_model.proofs.Simulation.Views.{with_reclaimers}
 use Rattle.seize_model.proofs.Simulation.Plays.{play_first, both_same, First, first_of}
 use Rattle.seize_model.proofs.Simulation.Events.{if_yes, lt_yes}
 use Rattle.seize_model.proofs.Simulation.Coupling.{NearAt, Naming}
 use Rattle.seize_model.proofs.Simulation.Names.{Names, Holds}
-use Rattle.seize_model.proofs.Simulation.Beginnings.{give_step, in_use, in_machine, near_rested, JobEnds, JobRun, outcome_of, no_events, no_list, one_event, one_list, run_unless, list_unless}
+use Rattle.seize_model.proofs.Simulation.Beginnings.{give_step, in_use, in_machine, near_rested, JobEnds, JobRun, outcome_of, no_events, no_list, one_event, one_list, run_unless, list_unless, Run, StartsFor}
 use Rattle.seize_model.proofs.Simulation.Jobs.{guard_of, active_head, at_idle, retire_job, retire_job_list}
 use Rattle.seize_model.proofs.Simulation.Guards.{registered_of, near_freed}
 
@@ -48,18 +49,18 @@ end_near of st before s n used e =
     let within : s < length st.slots = in_use st s used in
     near_freed of st before s (machine.slot_at before s).batch (near_rested of st before s n used) (in_machine of st before s n within) within (no_guards (slot_at st s).guards e)
 
-pub end_run : {T R : Type 0} (puts : R → T → List T) (weight : T → ℕ) (of : ℕ → T) (st : waiting.State T R) (before : State) (s : ℕ) → Shows T R of st before
-    → IsRun T R of (End s) st before (step puts weight st (End s))
-end_run {T} {R} puts weight of st before s shows = go (waiting.is_active (slot_at st s)) refl
+pub end_run : {T R X : Type 0} (puts : R → T → List T) (weight : T → ℕ) (of : Naming T R X) (st : waiting.State T R) (before : State) (s : ℕ) → NearAt of [] st before
+    → Run puts of (End s) st before (step puts weight st (End s))
+end_run {T} {R} puts weight of st before s near = go (waiting.is_active (slot_at st s)) refl
   where
-    go : (t : Bool) → waiting.is_active (slot_at st s) ≡ t → IsRun T R of (End s) st before (reply ended None (unless (not_registered st s) st (if t then (Ok false, (st, [])) else (Ok true, (freed st s, [])))))
-    go true e = run_unless of (End s) st before ended None (not_registered st s) false (st, []) shows (λ f.
-        no_events of (End s) st before Kept st (near_of of st before shows) (sym (ap (λ (b : Bool). if b then [] else Give s ∷ []) e)) refl)
-    go false e = run_unless of (End s) st before ended None (not_registered st s) true (freed st s, []) shows (λ f.
-        let n : NearAt (contents of) [] st before = near_of of st before shows in
+    go : (t : Bool) → waiting.is_active (slot_at st s) ≡ t → Run puts of (End s) st before (reply ended None (unless (not_registered st s) st (if t then (Ok false, (st, [])) else (Ok true, (freed st s, [])))))
+    go true e = run_unless puts of (End s) st before ended None (not_registered st s) false (st, []) near (λ f.
+        no_events puts of (End s) st before Kept st (near) (sym (ap (λ (b : Bool). if b then [] else Give s ∷ []) e)) refl)
+    go false e = run_unless puts of (End s) st before ended None (not_registered st s) true (freed st s, []) near (λ f.
+        let n : NearAt of [] st before = near in
         let used : is_free (slot_at st s).kind ≡ false = (registered_of st s f).0 in
-        one_event of (End s) st before _ (Give s) DoneEvent Done (freed st s) (end_step (contents of) st before s n used e) (end_near (contents of) st before s n used e)
-        (sym (ap (λ (b : Bool). if b then [] else Give s ∷ []) e)) tt refl refl)
+        one_event puts of (End s) st before _ (Give s) DoneEvent Done (freed st s) (end_step of st before s n used e) (end_near of st before s n used e)
+        (sym (ap (λ (b : Bool). if b then [] else Give s ∷ []) e)) tt tt refl refl)
 
 pub end_list : {T R : Type 0} (puts : R → T → List T) (weight : T → ℕ) (of : ℕ → T) (by : ℕ → R) (st : waiting.State T R) (before : State) (s : ℕ) → NearAt (with_reclaimers of by) [] st before
     → EachList puts of by (End s) st before (step puts weight st (End s))
@@ -93,13 +94,13 @@ found_both of (Some v) = refl
 found_reply : {T R X : Type 0} (of : Naming T R X) (st : waiting.State T R) (before : State) (l : ℕ) → NearAt of [] st before → ◌≡◌ {A = Reply T} (Found (is_some (link_at st l))) (Found (is_some (machine.link_at before l)))
 found_reply {T} {R} of st before l n = ap {B = Reply T} (λ (x : Option T). Found (is_some x)) (same_link of st before l n) ∙ ap {B = Reply T} (λ (b : Bool). Found b) (found_both of.link (machine.link_at before l))
 
-pub protect_run : {T R : Type 0} (puts : R → T → List T) (weight : T → ℕ) (of : ℕ → T) (st : waiting.State T R) (before : State) (s l : ℕ) → l < length st.links → Shows T R of st before
-    → IsRun T R of (Protect s l) st before (step puts weight st (Protect s l))
-protect_run {T} {R} puts weight of st before s l h shows =
-    run_unless of (Protect s l) st before (λ found. Found (is_some found)) None (no_guard st s) (link_at st l) (st, []) shows (λ e.
-    let n : NearAt (contents of) [] st before = near_of of st before shows in
-    one_event of (Protect s l) st before before (ReadLink s l) (Link (machine.link_at before l)) (Found (is_some (link_at st l))) st
-    (reads (contents of) st before s l n (guard_of st s e).1 h) n refl tt refl (found_reply (contents of) st before l n))
+pub protect_run : {T R X : Type 0} (puts : R → T → List T) (weight : T → ℕ) (of : Naming T R X) (st : waiting.State T R) (before : State) (s l : ℕ) → l < length st.links → NearAt of [] st before
+    → Run puts of (Protect s l) st before (step puts weight st (Protect s l))
+protect_run {T} {R} puts weight of st before s l h near =
+    run_unless puts of (Protect s l) st before (λ found. Found (is_some found)) None (no_guard st s) (link_at st l) (st, []) near (λ e.
+    let n : NearAt of [] st before = near in
+    one_event puts of (Protect s l) st before before (ReadLink s l) (Link (machine.link_at before l)) (Found (is_some (link_at st l))) st
+    (reads of st before s l n (guard_of st s e).1 h) n refl tt tt refl (found_reply of st before l n))
 
 pub protect_list : {T R : Type 0} (puts : R → T → List T) (weight : T → ℕ) (of : ℕ → T) (by : ℕ → R) (st : waiting.State T R) (before : State) (s l : ℕ) → l < length st.links → NearAt (with_reclaimers of by) [] st before
     → EachList puts of by (Protect s l) st before (step puts weight st (Protect s l))
@@ -109,11 +110,11 @@ protect_list {T} {R} puts weight of by st before s l h n =
     (reads (with_reclaimers of by) st before s l n (guard_of st s e).1 h) n makes legal refl (found_reply (with_reclaimers of by) st before l n))
 
 -- a fresh number for what a link is to hold
-new_number : {T R : Type 0} (puts : R → T → List T) (of : ℕ → T) (P : T × R → Type 0) → Names T R puts of P → (ms : State) (new : Option T) (r : R) → ((v : T) → new ≡ Some v → P (v, r)) → (n : Option ℕ) × (is_none_or_fresh ms n ≡ true) × (held of n ≡ new)
+new_number : {T R X : Type 0} (puts : R → T → List T) (of : Naming T R X) (P : T × R → Type 0) → Names puts of P → (ms : State) (new : Option T) (r : R) → ((v : T) → new ≡ Some v → P (v, r)) → (n : Option ℕ) × (is_none_or_fresh ms n ≡ true) × (held of.link n ≡ new)
 new_number puts of P names ms None r holds = (None, refl, refl)
 new_number {T} {R} puts of P names ms (Some v) r holds =
-    let name : (n : ℕ) × (has n ms.named ≡ false) × (of n ≡ v) = names.number (v, r) (holds v refl) ms.named in
-    (Some name.0, ap (λ (t : Bool). not t) name.1, ap (λ (x : T). Option.Some x) name.2)
+    let name : (n : ℕ) × (has n ms.named ≡ false) × (of.name n ≡ of.view (v, r)) = names.number (v, r) (holds v refl) ms.named in
+    (Some name.0, ap (λ (t : Bool). not t) name.1, ap {B = Option T} (λ (x : T). Some x) (names.link name.0 (v, r) name.2))
 
 has_last : (v : ℕ) (xs : List ℕ) → has v (xs ++ v ∷ []) ≡ true
 has_last v [] = grind arith
@@ -138,28 +139,30 @@ swapped_near of st before l number new n is = record {
   links_are = map-set (held of.link) before.links l number ∙ ap (λ k. set k l (held of.link number)) n.links_are ∙ ap (λ x. set st.links l x) is;
 }
 
-pub swap_run : {T R : Type 0} (puts : R → T → List T) (weight : T → ℕ) → Lighter puts weight → (of : ℕ → T) (P : T × R → Type 0) → Names T R puts of P → (st : waiting.State T R) (before : State) (s l : ℕ) (new : Option T) (r : R) → l < length st.links → Holds T R P st
-    → ((v : T) → new ≡ Some v → P (v, r)) → ((v : T) → link_at st l ≡ Some v → P (v, r)) → Shows T R of st before
-    → IsRun T R of (Swap s l new r) st before (step puts weight st (Swap s l new r))
-swap_run {T} {R} puts weight lighter of P names st before s l new r h holds new_holds old_holds shows = go (no_guard st s) refl
-  where
-    n : NearAt (contents of) [] st before
-    n = near_of of st before shows
+-- The number in a link is to be retired with this reclaimer.
+abbrev pub IsHeldFor : {T R X : Type 0} → Naming T R X → R → Option ℕ → Type 0
+IsHeldFor of r None = Unit {0}
+IsHeldFor of r (Some n) = of.name n ≡ of.view (of.link n, r)
 
-    after_swap : (found : Option ℕ) → machine.link_at before l ≡ found → (name : (n : Option ℕ) × (is_none_or_fresh before n ≡ true) × (held of n ≡ new)) → no_guard st s ≡ None
-        → IsRun T R of (Swap s l new r) st before (swapped puts weight s new r (Ok (held of found)) (record st { links = set st.links l new }, []))
-    after_swap None is name e =
-        one_event of (Swap s l new r) st before _ (ExchangeLink s l (SwapLink name.0)) (Link (machine.link_at before l)) Done (record st { links = set st.links l new })
-        (swaps (contents of) st before s l name.0 (near_of of st before shows) (guard_of st s e).1 h name.1) (swapped_near (contents of) st before l name.0 new (near_of of st before shows) name.2)
-        (name.0, [], refl, subst (λ (x : Option ℕ). IsRetiredFrom s x []) (sym is) refl) name.2 refl refl
-    after_swap (Some old) is name e =
+pub swap_run : {T R X : Type 0} (puts : R → T → List T) (weight : T → ℕ) → Lighter puts weight → (of : Naming T R X) (P : T × R → Type 0) → Names puts of P → (st : waiting.State T R) (before : State) (s l : ℕ) (new : Option T) (r : R) → l < length st.links → Holds T R P st
+    → ((v : T) → new ≡ Some v → P (v, r)) → ((v : T) → link_at st l ≡ Some v → P (v, r)) → IsHeldFor of r (machine.link_at before l) → NearAt of [] st before
+    → Run puts of (Swap s l new r) st before (step puts weight st (Swap s l new r))
+swap_run {T} {R} puts weight lighter of P names st before s l new r h holds new_holds old_holds held_for near = go (no_guard st s) refl
+  where
+    after_swap : (found : Option ℕ) → machine.link_at before l ≡ found → IsHeldFor of r found → (name : (n : Option ℕ) × (is_none_or_fresh before n ≡ true) × (held of.link n ≡ new)) → no_guard st s ≡ None
+        → Run puts of (Swap s l new r) st before (swapped puts weight s new r (Ok (held of.link found)) (record st { links = set st.links l new }, []))
+    after_swap None is own name e =
+        one_event puts of (Swap s l new r) st before _ (ExchangeLink s l (SwapLink name.0)) (Link (machine.link_at before l)) Done (record st { links = set st.links l new })
+        (swaps of st before s l name.0 near (guard_of st s e).1 h name.1) (swapped_near of st before l name.0 new near name.2)
+        (name.0, [], refl, subst (λ (x : Option ℕ). IsRetiredFrom s x []) (sym is) refl) name.2 tt refl refl
+    after_swap (Some old) is own name e =
         let used : is_free (slot_at st s).kind ≡ false = (guard_of st s e).0 in
         let loose : has old (link_swapped before l name.0).loose ≡ true = ap (λ (x : Option ℕ). has old (before.loose ++ option_to_list x)) is ∙ has_last old before.loose in
-        let run : JobRun of st.size s (slot_at st s).guards (job.TheVariants.Retire old) (link_swapped before l name.0) (settled puts weight s (put (record st { links = set st.links l new }) s (of old, r)))
-        = retire_job puts weight lighter of P names (record st { links = set st.links l new }) (link_swapped before l name.0) s old (of old, r)
-        (record { batches = holds.batches; retired = holds.retired }) (old_holds (of old) (same_link (contents of) st before l (near_of of st before shows) ∙ ap (held of) is))
-        (swapped_near (contents of) st before l name.0 new (near_of of st before shows) name.2) used (is_free_name (has old (link_swapped before l name.0).named) _ loose) refl in
-        subst (λ (x : Option Refusal). IsRun T R of (Swap s l new r) st before (reply done (Some (of old)) (unless x (record st { links = set st.links l new }) (Ok tt, settled puts weight s (put (record st { links = set st.links l new }) s (of old, r))))))
+        let run : JobRun puts of st.size s (slot_at st s).guards (job.TheVariants.Retire old) (link_swapped before l name.0) (settled puts weight s (put (record st { links = set st.links l new }) s (of.link old, r)))
+        = retire_job puts weight lighter of P names (record st { links = set st.links l new }) (link_swapped before l name.0) s old (of.link old, r)
+        (record { batches = holds.batches; retired = holds.retired }) (old_holds (of.link old) (same_link of st before l near ∙ ap (held of.link) is))
+        (swapped_near of st before l name.0 new near name.2) used (is_free_name (has old (link_swapped before l name.0).named) _ loose) own in
+        subst (λ (x : Option Refusal). Run puts of (Swap s l new r) st before (reply done (Some (of.link old)) (unless x (record st { links = set st.links l new }) (Ok tt, settled puts weight s (put (record st { links = set st.links l new }) s (of.link old, r))))))
         (sym (ap (λ (t : Bool). if t then Some NotInUse else None) used))
         (record {
           events = ExchangeLink s l (SwapLink name.0) ∷ run.events;
@@ -167,11 +170,13 @@ swap_run {T} {R} puts weight lighter of P names st before s l new r h holds new_
           later = run.later;
           makes = (name.0, run.events, refl, subst (λ (x : Option ℕ). IsRetiredFrom s x run.events) (sym is) run.makes);
           names = name.2;
-          legal = play_first st.size before (ExchangeLink s l (SwapLink name.0)) run.events _ _ (swaps (contents of) st before s l name.0 (near_of of st before shows) (guard_of st s e).1 h name.1)
+          starts = subst (λ (k : List Event). StartsFor of (Swap s l new r) (ExchangeLink s l (SwapLink name.0) ∷ k)) (sym run.makes.1) own;
+          legal = play_first st.size before (ExchangeLink s l (SwapLink name.0)) run.events _ _ (swaps of st before s l name.0 near (guard_of st s e).1 h name.1)
               ∙ ap (λ (o : Option (State × List Answer)). played (Link (machine.link_at before l)) o) run.legal;
-          shows = shows_of of _ run.later (subst (λ (k : State). NearAt (contents of) [] (settled puts weight s (put (record st { links = set st.links l new }) s (of old, r))).0 k) (sym run.ends.is) run.ends.near);
+          near = subst (λ (k : State). NearAt of [] (settled puts weight s (put (record st { links = set st.links l new }) s (of.link old, r))).0 k) (sym run.ends.is) run.ends.near;
           gone = run.ends.gone;
           reply = refl;
+          put = (tt, run.put);
         })
       where
         is_free_name : (a b : Bool) → b ≡ true → (not a || b) ≡ true
@@ -179,10 +184,10 @@ swap_run {T} {R} puts weight lighter of P names st before s l new r h holds new_
         is_free_name false b e = refl
 
     go : (refusal : Option Refusal) → no_guard st s ≡ refusal
-        → (let a = unless refusal st (Ok (link_at st l), (record st { links = set st.links l new }, [])) in IsRun T R of (Swap s l new r) st before (swapped puts weight s new r a.0 a.1))
-    go None e = subst (λ x. IsRun T R of (Swap s l new r) st before (swapped puts weight s new r (Ok x) (record st { links = set st.links l new }, []))) (sym (same_link (contents of) st before l (near_of of st before shows)))
-        (after_swap (machine.link_at before l) refl (new_number puts of P names before new r new_holds) e)
-    go (Some f) e = no_events of (Swap s l new r) st before (Refused f new) st (near_of of st before shows) refl refl
+        → (let a = unless refusal st (Ok (link_at st l), (record st { links = set st.links l new }, [])) in Run puts of (Swap s l new r) st before (swapped puts weight s new r a.0 a.1))
+    go None e = subst (λ x. Run puts of (Swap s l new r) st before (swapped puts weight s new r (Ok x) (record st { links = set st.links l new }, []))) (sym (same_link of st before l near))
+        (after_swap (machine.link_at before l) refl held_for (new_number puts of P names before new r new_holds) e)
+    go (Some f) e = no_events puts of (Swap s l new r) st before (Refused f new) st near refl refl
 
 pub swap_list : {T R : Type 0} (puts : R → T → List T) (weight : T → ℕ) → Lighter puts weight → (of : ℕ → T) (by : ℕ → R) (st : waiting.State T R) (before : State) (s l : ℕ) (new : Option T) (r : R) → l < length st.links → NearAt (with_reclaimers of by) [] st before
     → EachList puts of by (Swap s l new r) st before (step puts weight st (Swap s l new r))

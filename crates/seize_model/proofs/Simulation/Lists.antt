@@ -3,12 +3,12 @@ use Rattle.std.proofs.Common.{◌≡◌, ℕ, ◌<◌, true, false, List, [], �
 use Rattle.seize_machine.specs.Machine.State.{State, Rest}
 use Rattle.seize_machine.specs.Machine.Event.{Event, Hand, Return}
 use Rattle.seize_machine.specs.Machine.Next.{next, are_fresh}
-use Rattle.seize_machine.specs.Machine.History.{handed_value}
+use Rattle.seize_machine.specs.Machine.History.{handed_value, handed}
 use Rattle.seize_machine.specs.declared.machine.event.Answer.{Answer}
 use Rattle.seize_machine.specs.declared.machine.event.Answer.TheVariants.{Done, Handed}
 use Rattle.seize_model.specs.Waiting.Further.{put_by}
 use Rattle.seize_model.specs.Agreement.Shows.{StandFor}
-use Rattle.seize_model.specs.Agreement.Play.{play, handed}
+use Rattle.seize_model.specs.Agreement.Play.{play}
 use Rattle.seize_model.specs.Agreement.Events.{IsToReturn, is_return, IsPutBy, ArePutBy}
 use Rattle.seize_model.proofs.Simulation.Events.{busy, rested, with_gone, hand_step, return_step}
 use Rattle.seize_model.proofs.Simulation.Determinism.{Only, only_hand, only_return}

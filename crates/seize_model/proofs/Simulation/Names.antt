@@ -7,13 +7,16 @@ use Rattle.seize_machine.specs.Machine.State.{has}
 use Rattle.seize_model.specs.Waiting.State.{Slot, State, slot_at, retired_at, set_slot, no_slot, is_kept}
 use Rattle.seize_model.specs.Waiting.Attempt.{Outcome, release, release_all, wait_if_active, detached, gives_up, attempt, appended, put, part}
 use Rattle.seize_model.specs.Waiting.Further.{put_by, further}
-use Rattle.seize_model.proofs.Simulation.Detachment.{by_active}
 use Rattle.seize_model.proofs.Cases.{either}
+use Rattle.seize_model.proofs.Simulation.Coupling.{Naming}
+use Rattle.seize_model.proofs.WaitingSets.FurtherValues.{waits_batch}
 
--- Each value with the property has fresh numbers, and each that it puts has the property.
-pub record Names (T R : Type 0) (puts : R → T → List T) (of : ℕ → T) (P : T × R → Type 0) : Type 0 where
-  pub number : (v : T × R) → P v → (named : List ℕ) → (n : ℕ) × (has n named ≡ false) × (of n ≡ v.0)
+-- Each value with the property has fresh numbers, and each that it puts has the property. A number that stands for a value in a batch
+-- stands for it in a link.
+pub record Names {T R X : Type 0} (puts : R → T → List T) (of : Naming T R X) (P : T × R → Type 0) : Type 0 where
+  pub number : (v : T × R) → P v → (named : List ℕ) → (n : ℕ) × (has n named ≡ false) × (of.name n ≡ of.view v)
   pub closed : (v : T × R) → P v → AllByRecursion P (put_by puts v)
+  pub link : (n : ℕ) (v : T × R) → of.name n ≡ of.view v → of.link n ≡ v.0
 
 -- each value of the state has the property
 pub record Holds (T R : Type 0) (P : T × R → Type 0) (st : State T R) : Type 0 where
@@ -73,9 +76,6 @@ pub holds_release : {T R : Type 0} (P : T × R → Type 0) (st : State T R) (b :
 holds_release {T} {R} P st b h =
     either (λ (o : Outcome T R). HoldsAfter P o) (is_kept st b) _ _ (h, tt)
     (record { batches = h.batches; retired = λ i. at_set (λ (l : List (T × R)). AllByRecursion P l) st.retired b [] i [] tt (h.retired i) }, h.retired b)
-
-waits_batch : {T R : Type 0} (b : ℕ) (slot : Slot T R) → (wait_if_active b slot).batch ≡ slot.batch
-waits_batch b slot = by_active (λ x t. x.batch ≡ slot.batch) b slot (λ e. refl) (λ e. refl)
 
 -- a batch that was detached, and one that was detached and released
 holds_detached : {T R : Type 0} (P : T × R → Type 0) (st : State T R) (s : ℕ) → Holds T R P st → Holds T R P (detached st s)

@@ -11,7 +11,7 @@ use Rattle.seize_model.specs.Waiting.State.{slot_at, retired_at}
 use Rattle.seize_model.specs.Waiting.Calls.{link_at}
 use Rattle.seize_model.specs.Waiting.Lists.{Call, Register, EnterOwned, Enter, Leave, End, Refresh, Flush, Retire, Protect, Swap, step}
 use Rattle.seize_model.specs.Agreement.Shows.{Shows}
-use Rattle.seize_model.specs.Agreement.Play.{handed}
+use Rattle.seize_machine.specs.Machine.History.{handed}
 use Rattle.seize_model.specs.Agreement.Statement.{HasLink, IsRun, AreRuns, AgreementAnew}
 use Rattle.seize_model.proofs.WaitingSets.LinkCounts.{step_kept}
 use Rattle.seize_model.proofs.Simulation.Names.{Holds}

@@ -20,12 +20,13 @@ use Rattle.seize_model.specs.Waiting.State as waiting
 use Rattle.seize_model.specs.Waiting.State.{slot_at, set_slot, keeps}
 use Rattle.seize_model.specs.Waiting.Calls.{least_unused, taken, is_free, set_guards}
 use Rattle.seize_model.specs.Waiting.Lists.{Register, EnterOwned, Number, Refused, reply, step}
-use Rattle.seize_model.specs.Agreement.Shows.{Shows, head_of}
-use Rattle.seize_model.specs.Agreement.Play.{play, played, handed, number_taken}
-use Rattle.seize_model.specs.Agreement.Statement.{IsRun, EachList}
-use Rattle.seize_model.proofs.Simulation.Views.{contents, with_reclaimers, near_of, shows_of}
+use Rattle.seize_model.specs.Agreement.Shows.{head_of}
+use Rattle.seize_model.specs.Agreement.Play.{play, number_taken, played}
+use Rattle.seize_machine.specs.Machine.History.{handed}
+use Rattle.seize_model.specs.Agreement.Statement.{EachList}
+use Rattle.seize_model.proofs.Simulation.Views.{with_reclaimers}
 use Rattle.seize_model.proofs.Simulation.Plays.{play_first, both_same, First, first_of}
-use Rattle.seize_model.proofs.Simulation.Beginnings.{outcome_of, no_events, no_list, OneEvent, one_of, one_event, one_list}
+use Rattle.seize_model.proofs.Simulation.Beginnings.{outcome_of, no_events, no_list, OneEvent, one_of, one_event, one_list, Run}
 use Rattle.seize_model.proofs.Simulation.Events.{if_yes, same, set_twice}
 use Rattle.seize_model.proofs.Simulation.Attempts.{set_seam}
 use Rattle.seize_model.proofs.Simulation.Coupling.{NearAt, near_set, or_same, CoupledSlot, Naming}
@@ -159,17 +160,17 @@ taken_is_first : (size : ℕ) (ms later : State) (n : ℕ) (answer : Answer) →
 taken_is_first size ms later n answer h =
     eq_true n (first_free ms.slots) (and_true (n == first_free ms.slots) (nat_lt n (2 ^ 64 - 32)) (if_some ((n == first_free ms.slots) && nat_lt n (2 ^ 64 - 32)) _ _ h).0).0
 
-pub register_run : {T R : Type 0} (puts : R → T → List T) (weight : T → ℕ) (of : ℕ → T) (st : waiting.State T R) (before : State) → Shows T R of st before
-    → IsRun T R of Register st before (step puts weight st Register)
-register_run {T} {R} puts weight of st before shows = go (least_unused st.slots == 2 ^ 64 - 32) refl
+pub register_run : {T R X : Type 0} (puts : R → T → List T) (weight : T → ℕ) (of : Naming T R X) (st : waiting.State T R) (before : State) → NearAt of [] st before
+    → Run puts of Register st before (step puts weight st Register)
+register_run {T} {R} puts weight of st before near = go (least_unused st.slots == 2 ^ 64 - 32) refl
   where
     go : (t : Bool) → (least_unused st.slots == 2 ^ 64 - 32) ≡ t
-        → IsRun T R of Register st before (reply Number None (if t then (Err NoNumbers, (st, [])) else (Ok (least_unused st.slots), (taken st (least_unused st.slots) Registered 0, []))))
-    go true e = no_events of Register st before (Refused NoNumbers None) st (near_of of st before shows) refl refl
+        → Run puts of Register st before (reply Number None (if t then (Err NoNumbers, (st, [])) else (Ok (least_unused st.slots), (taken st (least_unused st.slots) Registered 0, []))))
+    go true e = no_events puts of Register st before (Refused NoNumbers None) st (near) refl refl
     go false e =
-        let n : NearAt (contents of) [] st before = near_of of st before shows in
-        one_event of Register st before _ (Take (least_unused st.slots)) DoneEvent (Number (least_unused st.slots)) (taken st (least_unused st.slots) Registered 0) (take_step (contents of) st.size st before n n.numbers e)
-        (near_taken (contents of) st before (least_unused st.slots) Registered (least_unused st.slots == length st.slots) n refl refl e refl) (least_unused st.slots, refl) tt refl refl
+        let n : NearAt of [] st before = near in
+        one_event puts of Register st before _ (Take (least_unused st.slots)) DoneEvent (Number (least_unused st.slots)) (taken st (least_unused st.slots) Registered 0) (take_step of st.size st before n n.numbers e)
+        (near_taken of st before (least_unused st.slots) Registered (least_unused st.slots == length st.slots) n refl refl e refl) (least_unused st.slots, refl) tt tt refl refl
 
 pub register_list : {T R : Type 0} (puts : R → T → List T) (weight : T → ℕ) (of : ℕ → T) (by : ℕ → R) (st : waiting.State T R) (before : State) → NearAt (with_reclaimers of by) [] st before
     → EachList puts of by Register st before (step puts weight st Register)
@@ -209,15 +210,15 @@ owned_near {T} {R} of st before n e =
     subst (λ (x : waiting.State T R). NearAt of [] x later) own.2
     (near_entered of (taken st (least_unused st.slots) Owned 0) (shown_if (least_unused st.slots == length st.slots) before (least_unused st.slots)) (least_unused st.slots) 1 (taken_near of st before n e) used off (omega arith) (λ f. omega arith))
 
-pub owned_run : {T R : Type 0} (puts : R → T → List T) (weight : T → ℕ) (of : ℕ → T) (st : waiting.State T R) (before : State) → Shows T R of st before
-    → IsRun T R of EnterOwned st before (step puts weight st EnterOwned)
-owned_run {T} {R} puts weight of st before shows = go (least_unused st.slots == 2 ^ 64 - 32) refl
+pub owned_run : {T R X : Type 0} (puts : R → T → List T) (weight : T → ℕ) (of : Naming T R X) (st : waiting.State T R) (before : State) → NearAt of [] st before
+    → Run puts of EnterOwned st before (step puts weight st EnterOwned)
+owned_run {T} {R} puts weight of st before near = go (least_unused st.slots == 2 ^ 64 - 32) refl
   where
     go : (t : Bool) → (least_unused st.slots == 2 ^ 64 - 32) ≡ t
-        → IsRun T R of EnterOwned st before (reply Number None (if t then (Err NoNumbers, (st, [])) else (Ok (least_unused st.slots), (taken st (least_unused st.slots) Owned 1, []))))
-    go true e = no_events of EnterOwned st before (Refused NoNumbers None) st (near_of of st before shows) refl refl
+        → Run puts of EnterOwned st before (reply Number None (if t then (Err NoNumbers, (st, [])) else (Ok (least_unused st.slots), (taken st (least_unused st.slots) Owned 1, []))))
+    go true e = no_events puts of EnterOwned st before (Refused NoNumbers None) st (near) refl refl
     go false e =
-        let n : NearAt (contents of) [] st before = near_of of st before shows in
+        let n : NearAt of [] st before = near in
         let middle : State = shown_if (least_unused st.slots == length st.slots) before (least_unused st.slots) in
         let later : State = set_head (shown_if (least_unused st.slots == length st.slots) before (least_unused st.slots)) (least_unused st.slots) (Active []) in
         record {
@@ -226,11 +227,13 @@ owned_run {T} {R} puts weight of st before shows = go (least_unused st.slots == 
           later = later;
           makes = (least_unused st.slots, refl);
           names = tt;
-          legal = play_first st.size before (Take (least_unused st.slots)) (EnterHead (least_unused st.slots) ∷ []) middle DoneEvent (take_step (contents of) st.size st before n n.numbers e)
-              ∙ ap (λ o. played DoneEvent o) (play_first st.size middle (EnterHead (least_unused st.slots)) [] later DoneEvent (owned_step (contents of) st before n e));
-          shows = shows_of of (taken st (least_unused st.slots) Owned 1) later (owned_near (contents of) st before n e);
+          starts = tt;
+          legal = play_first st.size before (Take (least_unused st.slots)) (EnterHead (least_unused st.slots) ∷ []) middle DoneEvent (take_step of st.size st before n n.numbers e)
+              ∙ ap (λ o. played DoneEvent o) (play_first st.size middle (EnterHead (least_unused st.slots)) [] later DoneEvent (owned_step of st before n e));
+          near = owned_near of st before n e;
           gone = refl;
           reply = refl;
+          put = (tt, (tt, tt));
         }
 
 pub owned_list : {T R : Type 0} (puts : R → T → List T) (weight : T → ℕ) (of : ℕ → T) (by : ℕ → R) (st : waiting.State T R) (before : State) → NearAt (with_reclaimers of by) [] st before

@@ -4,10 +4,10 @@ use Rattle.std.proofs.lemmas.List.Concat.{flat_map-cons}
 use Rattle.seize_machine.specs.Machine.State.{State}
 use Rattle.seize_machine.specs.Machine.Event.{Event}
 use Rattle.seize_machine.specs.Machine.Next.{next}
-use Rattle.seize_machine.specs.Machine.History.{handed_value}
+use Rattle.seize_machine.specs.Machine.History.{Timed, at_size, Legal, handed_value, handed}
 use Rattle.seize_machine.specs.declared.machine.event.Answer.{Answer}
-use Rattle.seize_machine.proofs.Facts.{some_is}
-use Rattle.seize_model.specs.Agreement.Play.{play, played, handed}
+use Rattle.seize_machine.proofs.Facts.{some_is, no_event, one_event, joined, first_event}
+use Rattle.seize_model.specs.Agreement.Play.{play, played, PlaysAreLegal}
 use Rattle.seize_model.specs.Agreement.Events.{ArePutBy}
 
 pub play_first : (size : ℕ) (st : State) (e : Event) (es : List Event) (later : State) (answer : Answer) → next size st e ≡ Some (later, answer) → play size st (e ∷ es) ≡ played answer (play size later es)
@@ -94,3 +94,25 @@ put_first puts of by size st middle (e ∷ es) fs first last h put =
     let one : First size st e es middle first = first_of size st e es middle first h in
     let all : ArePutBy puts of by (e ∷ (es ++ fs)) (one.answer ∷ (one.rest ++ last)) = subst (λ (l : List Answer). ArePutBy puts of by (e ∷ (es ++ fs)) (l ++ last)) one.all put in
     subst (λ (l : List Answer). ArePutBy puts of by (e ∷ es) l) (sym one.all) (all.0, put_first puts of by size one.later middle es fs one.rest last one.legal all.1)
+
+-- what is played is a legal list of the machine
+legal_of : (size : ℕ) (events : List Event) (st later : State) (answers : List Answer) → play size st events ≡ Some (later, answers) → Legal next st (at_size size events) answers later
+legal_of size [] st later answers h =
+    let none : (later ≡ st) × (answers ≡ []) = play_none size st later answers h in
+    subst (λ (now : State). Legal next st [] answers now) (sym none.0) (subst (λ (l : List Answer). Legal next st [] l st) (sym none.1) (no_event st))
+legal_of size (e ∷ events) st later answers h =
+    let one : First size st e events later answers = first_of size st e events later answers h in
+    let t : Timed = record { size = size; event = e } in
+    subst (λ (l : List Answer). Legal next st (t ∷ at_size size events) l later) (sym one.all)
+    (joined st one.later later (t ∷ []) (at_size size events) (one.answer ∷ []) one.rest (one_event st one.later t one.answer one.step) (legal_of size events one.later later one.rest one.legal))
+
+play_of : (size : ℕ) (events : List Event) (st later : State) (answers : List Answer) → Legal next st (at_size size events) answers later → play size st events ≡ Some (later, answers)
+play_of size [] st later answers legal = ap (λ (now : State). Some (now, [])) legal.end_is ∙ ap (λ (l : List Answer). Some (later, l)) legal.answers_are
+play_of size (e ∷ events) st later answers legal =
+    let one = first_event st later (record { size = size; event = e }) (at_size size events) answers legal in
+    play_first size st e events one.0 one.1 one.4
+    ∙ ap (λ (r : Option (State × List Answer)). played one.1 r) (play_of size events one.0 later one.2 one.5)
+    ∙ ap (λ (l : List Answer). Some (later, l)) (sym one.3)
+
+pub plays_are_legal : PlaysAreLegal
+plays_are_legal size st later events answers = (legal_of size events st later answers, play_of size events st later answers)

@@ -47,7 +47,7 @@ abbrev pub Shape : {T R : Type 0} → ℕ → List (T × R) → Outcome T R → 
 Shape s batch o =
     (((slot_at o.0 s).batch ≡ batch) × (o.1 ≡ [])) ⊎ (((slot_at o.0 s).batch ≡ []) × ((o.1 ≡ []) ⊎ (o.1 ≡ batch)))
 
-waits_batch : {T R : Type 0} (b : ℕ) (slot : Slot T R) → (wait_if_active b slot).batch ≡ slot.batch
+pub waits_batch : {T R : Type 0} (b : ℕ) (slot : Slot T R) → (wait_if_active b slot).batch ≡ slot.batch
 waits_batch b slot = either (λ k. k.batch ≡ slot.batch) (is_active slot) (record slot { order = b ∷ slot.order }) slot refl refl
 
 emptied_batch : {T R : Type 0} (st : State T R) (s : ℕ) → (slot_at (detached st s) s).batch ≡ []

@@ -1,10 +1,11 @@
 -- Lists of calls where memory may be refused.
-use Rattle.std.proofs.Common.{◌≡◌, ℕ, Bool, true, false, true≢false, ◌||◌, List, [], ◌∷◌, ◌++◌, inl, inr, refl, sym, ◌∙◌, ap, subst}
+use Rattle.std.proofs.Common.{◌≡◌, ℕ, true≢false, List, [], ◌∷◌, ◌++◌, inl, inr, refl, sym, ◌∙◌, ap, subst}
 use Rattle.std.specs.List.{list_any}
 use Rattle.std.proofs.lemmas.List.{append_assoc, append-nil}
 use Rattle.seize_model.specs.Waiting.State.{State}
 use Rattle.seize_model.specs.Waiting.Attempt.{Outcome, after}
 use Rattle.seize_model.specs.Waiting.Lists.{Call, Reply, step, run, Answered, Replied, wants_memory, AmpleLaw}
+use Rattle.seize_model.proofs.Cases.{or_false}
 
 -- a call more at the end
 pub replied_more : {T R : Type 0} (puts : R → T → List T) (weight : T → ℕ) (st : State T R) (calls : List (Call T R)) (answers : List (Reply T)) (o : Outcome T R) (call : Call T R) (answer : Reply T) (last : Outcome T R)
@@ -18,11 +19,6 @@ replied_more puts weight st calls answers o call answer last (Replied.first_call
     subst (λ gone. Replied puts weight st (c ∷ cs ++ call ∷ []) (a ∷ said ++ answer ∷ []) (last.0, gone)) (sym (append_assoc first.1 rest.1 last.1))
     (Replied.first_call st c a first (cs ++ call ∷ []) (said ++ answer ∷ []) (after rest.1 last) is
     (replied_more puts weight first.0 cs said rest call answer last more done))
-
-or_false : (a b : Bool) → (a || b) ≡ false → (a ≡ false) × (b ≡ false)
-or_false false false e = (refl, refl)
-or_false false true e = absurd (cc)
-or_false true b e = absurd (cc)
 
 -- where no reply is that memory was refused, the calls did what `run` says
 pub ample : {T R : Type 0} (puts : R → T → List T) (weight : T → ℕ) → AmpleLaw puts weight

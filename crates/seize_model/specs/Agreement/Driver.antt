@@ -11,7 +11,8 @@ use Rattle.seize_machine.specs.declared.machine.event.Exchange.TheVariants.{Swap
 use Rattle.seize_model.specs.Waiting.State as waiting
 use Rattle.seize_model.specs.Waiting.Calls.{is_owned, least_unused}
 use Rattle.seize_model.specs.Waiting.Lists.{Call, Register, EnterOwned, Enter, Leave, End, Refresh, Flush, Retire, Protect, Swap, Reply, Refused, step}
-use Rattle.seize_model.specs.Agreement.Play.{play, handed}
+use Rattle.seize_model.specs.Agreement.Play.{play}
+use Rattle.seize_machine.specs.Machine.History.{handed}
 
 -- what the reclaimer of a value puts, where a value is its number
 abbrev pub Puts : Type 0

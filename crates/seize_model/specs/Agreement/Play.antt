@@ -1,26 +1,28 @@
--- Lists of events that are legal, and what they tell.
-use Rattle.std.specs.Prelude.{ℕ, List, [], ◌∷◌, Option, Some, None, option_to_list, is_some}
-use Rattle.std.specs.List.{flat_map}
+-- Legal lists of events at one size, and what they tell.
+use Rattle.std.specs.Prelude.{◌≡◌, ◌↔◌, ℕ, List, [], ◌∷◌, Option, Some, None, is_some}
 use Rattle.seize_machine.specs.Machine.State.{State}
 use Rattle.seize_machine.specs.Machine.Event.{Event, Take}
 use Rattle.seize_machine.specs.Machine.Next.{next}
-use Rattle.seize_machine.specs.Machine.History.{handed_value}
+use Rattle.seize_machine.specs.Machine.History.{at_size, Legal}
 use Rattle.seize_machine.specs.declared.machine.event.Answer.{Answer}
 use Rattle.seize_machine.specs.declared.machine.event.Answer.TheVariants.{Link}
 use Rattle.seize_model.specs.Waiting.Lists.{Call, Register, EnterOwned, End, Protect, Reply, Done, Number, Kept, Found}
 
--- the state after these events, and their answers, or none where one is illegal
+-- one event before a list
 abbrev pub played : Answer → Option (State × List Answer) → Option (State × List Answer)
 played answer None = None
 played answer (Some r) = Some (r.0, answer ∷ r.1)
 
+-- the state after these events, and their answers, or none where one is illegal
 abbrev pub play : ℕ → State → List Event → Option (State × List Answer)
 play size st [] = Some (st, [])
 play size st (e ∷ es) = elim (next size st e) [ None ↦ None | Some d ↦ played d.1 (play size d.0 es) ]
 
--- the values that were handed to their reclaimers, in order
-abbrev pub handed : List Answer → List ℕ
-handed answers = flat_map (λ answer. option_to_list (handed_value answer)) answers
+-- **These are the machine's legal lists**, at one size
+abbrev pub PlaysAreLegal : Type 0
+PlaysAreLegal =
+    (size : ℕ) (st later : State) (events : List Event) (answers : List Answer)
+    → (play size st events ≡ Some (later, answers)) ↔ Legal next st (at_size size events) answers later
 
 -- The reply to a call that is not refused, by its events and their answers.
 

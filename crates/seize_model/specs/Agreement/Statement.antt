@@ -1,5 +1,5 @@
 -- What it means that the two models agree.
-use Rattle.std.specs.Prelude.{◌≡◌, ℕ, ◌<◌, false, List, [], ◌∷◌, length, map, Some}
+use Rattle.std.specs.Prelude.{◌≡◌, ℕ, ◌<◌, false, List, [], ◌∷◌, length, map, Option, Some, None}
 use Rattle.std.specs.List.{All}
 use Rattle.seize_machine.specs.Machine.State as machine
 use Rattle.seize_machine.specs.Machine.State.{has}
@@ -9,7 +9,8 @@ use Rattle.seize_model.specs.Waiting.State as waiting
 use Rattle.seize_model.specs.Waiting.Lists.{Call, Protect, Swap, Reply, Refused, Effect, step}
 use Rattle.seize_model.specs.Agreement.Shows.{Stand, Shows, ShowsReclaimers}
 use Rattle.seize_model.specs.Agreement.Events.{MakesFor, NamesOwn, RetiresWith, ArePutBy}
-use Rattle.seize_model.specs.Agreement.Play.{play, handed, reply_by}
+use Rattle.seize_model.specs.Agreement.Play.{play, reply_by}
+use Rattle.seize_machine.specs.Machine.History.{handed}
 
 -- Each value that a call names gets a number that was never named before: there is always one that stands for it.
 abbrev pub HasNames : {T : Type 0} → (ℕ → T) → Type 0
@@ -45,6 +46,32 @@ abbrev pub Agreement : {T R : Type 0} → (R → T → List T) → (T → ℕ) �
 Agreement {T} {R} puts weight of =
     (st : waiting.State T R) (before : machine.State) (call : Call T R) → HasLink st call → Shows T R of st before
     → IsRun T R of call st before (step puts weight st call)
+
+-- Each value with its reclaimer gets a number that was never named before.
+abbrev pub HasNamesFor : {T R : Type 0} → (ℕ → T) → (ℕ → R) → Type 0
+HasNamesFor {T} {R} of by = (v : T) (r : R) (named : List ℕ) → (n : ℕ) × (has n named ≡ false) × (of n ≡ v) × (by n ≡ r)
+
+-- what a link holds has the reclaimer with which the call retires it
+abbrev pub IsHeldFor : {R : Type 0} → (ℕ → R) → R → Option ℕ → Type 0
+IsHeldFor by r None = Unit {0}
+IsHeldFor by r (Some n) = by n ≡ r
+
+abbrev pub HoldsFor : {T R : Type 0} → (ℕ → R) → machine.State → Call T R → Type 0
+HoldsFor by shown (Swap s l new r) = IsHeldFor by r (machine.link_at shown l)
+HoldsFor by shown call = Unit {0}
+
+-- such a list of events, in which each value handed puts what its reclaimer puts
+pub record IsRunWith (T R : Type 0) (puts : R → T → List T) (of : ℕ → T) (by : ℕ → R) (call : Call T R) (st : waiting.State T R)
+    (before : machine.State) (told : Effect T R) : Type 0 where
+  pub run : IsRun T R of call st before told
+  pub retires : RetiresWith by call run.events
+  pub put : ArePutBy puts of by run.events run.answers
+
+-- **The two models agree, with reclaimers.** From each two states that show each other, with the reclaimers, each call is such a list.
+abbrev pub AgreementWith : {T R : Type 0} → (R → T → List T) → (T → ℕ) → (ℕ → T) → (ℕ → R) → Type 0
+AgreementWith {T} {R} puts weight of by =
+    (st : waiting.State T R) (before : machine.State) (call : Call T R) → HasLink st call → HoldsFor by before call
+    → Shows T R of st before → ShowsReclaimers T R of by st before → IsRunWith T R puts of by call st before (step puts weight st call)
 
 -- These events, with these answers and this state after them, do what the call does.
 pub record IsOutcome (T R : Type 0) (of : ℕ → T) (by : ℕ → R) (call : Call T R) (told : Effect T R)
