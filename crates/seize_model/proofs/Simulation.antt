@@ -31,4 +31,5 @@ pub mod Renaming
 pub mod Descendants
 pub mod Namings
 pub mod Openings
+pub mod GoneBatches
 pub mod Reopenings

@@ -5,6 +5,7 @@ ghost use Rattle.std.specs.Prelude.{◌≡◌, ℕ, List, ◌∷◌, []};
 ghost use Rattle.seize_model.specs.Waiting.State.{new, slot_at};
 ghost use Rattle.seize_model.specs.Waiting.Further.{Lighter, AfterwardsLaws, DrainedLaws};
 ghost use Rattle.seize_model.specs.Waiting.Lists.{AmpleLaw};
+ghost use Rattle.seize_model.specs.Waiting.Reached.{GoneLaw};
 ghost use Rattle.seize_model.specs.Waiting.Runs as runs;
 
 /// Worked runs, each from a collector just made of the given size and number of links: what is told of each group of calls.
@@ -45,4 +46,9 @@ pub fn further_values<T, R>()
 /// How lists of calls go where memory may be refused: where no reply is that it was, the calls did what the model says of the list.
 pub fn lists_in_turn<T, R>()
     ensures { (puts : R → T → List T) (weight : T → ℕ) → AmpleLaw puts weight }
+{}
+
+/// In every state that calls lead to from a collector just made, a retired batch that waits for no slot is gone: it has no values left.
+pub fn retired_batches<T, R>()
+    ensures { (puts : R → T → List T) (weight : T → ℕ) → GoneLaw puts weight }
 {}

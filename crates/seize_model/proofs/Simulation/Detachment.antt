@@ -55,7 +55,7 @@ new_count b (x ∷ xs) e =
     none_rest : {T R : Type 0} (b : ℕ) (x : waiting.Slot T R) (xs : List (waiting.Slot T R)) → count_by (keeps b) (x ∷ xs) ≡ 0 → count_by (keeps b) xs ≡ 0
     none_rest b x xs e = grind (arith, common_steps)
 
-old_count : {T R : Type 0} (b i : ℕ) (xs : List (waiting.Slot T R)) → i ≢ b → count_by (keeps i) (map (wait_if_active b) xs) ≡ count_by (keeps i) xs
+pub old_count : {T R : Type 0} (b i : ℕ) (xs : List (waiting.Slot T R)) → i ≢ b → count_by (keeps i) (map (wait_if_active b) xs) ≡ count_by (keeps i) xs
 old_count b i [] other = refl
 old_count b i (x ∷ xs) other = counts_cons (keeps i) (keeps i) (wait_if_active b x) x (map (wait_if_active b) xs) xs (waits_other b i x other) (old_count b i xs other)
 
