@@ -31,5 +31,4 @@ pub mod Renaming
 pub mod Descendants
 pub mod Namings
 pub mod Openings
-pub mod GoneBatches
 pub mod Reopenings

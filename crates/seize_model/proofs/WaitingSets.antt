@@ -3,3 +3,5 @@ pub mod FurtherValues
 pub mod Drain
 pub mod LinkCounts
 pub mod Lists
+pub mod Orders
+pub mod GoneBatches

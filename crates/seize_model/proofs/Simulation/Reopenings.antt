@@ -11,7 +11,7 @@ use Rattle.seize_model.specs.Waiting.Calls.{freed, quieted, without_batch, recla
 use Rattle.seize_model.specs.Agreement.Shows.{head_of}
 use Rattle.seize_model.specs.Waiting.Reached.{Reached}
 use Rattle.seize_model.specs.Agreement.Reopening.{reopened, ReopenedLaw}
-use Rattle.seize_model.proofs.Simulation.GoneBatches.{reclaimed_clean, gone}
+use Rattle.seize_model.proofs.WaitingSets.GoneBatches.{reclaimed_clean, gone}
 use Rattle.seize_model.specs.declared.kind.Kind.TheVariants.{Free}
 use Rattle.seize_model.proofs.Cases.{either}
 use Rattle.seize_model.proofs.Simulation.Attempts.{set_seam}

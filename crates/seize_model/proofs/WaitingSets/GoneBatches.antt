@@ -1,5 +1,5 @@
 -- In a reached state a retired batch that waits for no slot has no values left.
-use Rattle.std.proofs.Common.{◌≡◌, ◌≢◌, ℕ, zero, suc, ◌+◌, ◌-◌, ◌^◌, Bool, true, false, not, ◌||◌, ◌==◌, if◌then◌else◌, nat_le, max, List, [], ◌∷◌, ◌++◌, length, map, get_or, set, Option, Some, None, Result, Ok, Err, refl, sym, ◌∙◌, ap, subst, ◌⊎◌, inl, inr, arith}
+use Rattle.std.proofs.Common.{◌≡◌, ◌≢◌, ℕ, zero, suc, ◌+◌, ◌-◌, ◌^◌, Bool, true, false, not, ◌||◌, ◌==◌, if◌then◌else◌, nat_le, max, List, [], ◌∷◌, ◌++◌, length, map, get_or, set, Option, Some, None, Result, Ok, Err, refl, sym, ◌∙◌, ap, ◌⊎◌, inl, inr, arith}
 use Rattle.std.specs.List.{list_any, range_with_len}
 use Rattle.std.proofs.lemmas.List.{get_or-set_other}
 use Rattle.seize_machine.specs.Machine.State.{has}
@@ -7,16 +7,16 @@ use Rattle.seize_table.specs.declared.refusal.Refusal.{Refusal}
 use Rattle.seize_model.specs.declared.kind.Kind.{Kind}
 use Rattle.seize_model.specs.declared.kind.Kind.TheVariants.{Free, Registered, Owned}
 use Rattle.seize_model.specs.Waiting.State.{Slot, State, slot_at, set_slot, no_slot, is_active, is_kept, keeps, retired_at}
-use Rattle.seize_model.specs.Waiting.Attempt.{Outcome, release, release_all, attempt, gives_up, wait_if_active, detached, put, appended, part}
+use Rattle.seize_model.specs.Waiting.Attempt.{Outcome, release_all, attempt, gives_up, wait_if_active, detached, put, appended, part}
 use Rattle.seize_model.specs.Waiting.Further.{further, settle, still_to_come, settled}
 use Rattle.seize_model.specs.Waiting.Calls as calls
 use Rattle.seize_model.specs.Waiting.Calls.{without_batch}
 use Rattle.seize_model.specs.Waiting.Lists.{Call, Register, EnterOwned, Enter, Leave, End, Refresh, Flush, Retire, Protect, Swap, step, swapped}
 use Rattle.seize_model.specs.Waiting.Reached.{Reached, GoneLaw}
 use Rattle.seize_machine.proofs.Laws.Steps.{is_true}
-use Rattle.seize_model.proofs.Cases.{either}
-use Rattle.seize_model.proofs.Simulation.Coupling.{count_same, any_counts, or_same}
-use Rattle.seize_model.proofs.Simulation.Detachment.{old_count, beside}
+use Rattle.seize_model.proofs.Cases.{either, or_same}
+use Rattle.seize_model.proofs.Counts.{count_same, any_counts, beside}
+use Rattle.seize_model.proofs.WaitingSets.Orders.{old_count}
 
 abbrev pub IsClean : {T R : Type 0} → State T R → Type 0
 IsClean st = (b : ℕ) → is_kept st b ≡ false → retired_at st b ≡ []
