@@ -5,3 +5,5 @@ pub mod LinkCounts
 pub mod Lists
 pub mod Orders
 pub mod GoneBatches
+pub mod ActiveSlots
+pub mod Bound
