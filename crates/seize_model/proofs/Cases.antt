@@ -1,5 +1,6 @@
 -- What holds in both cases of a test, and which case it is.
-use Rattle.std.proofs.Common.{◌≡◌, ◌||◌, refl, ℕ, zero, suc, ◌<◌, ◌≤◌, Bool, true, false, if◌then◌else◌, ◌⊎◌, inl, inr, arith}
+use Rattle.std.proofs.Common.{◌≢◌, ◌==◌, ◌≡◌, ◌||◌, refl, ℕ, zero, suc, ◌<◌, ◌≤◌, Bool, true, false, if◌then◌else◌, ◌⊎◌, inl, inr, arith}
+use Rattle.seize_machine.proofs.Facts.{is_true, eq_true}
 
 -- what holds of both outcomes of a test
 pub either : {A : Type 0} (P : A → Type 0) (b : Bool) (x y : A) → P x → P y → P (if b then x else y)
@@ -17,3 +18,7 @@ pub or_false : (a b : Bool) → (a || b) ≡ false → (a ≡ false) × (b ≡ f
 or_false false false e = (refl, refl)
 or_false false true e = absurd (cc)
 or_false true b e = absurd (cc)
+
+-- which of two numbers it is
+pub or_same : (a b : ℕ) → (a ≡ b) ⊎ (a ≢ b)
+or_same a b = elim (is_true (a == b)) [ inl t ↦ inl (eq_true a b t) | inr f ↦ inr (λ e. grind arith) ]

@@ -1,3 +1,4 @@
 pub mod Simulation
 pub mod Cases
+pub mod Counts
 pub mod WaitingSets

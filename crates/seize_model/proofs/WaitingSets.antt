@@ -3,3 +3,7 @@ pub mod FurtherValues
 pub mod Drain
 pub mod LinkCounts
 pub mod Lists
+pub mod Orders
+pub mod GoneBatches
+pub mod ActiveSlots
+pub mod Bound

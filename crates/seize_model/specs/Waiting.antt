@@ -6,4 +6,5 @@ pub mod Further
 pub mod Calls
 pub mod Lists
 pub mod Reached
+pub mod Laws
 pub mod Runs

@@ -66,7 +66,7 @@ pub fn links_agree<T, R>()
 {}
 
 /// Reclaiming all leads to a state that a machine just opened shows, with as many slots and what the links held, but for its table of
-/// retired batches: they are as many as before, and none waits for a slot.
+/// retired batches: they are as many as before, and none waits for a slot. From a reached state they are all gone.
 pub fn reclaiming_reopens<T, R>()
     ensures { (puts : R → T → List T) (weight : T → ℕ) → ReopenedLaw puts weight }
 {}

@@ -4,7 +4,9 @@
 ghost use Rattle.std.specs.Prelude.{◌≡◌, ℕ, List, ◌∷◌, []};
 ghost use Rattle.seize_model.specs.Waiting.State.{new, slot_at};
 ghost use Rattle.seize_model.specs.Waiting.Further.{Lighter, AfterwardsLaws, DrainedLaws};
+ghost use Rattle.seize_model.specs.Waiting.Laws.{FlushLaw, RetireLaw, BoundLaw};
 ghost use Rattle.seize_model.specs.Waiting.Lists.{AmpleLaw};
+ghost use Rattle.seize_model.specs.Waiting.Reached.{GoneLaw};
 ghost use Rattle.seize_model.specs.Waiting.Runs as runs;
 
 /// Worked runs, each from a collector just made of the given size and number of links: what is told of each group of calls.
@@ -45,4 +47,18 @@ pub fn further_values<T, R>()
 /// How lists of calls go where memory may be refused: where no reply is that it was, the calls did what the model says of the list.
 pub fn lists_in_turn<T, R>()
     ensures { (puts : R → T → List T) (weight : T → ℕ) → AmpleLaw puts weight }
+{}
+
+/// In every state that calls lead to from a collector just made, a retired batch that waits for no slot is gone: it has no values left.
+pub fn retired_batches<T, R>()
+    ensures { (puts : R → T → List T) (weight : T → ℕ) → GoneLaw puts weight }
+{}
+
+/// What follows for every state: no value is gone in a flush, nor in a retirement by an active slot. And in every state that a list of
+/// calls leads to from a collector just made, each batch is below the bound: the greater of the size, at least 1, and the number of
+/// slots ever made.
+pub fn batches<T, R>()
+    ensures flush { (puts : R → T → List T) (weight : T → ℕ) → FlushLaw puts weight }
+    ensures retire { (puts : R → T → List T) (weight : T → ℕ) → RetireLaw puts weight }
+    ensures bound { (puts : R → T → List T) (weight : T → ℕ) → BoundLaw puts weight }
 {}

@@ -1,7 +1,6 @@
 -- What the machine shows while the only call under way walks a list: the counts have still to fall by the batches of the walk.
-use Rattle.std.proofs.Common.{◌≡◌, ◌≢◌, ℕ, zero, suc, ◌+◌, ◌-◌, ◌^◌, ◌<◌, ◌≤◌, pos, Bool, true, false, not, ◌==◌, List, [], ◌∷◌, length, map, get_or, set, Option, None, refl, sym, ◌∙◌, ap, subst, ◌⊎◌, inl, inr, arith}
+use Rattle.std.proofs.Common.{◌≡◌, ◌≢◌, ℕ, ◌+◌, ◌-◌, ◌^◌, ◌<◌, ◌≤◌, pos, Bool, true, false, not, ◌==◌, List, [], length, map, get_or, set, Option, None, refl, sym, ◌∙◌, ap, subst, ◌⊎◌, inl, inr, arith}
 use Rattle.std.specs.List.{count_by, list_any}
-use Rattle.std.proofs.lemmas.Grind.{common_steps}
 use Rattle.std.proofs.lemmas.List.{get_or-set_same, get_or-set_other, length-set, map-set}
 use Rattle.std.proofs.Math.Seq.{map-set_same}
 use Rattle.seize_machine.specs.Machine.State as machine
@@ -10,8 +9,9 @@ use Rattle.seize_model.specs.Waiting.State as waiting
 use Rattle.seize_model.specs.Waiting.State.{keeps, retired_at}
 use Rattle.seize_model.specs.Waiting.Calls.{is_free, is_owned}
 use Rattle.seize_model.specs.Agreement.Shows.{held, head_of}
-use Rattle.seize_machine.proofs.Facts.{is_true, eq_true}
 use Rattle.seize_machine.proofs.Facts.{one, occ, has_none, has_some, distinct_once}
+use Rattle.seize_model.proofs.Counts.{count_same, count_less}
+use Rattle.seize_model.proofs.Cases.{or_same}
 
 -- What numbers stand for: in links for what they hold, and in batches for what is seen of values with their reclaimers. It is what they
 -- hold where a run of events is sought, whose reclaimers nobody knows, and the values with their reclaimers where one is given.
@@ -46,31 +46,6 @@ pub record Near {T R X : Type 0} (of : Naming T R X) (walk : List ℕ) (st : wai
 
 abbrev pub NearAt : {T R X : Type 0} → Naming T R X → List ℕ → waiting.State T R → machine.State → Type 0
 NearAt of walk st ms = Near of walk st ms.slots ms.heads ms.batches ms.links
-
--- Counts over a list where one element changes.
-
-pub count_same : {X : Type 0} (p : X → Bool) (xs : List X) (i : ℕ) (y d : X) → p y ≡ p (get_or xs i d) → count_by p (set xs i y) ≡ count_by p xs
-count_same p [] i y d e = refl
-count_same p (x ∷ xs) zero y d e = grind (arith, common_steps)
-count_same p (x ∷ xs) (suc i) y d e = let k = count_same p xs i y d e in grind (arith, common_steps)
-
-pub count_less : {X : Type 0} (p : X → Bool) (xs : List X) (i : ℕ) (y d : X) → i < length xs → p y ≡ false → count_by p (set xs i y) + one (p (get_or xs i d)) ≡ count_by p xs
-count_less p [] i y d h e = absurd (omega arith)
-count_less p (x ∷ xs) zero y d h e = grind (arith, common_steps)
-count_less p (x ∷ xs) (suc i) y d h e = let k = count_less p xs i y d (omega arith) e in grind (arith, common_steps)
-
-pub any_counts : {X : Type 0} (p : X → Bool) (xs : List X) → list_any p xs ≡ not (count_by p xs == 0)
-any_counts p [] = refl
-any_counts p (x ∷ xs) = grind (arith, common_steps, any_counts p xs)
-
-pub none_passes : {X : Type 0} (p : X → Bool) (xs : List X) (i : ℕ) (d : X) → count_by p xs ≡ 0 → p d ≡ false → p (get_or xs i d) ≡ false
-none_passes p [] i d e n = n
-none_passes p (x ∷ xs) zero d e n = grind (arith, common_steps)
-none_passes p (x ∷ xs) (suc i) d e n = none_passes p xs i d (grind (arith, common_steps)) n
-
--- which of two numbers it is
-pub or_same : (a b : ℕ) → (a ≡ b) ⊎ (a ≢ b)
-or_same a b = elim (is_true (a == b)) [ inl t ↦ inl (eq_true a b t) | inr f ↦ inr (λ e. grind arith) ]
 
 -- One slot changes on both sides.
 

@@ -1,6 +1,6 @@
 -- A detached batch waits for all active slots on both sides.
-use Rattle.std.proofs.Common.{◌≡◌, ◌≢◌, ℕ, zero, suc, ◌+◌, pos, Bool, true, false, not, ◌&&◌, ◌||◌, ◌==◌, if◌then◌else◌, List, [], ◌∷◌, ◌++◌, length, map, get_or, Option, refl, sym, ◌∙◌, ap, subst, ◌⊎◌, inl, inr, arith, length-append}
-use Rattle.std.specs.List.{count_by, list_any}
+use Rattle.std.proofs.Common.{◌≡◌, ◌≢◌, ℕ, ◌+◌, pos, Bool, true, false, not, ◌&&◌, if◌then◌else◌, List, [], ◌∷◌, ◌++◌, length, map, get_or, Option, refl, sym, ◌∙◌, ap, subst, ◌⊎◌, inl, inr, arith, length-append}
+use Rattle.std.specs.List.{count_by}
 use Rattle.std.proofs.lemmas.Grind.{common_steps}
 use Rattle.std.proofs.lemmas.Int.{ints}
 use Rattle.std.proofs.lemmas.List.{get_or_past, length-map}
@@ -13,22 +13,10 @@ use Rattle.seize_model.specs.Waiting.State.{keeps, slot_at}
 use Rattle.seize_model.specs.Waiting.Attempt.{wait_if_active}
 use Rattle.seize_model.specs.Agreement.Shows.{head_of}
 use Rattle.seize_model.proofs.Simulation.Attempts.{actives, with_front}
-use Rattle.seize_model.proofs.Simulation.Coupling.{Near, or_same, none_passes, Denote, CoupledSlot, Naming}
-
--- what holds of a slot with the batch in front where it is active, and without where it isn't
-pub by_active : {T R : Type 0} (P : waiting.Slot T R → Bool → Type 0) (b : ℕ) (slot : waiting.Slot T R) → (waiting.is_active slot ≡ true → P (record slot { order = b ∷ slot.order }) true) → (waiting.is_active slot ≡ false → P slot false)
-    → P (wait_if_active b slot) (waiting.is_active slot)
-by_active {T} {R} P b slot on off = go (waiting.is_active slot) refl
-  where
-    go : (t : Bool) → waiting.is_active slot ≡ t → P (if t then record slot { order = b ∷ slot.order } else slot) t
-    go true e = on e
-    go false e = off e
-
-waits_new : {T R : Type 0} (b : ℕ) (slot : waiting.Slot T R) → keeps b slot ≡ false → keeps b (wait_if_active b slot) ≡ waiting.is_active slot
-waits_new b slot none = by_active (λ x t. keeps b x ≡ t) b slot (λ e. let own : (b == b) ≡ true = grind arith in ap (λ (t : Bool). t || list_any (λ x. x == b) slot.order) own) (λ e. none)
-
-waits_other : {T R : Type 0} (b i : ℕ) (slot : waiting.Slot T R) → i ≢ b → keeps i (wait_if_active b slot) ≡ keeps i slot
-waits_other b i slot other = by_active (λ x t. keeps i x ≡ keeps i slot) b slot (λ e. let own : (b == i) ≡ false = grind arith in ap (λ (t : Bool). t || list_any (λ x. x == i) slot.order) own) (λ e. refl)
+use Rattle.seize_model.proofs.Simulation.Coupling.{Near, Denote, CoupledSlot, Naming}
+use Rattle.seize_model.proofs.Counts.{none_passes, beside}
+use Rattle.seize_model.proofs.Cases.{or_same}
+use Rattle.seize_model.proofs.WaitingSets.Orders.{by_active, new_count, old_count}
 
 waits_head : {T R : Type 0} (b : ℕ) (slot : waiting.Slot T R) → head_of (wait_if_active b slot) ≡ with_front b (head_of slot)
 waits_head {T} {R} b slot = go (waiting.is_active slot) refl
@@ -36,28 +24,6 @@ waits_head {T} {R} b slot = go (waiting.is_active slot) refl
     go : (t : Bool) → waiting.is_active slot ≡ t → head_of (if t then record slot { order = b ∷ slot.order } else slot) ≡ with_front b (head_of slot)
     go true e = ap (λ (t : Bool). if t then Active (b ∷ slot.order) else Inactive) e ∙ sym (ap (λ (t : Bool). with_front b (if t then Active slot.order else Inactive)) e)
     go false e = ap (λ (t : Bool). if t then Active slot.order else Inactive) e ∙ sym (ap (λ (t : Bool). with_front b (if t then Active slot.order else Inactive)) e)
-
-counts_cons : {X : Type 0} (p q : X → Bool) (x y : X) (xs ys : List X) → p x ≡ q y → count_by p xs ≡ count_by q ys → count_by p (x ∷ xs) ≡ count_by q (y ∷ ys)
-counts_cons p q x y xs ys e f = grind (arith, common_steps)
-
-new_count : {T R : Type 0} (b : ℕ) (xs : List (waiting.Slot T R)) → count_by (keeps b) xs ≡ 0 → count_by (keeps b) (map (wait_if_active b) xs) ≡ count_by waiting.is_active xs
-new_count b [] e = refl
-new_count b (x ∷ xs) e =
-    let none : keeps b x ≡ false = none_passes (keeps b) (x ∷ xs) 0 x e (none_first b x xs e) in
-    let rest : count_by (keeps b) xs ≡ 0 = none_rest b x xs e in
-    let own : keeps b (wait_if_active b x) ≡ waiting.is_active x = waits_new b x none in
-    let more : count_by (keeps b) (map (wait_if_active b) xs) ≡ count_by waiting.is_active xs = new_count b xs rest in
-    counts_cons (keeps b) waiting.is_active (wait_if_active b x) x (map (wait_if_active b) xs) xs own more
-  where
-    none_first : {T R : Type 0} (b : ℕ) (x : waiting.Slot T R) (xs : List (waiting.Slot T R)) → count_by (keeps b) (x ∷ xs) ≡ 0 → keeps b x ≡ false
-    none_first b x xs e = grind (arith, common_steps)
-
-    none_rest : {T R : Type 0} (b : ℕ) (x : waiting.Slot T R) (xs : List (waiting.Slot T R)) → count_by (keeps b) (x ∷ xs) ≡ 0 → count_by (keeps b) xs ≡ 0
-    none_rest b x xs e = grind (arith, common_steps)
-
-old_count : {T R : Type 0} (b i : ℕ) (xs : List (waiting.Slot T R)) → i ≢ b → count_by (keeps i) (map (wait_if_active b) xs) ≡ count_by (keeps i) xs
-old_count b i [] other = refl
-old_count b i (x ∷ xs) other = counts_cons (keeps i) (keeps i) (wait_if_active b x) x (map (wait_if_active b) xs) xs (waits_other b i x other) (old_count b i xs other)
 
 pub actives_count : {T R : Type 0} (n : ℕ) (xs : List (waiting.Slot T R)) → length (actives n (map head_of xs)) ≡ count_by waiting.is_active xs
 actives_count n [] = refl
@@ -71,12 +37,6 @@ actives_count {T} {R} n (x ∷ xs) = go (waiting.is_active x) refl (actives_coun
 heads_wait : {T R : Type 0} (b : ℕ) (xs : List (waiting.Slot T R)) → map (with_front b) (map head_of xs) ≡ map head_of (map (wait_if_active b) xs)
 heads_wait b [] = refl
 heads_wait b (x ∷ xs) = ap (λ (h : Head). h ∷ map (with_front b) (map head_of xs)) (sym (waits_head b x)) ∙ ap (λ (hs : List Head). head_of (wait_if_active b x) ∷ hs) (heads_wait b xs)
-
-pub beside : {X : Type 0} (xs : List X) (y d : X) (i : ℕ) → i ≢ length xs → get_or (xs ++ y ∷ []) i d ≡ get_or xs i d
-beside [] y d zero h = absurd (h refl)
-beside [] y d (suc i) h = refl
-beside (x ∷ xs) y d zero h = refl
-beside (x ∷ xs) y d (suc i) h = beside xs y d i (λ e. h (omega arith))
 
 slot_waits : {T R X : Type 0} (of : Naming T R X) (b : ℕ) (slot : waiting.Slot T R) (shown : machine.Slot) → keeps b slot ≡ false → CoupledSlot of slot shown → CoupledSlot of (wait_if_active b slot) shown
 slot_waits {T} {R} of b slot shown none h =

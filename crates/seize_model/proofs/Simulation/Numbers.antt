@@ -29,9 +29,10 @@ use Rattle.seize_model.proofs.Simulation.Plays.{play_first, both_same, First, fi
 use Rattle.seize_model.proofs.Simulation.Beginnings.{outcome_of, no_events, no_list, OneEvent, one_of, one_event, one_list, Run}
 use Rattle.seize_model.proofs.Simulation.Events.{if_yes, same, set_twice}
 use Rattle.seize_model.proofs.Simulation.Attempts.{set_seam}
-use Rattle.seize_model.proofs.Simulation.Coupling.{NearAt, near_set, or_same, CoupledSlot, Naming}
-use Rattle.seize_model.proofs.Simulation.Detachment.{beside}
+use Rattle.seize_model.proofs.Simulation.Coupling.{NearAt, near_set, CoupledSlot, Naming}
 use Rattle.seize_model.proofs.Simulation.Guards.{near_entered, enter_step}
+use Rattle.seize_model.proofs.Cases.{or_same}
+use Rattle.seize_model.proofs.Counts.{beside}
 
 same_position : {X Y : Type 0} (p : X → Bool) (q : Y → Bool) (xs : List X) (ys : List Y) (d : X) (e : Y) → length xs ≡ length ys → ((i : ℕ) → p (get_or xs i d) ≡ q (get_or ys i e)) → position_or_len p xs ≡ position_or_len q ys
 same_position p q [] [] d e l h = refl

@@ -9,8 +9,9 @@ use Rattle.seize_model.specs.Waiting.State as waiting
 use Rattle.seize_model.specs.Waiting.State.{keeps, is_kept, retired_at}
 use Rattle.seize_model.specs.Waiting.Attempt.{Outcome, release}
 use Rattle.seize_machine.proofs.Facts.{one, occ, has_none}
-use Rattle.seize_model.proofs.Simulation.Coupling.{Near, any_counts, or_same, Denote, Naming}
-use Rattle.seize_model.proofs.Cases.{in_or_past}
+use Rattle.seize_model.proofs.Simulation.Coupling.{Near, Denote, Naming}
+use Rattle.seize_model.proofs.Cases.{in_or_past, or_same}
+use Rattle.seize_model.proofs.Counts.{any_counts}
 
 -- the batch in its place
 abbrev pub batch_with : List Batch → ℕ → Bool → ℤ → List Batch

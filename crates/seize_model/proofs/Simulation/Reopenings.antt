@@ -1,6 +1,6 @@
 -- Reclaiming all leads to a state that a machine just opened shows, but for its table of retired batches.
-use Rattle.std.proofs.Common.{◌≡◌, ℕ, zero, suc, ◌+◌, ◌-◌, ◌^◌, ◌≤◌, pos, List, [], ◌∷◌, ◌++◌, length, map, get_or, set, replicate, refl, sym, ◌∙◌, ap, subst, ◌⊎◌, inl, inr, arith, append_assoc}
-use Rattle.std.specs.List.{count_by, range_with_len}
+use Rattle.std.proofs.Common.{◌≡◌, ℕ, zero, suc, ◌+◌, ◌-◌, ◌^◌, ◌≤◌, false, pos, List, [], ◌∷◌, ◌++◌, length, map, get_or, set, replicate, refl, sym, ◌∙◌, ap, subst, ◌⊎◌, inl, inr, arith, append_assoc}
+use Rattle.std.specs.List.{list_any, count_by, range_with_len}
 use Rattle.std.proofs.lemmas.List.{length-append, length-set, length-replicate}
 use Rattle.std.proofs.Math.Seq.{get_or-append_seam}
 use Rattle.seize_machine.specs.Machine.State as machine
@@ -9,7 +9,9 @@ use Rattle.seize_model.specs.Waiting.State.{Slot, State, slot_at, set_slot, is_k
 use Rattle.seize_model.specs.Waiting.Attempt.{Outcome, release, release_all, part}
 use Rattle.seize_model.specs.Waiting.Calls.{freed, quieted, without_batch, reclaim_all}
 use Rattle.seize_model.specs.Agreement.Shows.{head_of}
+use Rattle.seize_model.specs.Waiting.Reached.{Reached}
 use Rattle.seize_model.specs.Agreement.Reopening.{reopened, ReopenedLaw}
+use Rattle.seize_model.proofs.WaitingSets.GoneBatches.{reclaimed_clean, gone}
 use Rattle.seize_model.specs.declared.kind.Kind.TheVariants.{Free}
 use Rattle.seize_model.proofs.Cases.{either}
 use Rattle.seize_model.proofs.Simulation.Attempts.{set_seam}
@@ -195,9 +197,28 @@ near_after {T} {R} puts weight of st before n = record {
     stand b (inl none) = inl none
     stand b (inr same) = inr (subst (λ l. Denote of (get_or before.batches b no_batch).values l) (sym same) (n.values b))
 
+-- from a reached state no batch has a value left
+left_none : {X : Type 0} (xs : List (List X)) (bs : List Batch) → ((b : ℕ) → get_or xs b [] ≡ []) → left_batches xs bs ≡ replicate (length xs) no_batch
+left_none [] bs h = refl
+left_none (x ∷ xs) [] h = ap (λ (l : List Batch). no_batch ∷ l) (left_none xs [] (λ b. h (suc b)))
+left_none (x ∷ xs) (b ∷ bs) h =
+    ap (λ y. record { values = left_numbers y b.values; count = pos 0 } ∷ left_batches xs bs) (h 0) ∙ ap (λ (l : List Batch). no_batch ∷ l) (left_none xs bs (λ b. h (suc b)))
+
+none_kept : (T R : Type 0) (b n : ℕ) → list_any (keeps {T = T} {R = R} b) (replicate n no_slot) ≡ false
+none_kept T R b zero = refl
+none_kept T R b (suc n) = none_kept T R b n
+
+all_gone : {T R : Type 0} (puts : R → T → List T) (weight : T → ℕ) (st : State T R) (before : machine.State) → Reached puts weight st
+    → left_batches (reclaim_all puts weight st).0.retired before.batches ≡ replicate (length st.retired) no_batch
+all_gone {T} {R} puts weight st before reached =
+    left_none (reclaim_all puts weight st).0.retired before.batches
+    (λ b. reclaimed_clean puts weight st (gone puts weight st reached) b (ap (λ (l : List (Slot T R)). list_any (keeps b) l) (slots_after puts weight st) ∙ none_kept T R b (length st.slots)))
+    ∙ ap (λ n. replicate n no_batch) (thinned_after puts weight st).retired.0
+
 pub reopens : {T R : Type 0} (puts : R → T → List T) (weight : T → ℕ) → ReopenedLaw puts weight
 reopens {T} {R} puts weight of by st before shows = (
   left_batches (reclaim_all puts weight st).0.retired before.batches,
+  all_gone puts weight st before,
   shows_of of _ _ (near_after puts weight (contents of) st before (near_of of st before shows)),
   λ reclaimers. (shows_with of by _ _ (near_after puts weight (with_reclaimers of by) st before (near_with of by st before shows reclaimers))).1,
 )

@@ -17,9 +17,10 @@ use Rattle.seize_model.proofs.Simulation.Events.{busy, rested, set_twice, with_g
 use Rattle.seize_model.proofs.Simulation.Attempts.{actives, with_front, set_seam, waited, attempts_on, attempts_stop, waited_place}
 use Rattle.seize_model.proofs.Simulation.Coupling.{Near, NearAt, near_set, Denote, CoupledSlot, Naming}
 use Rattle.seize_model.proofs.Simulation.Releases.{near_release, BothGone, batch_with}
-use Rattle.seize_model.proofs.Simulation.Detachment.{by_active, actives_count, near_waits}
+use Rattle.seize_model.proofs.Simulation.Detachment.{actives_count, near_waits}
 use Rattle.seize_model.proofs.Simulation.Names.{Holds, holds_detach}
 use Rattle.seize_model.proofs.Cases.{either}
+use Rattle.seize_model.proofs.WaitingSets.Orders.{by_active}
 
 pub denote_append : {T R X : Type 0} (of : Naming T R X) (ns ms : List ℕ) (xs ys : List (T × R)) → Denote of ns xs → Denote of ms ys → Denote of (ns ++ ms) (xs ++ ys)
 denote_append of ns ms xs ys e f = map-append of.name ns ms ∙ ap (λ l. l ++ map of.name ms) e ∙ ap (λ l. map of.view xs ++ l) f ∙ sym (map-append of.view xs ys)

@@ -1,6 +1,6 @@
 -- The states that a collector comes to, whatever calls are made.
-use Rattle.std.specs.Prelude.{◌≡◌, ◌⊎◌, ℕ, Bool, true, List, Option}
-use Rattle.seize_model.specs.Waiting.State.{State, new}
+use Rattle.std.specs.Prelude.{◌≡◌, ◌⊎◌, ℕ, Bool, true, false, List, [], Option}
+use Rattle.seize_model.specs.Waiting.State.{State, new, is_kept, retired_at}
 use Rattle.seize_model.specs.Waiting.Calls as calls
 use Rattle.seize_model.specs.Waiting.Lists.{Call, step}
 
@@ -12,6 +12,10 @@ pub data Reached {T R : Type 0} (puts : R → T → List T) (weight : T → ℕ)
   called : (st : State T R) (call : Call T R) → Reached puts weight st → Reached puts weight (step puts weight st call).1.0
   swapped : (st : State T R) (s link : ℕ) (value : Option T) → Reached puts weight st → Reached puts weight (calls.swap st s link value).1.0
   reclaimed : (st : State T R) → Reached puts weight st → Reached puts weight (calls.reclaim_all puts weight st).0
+
+-- **Gone.** In a reached state a retired batch that waits for no slot has no values left.
+abbrev pub GoneLaw : {T R : Type 0} → (R → T → List T) → (T → ℕ) → Type 0
+GoneLaw {T} {R} puts weight = (st : State T R) → Reached puts weight st → (b : ℕ) → is_kept st b ≡ false → retired_at st b ≡ []
 
 -- the state is reached, or a growth was refused
 abbrev pub IsReached : {T R : Type 0} → (R → T → List T) → (T → ℕ) → Bool → State T R → Type 0
