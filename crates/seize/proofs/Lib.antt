@@ -1,9 +1,9 @@
 pub mod Emptying
-pub mod Firsts
 pub mod Giving
 pub mod Joining
 pub mod Linked
 pub mod Models
+pub mod Numbering
 pub mod Quieting
 pub mod Reaching
 pub mod Running
