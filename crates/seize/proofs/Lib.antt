@@ -1,7 +1,7 @@
 pub mod EmptiedBatches
 pub mod FurtherLoops
 pub mod JoinedPuts
-pub mod LeastNumber
+pub mod Numbering
 pub mod QueuedPuts
 pub mod Quieting
 pub mod ReachedStates

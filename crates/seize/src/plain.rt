@@ -14,7 +14,7 @@ use batch::Batch;
 use give::give_all;
 use link::Link;
 use seize_model::Kind;
-use seize_table::Refusal;
+use seize_table::thread_id::Numbers;
 use slot::Slot;
 use std::alloc::{AllocError, Global};
 use std::cmp::max;
@@ -29,43 +29,37 @@ mod give;
 mod link;
 mod slot;
 
-// How many slot numbers there are: 2^64 - 32.
-const NUMBERS: usize = 0xFFFF_FFFF_FFFF_FFE0;
-
 /// The state of a collector.
 #[derive(Drop)]
 pub(crate) struct Plain<T, R: Copy> {
     alloc: Global,
     size: usize,
     slots: Vec<Slot<T, R>>,
+    // the numbers of the slots that are in use, so that the least free one is found without a look at each slot
+    numbers: Numbers,
     retired: Vec<Batch<T, R>>,
     links: Vec<Link<T, R>>,
 }
 
 impl<T, R: Copy> Model for Plain<T, R> {
+    ghost use Rattle.std.specs.Prelude.{◌≡◌, ◌≤◌, ℕ, not, length, map, slice_index_or};
+    ghost use Rattle.std.specs.FinSet as set;
+    ghost use Rattle.seize_model.specs.declared.kind.Kind.TheVariants.{Free};
     ghost use Rattle.seize_model.specs.Waiting.State as state;
+    ghost use Rattle.seize_model.specs.Waiting.Calls.{is_free};
 
     ghost Value = { state.State T R };
 
     ghost view = { λ c. record { size = c.size; slots = c.slots.items; retired = c.retired.items; links = c.links.items } };
-}
 
-// The least number not in use.
-fn least_unused<T: Drop, R: Copy>(slots: &[Slot<T, R>]) -> usize
-    ensures is { result ≡ calls.least_unused slots.now }
-    ensures in_range { result ≤ length slots.now }
-{
-    for (n, slot) in slots.iter().enumerate() {
-        if slot.is_free() {
-            return n;
-        }
-    }
-    slots.len()
+    ghost invariant = { λ c. ((n : ℕ) → set.contains c.numbers n ≡ not (is_free (slice_index_or (map (λ slot. slot.kind) c.slots.items) n Free)))
+        × (length (map (λ slot. slot.kind) c.slots.items) ≤ 18446744073709551584) };
 }
 
 // All active slots wait for batch `b`.
 fn wait_all<T: Drop, R: Copy>(slots: &mut [Slot<T, R>], b: usize) -> Result<(), AllocError>
-    ensures { IfOk result (λ _. slots.new ≡ map (waiting.wait_if_active b) slots.old) }
+    ensures done { IfOk result (λ _. slots.new ≡ map (waiting.wait_if_active b) slots.old) }
+    ensures kinds { map (λ slot. slot.kind) slots.new ≡ map (λ slot. slot.kind) slots.old }
 {
     for i in 0..slots.len() {
         let slot = &mut slots[i];
@@ -95,6 +89,7 @@ impl<T: Drop, R: Copy> Plain<T, R> {
             alloc,
             size,
             slots: Vec::new(alloc),
+            numbers: Numbers::new(alloc),
             retired: Vec::new(alloc),
             links,
         })
@@ -175,17 +170,24 @@ impl<T: Drop, R: Copy> Plain<T, R> {
     fn set_guards(&mut self, s: usize, guards: u64)
         ensures { self.new ≡ calls.set_guards self.old s guards }
     {
-        if let Some(slot) = self.slots.get_mut(s) {
-            slot.set_guards(guards);
-        }
+        let Some(slot) = self.slots.get_mut(s) else {
+            return;
+        };
+        slot.set_guards(guards);
     }
 
     fn free(&mut self, s: usize)
         ensures { self.new ≡ calls.freed self.old s }
     {
-        if let Some(slot) = self.slots.get_mut(s) {
-            slot.set_use(Kind::Free, 0);
+        let Some(slot) = self.slots.get_mut(s) else {
+            return;
+        };
+        if slot.is_free() {
+            slot.set_guards(0);
+            return;
         }
+        slot.set_use(Kind::Free, 0);
+        self.numbers.give(s);
     }
 
     fn free_if(&mut self, s: usize, owned: bool)
@@ -212,10 +214,21 @@ impl<T: Drop, R: Copy> Plain<T, R> {
         ensures order { result.items ≡ (state.slot_at self.old s).order }
         ensures rest { self.new ≡ state.set_slot self.old s (record (state.slot_at self.old s) { order = [] }) }
     {
-        match self.slots.get_mut(s) {
-            Some(slot) => slot.take_order(self.alloc),
-            None => VecDeque::new(self.alloc),
-        }
+        let Some(slot) = self.slots.get_mut(s) else {
+            return VecDeque::new(self.alloc);
+        };
+        slot.take_order(self.alloc)
+    }
+
+    /// Takes the batch of slot `s` out.
+    fn take_batch(&mut self, s: usize) -> Vec<(T, R)>
+        ensures batch { result.items ≡ (state.slot_at self.old s).batch }
+        ensures rest { self.new ≡ state.set_slot self.old s (calls.without_batch (state.slot_at self.old s)) }
+    {
+        let Some(slot) = self.slots.get_mut(s) else {
+            return Vec::new(self.alloc);
+        };
+        slot.take_batch(self.alloc)
     }
 
     /// The batch of slot `s` becomes a retired batch, which waits for all active slots.
@@ -223,10 +236,7 @@ impl<T: Drop, R: Copy> Plain<T, R> {
         ensures done { IfOk result (λ _. self.new ≡ waiting.detached self.old s) }
         ensures links { self.new.links ≡ self.old.links }
     {
-        let values = match self.slots.get_mut(s) {
-            Some(slot) => slot.take_batch(self.alloc),
-            None => Vec::new(self.alloc),
-        };
+        let values = self.take_batch(s);
         let b = self.retired.len();
         wait_all(&mut self.slots, b)?;
         self.retired.push(Batch::new(values))?;
@@ -238,10 +248,10 @@ impl<T: Drop, R: Copy> Plain<T, R> {
         ensures done { IfOk result (λ _. self.new ≡ waiting.appended self.old s (value, reclaim)) }
         ensures links { self.new.links ≡ self.old.links }
     {
-        if let Some(slot) = self.slots.get_mut(s) {
-            slot.push(value, reclaim)?;
-        }
-        Ok(())
+        let Some(slot) = self.slots.get_mut(s) else {
+            return Ok(());
+        };
+        slot.push(value, reclaim)
     }
 }
 

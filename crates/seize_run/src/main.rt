@@ -1,27 +1,15 @@
 //! Runs scripts of calls on a collector in one caller's hands, and prints which values are gone, and what the calls answer.
 #![tactic(auto)]
 
-mod call;
-mod failure;
-mod line;
-mod name;
-mod names;
-mod parser;
-mod program;
-mod row;
-mod script;
-mod value;
-
-use failure::Failure;
+use seize_script::{Failure, PutInside, report, run_program};
 use std::env;
 use std::io::{BufWriter, ErrorKind};
 use std::process::ExitCode;
-use value::PutInside;
 
 fn main(rt: HostRuntime) -> ExitCode {
     let status = match run(&rt) {
         Ok(status) => status,
-        Err(failure) => program::report(&failure, &mut rt.stderr()),
+        Err(failure) => report(&failure, &mut rt.stderr()),
     };
     ExitCode::from(status)
 }
@@ -35,7 +23,7 @@ fn run(rt: &HostRuntime) -> Result<u8, Failure<'static>> {
     let Ok(output) = BufWriter::new(rt.alloc(), rt.stdout()) else {
         return Err(Failure::NoMemory);
     };
-    Ok(program::run_program(
+    Ok(run_program(
         rt.alloc(),
         args.as_slice(),
         rt.stdin(),

@@ -35,17 +35,6 @@ impl<T: Drop, R: Copy> Plain<T, R> {
     {
         self.slots.len()
     }
-
-    /// Takes the batch of slot `s` out.
-    fn take_batch(&mut self, s: usize) -> Vec<(T, R)>
-        ensures batch { result.items ≡ (state.slot_at self.old s).batch }
-        ensures rest { self.new ≡ state.set_slot self.old s (calls.without_batch (state.slot_at self.old s)) }
-    {
-        match self.slots.get_mut(s) {
-            Some(slot) => slot.take_batch(self.alloc),
-            None => Vec::new(self.alloc),
-        }
-    }
 }
 
 impl<T: Weigh + Drop, R: Reclaim<T>> Plain<T, R> {

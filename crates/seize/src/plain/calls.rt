@@ -1,15 +1,39 @@
 //! The calls of the plain collector that tell nobody: numbers, guards and links.
-ghost use Rattle.std.specs.Prelude.{◌≡◌, ◌≤◌, ◌<◌, length, slice_set, IfOk, OnErr, MatchResult, option_map, None, Some};
+ghost use Rattle.std.specs.Prelude.{◌≡◌, ◌≤◌, ◌<◌, ◌==◌, ◌++◌, ◌∷◌, [], false, if◌then◌else◌, length, slice_set, slice_index_or, IfOk, OnErr, MatchResult, option_map, None, Some};
 ghost use Rattle.seize.specs.Blocks.{content};
+ghost use Rattle.seize_model.specs.Waiting.State.{no_slot};
 ghost use Rattle.seize_model.specs.Waiting.Calls as calls;
 ghost use Rattle.seize.specs.Told.{Grew, Said};
 
 use crate::block::Owned;
+use crate::plain::Plain;
 use crate::plain::slot::Slot;
-use crate::plain::{NUMBERS, Plain, least_unused};
 use seize_model::Kind;
 use seize_table::Refusal;
-use std::alloc::AllocError;
+use std::alloc::{AllocError, Global};
+
+// Number `n` has this use.
+fn occupy<T: Drop, R: Copy>(
+    alloc: Global,
+    slots: &mut Vec<Slot<T, R>>,
+    n: usize,
+    kind: Kind,
+    guards: u64,
+) -> Result<(), AllocError>
+    requires { n ≤ length slots.old.items }
+    ensures done { IfOk result (λ _. slots.new.items ≡ (if n == length slots.old.items
+        then slots.old.items ++ record { kind = kind; guards = guards; batch = []; order = [] } ∷ []
+        else slice_set slots.old.items n (record (slice_index_or slots.old.items n no_slot) { kind = kind; guards = guards }))) }
+    ensures refused { OnErr result (slots.new.items ≡ slots.old.items) }
+{
+    if n < slots.len() {
+        let slot = &mut slots[n];
+        slot.set_use(kind, guards);
+        return Ok(());
+    }
+    slots.push(Slot::new(alloc, kind, guards))?;
+    Ok(())
+}
 
 impl<T: Drop, R: Copy> Plain<T, R> {
     /// The refusal of a call that needs a number in use.
@@ -44,32 +68,15 @@ impl<T: Drop, R: Copy> Plain<T, R> {
         }
     }
 
-    /// Number `n` has this use.
-    fn occupy(&mut self, n: usize, kind: Kind, guards: u64) -> Result<(), AllocError>
-        requires { n ≤ length self.old.slots }
-        ensures done { IfOk result (λ _. self.new ≡ calls.taken self.old n kind guards) }
-        ensures refused { OnErr result (self.new ≡ self.old) }
-        ensures links { self.new.links ≡ self.old.links }
-    {
-        if n < self.slots.len() {
-            let slot = &mut self.slots[n];
-            slot.set_use(kind, guards);
-            return Ok(());
-        }
-        self.slots.push(Slot::new(self.alloc, kind, guards))?;
-        Ok(())
-    }
-
     /// Takes the least number not in use.
     pub(crate) fn take_number(&mut self, kind: Kind, guards: u64) -> Result<usize, Refusal>
+        requires { calls.is_free kind ≡ false }
         ensures done { Grew (calls.take_number self.old kind guards) result self.old self.new }
         ensures links { self.new.links ≡ self.old.links }
     {
-        let n = least_unused(&self.slots);
-        if n == NUMBERS {
-            return Err(Refusal::NoNumbers);
-        }
-        let Ok(()) = self.occupy(n, kind, guards) else {
+        let n = self.numbers.take()?;
+        let Ok(()) = occupy(self.alloc, &mut self.slots, n, kind, guards) else {
+            self.numbers.give(n);
             return Err(Refusal::NoMemory);
         };
         Ok(n)

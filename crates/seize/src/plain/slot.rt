@@ -96,7 +96,8 @@ impl<T: Drop, R: Copy> Slot<T, R> {
 
     /// Appends a value to its batch.
     pub(crate) fn push(&mut self, value: T, reclaim: R) -> Result<(), AllocError>
-        ensures { IfOk result (λ _. self.new ≡ record self.old { batch = self.old.batch ++ (value, reclaim) ∷ [] }) }
+        ensures done { IfOk result (λ _. self.new ≡ record self.old { batch = self.old.batch ++ (value, reclaim) ∷ [] }) }
+        ensures kind { self.new.kind ≡ self.old.kind }
     {
         self.batch.push((value, reclaim))?;
         Ok(())
@@ -120,7 +121,8 @@ impl<T: Drop, R: Copy> Slot<T, R> {
 
     /// Batch `b` waits for it, if it is active.
     pub(crate) fn wait(&mut self, b: usize) -> Result<(), AllocError>
-        ensures { IfOk result (λ _. self.new ≡ wait_if_active b self.old) }
+        ensures done { IfOk result (λ _. self.new ≡ wait_if_active b self.old) }
+        ensures kind { self.new.kind ≡ self.old.kind }
     {
         if self.guards != 0 {
             self.order.push_front(b)?;

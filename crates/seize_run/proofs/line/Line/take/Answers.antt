@@ -1,7 +1,0 @@
-use Rattle.seize_run.proofs.Prefixes.{begins}
-use Rattle.seize_run.proofs.line.Line.take.Goals as goal
-
-pub returns-in-Some : goal.returns-in-Some
-returns-in-Some c =
-    let t = c.in-Some.ensures.cases in
-    begins c.args.bytes.now c.args.self.now.rest.now c.in-Some.rest.now t.0 t.1

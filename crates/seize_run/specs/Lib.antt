@@ -1,4 +1,0 @@
-pub mod Ranges
-pub mod Statuses
-pub mod Values
-pub mod Weights

@@ -1,0 +1,5 @@
+pub mod Links
+pub mod Ranges
+pub mod Statuses
+pub mod Values
+pub mod Weights

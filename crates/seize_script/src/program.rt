@@ -1,0 +1,203 @@
+//! The program between its arguments and its status: which script it runs, and what it prints. It is over any reader and writers.
+ghost use Rattle.std.specs.Prelude.{◌≡◌, ◌≤◌, length, map};
+ghost use Rattle.seize.specs.Alone.{call_of, AllInRange};
+ghost use Rattle.seize_script.specs.Ranges.{IsGroupInRange, IsInRange};
+ghost use Rattle.seize_script.specs.Statuses.{status_of};
+ghost use Rattle.seize_script.specs.Links.{links_of_alone};
+
+use crate::failure::Failure;
+use crate::names::Names;
+use crate::parser::parse;
+use crate::row;
+use crate::script::{Calls, Group, GroupEnd, Script};
+use crate::value::{PutInside, Value};
+use seize::{Alone, Call, Refusal, Reply};
+use std::alloc::Global;
+use std::collections::VecDeque;
+use std::io;
+use std::io::{ErrorKind, Read, Write};
+
+/// How many bytes a script has at most.
+pub const LONGEST_SCRIPT: usize = 1_048_576;
+
+/// Does what the arguments say, and answers the status.
+pub fn run_program<I: Read + Drop, O: Write + Drop, E: Write + Drop>(
+    alloc: Global,
+    args: &[&str],
+    input: I,
+    mut output: O,
+    mut errors: E,
+    reclaim: PutInside,
+) -> u8
+    ensures { result ≤ 5 }
+{
+    match run(alloc, args, input, &mut output, reclaim) {
+        Ok(()) => 0,
+        Err(failure) => report(&failure, &mut errors),
+    }
+}
+
+/// Says why the program ends, and answers the status. A fault in saying so is passed over.
+pub fn report<E: Write>(failure: &Failure<'_>, errors: &mut E) -> u8
+    ensures { result ≡ status_of failure.now }
+{
+    let _ = writeln!(errors, "{failure}");
+    failure.status()
+}
+
+fn run<'a, I: Read + Drop, O: Write>(
+    alloc: Global,
+    args: &[&'a str],
+    input: I,
+    output: &mut O,
+    reclaim: PutInside,
+) -> Result<(), Failure<'a>> {
+    match args {
+        ["row", name] => {
+            let text = row::script_of(alloc, name)?.ok_or(Failure::NoRow(name))?;
+            run_text(alloc, text.as_bytes(), output, reclaim)
+        }
+        ["script"] => {
+            let text = read(alloc, input)?;
+            run_text(alloc, text.as_slice(), output, reclaim)
+        }
+        _ => Err(Failure::Usage),
+    }
+}
+
+/// The whole input, up to the first byte too many.
+fn read<'a, I: Read + Drop>(alloc: Global, input: I) -> Result<Vec<u8>, Failure<'a>> {
+    let mut text = Vec::new(alloc);
+    match input.take(LONGEST_SCRIPT as u64 + 1).read_to_end(&mut text) {
+        Err(error) if error.kind() == ErrorKind::OutOfMemory => Err(Failure::NoMemory),
+        Err(_) => Err(Failure::CannotRead),
+        Ok(_) if text.len() > LONGEST_SCRIPT => Err(Failure::TooLong),
+        Ok(_) => Ok(text),
+    }
+}
+
+fn run_text<'a, O: Write>(
+    alloc: Global,
+    text: &[u8],
+    output: &mut O,
+    reclaim: PutInside,
+) -> Result<(), Failure<'a>> {
+    let script = parse(alloc, text, reclaim)?;
+    let ran = run_script(alloc, script, output);
+    // what was printed before a failure stands
+    output.flush().map_err(|_| Failure::CannotWrite)?;
+    ran
+}
+
+fn run_script<'a, O: Write>(
+    alloc: Global,
+    script: Script,
+    output: &mut O,
+) -> Result<(), Failure<'a>>
+    requires { IsInRange script }
+{
+    let Script {
+        mut collector,
+        calls: Calls { groups, values },
+    } = script;
+    let mut names = Names::with_room(alloc, values)?;
+    let mut alone = collector.alone();
+    for group in groups {
+        run_group(alloc, &mut alone, group, &mut names, output)?;
+    }
+    Ok(())
+}
+
+fn run_group<'a, O: Write>(
+    alloc: Global,
+    alone: &mut Alone<'_, Value, PutInside>,
+    group: Group,
+    names: &mut Names,
+    output: &mut O,
+) -> Result<(), Failure<'a>>
+    requires { IsGroupInRange (links_of_alone alone.old) group }
+    ensures { links_of_alone alone.new ≡ links_of_alone alone.old }
+{
+    let Group { calls, end } = group;
+    run_calls(alloc, alone, calls, names, output)?;
+    match end {
+        GroupEnd::Tick => writeln!(output, "--").map_err(|_| Failure::CannotWrite),
+        GroupEnd::All => reclaim_all(alone, names, output),
+        GroupEnd::Script => Ok(()),
+    }
+}
+
+/// Runs calls, and prints the names of the values gone and then the replies.
+///
+/// Where the allocator refused, the replies are printed only if one of them says so: else what was done is not known.
+fn run_calls<'a, O: Write>(
+    alloc: Global,
+    alone: &mut Alone<'_, Value, PutInside>,
+    mut calls: VecDeque<Call<Value, PutInside>>,
+    names: &mut Names,
+    output: &mut O,
+) -> Result<(), Failure<'a>>
+    requires { AllInRange (links_of_alone alone.old) (map call_of calls.items) }
+    ensures { links_of_alone alone.new ≡ links_of_alone alone.old }
+{
+    let mut replies = Vec::new(alloc);
+    alone.run(&mut calls, &mut replies, names)?;
+    let is_refused = replies.iter().any(is_no_memory);
+    if is_refused || !alone.is_short() {
+        print_group(names, replies.as_slice(), output).map_err(|_| Failure::CannotWrite)?;
+    }
+    if is_refused || alone.is_short() {
+        return Err(Failure::NoMemory);
+    }
+    names.clear();
+    Ok(())
+}
+
+/// Reclaims all, and prints the names of the values gone.
+fn reclaim_all<'a, O: Write>(
+    alone: &mut Alone<'_, Value, PutInside>,
+    names: &mut Names,
+    output: &mut O,
+) -> Result<(), Failure<'a>>
+    ensures { links_of_alone alone.new ≡ links_of_alone alone.old }
+{
+    alone.reclaim_all(names);
+    if alone.is_short() {
+        return Err(Failure::NoMemory);
+    }
+    print_group(names, &[], output).map_err(|_| Failure::CannotWrite)?;
+    names.clear();
+    Ok(())
+}
+
+fn is_no_memory(reply: &Reply<Value, PutInside>) -> bool {
+    matches!(reply, Reply::Refused(Refusal::NoMemory, _))
+}
+
+fn print_group<O: Write>(
+    names: &Names,
+    replies: &[Reply<Value, PutInside>],
+    output: &mut O,
+) -> io::Result<()> {
+    for name in names.as_slice() {
+        writeln!(output, "gone {name}")?;
+    }
+    for reply in replies {
+        print_reply(reply, output)?;
+    }
+    Ok(())
+}
+
+fn print_reply<O: Write>(reply: &Reply<Value, PutInside>, output: &mut O) -> io::Result<()> {
+    match reply {
+        Reply::Done => Ok(()),
+        Reply::Slot(n) => writeln!(output, "slot {n}"),
+        Reply::Kept => writeln!(output, "kept"),
+        Reply::Found(true) => writeln!(output, "found"),
+        Reply::Found(false) => writeln!(output, "empty"),
+        Reply::Refused(refusal, _) => {
+            let number = refusal.number();
+            writeln!(output, "refused {number} {refusal}")
+        }
+    }
+}
