@@ -5,6 +5,7 @@ pub mod Memory
 pub mod Steps
 pub mod Fields
 pub mod Vacants
-pub mod Seen
+pub mod Fielded
 pub mod Tokens
 pub mod Sends
+pub mod Unique

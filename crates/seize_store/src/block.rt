@@ -1,5 +1,5 @@
 // A chunk's room in its holder's hands: an empty spot, and a block, which is a value in a spot.
-ghost use Rattle.std.specs.Prelude.{◌≡◌};
+ghost use Rattle.std.specs.Prelude.{◌≡◌, ◌≢◌};
 ghost use Rattle.seize_store.specs.Block.{out_owns, block_owns, block_shares};
 ghost use Rattle.seize_store.specs.Titled.{place_of};
 
@@ -42,6 +42,17 @@ impl<H, T> Out<H, T> {
         } else {
             None
         }
+    }
+}
+
+impl<H, T> Out<H, T> {
+    /// Two rooms that are out at once lie apart. It does nothing: its contract says so.
+    pub(crate) fn differ(self, other: Out<H, T>) -> (Out<H, T>, Out<H, T>)
+        ensures { (result.0.at ≡ self.at) × (result.1.at ≡ other.at) × (self.at ≢ other.at) }
+    {
+        let Out { at: first } = self;
+        let Out { at: second } = other;
+        (Out { at: first }, Out { at: second })
     }
 }
 

@@ -7,9 +7,12 @@ mod chunk;
 mod known;
 mod owned;
 mod row;
+mod seen;
 mod spot;
 mod store;
 
 pub use known::{Known, Title};
-pub use owned::Owned;
+pub use owned::{Owned, apart};
+pub use seen::{Place, Seen};
+pub use spot::{SPOTS, Spots};
 pub use store::Store;

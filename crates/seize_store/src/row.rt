@@ -1,5 +1,6 @@
 // A row of chunks, and the cells that the rows stand in.
-ghost use Rattle.std.specs.Prelude.{◌≡◌, length};
+ghost use Rattle.std.specs.Prelude.{◌≡◌, ◌<◌, length};
+ghost use Rattle.seize_store.specs.Known.{place_in};
 
 use crate::chunk::Chunk;
 use once_cell::race::OnceBox;
@@ -69,6 +70,21 @@ impl<H: Drop, T> Row<H, T> {
             chunks.push_reserved(Kept::new(alloc, header)?);
         }
         Ok(Row { chunks })
+    }
+
+    /// How many chunks it has.
+    pub(crate) fn len(&self) -> usize
+        ensures { result ≡ length self.now }
+    {
+        self.chunks.len()
+    }
+
+    /// The chunk at that entry.
+    pub(crate) fn chunk(&self, entry: usize) -> &Chunk<H, T>
+        requires { entry < length self.now }
+        ensures { result.now.at ≡ place_in self.now entry }
+    {
+        &self.chunks[entry].chunk
     }
 
     /// The same in a box.

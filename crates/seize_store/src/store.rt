@@ -4,13 +4,13 @@ ghost use Rattle.seize_table.specs.Place.{IsPlace};
 ghost use Rattle.seize_table.specs.Table.{number_at};
 ghost use Rattle.seize_table.specs.declared.refusal.Refusal.TheVariants.{NoMemory};
 ghost use Rattle.seize_store.specs.Known.{name_in, place_in};
-ghost use Rattle.seize_store.specs.Named.{name_of, store_of, value_of};
+ghost use Rattle.seize_store.specs.Named.{AreOf, is_empty_list, name_of, store_of, value_of};
 
 use crate::block::Out;
 use crate::known::{Known, Title};
 use crate::owned::Owned;
 use crate::row::{Row, Rows};
-use crate::spot::Spot;
+use crate::spot::{Spot, Spots};
 use once_cell::race::{Note, OnceBox};
 use seize_table::Refusal;
 use seize_table::thread_id::{BUCKETS, Thread};
@@ -79,6 +79,31 @@ impl<H: Drop, T> Store<H, T> {
         match self.claim(header) {
             Ok(spot) => Ok(spot.fill(value)),
             Err(refusal) => Err((refusal, value)),
+        }
+    }
+
+    /// The same with a spot of the list, where it has one: then it takes no atomic step and no memory.
+    ///
+    /// # Errors
+    ///
+    /// As `add`, where the list is empty.
+    pub fn add_from<F: Fn() -> H>(
+        &self,
+        spots: &mut Spots<H, T>,
+        value: T,
+        header: &F,
+    ) -> Result<Owned<H, T>, (Refusal, T)>
+    where
+        T: Drop,
+        requires callable { F.IsAlwaysCallable header.now }
+        requires spots { AreOf spots.old (name_of self.now) }
+        ensures ok { IfOk result (λ o. (value_of o ≡ value) × (store_of o ≡ name_of self.now)) }
+        ensures refused { IfErr result (λ e. (e.0 ≡ NoMemory) × (e.1 ≡ value) × is_empty_list spots.old) }
+        ensures spots { AreOf spots.new (name_of self.now) }
+    {
+        match spots.list.pop() {
+            Some(spot) => Ok(spot.fill(value)),
+            None => self.add(value, header),
         }
     }
 

@@ -30,4 +30,10 @@ impl Known {
             marker: PhantomData,
         }
     }
+
+    /// Two tokens of one row of one store say the same.
+    pub fn agree(&self, other: &Known)
+        requires { (self.now.store ≡ other.now.store) × (self.now.row ≡ other.now.row) }
+        ensures { self.now.places ≡ other.now.places }
+    {}
 }

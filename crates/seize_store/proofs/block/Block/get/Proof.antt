@@ -16,7 +16,7 @@ use Rattle.seize_store.specs.Chunk.{room_at}
 use Rattle.seize_store.specs.Block.{block_shares}
 use Rattle.seize_store.specs.contracts.block.Block as block
 use Rattle.seize_store.specs.contracts.known.Title as title
-use Rattle.seize_store.proofs.Seen as seen
+use Rattle.seize_store.proofs.Fielded as seen
 use Rattle.seize_store.specs.contracts.block.Block.get.{ended, clauses}
 use Rattle.seize_store.specs.contracts.block.Block.get.Key.{name as #self}
 use Rattle.seize_store.proofs.block.Block.get.Statement.{statement}

@@ -10,7 +10,7 @@ use denote.Struct.Lending.{lent_out}
 use Rattle.seize_store.specs.Block.{block_shares}
 use Rattle.seize_store.specs.contracts.block.Block as block
 use Rattle.seize_store.specs.contracts.known.Title as title
-use Rattle.seize_store.proofs.Seen as seen
+use Rattle.seize_store.proofs.Fielded as seen
 use Rattle.seize_store.specs.contracts.block.Block.title.{ended, clauses}
 use Rattle.seize_store.specs.contracts.block.Block.title.Key.{name as #self}
 use Rattle.seize_store.proofs.block.Block.title.Statement.{statement}
