@@ -19,6 +19,7 @@ pub struct Seen<H: Drop, T> {
 }
 
 /// The chunk of a number.
+#[derive(Drop)]
 pub struct Place<'a, H, T> {
     pub(crate) chunk: &'a Chunk<H, T>,
 }

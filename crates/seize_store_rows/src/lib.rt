@@ -5,3 +5,6 @@
 mod node;
 #[cfg(test)]
 mod store;
+#[cfg(test)]
+mod threads;
+mod values;
