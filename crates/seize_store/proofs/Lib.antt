@@ -1,0 +1,11 @@
+pub mod Sharing
+pub mod Showing
+pub mod Kit
+pub mod Memory
+pub mod Steps
+pub mod Fields
+pub mod Vacants
+pub mod Fielded
+pub mod Tokens
+pub mod Sends
+pub mod Unique

@@ -1,0 +1,56 @@
+-- The machine value of a `Known`, and one behind a `&mut` opened and shut. Assumes `Logic`.
+use Rattle.std.proofs.Common.{◌≡◌, ℕ, [], ◌∷◌, refl, List, ap}
+use seplogic.Ra.Ura.{Ura}
+use mir.Val.{Val, vstruct, vcons, vnil}
+use base.Logic.{SProp, ent, sep, wand, all, emp, via, fst∗, snd∗}
+use base.Stored.{gnil, gcons, coded_list}
+use base.Fml.{Lft, Share, Fml, fsep, fobs, fbor, flft}
+use types.Logic.{Logic, sem}
+use types.SemTy.{Body}
+use types.Kit.{‵, ◌$◌, ◌∵◌, !, qed, move, fsplit, fjoin, frame, each, assume, updating, now, done}
+use contract.Monad.{fact, fact_mono, conj_i}
+use denote.RattleType.{RattleType}
+use denote.Memory.{mem}
+use denote.RawPtr.{Ptr, coded_ptr}
+use denote.Shadow.{makes_shadow}
+use denote.Steps.{opens, closes}
+use denote.Struct.Struct.{Struct}
+use denote.Struct.Owning.{shape}
+use Rattle.once_cell.proofs.Moves.{second}
+use Rattle.seize_store.specs.Known.{known_row, name_in}
+use Rattle.seize_store.specs.contracts.known.Known as known
+
+abbrev pub token : Val
+token = vstruct (vcons (vstruct vnil) vnil)
+
+abbrev pub Known : RattleType
+Known = known.the_row
+
+abbrev pub Data : Fml
+Data = (Struct (shape known.the_type)).own_val (tt, tt) (token ∷ [])
+
+module _ {M : Type 1} {𝓤 : Ura M} (𝓛 : Logic 𝓤) where
+  pub known_made : ent 𝓤 (emp 𝓤) (sem 𝓛 Data)
+  known_made = makes_shadow 𝓛 Data (λ vss. (tt, ((λ uss. (tt, tt)), tt))) ((vstruct vnil ∷ [], tt), (refl, ((tt, (refl, tt)), tt)))
+
+  abbrev pub told : Known.Denot → Fml
+  told n = known_row n.store n.row n.places
+
+  pub known_twice : (n : Known.Denot) → ent 𝓤 (sem 𝓛 (told n)) (sep 𝓤 (sem 𝓛 (told n)) (sem 𝓛 (told n)))
+  known_twice n = 𝓛.names.res_dup (name_in n.store n.row) (gcons gnil ((coded_list coded_ptr).code n.places))
+
+  -- one row has one list of places
+  pub known_agree : (γ : ℕ) (ps qs : List Ptr) → ent 𝓤 (sep 𝓤 (sem 𝓛 (base.Fml.fres γ (gcons gnil ((coded_list coded_ptr).code ps)))) (sem 𝓛 (base.Fml.fres γ (gcons gnil ((coded_list coded_ptr).code qs))))) (fact 𝓤 (ps ≡ qs))
+  known_agree γ ps qs = let c = coded_list coded_ptr in let x = gcons gnil (c.code ps) in let y = gcons gnil (c.code qs) in let P : SProp 𝓤 = 𝓛.A.res γ x in let Q : SProp 𝓤 = 𝓛.A.res γ y in
+      via 𝓤 _ (via 𝓤 _ (conj_i 𝓤 P Q (fst∗ 𝓤 P Q) (snd∗ 𝓤 P Q)) (𝓛.names.res_one γ x y)) (fact_mono 𝓤 (x ≡ y) (ps ≡ qs) (λ e. c.inj ps qs (ap second e)))
+
+  module _ (κ : Lft) (q : Share) (b o ν : ℕ) where
+    abbrev pub lent : Known.Denot → Fml
+    lent n = fsep (fobs ν (Known.coded.code n)) (fbor κ (Body (mem Known) b o ν))
+
+    abbrev pub Shuts : Known.Denot → SProp 𝓤
+    Shuts n = wand 𝓤 (sem 𝓛 (told n)) (𝓛.H.⇛ (sep 𝓤 (sem 𝓛 (lent n)) (𝓛.A.lft κ q)))
+
+    pub known_opens : (n : Known.Denot) → ent 𝓤 (sep 𝓤 (sem 𝓛 (lent n)) (𝓛.A.lft κ q)) (𝓛.H.⇛ (sep 𝓤 (sem 𝓛 (told n)) (all 𝓤 Shuts)))
+    known_opens n = qed 𝓛 (‵ (lent n) ∷ ‵ (flft κ q) ∷ []) ∵ updating ! $ fsplit ! $ opens ! tt Known b o (λ vs. move ! (1 ∷ []) $ fsplit ! $ now ! $ move ! (1 ∷ []) $ frame ! $
+        each ! Shuts (λ m. assume ! (‵ (told m)) $ updating ! $ move ! (1 ∷ 0 ∷ []) $ fjoin ! $ move ! (1 ∷ 0 ∷ []) $ closes ! tt Known m vs b o $ fjoin ! $ now ! $ done !))

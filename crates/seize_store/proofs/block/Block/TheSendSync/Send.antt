@@ -1,0 +1,14 @@
+use denote.RattleType.{RattleType}
+use denote.Param.Send.{IsSend, owning_send, struct_send, sendable}
+use denote.Builtin.{RawPtr}
+use denote.Struct.Struct.{exits_of}
+use denote.Struct.Owning.{shape, fields, to}
+use Rattle.std_alloc.proofs.SendSync.{quiet}
+use Rattle.seize_store.specs.Titled.{place_of}
+use Rattle.seize_store.specs.contracts.block.Block.{the_row, the_type}
+use Rattle.seize_store.specs.contracts.known.Title as title
+use Rattle.seize_store.proofs.Sends.{block_owned}
+
+pub send : (X T : RattleType) → IsSend T → IsSend (the_row X T)
+send X T s = let O = the_type X T in let ps : IsSend RawPtr = search sendable in let ns : IsSend title.the_field.row = search sendable depth 30 in owning_send O (ps, (ns, tt)) (λ d. block_owned X T s (place_of d.title) d.at d.value)
+    (λ k. quiet (to O) (exits_of k (fields O)) ((struct_send (shape O) (ps, (ns, tt))).leaving k))

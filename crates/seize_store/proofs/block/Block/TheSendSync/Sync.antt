@@ -1,0 +1,11 @@
+use denote.RattleType.{RattleType}
+use denote.Param.Send.{IsSync, struct_sync, sendable}
+use denote.Builtin.{RawPtr}
+use denote.Struct.Owning.{shape, to}
+use Rattle.seize_store.specs.contracts.block.Block.{the_row, the_type}
+use Rattle.seize_store.specs.contracts.known.Title as title
+use Rattle.seize_store.proofs.Sends.{block_seen}
+
+pub sync : (X T : RattleType) → IsSync T → IsSync (the_row X T)
+sync X T y = let py : IsSync RawPtr = search sendable in let ny : IsSync title.the_field.row = search sendable depth 30 in
+    record { shared = λ d b o κ. ((struct_sync (shape (the_type X T)) (py, (ny, tt))).shared (to (the_type X T) d) b o κ, block_seen X T y d.at d.value κ) }

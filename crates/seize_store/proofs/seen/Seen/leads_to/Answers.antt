@@ -1,0 +1,19 @@
+use Rattle.std.proofs.Common.{ℕ, List, sym, ap, ◌∙◌}
+use denote.RawPtr.{Ptr}
+use Rattle.seize_table.proofs.Places.{one_bucket}
+use Rattle.seize_store.specs.Known.{entry_of, place_in}
+use Rattle.seize_store.specs.declared.known.Title.{Title}
+use Rattle.seize_store.proofs.seen.Seen.leads_to.Goals as goal
+
+-- src/seen/find.rt:30:9
+pub agree-requires : goal.agree-requires
+agree-requires g c = let r = c.args.self.now.known.row in let t = c.args.owned.now.block.title in (
+  c.requires.0 ∙ ap (λ (u : Title). u.known.store) (sym c.title.ensures),
+  one_bucket t.number r (entry_of r t.number) t.known.row (entry_of t.known.row t.number) c.requires.1 t.placed ∙ ap (λ (u : Title). u.known.row) (sym c.title.ensures),
+)
+
+-- src/seen/find.rt:26:5
+pub returns : goal.returns
+returns g c = let s = c.args.self.now.known in let t = c.args.owned.now.block.title in let n = t.number in
+    ap (λ (ps : List Ptr). place_in ps (entry_of s.row n)) (c.agree.ensures ∙ ap (λ (u : Title). u.known.places) c.title.ensures)
+    ∙ ap (λ (r : ℕ). place_in t.known.places (entry_of r n)) (one_bucket n s.row (entry_of s.row n) t.known.row (entry_of t.known.row n) c.requires.1 t.placed)

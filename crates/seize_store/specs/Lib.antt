@@ -1,0 +1,5 @@
+pub mod Block
+pub mod Chunk
+pub mod Known
+pub mod Named
+pub mod Titled

@@ -1,0 +1,66 @@
+-- The words in which the contracts of the store and of its blocks speak.
+--     name_of s       the store s: the names of its rows
+--     store_of o      the store that the block o is of
+--     value_of o, number_of o      its value and its number
+--     AreOf spots s   each of the spots is of the store s
+--     is_empty_list spots      there is none
+--     store_by s, row_by s, places_by s     the store and the row of the token s, and where the row's chunks lie
+--     row_is s n      the row is that of the number n
+--     HasPlace s n    the row has a chunk for n;  place_by s n   where that lies
+--     lies_of p, header_of p   where the chunk p lies, and its header
+--     lies o          where the chunk of the block o lies
+use Rattle.std.specs.Prelude.{◌≡◌, ℕ, ◌<◌, ◌≤◌, List, [], All, length}
+use denote.RawPtr.{Ptr}
+use Rattle.seize_table.specs.Place.{IsPlace}
+use Rattle.seize_store.specs.Known.{names_of, entry_of, place_in}
+use Rattle.seize_store.specs.Titled.{place_of}
+use Rattle.seize_store.specs.declared.seen.Place.{Place}
+use Rattle.seize_store.specs.declared.seen.Seen.{Seen}
+use Rattle.seize_store.specs.declared.owned.Owned.{Owned}
+use Rattle.seize_store.specs.declared.spot.Spots.{Spots}
+use Rattle.seize_store.specs.declared.store.Store.{Store}
+
+abbrev pub name_of : {H T : Type 0} → Store H T → List ℕ
+name_of store = names_of store.rows.cells
+
+abbrev pub store_of : {H T : Type 0} → Owned H T → List ℕ
+store_of owned = owned.block.title.known.store
+
+abbrev pub value_of : {H T : Type 0} → Owned H T → T
+value_of owned = owned.block.value
+
+abbrev pub number_of : {H T : Type 0} → Owned H T → ℕ
+number_of owned = owned.block.title.number
+
+abbrev pub AreOf : {H T : Type 0} → Spots H T → List ℕ → Type 0
+AreOf spots store = All (λ spot. spot.title.known.store ≡ store) spots.list.items
+
+abbrev pub is_empty_list : {H T : Type 0} → Spots H T → Type 0
+is_empty_list spots = spots.list.items ≡ []
+
+abbrev pub store_by : {H T : Type 0} → Seen H T → List ℕ
+store_by seen = seen.known.store
+
+abbrev pub row_by : {H T : Type 0} → Seen H T → ℕ
+row_by seen = seen.known.row
+
+abbrev pub places_by : {H T : Type 0} → Seen H T → List Ptr
+places_by seen = seen.known.places
+
+abbrev pub row_is : {H T : Type 0} → Seen H T → ℕ → Type 0
+row_is seen number = IsPlace number seen.known.row (entry_of seen.known.row number)
+
+abbrev pub HasPlace : {H T : Type 0} → Seen H T → ℕ → Type 0
+HasPlace seen number = row_is seen number × (number ≤ 18446744073709551583) × (entry_of seen.known.row number < length seen.known.places)
+
+abbrev pub place_by : {H T : Type 0} → Seen H T → ℕ → Ptr
+place_by seen number = place_in seen.known.places (entry_of seen.known.row number)
+
+abbrev pub lies_of : {H T : Type 0} → Place H T → Ptr
+lies_of place = place.chunk.now.at
+
+abbrev pub header_of : {H T : Type 0} → Place H T → H
+header_of place = place.chunk.now.header
+
+abbrev pub lies : {H T : Type 0} → Owned H T → Ptr
+lies owned = place_of owned.block.title

@@ -1,0 +1,97 @@
+// A chunk's room in its holder's hands: an empty spot, and a block, which is a value in a spot.
+ghost use Rattle.std.specs.Prelude.{◌≡◌, ◌≢◌};
+ghost use Rattle.seize_store.specs.Block.{out_owns, block_owns, block_shares};
+ghost use Rattle.seize_store.specs.Titled.{place_of};
+
+use crate::chunk::Body;
+use crate::known::Title;
+use std::alloc::Global;
+use std::marker::{Brand, Model};
+use std::sync::atomic::Ordering::SeqCst;
+use std::sync::atomic::raw;
+use std_alloc::room::Vacant;
+
+/// The room of a chunk that is out, and empty.
+pub(crate) struct Out<H, T> {
+    pub(crate) at: *mut Body<H, T>,
+}
+
+impl<H, T> Model for Out<H, T> {
+    ghost also_owns = { λ o. out_owns H.row T.row o.at };
+}
+
+/// A value in the room of a chunk.
+pub(crate) struct Block<H, T> {
+    at: *mut Body<H, T>,
+    pub(crate) title: Title,
+    pub(crate) ghost value: { T },
+}
+
+impl<H, T> Model for Block<H, T> {
+    ghost also_owns = { λ o. block_owns H.row T.row (place_of o.title) o.at o.value };
+
+    ghost also_shares = { λ o _ κ. block_shares H.row T.row o.at o.value κ };
+}
+
+impl<H, T> Out<H, T> {
+    /// Puts the room back into its chunk: one swap. Where the store is gone, the chunk's memory comes out.
+    pub(crate) fn give_back(self, alloc: Global) -> Option<Vacant<Body<H, T>, Global>> {
+        let Out { at } = self;
+        if unsafe { raw::swap::<Brand>(&raw const (*at).state, 0, SeqCst) } == 2 {
+            Some(Vacant { ptr: at, alloc })
+        } else {
+            None
+        }
+    }
+}
+
+impl<H, T> Out<H, T> {
+    /// Two rooms that are out at once lie apart. It does nothing: its contract says so.
+    pub(crate) fn differ(self, other: Out<H, T>) -> (Out<H, T>, Out<H, T>)
+        ensures { (result.0.at ≡ self.at) × (result.1.at ≡ other.at) × (self.at ≢ other.at) }
+    {
+        let Out { at: first } = self;
+        let Out { at: second } = other;
+        (Out { at: first }, Out { at: second })
+    }
+}
+
+impl<H, T> Block<H, T> {
+    /// A block in this room. It takes no memory and no atomic step.
+    pub(crate) fn of(out: Out<H, T>, title: Title, value: T) -> Block<H, T>
+        requires { place_of title ≡ out.at }
+        ensures { (result.value ≡ value) × (result.title ≡ title) }
+    {
+        let Out { at } = out;
+        unsafe { (&raw mut (*at).room).write(value) };
+        Block { at, title }
+    }
+
+    /// The value, for as long as the block is borrowed.
+    pub(crate) fn get(&self) -> &T
+        ensures { result.now ≡ self.now.value }
+    {
+        unsafe { &(*self.at).room }
+    }
+
+    pub(crate) fn title(&self) -> &Title
+        ensures { result.now ≡ self.now.title }
+    {
+        &self.title
+    }
+
+    /// The value by value, and the room where it lay.
+    pub(crate) fn empty(self) -> (T, Out<H, T>, Title)
+        ensures { (result.0 ≡ self.value) × (place_of result.2 ≡ result.1.at) × (result.2 ≡ self.title) }
+    {
+        let Block { at, title } = self;
+        let value = unsafe { (&raw const (*at).room).read() };
+        (value, Out { at }, title)
+    }
+}
+
+unsafe impl<H, T> Send for Out<H, T> {}
+
+unsafe impl<H, T: Send> Send for Block<H, T> {}
+
+unsafe impl<H, T: Sync> Sync for Block<H, T> {}

@@ -1,0 +1,48 @@
+// What shows where a number leads: a token without bytes, free of the types that the store is made for, and the title of a block.
+ghost use Rattle.std.specs.Prelude.{◌≡◌, ℕ, List, Some};
+ghost use base.Stored.{coded_list};
+ghost use denote.RawPtr.{Ptr, coded_ptr};
+ghost use denote.Sharing.{said};
+ghost use Rattle.seize_table.specs.Place.{IsPlace};
+ghost use Rattle.seize_store.specs.Known.{known_row, entry_of};
+
+mod tells;
+
+use std::alloc::Global;
+use std::marker::{Model, PhantomData};
+
+/// What shows which chunks one row of one store has, for good. It takes no bytes.
+pub struct Known {
+    pub(super) marker: PhantomData<()>,
+    /// The store: the names of its rows.
+    pub ghost store: { List ℕ },
+    /// Which row it is.
+    pub ghost row: { ℕ },
+    /// Where its chunks lie.
+    pub ghost places: { List Ptr } by { coded_list coded_ptr },
+}
+
+impl Model for Known {
+    ghost also_owns = { λ k. known_row k.store k.row k.places };
+
+    ghost also_shares = { λ k _ κ. said (known_row k.store k.row k.places) κ };
+}
+
+impl Drop for Known {
+    fn drop(self) {
+        let Self { marker: _ } = self;
+    }
+}
+
+unsafe impl Send for Known {}
+
+unsafe impl Sync for Known {}
+
+/// The number of a chunk, with what shows which chunk that is.
+#[derive(Drop)]
+pub struct Title {
+    pub(crate) number: usize,
+    pub(crate) alloc: Global,
+    pub(crate) known: Known,
+    ghost placed: { IsPlace number known.row (entry_of known.row number) },
+}

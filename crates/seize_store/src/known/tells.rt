@@ -1,0 +1,39 @@
+// How a token comes from a note of the row's cell, and how it is copied.
+ghost use Rattle.std.specs.Prelude.{◌≡◌};
+ghost use Rattle.seize_store.specs.Titled.{IsSeen, Shows};
+
+use super::Known;
+use crate::row::{Row, Rows};
+use once_cell::race::Note;
+use std::marker::PhantomData;
+
+impl Known {
+    // Of a note that knows the row of this index.
+    pub(crate) fn of<H: Drop, T>(
+        rows: &Rows<H, T>,
+        index: usize,
+        note: &mut Note<Row<H, T>>,
+    ) -> Known
+        requires { IsSeen rows.now.cells index note.old }
+        ensures { (note.new ≡ note.old) × Shows rows.now.cells index note.old result }
+    {
+        Known {
+            marker: PhantomData,
+        }
+    }
+
+    /// A copy, as for another thread.
+    pub fn again(&mut self) -> Known
+        ensures { (self.new ≡ self.old) × (result ≡ self.old) }
+    {
+        Known {
+            marker: PhantomData,
+        }
+    }
+
+    /// Two tokens of one row of one store say the same.
+    pub fn agree(&self, other: &Known)
+        requires { (self.now.store ≡ other.now.store) × (self.now.row ≡ other.now.row) }
+        ensures { self.now.places ≡ other.now.places }
+    {}
+}

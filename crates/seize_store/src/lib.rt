@@ -1,0 +1,18 @@
+//! A numbered store of blocks. Words can hold a block's number in place of a pointer, a look-up leads from the number to the block,
+//! and memory is asked for only where the store grows. It knows nothing of slots and events; the collector stands on it.
+#![tactic(auto)]
+
+mod block;
+mod chunk;
+mod known;
+mod owned;
+mod row;
+mod seen;
+mod spot;
+mod store;
+
+pub use known::{Known, Title};
+pub use owned::{Owned, apart};
+pub use seen::{Place, Seen};
+pub use spot::{SPOTS, Spots};
+pub use store::Store;

@@ -1,0 +1,80 @@
+// The block in its owner's hands.
+ghost use Rattle.std.specs.Prelude.{◌≡◌, ◌≢◌};
+ghost use Rattle.seize_store.specs.Named.{AreOf, number_of, store_of, value_of};
+
+use crate::block::Block;
+use crate::spot::{Spot, Spots};
+use std::ops::Deref;
+
+/// A value in a chunk of a store.
+pub struct Owned<H, T: Drop> {
+    pub(crate) block: Block<H, T>,
+}
+
+impl<H, T: Drop> Owned<H, T> {
+    /// The block's number. No other block of its store has it while this one stands.
+    pub fn number(&self) -> usize
+        ensures { result ≡ number_of self.now }
+    {
+        self.block.title().number
+    }
+
+    /// The value by value.
+    pub fn into_inner(self) -> T
+        ensures { result ≡ value_of self }
+    {
+        let (value, spot) = self.empty();
+        drop(spot);
+        value
+    }
+
+    /// The value by value. The chunk stays claimed, and its spot goes to the list; where that is full, half of it goes back first. No
+    /// atomic step else.
+    pub fn empty_into(self, spots: &mut Spots<H, T>) -> T
+        requires { AreOf spots.old (store_of self) }
+        ensures { (result ≡ value_of self) × AreOf spots.new (store_of self) }
+    {
+        let (value, spot) = self.empty();
+        spots.put(spot);
+        value
+    }
+
+    // The value, and the spot where it lay.
+    pub(crate) fn empty(self) -> (T, Spot<H, T>)
+        ensures { (result.0 ≡ value_of self) × (result.1.title ≡ self.block.title) }
+    {
+        let Owned { block } = self;
+        let (value, out, title) = block.empty();
+        (value, Spot { out, title })
+    }
+}
+
+/// Two blocks of one store that stand at once have different numbers. It gives both back as they were, and does nothing else: its
+/// contract is the law.
+pub fn apart<H, T: Drop>(first: Owned<H, T>, second: Owned<H, T>) -> (Owned<H, T>, Owned<H, T>)
+    requires { store_of first ≡ store_of second }
+    ensures numbers { number_of first ≢ number_of second }
+    ensures first { (value_of result.0 ≡ value_of first) × (number_of result.0 ≡ number_of first) }
+    ensures second { (value_of result.1 ≡ value_of second) × (number_of result.1 ≡ number_of second) }
+{
+    let (one, first) = first.empty();
+    let (two, second) = second.empty();
+    let (first, second) = first.apart(second);
+    (first.fill(one), second.fill(two))
+}
+
+impl<H, T: Drop> Deref for Owned<H, T> {
+    type Target = T;
+
+    fn deref(&self) -> &T
+        ensures { result.now ≡ value_of self.now }
+    {
+        self.block.get()
+    }
+}
+
+impl<H, T: Drop> Drop for Owned<H, T> {
+    fn drop(self) {
+        drop(self.into_inner());
+    }
+}

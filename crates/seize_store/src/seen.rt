@@ -1,0 +1,25 @@
+// The way from a number to its chunk, for whoever knows that the number's row is made.
+ghost use Rattle.std.specs.Prelude.{◌≡◌, Some};
+ghost use Rattle.seize_store.specs.Known.{name_in};
+
+use crate::chunk::Chunk;
+use crate::known::Known;
+use crate::row::Row;
+use once_cell::race::Note;
+
+mod find;
+
+/// What shows that a row of a store is made, for good. It takes no bytes and can be copied.
+#[derive(Drop)]
+pub struct Seen<H: Drop, T> {
+    pub(crate) note: Note<Row<H, T>>,
+    pub(crate) known: Known,
+    ghost cell: { note.cell ≡ name_in known.store known.row },
+    ghost same: { note.known ≡ Some known.places },
+}
+
+/// The chunk of a number.
+#[derive(Drop)]
+pub struct Place<'a, H, T> {
+    pub(crate) chunk: &'a Chunk<H, T>,
+}

@@ -1,0 +1,87 @@
+// Look-ups.
+ghost use Rattle.std.specs.Prelude.{◌≡◌, ◌<◌, ◌≤◌, IfSome};
+ghost use Rattle.seize_store.specs.Named.{HasPlace, header_of, lies, lies_of, name_of, number_of, place_by, places_by, row_by, row_is, store_by, store_of};
+
+use super::{Place, Seen};
+use crate::known::Known;
+use crate::owned::Owned;
+use crate::row::Row;
+use crate::store::Store;
+use seize_table::thread_id::Thread;
+
+impl<H: Drop, T> Seen<H, T> {
+    /// A copy, as for another thread.
+    pub fn again(&mut self) -> Seen<H, T>
+        ensures { (self.new ≡ self.old) × (result ≡ self.old) }
+    {
+        Seen {
+            note: self.note.again(),
+            known: self.known.again(),
+        }
+    }
+}
+
+impl<H: Drop, T: Drop> Seen<H, T> {
+    /// Where a look-up of the block's number leads: to the block's own chunk. It does nothing: its contract is the law.
+    pub fn leads_to(&self, owned: &Owned<H, T>)
+        requires { (store_by self.now ≡ store_of owned.now) × row_is self.now (number_of owned.now) }
+        ensures { place_by self.now (number_of owned.now) ≡ lies owned.now }
+    {
+        self.known.agree(&owned.block.title().known);
+    }
+}
+
+impl<'a, H, T> Place<'a, H, T> {
+    /// The chunk's header, for as long as the store is borrowed.
+    pub fn header(&self) -> &'a H
+        ensures { result.now ≡ header_of self.now }
+    {
+        let chunk = self.chunk;
+        chunk.header()
+    }
+}
+
+impl<H: Drop, T> Store<H, T> {
+    /// What shows the number's row, where that is made.
+    pub fn seen(&self, number: usize) -> Option<Seen<H, T>>
+        ensures { IfSome result (λ seen. (store_by seen ≡ name_of self.now) × HasPlace seen number) }
+    {
+        let place = Thread::new(number)?;
+        let mut note = self.rows.cells[place.bucket].note();
+        let row = self.rows.cells[place.bucket].get_as(&mut note)?;
+        if place.entry >= row.len() {
+            return None;
+        }
+        let known = Known::of(&self.rows, place.bucket, &mut note);
+        Some(Seen { note, known })
+    }
+
+    /// The chunk of a number whose row is known to be made. It is the chunk of every block that ever has this number.
+    ///
+    /// Four loads, each of which waits for the one before: the row's cell, the list of its chunks, the chunk's place, and then what is
+    /// looked for in the chunk.
+    pub fn at(&self, number: usize, seen: &mut Seen<H, T>) -> Place<'_, H, T>
+        requires store { store_by seen.old ≡ name_of self.now }
+        requires place { HasPlace seen.old number }
+        ensures { (seen.new ≡ seen.old) × (lies_of result ≡ place_by seen.old number) }
+    {
+        let Some(place) = Thread::new(number) else {
+            unreachable!();
+        };
+        let row = self.row(place.bucket, seen);
+        Place {
+            chunk: row.chunk(place.entry),
+        }
+    }
+
+    // The row that the token shows.
+    fn row(&self, bucket: usize, seen: &mut Seen<H, T>) -> &Row<H, T>
+        requires { (store_by seen.old ≡ name_of self.now) × (row_by seen.old ≡ bucket) × (bucket < 59) }
+        ensures { (seen.new ≡ seen.old) × (result.now ≡ places_by seen.old) }
+    {
+        let Some(row) = self.rows.cells[bucket].get_as(&mut seen.note) else {
+            unreachable!();
+        };
+        row
+    }
+}

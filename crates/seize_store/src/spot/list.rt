@@ -1,0 +1,39 @@
+// What a list of spots does.
+ghost use Rattle.std.specs.Prelude.{◌≡◌, ◌≤◌, vec_len, IfOk};
+ghost use Rattle.seize_store.specs.Named.{AreOf, is_empty_list};
+
+use super::{SPOTS, Spot, Spots};
+use std::alloc::{AllocError, Global};
+
+impl<H, T> Spots<H, T> {
+    /// An empty list, with all the room that it ever takes.
+    ///
+    /// # Errors
+    ///
+    /// Where that memory is refused.
+    pub fn new(alloc: Global) -> Result<Spots<H, T>, AllocError>
+        ensures { IfOk result (λ spots. is_empty_list spots) }
+    {
+        Ok(Spots {
+            list: Vec::with_capacity(alloc, SPOTS)?,
+        })
+    }
+
+    /// How many spots are in the list.
+    pub fn len(&self) -> usize
+        ensures { (result ≡ vec_len self.now.list) × (result ≤ SPOTS) }
+    {
+        self.list.len()
+    }
+
+    // One more spot. Where the list is full, half of it goes back first.
+    pub(crate) fn put(&mut self, spot: Spot<H, T>)
+        requires { AreOf self.old spot.title.known.store }
+        ensures { AreOf self.new spot.title.known.store }
+    {
+        if self.list.len() == SPOTS {
+            self.list.truncate(SPOTS / 2);
+        }
+        self.list.push_reserved(spot);
+    }
+}

@@ -1,0 +1,165 @@
+// The store: rows of chunks by their numbers.
+ghost use Rattle.std.specs.Prelude.{◌≡◌, ℕ, ◌+◌, ◌^◌, ◌<◌, length, List, IfOk, IfErr, IfSome, Some};
+ghost use Rattle.seize_table.specs.Place.{IsPlace};
+ghost use Rattle.seize_table.specs.Table.{number_at};
+ghost use Rattle.seize_table.specs.declared.refusal.Refusal.TheVariants.{NoMemory};
+ghost use Rattle.seize_store.specs.Known.{name_in, place_in};
+ghost use Rattle.seize_store.specs.Named.{AreOf, is_empty_list, name_of, store_of, value_of};
+
+use crate::block::Out;
+use crate::known::{Known, Title};
+use crate::owned::Owned;
+use crate::row::{Row, Rows};
+use crate::spot::{Spot, Spots};
+use once_cell::race::{Note, OnceBox};
+use seize_table::Refusal;
+use seize_table::thread_id::{BUCKETS, Thread};
+use std::alloc::Global;
+use std::array;
+use std::sync::atomic::AtomicUsize;
+use std::sync::atomic::Ordering::Relaxed;
+
+/// Blocks by their numbers. Threads share a store by `&`.
+#[derive(Drop)]
+pub struct Store<H: Drop, T> {
+    pub(crate) rows: Rows<H, T>,
+    hint: AtomicUsize,
+    alloc: Global,
+}
+
+/// The number whose place is that entry of that row.
+fn number_at_place(row: usize, entry: usize) -> usize
+    requires { (row < BUCKETS) × (entry < 2 ^ (row + 5)) }
+    ensures { (result ≡ number_at row entry) × IsPlace result row entry }
+{
+    Thread::bucket_capacity(row) - 32 + entry
+}
+
+/// Takes the first chunk of the row that is in, from an entry on and before another.
+fn first_in<H: Drop, T>(row: &Row<H, T>, from: usize, end: usize) -> Option<(usize, Out<H, T>)>
+    ensures { IfSome result (λ found. (found.0 < end) × (found.1.at ≡ place_in row.now found.0)) }
+{
+    let end = end.min(row.chunks.len());
+    for entry in from..end {
+        let chunk = &row.chunks[entry].chunk;
+        if chunk.is_in() {
+            if let Some(out) = chunk.claim() {
+                return Some((entry, out));
+            }
+        }
+    }
+    None
+}
+
+impl<H: Drop, T> Store<H, T> {
+    /// A store with no rows. It takes no memory.
+    pub fn new(alloc: Global) -> Store<H, T> {
+        Store {
+            rows: Rows {
+                cells: array::from_fn(move |_| OnceBox::new(alloc)),
+            },
+            hint: AtomicUsize::new(0),
+            alloc,
+        }
+    }
+
+    /// A block of the value, from any thread. It asks for memory only where no chunk was found in, and then makes a row, whose chunks
+    /// get their headers from `header`. It looks at each chunk at most once, and waits for nobody.
+    ///
+    /// # Errors
+    ///
+    /// `NoMemory` where that growth was refused; the value comes back, and nothing changed.
+    pub fn add<F: Fn() -> H>(&self, value: T, header: &F) -> Result<Owned<H, T>, (Refusal, T)>
+    where
+        T: Drop,
+        requires { F.IsAlwaysCallable header.now }
+        ensures ok { IfOk result (λ o. (value_of o ≡ value) × (store_of o ≡ name_of self.now)) }
+        ensures refused { IfErr result (λ e. (e.0 ≡ NoMemory) × (e.1 ≡ value)) }
+    {
+        match self.claim(header) {
+            Ok(spot) => Ok(spot.fill(value)),
+            Err(refusal) => Err((refusal, value)),
+        }
+    }
+
+    /// The same with a spot of the list, where it has one: then it takes no atomic step and no memory.
+    ///
+    /// # Errors
+    ///
+    /// As `add`, where the list is empty.
+    pub fn add_from<F: Fn() -> H>(
+        &self,
+        spots: &mut Spots<H, T>,
+        value: T,
+        header: &F,
+    ) -> Result<Owned<H, T>, (Refusal, T)>
+    where
+        T: Drop,
+        requires callable { F.IsAlwaysCallable header.now }
+        requires spots { AreOf spots.old (name_of self.now) }
+        ensures ok { IfOk result (λ o. (value_of o ≡ value) × (store_of o ≡ name_of self.now)) }
+        ensures refused { IfErr result (λ e. (e.0 ≡ NoMemory) × (e.1 ≡ value) × is_empty_list spots.old) }
+        ensures spots { AreOf spots.new (name_of self.now) }
+    {
+        match spots.list.pop() {
+            Some(spot) => Ok(spot.fill(value)),
+            None => self.add(value, header),
+        }
+    }
+
+    // A chunk that was in: from the hint on in its row, or else the first one, in a new row if need be.
+    fn claim<F: Fn() -> H>(&self, header: &F) -> Result<Spot<H, T>, Refusal>
+        requires { F.IsAlwaysCallable header.now }
+        ensures ok { IfOk result (λ spot. spot.title.known.store ≡ name_of self.now) }
+        ensures refused { IfErr result (λ e. e ≡ NoMemory) }
+    {
+        if let Some(spot) = self.near_hint() {
+            return Ok(spot);
+        }
+        let alloc = self.alloc;
+        for bucket in 0..BUCKETS {
+            let mut note = self.rows.cells[bucket].note();
+            let len = Thread::bucket_capacity(bucket);
+            let row = self.rows.cells[bucket].get_or_try_init_as(
+                move || Row::boxed(alloc, len, header),
+                &mut note,
+            )?;
+            if let Some(spot) = self.spot_in(bucket, 0, row, &mut note) {
+                return Ok(spot);
+            }
+        }
+        Err(Refusal::NoMemory)
+    }
+
+    fn near_hint(&self) -> Option<Spot<H, T>>
+        ensures { IfSome result (λ spot. spot.title.known.store ≡ name_of self.now) }
+    {
+        let place = Thread::new(self.hint.load(Relaxed))?;
+        let mut note = self.rows.cells[place.bucket].note();
+        let row = self.rows.cells[place.bucket].get_as(&mut note)?;
+        self.spot_in(place.bucket, place.entry, row, &mut note)
+    }
+
+    // A chunk of the row that is in, from an entry on. The next search begins there.
+    fn spot_in(
+        &self,
+        bucket: usize,
+        from: usize,
+        row: &Row<H, T>,
+        note: &mut Note<Row<H, T>>,
+    ) -> Option<Spot<H, T>>
+        requires { (bucket < BUCKETS) × (note.old.cell ≡ name_in (name_of self.now) bucket) × (note.old.known ≡ Some row.now) }
+        ensures { IfSome result (λ spot. spot.title.known.store ≡ name_of self.now) }
+    {
+        let (entry, out) = first_in(row, from, Thread::bucket_capacity(bucket))?;
+        let known = Known::of(&self.rows, bucket, note);
+        let number = number_at_place(bucket, entry);
+        self.hint.store(number, Relaxed);
+        let title = Title {
+            number,
+            alloc: self.alloc,
+            known,
+        };
+        Some(Spot { out, title })
+    }
+}

@@ -1,0 +1,10 @@
+//! Tests of the store: what no contract says, above all of threads and of memory. They stand in a crate of their own, since a crate
+//! with tests is proved twice.
+#![tactic(auto)]
+
+mod node;
+#[cfg(test)]
+mod store;
+#[cfg(test)]
+mod threads;
+mod values;

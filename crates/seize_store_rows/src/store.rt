@@ -1,0 +1,284 @@
+//! Blocks and their numbers on one thread, and what becomes of their memory.
+ghost use Rattle.seize_store.specs.Named.{AreOf, name_of};
+
+use crate::node::Node;
+use crate::values::{Counted, zero};
+use seize_store::{Known, Owned, Place, SPOTS, Seen, Spots, Store};
+use seize_table::Refusal;
+use std::alloc::Global;
+use std::mem::size_of;
+use std::sync::atomic::{AtomicU64, Ordering};
+use std::test::*;
+
+// The refusal alone. The value that came back ends.
+fn told<O, T: Drop>(answer: Result<O, (Refusal, T)>) -> Result<O, Refusal> {
+    match answer {
+        Ok(owned) => Ok(owned),
+        Err((refusal, value)) => {
+            drop(value);
+            Err(refusal)
+        }
+    }
+}
+
+fn added<T: Drop>(store: &Store<u64, T>, value: T) -> Result<Owned<u64, T>, Refusal> {
+    told(store.add(value, &zero))
+}
+
+#[test]
+fn numbers_follow_each_other_and_are_used_again(rt: HostRuntime) -> Result<(), Fail> {
+    let store: Store<u64, u64> = Store::new(rt.alloc());
+    let first = added(&store, 10)?;
+    let second = added(&store, 11)?;
+    assert_eq!(rt; (first.number(), *first), (0, 10));
+    assert_eq!(rt; (second.number(), *second), (1, 11));
+    assert_eq!(rt; second.into_inner(), 11);
+    let again = added(&store, 12)?;
+    assert_eq!(rt; (again.number(), *again), (1, 12));
+    Ok(())
+}
+
+// As many blocks as asked for, all of which stand at once.
+fn many(
+    alloc: Global,
+    store: &Store<u64, u64>,
+    count: usize,
+) -> Result<Vec<Owned<u64, u64>>, Refusal> {
+    let mut all = Vec::with_capacity(alloc, count)?;
+    for number in 0..count {
+        if all.push(added(store, number as u64)?).is_err() {
+            return Err(Refusal::NoMemory);
+        }
+    }
+    Ok(all)
+}
+
+#[test]
+fn blocks_that_stand_have_the_numbers_from_0_on(rt: HostRuntime) -> Result<(), Fail> {
+    let store = Store::new(rt.alloc());
+    let all = many(rt.alloc(), &store, 300)?;
+    for (number, owned) in all.iter().enumerate() {
+        assert_eq!(rt; (owned.number(), **owned), (number, number as u64));
+    }
+    Ok(())
+}
+
+fn zeroed() -> AtomicU64 {
+    AtomicU64::new(0)
+}
+
+#[test]
+fn a_number_leads_to_its_own_chunk(rt: HostRuntime) -> Result<(), Fail> {
+    let store: Store<AtomicU64, u64> = Store::new(rt.alloc());
+    assert!(rt; store.seen(0).is_none());
+    let mut all = Vec::with_capacity(rt.alloc(), 200)?;
+    for value in 0..200 {
+        all.push(told(store.add(value, &zeroed))?)?;
+    }
+    for owned in all.iter() {
+        let mut seen = store.seen(owned.number()).expect(&rt, "a row that is made");
+        let place = store.at(owned.number(), &mut seen);
+        place.header().fetch_add(**owned, Ordering::SeqCst);
+    }
+    for owned in all.iter() {
+        let found = store.seen(owned.number()).map(|mut seen| {
+            store
+                .at(owned.number(), &mut seen)
+                .header()
+                .load(Ordering::SeqCst)
+        });
+        assert_eq!(rt; found, Some(**owned));
+    }
+    assert!(rt; store.seen(usize::MAX).is_none());
+    Ok(())
+}
+
+fn list(store: &Store<u64, Node>, len: u64) -> Result<Option<Owned<u64, Node>>, Refusal> {
+    let mut list = None;
+    for name in 0..len {
+        list = Some(added(store, Node { name, next: list })?);
+    }
+    Ok(list)
+}
+
+#[test]
+fn a_list_of_100_000_is_taken_apart_from_its_front(rt: HostRuntime) -> Result<(), Fail> {
+    let store = Store::new(rt.alloc());
+    let mut rest = list(&store, 100_000)?;
+    let mut names = 0u64;
+    for _ in 0..100_000u64 {
+        let first = rest.expect(&rt, "a list of this length");
+        let Node { name, next } = first.into_inner();
+        names = names.saturating_add(name);
+        rest = next;
+    }
+    assert!(rt; rest.is_none());
+    assert_eq!(rt; names, 4_999_950_000);
+    Ok(())
+}
+
+#[test]
+fn a_list_outlives_its_store(rt: HostRuntime) -> Result<(), Fail> {
+    let store = Store::new(rt.alloc());
+    let list = list(&store, 100)?;
+    drop(store);
+    assert!(rt; list.is_some_and(|first| first.name == 99));
+    Ok(())
+}
+
+#[test]
+fn each_value_ends_once(rt: HostRuntime) -> Result<(), Fail> {
+    let ends = AtomicU64::new(0);
+    let store = Store::new(rt.alloc());
+    let kept = added(
+        &store,
+        Counted {
+            ends: &ends,
+            name: 1,
+        },
+    )?;
+    drop(added(
+        &store,
+        Counted {
+            ends: &ends,
+            name: 2,
+        },
+    )?);
+    assert_eq!(rt; ends.load(Ordering::SeqCst), 1);
+    let value = added(
+        &store,
+        Counted {
+            ends: &ends,
+            name: 3,
+        },
+    )?
+    .into_inner();
+    assert_eq!(rt; ends.load(Ordering::SeqCst), 1);
+    drop(value);
+    drop(store);
+    assert_eq!(rt; ends.load(Ordering::SeqCst), 2);
+    assert_eq!(rt; kept.name, 1);
+    drop(kept);
+    assert_eq!(rt; ends.load(Ordering::SeqCst), 3);
+    Ok(())
+}
+
+// So many blocks that stand at once, and then all of them emptied into the list. The sum of their values.
+fn kept(store: &Store<u64, u64>, spots: &mut Spots<u64, u64>, count: u64) -> Result<u64, Refusal>
+    requires { AreOf spots.old (name_of store.now) }
+    ensures { AreOf spots.new (name_of store.now) }
+{
+    if count == 0 {
+        return Ok(0);
+    }
+    match store.add(count, &zero) {
+        Ok(owned) => {
+            let sum = kept(store, spots, count - 1)?;
+            Ok(owned.empty_into(spots).saturating_add(sum))
+        }
+        Err((refusal, _)) => Err(refusal),
+    }
+}
+
+// A block made of a spot of the list and emptied into it again.
+fn through(store: &Store<u64, u64>, spots: &mut Spots<u64, u64>, value: u64) -> Result<u64, Refusal>
+    requires { AreOf spots.old (name_of store.now) }
+    ensures { AreOf spots.new (name_of store.now) }
+{
+    match store.add_from(spots, value, &zero) {
+        Ok(owned) => Ok(owned.empty_into(spots)),
+        Err((refusal, _)) => Err(refusal),
+    }
+}
+
+#[test]
+fn spots_are_filled_and_kept(rt: HostRuntime) -> Result<(), Fail> {
+    let store = Store::new(rt.alloc());
+    let mut spots = Spots::new(rt.alloc())?;
+    assert_eq!(rt; through(&store, &mut spots, 7)?, 7);
+    assert_eq!(rt; spots.len(), 1);
+    assert_eq!(rt; through(&store, &mut spots, 8)?, 8);
+    assert_eq!(rt; spots.len(), 1);
+    assert_eq!(rt; kept(&store, &mut spots, 127)?, 8128);
+    assert_eq!(rt; spots.len(), SPOTS);
+    assert_eq!(rt; kept(&store, &mut spots, 1)?, 1);
+    assert_eq!(rt; spots.len(), SPOTS / 2 + 1);
+    assert_eq!(rt; through(&store, &mut spots, 9)?, 9);
+    assert_eq!(rt; spots.len(), SPOTS / 2 + 1);
+    Ok(())
+}
+
+// A block made and ended. Where that is refused, whether the value came back as it was, and the call made again succeeds.
+fn comes_back<'a>(store: &Store<u64, Counted<'a>>, ends: &'a AtomicU64, name: u64) -> bool {
+    match store.add(Counted { ends, name }, &zero) {
+        Ok(_) => true,
+        Err((refusal, value)) => {
+            let same = refusal == Refusal::NoMemory && value.name == name;
+            let none = ends.load(Ordering::SeqCst) == name;
+            same && none && store.add(value, &zero).is_ok()
+        }
+    }
+}
+
+fn wrong_rounds<'a>(store: &Store<u64, Counted<'a>>, ends: &'a AtomicU64) -> u64 {
+    let mut wrong = 0u64;
+    for name in 0..100u64 {
+        if !comes_back(store, ends, name) || ends.load(Ordering::SeqCst) != name.saturating_add(1) {
+            wrong = wrong.saturating_add(1);
+        }
+    }
+    wrong
+}
+
+#[test]
+fn a_refused_growth_hands_the_value_back(rt: HostRuntime) {
+    let ends = AtomicU64::new(0);
+    let store = Store::new(rt.alloc());
+    assert_eq!(rt; wrong_rounds(&store, &ends), 0);
+}
+
+#[test]
+fn tokens_have_no_bytes(rt: HostRuntime) {
+    assert_eq!(rt; size_of::<Known>(), 0);
+    assert_eq!(rt; size_of::<Seen<u64, u64>>(), 0);
+    assert_eq!(rt; size_of::<Owned<u64, [u64; 9]>>(), 16);
+    assert_eq!(rt; size_of::<Place<u64, u64>>(), 8);
+}
+
+fn is_sent<T: Send>(value: T) -> T {
+    value
+}
+
+fn is_shared<T: Sync>(value: &T) -> &T {
+    value
+}
+
+// A store is `Send` and `Sync` as its headers are, whatever its values; a block is as its value is.
+fn store_sends<H: Drop + Send, T>(store: Store<H, T>) -> Store<H, T> {
+    is_sent(store)
+}
+
+fn store_shares<H: Drop + Send + Sync, T>(store: &Store<H, T>) -> &Store<H, T> {
+    is_shared(store)
+}
+
+fn block_sends<H, T: Drop + Send>(owned: Owned<H, T>) -> Owned<H, T> {
+    is_sent(owned)
+}
+
+fn block_shares<H, T: Drop + Sync>(owned: &Owned<H, T>) -> &Owned<H, T> {
+    is_shared(owned)
+}
+
+fn spots_send<H, T>(spots: Spots<H, T>) -> Spots<H, T> {
+    is_sent(spots)
+}
+
+#[test]
+fn stores_and_blocks_pass_to_threads(rt: HostRuntime) -> Result<(), Fail> {
+    let store = store_sends(Store::new(rt.alloc()));
+    let owned = block_sends(added(store_shares(&store), 7u64)?);
+    let spots: Spots<u64, u64> = spots_send(Spots::new(rt.alloc())?);
+    assert_eq!(rt; (**block_shares(&owned), spots.len()), (7, 0));
+    Ok(())
+}

@@ -1,0 +1,123 @@
+//! Blocks from several threads.
+use crate::values::{Counted, zero};
+use seize_store::{Owned, Store};
+use std::alloc::Global;
+use std::sync::atomic::{AtomicU64, Ordering};
+use std::sync::{Mutex, Wait};
+use std::test::*;
+use std::thread;
+use std::thread::Threads;
+
+const EACH: u64 = 50_000;
+
+type Hands<'a> = Mutex<Option<Owned<u64, Counted<'a>>>>;
+
+// Makes and ends so many blocks. Every tenth is handed over, to whoever hands over next. How many were not what was put in.
+fn churn<'a, R: Wait>(
+    rt: &R,
+    store: &Store<u64, Counted<'a>>,
+    ends: &'a AtomicU64,
+    hands: &Hands<'a>,
+    from: u64,
+) -> u64 {
+    let mut wrong = 0u64;
+    for name in from..from.saturating_add(EACH) {
+        match store.add(Counted { ends, name }, &zero) {
+            Ok(owned) => {
+                if owned.name != name {
+                    wrong = wrong.saturating_add(1);
+                }
+                if name % 10 == 0 {
+                    let before = hands.lock(rt).replace(owned);
+                    drop(before);
+                }
+            }
+            Err(_) => wrong = wrong.saturating_add(1),
+        }
+    }
+    wrong
+}
+
+fn four<'a, R: Threads + Wait + Sync>(
+    rt: &R,
+    store: &Store<u64, Counted<'a>>,
+    ends: &'a AtomicU64,
+    hands: &Hands<'a>,
+) -> u64 {
+    let (a, b) = thread::join(
+        rt,
+        || {
+            thread::join(
+                rt,
+                || churn(rt, store, ends, hands, 0),
+                || churn(rt, store, ends, hands, 1_000_000),
+            )
+        },
+        || {
+            thread::join(
+                rt,
+                || churn(rt, store, ends, hands, 2_000_000),
+                || churn(rt, store, ends, hands, 3_000_000),
+            )
+        },
+    );
+    a.0.saturating_add(a.1)
+        .saturating_add(b.0)
+        .saturating_add(b.1)
+}
+
+#[test]
+fn four_threads_hold_no_chunk_twice(rt: HostRuntime) {
+    let ends = AtomicU64::new(0);
+    let store = Store::new(rt.alloc());
+    let hands = Mutex::new(None);
+    assert_eq!(rt; four(&rt, &store, &ends, &hands), 0);
+    drop(store);
+    drop(hands);
+    assert_eq!(rt; ends.load(Ordering::SeqCst), 4 * EACH);
+}
+
+const ROUND: usize = 1000;
+
+// So many blocks, which all stand, and the greatest of their numbers.
+fn taken(alloc: Global, store: &Store<u64, u64>) -> (Option<Vec<Owned<u64, u64>>>, usize) {
+    let mut greatest = 0;
+    let Ok(mut all) = Vec::with_capacity(alloc, ROUND) else {
+        return (None, 0);
+    };
+    for value in 0..ROUND {
+        let Ok(owned) = store.add(value as u64, &zero) else {
+            return (None, 0);
+        };
+        greatest = greatest.max(owned.number());
+        if all.push(owned).is_err() {
+            return (None, 0);
+        }
+    }
+    (Some(all), greatest)
+}
+
+// 1,000 rounds, in each of which one thread takes a thousand blocks and another gives those of the round before. The greatest numbers
+// in the first tenth and in all.
+fn rounds<R: Threads + Sync>(rt: &R, alloc: Global, store: &Store<u64, u64>) -> (usize, usize) {
+    let mut given = None;
+    let (mut early, mut late) = (0, 0);
+    for round in 0..1000u64 {
+        let (made, _) = thread::join(rt, || taken(alloc, store), move || drop(given));
+        let (all, greatest) = made;
+        given = all;
+        late = greatest.max(late);
+        if round < 100 {
+            early = late;
+        }
+    }
+    (early, late)
+}
+
+#[test]
+fn a_store_stops_growing(rt: HostRuntime) {
+    let store = Store::new(rt.alloc());
+    let (early, late) = rounds(&rt, rt.alloc(), &store);
+    // At most 2,000 blocks stand at once, so no row after the one with the 2,000th number is made: that row ends at 4,064.
+    assert!(rt; early <= late && late < 4064, "{early} and {late}");
+}
