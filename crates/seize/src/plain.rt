@@ -52,7 +52,8 @@ impl<T, R: Copy> Model for Plain<T, R> {
 
     ghost view = { λ c. record { size = c.size; slots = c.slots.items; retired = c.retired.items; links = c.links.items } };
 
-    ghost invariant = { λ c. ((n : ℕ) → set.contains c.numbers n ≡ not (is_free (slice_index_or (map (λ slot. slot.kind) c.slots.items) n Free)))
+    ghost invariant = { λ c. ((n : ℕ) →
+        set.contains c.numbers n ≡ not (is_free (slice_index_or (map (λ slot. slot.kind) c.slots.items) n Free)))
         × (length (map (λ slot. slot.kind) c.slots.items) ≤ 18446744073709551584) };
 }
 
