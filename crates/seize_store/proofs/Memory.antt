@@ -15,7 +15,7 @@ use denote.Memory.{lone}
 use denote.RawPtr.{block_ptr}
 use denote.Steps.{nothing}
 use Rattle.core.specs.Sync.RawAtomic.{word}
-use Rattle.libc.specs.Heap.{chunk}
+use Rattle.seize_store.specs.Freeable.{freeable as chunk}
 use Rattle.seize_store.specs.Chunk.{rest_ty, body_ty, rooms, parts}
 
 module _ (X R : RattleType) {M : Type 1} {𝓤 : Ura M} (𝓛 : Logic 𝓤) (b o : ℕ) where

@@ -6,14 +6,15 @@ use base.Shift.{Keyless}
 use denote.RattleType.{RattleType}
 use denote.RawPtr.{Ptr, block_ptr, null_ptr}
 use denote.Param.Send.{IsSend, IsSync, part_keyless}
-use Rattle.libc.specs.Heap.{chunk-Keyless}
+use Rattle.std.proofs.Crossing.{frees}
+use Rattle.seize_store.specs.Freeable.{heap}
 use Rattle.std_alloc.proofs.SendSync.{seen}
 use Rattle.seize_store.specs.Chunk.{Phase, free, taken, left, spent, body_ty, dues, header_at, room_at, state, chunk_owns, chunk_shares}
 use Rattle.seize_store.specs.Block.{out_owns, block_owns, block_shares}
 
 module _ (X R : RattleType) (b o : ℕ) where
   dues_keyless : Keyless (dues X R b o)
-  dues_keyless = (((tt, (tt, (tt, (tt, tt)))), tt), chunk-Keyless (body_ty X R) (block_ptr b o))
+  dues_keyless = (((tt, (tt, (tt, (tt, tt)))), tt), frees.frees heap (body_ty X R) (block_ptr b o))
 
   state_keyless : (a δ η : ℕ) (s : Phase) → Keyless (state X R b o a δ η s)
   state_keyless a δ η free = (tt, ((tt, tt), (tt, tt)))

@@ -18,7 +18,7 @@ use denote.Steps.{nothing, peeks}
 use denote.Struct.Struct.{within}
 use denote.Struct.Owning.{shape}
 use Rattle.core.proofs.cell.Inside.{Good, one}
-use Rattle.libc.specs.Heap.{chunk}
+use Rattle.seize_store.specs.Freeable.{freeable as chunk}
 use Rattle.std.specs.contracts.alloc.Global as heap
 use Rattle.std.proofs.alloc.Global.TheLaws as heap_laws
 use Rattle.std.specs.contracts.impls.GlobalAllocator.TheImpl.{ghosts}

@@ -16,7 +16,7 @@ use denote.RawPtr.{Ptr, block_ptr, null_ptr}
 use denote.Sharing.{said, beside, one, always}
 use denote.Struct.Lending.{lent_at}
 use Rattle.core.specs.Sync.RawAtomic.{word}
-use Rattle.libc.specs.Heap.{chunk}
+use Rattle.seize_store.specs.Freeable.{freeable as chunk}
 
 pub data Phase : Type 0 where
   free : Phase

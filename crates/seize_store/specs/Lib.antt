@@ -1,3 +1,4 @@
+pub mod Freeable
 pub mod Block
 pub mod Chunk
 pub mod Known

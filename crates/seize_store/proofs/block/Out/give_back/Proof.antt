@@ -18,7 +18,7 @@ use Rattle.core.specs.declared.option.Option.TheVariants.{None, Some}
 use Rattle.core.specs.contracts.option.Option.{the_row as OptionOf}
 use Rattle.core.proofs.option.Made.{Some-of, none_of}
 use base.Fml.{froom}
-use Rattle.libc.specs.Heap.{chunk as freed}
+use Rattle.seize_store.specs.Freeable.{freeable as freed}
 use Rattle.seize_store.specs.Chunk.{body_ty}
 use Rattle.seize_store.specs.contracts.block.Out as room
 use Rattle.seize_store.proofs.Memory as memory

@@ -24,7 +24,7 @@ use borrow.Table.OneValue.{part_out}
 use denote.Struct.Tuple.{Tuple}
 use types.Kit.{learn}
 use types.Run.{look}
-use Rattle.libc.specs.Heap.{chunk as freed}
+use Rattle.seize_store.specs.Freeable.{freeable as freed}
 use Rattle.std_alloc.proofs.Pairs.{pair_val, pair_Typed, pair_of}
 use Rattle.seize_store.specs.Chunk.{body_ty, header_room, legacy}
 use Rattle.seize_store.proofs.Memory as memory
