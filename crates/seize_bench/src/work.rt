@@ -221,8 +221,8 @@ fn pipe_box<R: Clock + CpuClock + Threads + Sync>(
 const PASSES: u64 = 500;
 
 fn found(store: &Store<u64, u64>, number: usize) -> Option<u64> {
-    let mut seen = store.seen(number)?;
-    Some(*store.at(number, &mut seen).header())
+    let (place, _) = store.find(number)?;
+    Some(*place.header())
 }
 
 fn look<R: Clock + CpuClock>(rt: &R, alloc: Global, samples: &mut Samples) -> io::Result<()> {
