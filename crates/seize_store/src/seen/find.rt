@@ -42,9 +42,10 @@ impl<'a, H, T> Place<'a, H, T> {
 }
 
 impl<H: Drop, T> Store<H, T> {
-    /// What shows the number's row, where that is made.
-    pub fn seen(&self, number: usize) -> Option<Seen<H, T>>
-        ensures { IfSome result (λ seen. (store_by seen ≡ name_of self.now) × HasPlace seen number) }
+    /// The chunk of a number, and what shows its row, where that is made.
+    pub fn find(&self, number: usize) -> Option<(Place<'_, H, T>, Seen<H, T>)>
+        ensures row { IfSome result (λ found. (store_by found.1 ≡ name_of self.now) × HasPlace found.1 number) }
+        ensures place { IfSome result (λ found. lies_of found.0 ≡ place_by found.1 number) }
     {
         let place = Thread::new(number)?;
         let mut note = self.rows.cells[place.bucket].note();
@@ -52,8 +53,17 @@ impl<H: Drop, T> Store<H, T> {
         if place.entry >= row.len() {
             return None;
         }
+        let chunk = row.chunk(place.entry);
         let known = Known::of(&self.rows, place.bucket, &mut note);
-        Some(Seen { note, known })
+        Some((Place { chunk }, Seen { note, known }))
+    }
+
+    /// What shows the number's row, where that is made.
+    pub fn seen(&self, number: usize) -> Option<Seen<H, T>>
+        ensures { IfSome result (λ seen. (store_by seen ≡ name_of self.now) × HasPlace seen number) }
+    {
+        let (_, seen) = self.find(number)?;
+        Some(seen)
     }
 
     /// The chunk of a number whose row is known to be made. It is the chunk of every block that ever has this number.
