@@ -3,13 +3,13 @@
 --     store_of o      the store that the block o is of
 --     value_of o, number_of o      its value and its number
 --     AreOf spots s   each of the spots is of the store s
---     is_empty_list spots      there is none
+--     is_empty_list spots, count_of spots      there is none;  how many there are
 --     store_by s, row_by s, places_by s     the store and the row of the token s, and where the row's chunks lie
 --     row_is s n      the row is that of the number n
 --     HasPlace s n    the row has a chunk for n;  place_by s n   where that lies
 --     lies_of p, header_of p   where the chunk p lies, and its header
 --     lies o          where the chunk of the block o lies
-use Rattle.std.specs.Prelude.{◌≡◌, ℕ, ◌<◌, ◌≤◌, List, [], All, length}
+use Rattle.std.specs.Prelude.{◌≡◌, ℕ, ◌<◌, ◌≤◌, List, [], All, length, vec_len}
 use denote.RawPtr.{Ptr}
 use Rattle.seize_table.specs.Place.{IsPlace}
 use Rattle.seize_store.specs.Known.{names_of, entry_of, place_in}
@@ -64,3 +64,6 @@ header_of place = place.chunk.now.header
 
 abbrev pub lies : {H T : Type 0} → Owned H T → Ptr
 lies owned = place_of owned.block.title
+
+abbrev pub count_of : {H T : Type 0} → Spots H T → ℕ
+count_of spots = vec_len spots.list

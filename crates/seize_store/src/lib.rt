@@ -11,7 +11,7 @@ mod seen;
 mod spot;
 mod store;
 
-pub use known::{Known, Title};
+pub use known::Known;
 pub use owned::{Owned, apart};
 pub use seen::{Place, Seen};
 pub use spot::{SPOTS, Spots};

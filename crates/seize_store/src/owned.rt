@@ -6,7 +6,10 @@ use crate::block::Block;
 use crate::spot::{Spot, Spots};
 use std::ops::Deref;
 
-/// A value in a chunk of a store.
+/// A value in a chunk of a store. It reads as the value, and may end on any thread and after its store.
+///
+/// When it ends, its chunk is in again, by one swap, and then the value ends; where the store is gone, the chunk's memory goes back. A
+/// list of blocks that is dropped whole nests, one call in another, as a list of boxes does. Take it apart from its front.
 pub struct Owned<H, T: Drop> {
     pub(crate) block: Block<H, T>,
 }
@@ -19,7 +22,7 @@ impl<H, T: Drop> Owned<H, T> {
         self.block.title().number
     }
 
-    /// The value by value.
+    /// The value by value. The chunk is in again, by one swap.
     pub fn into_inner(self) -> T
         ensures { result ≡ value_of self }
     {

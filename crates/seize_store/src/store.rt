@@ -64,7 +64,7 @@ impl<H: Drop, T> Store<H, T> {
     }
 
     /// A block of the value, from any thread. It asks for memory only where no chunk was found in, and then makes a row, whose chunks
-    /// get their headers from `header`. It looks at each chunk at most once, and waits for nobody.
+    /// get their headers from `header`. It looks at each chunk at most twice, and waits for nobody.
     ///
     /// # Errors
     ///

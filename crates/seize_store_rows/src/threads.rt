@@ -12,6 +12,17 @@ const EACH: u64 = 50_000;
 
 type Hands<'a> = Mutex<Option<Owned<u64, Counted<'a>>>>;
 
+// A block of the value. Where its memory is refused, the call is made again with the value that came back.
+fn made<'a>(
+    store: &Store<u64, Counted<'a>>,
+    value: Counted<'a>,
+) -> Option<Owned<u64, Counted<'a>>> {
+    match store.add(value, &zero) {
+        Ok(owned) => Some(owned),
+        Err((_, value)) => store.add(value, &zero).ok(),
+    }
+}
+
 // Makes and ends so many blocks. Every tenth is handed over, to whoever hands over next. How many were not what was put in.
 fn churn<'a, R: Wait>(
     rt: &R,
@@ -22,17 +33,15 @@ fn churn<'a, R: Wait>(
 ) -> u64 {
     let mut wrong = 0u64;
     for name in from..from.saturating_add(EACH) {
-        match store.add(Counted { ends, name }, &zero) {
-            Ok(owned) => {
-                if owned.name != name {
-                    wrong = wrong.saturating_add(1);
-                }
-                if name % 10 == 0 {
-                    let before = hands.lock(rt).replace(owned);
-                    drop(before);
-                }
-            }
-            Err(_) => wrong = wrong.saturating_add(1),
+        let Some(owned) = made(store, Counted { ends, name }) else {
+            return wrong.saturating_add(1);
+        };
+        if owned.name != name {
+            wrong = wrong.saturating_add(1);
+        }
+        if name % 10 == 0 {
+            let before = hands.lock(rt).replace(owned);
+            drop(before);
         }
     }
     wrong

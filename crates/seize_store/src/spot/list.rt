@@ -1,6 +1,6 @@
 // What a list of spots does.
-ghost use Rattle.std.specs.Prelude.{◌≡◌, ◌≤◌, vec_len, IfOk};
-ghost use Rattle.seize_store.specs.Named.{AreOf, is_empty_list};
+ghost use Rattle.std.specs.Prelude.{◌≡◌, ◌≤◌, IfOk};
+ghost use Rattle.seize_store.specs.Named.{AreOf, count_of, is_empty_list};
 
 use super::{SPOTS, Spot, Spots};
 use std::alloc::{AllocError, Global};
@@ -21,7 +21,7 @@ impl<H, T> Spots<H, T> {
 
     /// How many spots are in the list.
     pub fn len(&self) -> usize
-        ensures { (result ≡ vec_len self.now.list) × (result ≤ SPOTS) }
+        ensures { (result ≡ count_of self.now) × (result ≤ SPOTS) }
     {
         self.list.len()
     }
