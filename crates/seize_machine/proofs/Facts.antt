@@ -1,16 +1,17 @@
--- What other crates may build on: the facts of the machine, each with its statement. The modules of `proofs/Laws` behind them are no
--- interface, and may change. The definitions that the statements cite are in `specs/Machine`.
+-- What other crates may build on: the facts of the machine, each with its statement. The definitions that the statements cite are in
+-- `specs/Machine`, but for the steps: `Step` and what is brought in beside it here stand in `proofs/Laws/Steps` and `Forced`, and are
+-- part of this page. All else in `proofs/Laws` is no interface, and may change.
 pub use Rattle.seize_machine.proofs.Laws.Steps.{Step, Stands, go_on, counted, swapped, beginning, after_put}
 pub use Rattle.seize_machine.proofs.Laws.Forced.{Forced}
 -- on tests, and on how often a value stands in a list
-pub use Rattle.seize_machine.proofs.Laws.Steps.{if_some, and_true, or_true, not_true, is_true, eq_true, lt_true, le_true, some_is}
-pub use Rattle.seize_machine.proofs.Laws.Sums.{one, occ, occ-append, occ-push, has_none, has_some, distinct_once}
-use Rattle.std.proofs.Common.{◌≡◌, ◌≢◌, ℕ, ◌+◌, ◌<◌, ◌≤◌, pos, neg_ℤ, ◌≤ℤ◌, Bool, true, false, List, [], ◌∷◌, ◌++◌, length, take, drop, Option, Some, ◌⊎◌, arith}
-use Rattle.std.specs.List.{Contains}
+pub use Rattle.seize_machine.proofs.Laws.Steps.{if_some, and_true, not_true, is_true, eq_true, lt_true, some_is}
+pub use Rattle.seize_machine.proofs.Laws.Sums.{one, occ, has_none, has_some, distinct_once}
+use Rattle.std.proofs.Common.{◌≡◌, ◌≢◌, ℕ, ◌+◌, ◌<◌, ◌≤◌, pos, neg_ℤ, ◌≤ℤ◌, Bool, true, false, List, [], ◌∷◌, ◌++◌, length, take, drop, Option, Some, ◌⊎◌, arith, subst}
+use Rattle.std.specs.List.{Contains, slice_get}
 use Rattle.seize_machine.specs.Machine.State.{State, Mark, Look, Try, Add, Out, slot_at, head_at, link_at, batch_at, is_active, has, linked, are_distinct, opening, Place, Append, Rest}
 use Rattle.seize_machine.specs.Machine.Event.{Event, Put, SwapOut, slot_of}
 use Rattle.seize_machine.specs.Machine.Next.{next, set_slot, can_link}
-use Rattle.seize_machine.specs.Machine.History.{Timed, is_legal, Legal, IsReached, handed_value, is_link_event}
+use Rattle.seize_machine.specs.Machine.History.{Timed, is_legal, Legal, IsReached, handed_value, is_link_event, history}
 use Rattle.seize_machine.specs.Machine.Laws.{HoldsOfAll, AtMostOnce, After, Quiet, Protection, Parts, Gone, Holders, NoLaterHolders, Tries, detached_by, Lists, Walks}
 use Rattle.seize_machine.specs.Machine.Frames.{changes_slot, used, changes_used, changes_head_of, changes_link, changes_batch, changes_value, slots_added, batches_added, begins_retiring}
 use Rattle.seize_machine.specs.Machine.Kept.{KeptIn}
@@ -37,9 +38,11 @@ use Rattle.seize_machine.proofs.Laws.Tries as tries
 -- Steps. `Step size st event d` has one constructor for each row of the table, with all that the row asks: these are exactly the
 -- legal events.
 
+-- a legal event is a step
 pub step_of : (size : ℕ) (st : State) (event : Event) (d : State × Answer) → next size st event ≡ Some d → Step size st event d
 step_of = steps.step_of
 
+-- and a step is a legal event
 pub next_of : (size : ℕ) (st : State) (event : Event) (d : State × Answer) → Step size st event d → next size st event ≡ Some d
 next_of = exactness.next_of
 
@@ -61,28 +64,43 @@ forced = forcing.forced
 pub legal_answer : (size : ℕ) (st : State) (event : Event) (d : State × Answer) → Step size st event d → is_legal d.1 ≡ true
 legal_answer = lists.legal_answer
 
+-- no event at all
 pub no_event : (st : State) → Legal next st [] [] st
 no_event = lists.no_event
 
+-- one event
 pub one_event : (st later : State) (t : Timed) (answer : Answer) → next t.size st t.event ≡ Some (later, answer) → Legal next st (t ∷ []) (answer ∷ []) later
 one_event = lists.one_event
 
+-- one event more at the end
 pub one_more : (st now later : State) (events : List Timed) (answers : List Answer) (t : Timed) (answer : Answer)
     → Legal next st events answers now → next t.size now t.event ≡ Some (later, answer) → Legal next st (events ++ t ∷ []) (answers ++ answer ∷ []) later
 one_more = lists.one_more
 
+-- one list after another
 pub joined : (st now later : State) (events more : List Timed) (answers told : List Answer)
     → Legal next st events answers now → Legal next now more told later → Legal next st (events ++ more) (answers ++ told) later
 joined = lists.joined
 
-pub parted : (st later : State) (events more : List Timed) (answers : List Answer) → Legal next st (events ++ more) answers later
+-- a beginning of a legal list, and what follows it
+pub taken_apart : (st later : State) (events more : List Timed) (answers : List Answer) → Legal next st (events ++ more) answers later
     → (now : State) × Legal next st events (take (length events) answers) now × Legal next now more (drop (length events) answers) later
-parted = lists.parted
+taken_apart = lists.taken_apart
 
+-- its first event, and the rest
 pub first_event : (st later : State) (t : Timed) (more : List Timed) (answers : List Answer) → Legal next st (t ∷ more) answers later
     → (now : State) × (answer : Answer) × (rest : List Answer)
     × (answers ≡ answer ∷ rest) × (next t.size st t.event ≡ Some (now, answer)) × Legal next now more rest later
 first_event = lists.first_event
+
+-- the same events have the same answers and the same end
+pub legal_unique : (st now later : State) (events : List Timed) (answers told : List Answer) → Legal next st events answers now → Legal next st events told later → (answers ≡ told) × (now ≡ later)
+legal_unique = lists.legal_unique
+
+-- an event of a list stands among its moments, of which the laws speak, at its position
+pub moment_of_event : (st now after : State) (events more : List Timed) (answers : List Answer) (t : Timed) (answer : Answer) → Legal next st events answers now → next t.size now t.event ≡ Some (after, answer)
+    → slice_get (history next st (events ++ t ∷ more)) (length events) ≡ Some (record { before = now; timed = t; answer = answer; after = after })
+moment_of_event = lists.moment_of_event
 
 -- Reached states: each opening is one, a legal event leads to another, and what holds of each opening and is kept by each legal event
 -- from a reached state holds of all of them.
@@ -93,6 +111,13 @@ opening_reached slots links distinct =
 
 pub reached_next : (st : State) (t : Timed) (d : State × Answer) → IsReached st → next t.size st t.event ≡ Some d → IsReached d.0
 reached_next = reached.reached_next
+
+-- a legal list from a reached state ends in one
+pub reached_by : (events : List Timed) (st end : State) (answers : List Answer) → IsReached st → Legal next st events answers end → IsReached end
+reached_by [] st end answers r legal = subst IsReached legal.end_is r
+reached_by (t ∷ events) st end answers r legal =
+    let first = lists.first_event st end t events answers legal in
+    reached_by events first.0 end first.2 (reached.reached_next st t (first.0, first.1) r first.4) first.5
 
 pub reached_holds : (P : State → Type 0) → ((slots : ℕ) (links : List (Option ℕ)) → are_distinct (linked links) ≡ true → P (opening slots links))
     → ((st : State) (t : Timed) (d : State × Answer) → IsReached st → Step t.size st t.event d → P st → P d.0) → (st : State) → IsReached st → P st

@@ -4,9 +4,10 @@
 ghost use Rattle.std.specs.Prelude.{◌≡◌, ℕ, ◌<◌, List, [], ◌∷◌, ◌++◌, Some, length, map, take, drop, replicate, OnOk, OnErr, IfOk, IfErr};
 ghost use Rattle.seize_machine.specs.Machine.State.{State, opening, head_at, is_active};
 ghost use Rattle.seize_machine.specs.Machine.Next.{next};
-ghost use Rattle.seize_machine.specs.Machine.History.{Timed, Legal};
+ghost use Rattle.seize_machine.specs.Machine.History.{Timed, Legal, IsReached};
 ghost use Rattle.seize_machine.specs.Machine.Laws.{is_quiet, HoldsOfAll, AtMostOnce, After, Quiet, Protection, Parts, Gone, Holders, NoLaterHolders, Tries};
-ghost use Rattle.seize_machine.specs.Machine.Code.{event_of, HasDone, HasRun, HasRunLegally};
+ghost use Rattle.seize_machine.specs.Machine.Event.{Event as Occurrence};
+ghost use Rattle.seize_machine.specs.Machine.Code.{Sized, event_of, HasDone, HasRun, HasRunLegally};
 ghost use Rattle.seize_machine.specs.declared.machine.event.Answer.{Answer as Told};
 ghost use Rattle.seize_table.specs.declared.refusal.Refusal.TheVariants.{NoMemory};
 
@@ -98,6 +99,13 @@ impl Machine {
         Ok(())
     }
 
+    /// The machine stands in a state that a legal list of events leads to. It does nothing.
+    pub fn reached(&self)
+        ensures { IsReached self.now.state }
+    {
+        let _ = &self.size;
+    }
+
     /// The values reclaimed so far, in order.
     pub fn reclaimed(&self) -> &[u64]
         ensures { result.now ≡ self.now.state.gone }
@@ -145,7 +153,8 @@ pub fn laws()
 
 /// How legal lists are made and taken apart. No event is a legal list, one legal event after a legal list makes a longer one, a
 /// legal list goes on with what is legal from its end, and each beginning of a legal list is one, which the rest goes on. The first
-/// of its events is legal, and the others are a legal list from there. It does nothing.
+/// of its events is legal, and the others are a legal list from there. What a machine ran with no illegal answer, whether or not its
+/// memory was refused then, is a legal list. It does nothing.
 pub fn legal_lists()
     ensures no_event { (st : State) → Legal next st [] [] st }
     ensures one_more { (st now later : State) (events : List Timed) (answers : List Told) (t : Timed) (answer : Told)
@@ -153,10 +162,12 @@ pub fn legal_lists()
         → Legal next st (events ++ t ∷ []) (answers ++ answer ∷ []) later }
     ensures joined { (st now later : State) (events more : List Timed) (answers told : List Told)
         → Legal next st events answers now → Legal next now more told later → Legal next st (events ++ more) (answers ++ told) later }
-    ensures parted { (st later : State) (events more : List Timed) (answers : List Told) → Legal next st (events ++ more) answers later
+    ensures taken_apart { (st later : State) (events more : List Timed) (answers : List Told) → Legal next st (events ++ more) answers later
         → (now : State) × Legal next st events (take (length events) answers) now
         × Legal next now more (drop (length events) answers) later }
     ensures first_event { (st later : State) (t : Timed) (more : List Timed) (answers : List Told) → Legal next st (t ∷ more) answers later
         → (now : State) × (answer : Told) × (rest : List Told) × (answers ≡ answer ∷ rest)
         × (next t.size st t.event ≡ Some (now, answer)) × Legal next now more rest later }
+    ensures of_runs { (events : List Occurrence) (old new : Sized) (answers told : List Told) → HasRun events old new answers told
+        → HasRunLegally events old new answers told }
 {}

@@ -1,18 +1,18 @@
 -- The machine's facts, used by a crate that builds on it: only `proofs/Facts` of that crate is cited.
-use Rattle.std.proofs.Common.{◌≡◌, ◌≢◌, ℕ, pos, Bool, true, false, not, ◌&&◌, ◌||◌, ◌==◌, List, [], ◌∷◌, ◌++◌, option_to_list, Option, Some, None, refl, sym, ◌∙◌, ap, subst, arith}
-use Rattle.std.specs.List.{list_all}
+use Rattle.std.proofs.Common.{◌≡◌, ◌≢◌, ℕ, pos, Bool, true, false, not, ◌&&◌, ◌||◌, ◌==◌, List, [], ◌∷◌, ◌++◌, option_to_list, Option, Some, None, refl, sym, ◌∙◌, ap, subst, arith, length, take, drop}
+use Rattle.std.specs.List.{list_all, slice_get}
 use Rattle.std.proofs.lemmas.List.Concat.{flat_map-cons}
 use Rattle.seize_machine.specs.Machine.State.{State, link_at, has, linked, are_distinct, opening, slot_at}
 use Rattle.seize_machine.specs.Machine.Event.{Event, SwapOut}
 use Rattle.seize_machine.specs.Machine.Next.{next, can_link}
-use Rattle.seize_machine.specs.Machine.History.{Timed, Legal, IsReached, handed_value, handed, is_swap_out}
+use Rattle.seize_machine.specs.Machine.History.{Timed, Legal, IsReached, handed_value, handed, is_swap_out, is_legal, history}
 use Rattle.seize_machine.specs.Machine.Laws.{detached_by, Lists, Walks}
 use Rattle.seize_machine.specs.Machine.Frames.{changes_batch}
 use Rattle.seize_machine.specs.Machine.Kept.{KeptIn}
 use Rattle.seize_machine.specs.declared.machine.event.Answer.{Answer}
-use Rattle.seize_machine.specs.declared.machine.event.Answer.TheVariants.{Count}
-use Rattle.seize_machine.proofs.Facts.{Step, step_of, next_of, no_event, one_event, one_more, joined, parted, first_event, opening_reached, reached_next, law_at_most_once, law_after, law_quiet, law_protection, law_parts, law_gone, law_holders, law_no_later_holders, law_tries, slot_frame, active_frame, head_frame, batch_frame, link_frame, used_frame, value_frame, slots_length, heads_length, batches_length, links_length, named_grows, loose_stays, out_active, marks_tidy, looks_tidy, tries_tidy, adds_tidy, counts_near, one_owner, zero_unheld, arrives_unheld, kept_from_link, kept_step, kept_not_handed}
-use Rattle.seize_machine_rows.specs.Interface.{Unmoved, CallsTidy, Obeys}
+use Rattle.seize_machine.specs.declared.machine.event.Answer.TheVariants.{Count, Handed}
+use Rattle.seize_machine.proofs.Facts.{Step, step_of, next_of, no_event, one_event, one_more, joined, taken_apart, first_event, legal_unique, moment_of_event, legal_answer, opening_reached, reached_next, law_at_most_once, law_after, law_quiet, law_protection, law_parts, law_gone, law_holders, law_no_later_holders, law_tries, slot_frame, active_frame, head_frame, batch_frame, link_frame, used_frame, value_frame, slots_length, heads_length, batches_length, links_length, named_grows, loose_stays, out_active, marks_tidy, looks_tidy, tries_tidy, adds_tidy, counts_near, one_owner, zero_unheld, arrives_unheld, kept_from_link, kept_step, kept_not_handed, reached_by, reached_holds}
+use Rattle.seize_machine_rows.specs.Interface.{Unmoved, CallsTidy, Obeys, Handing}
 
 both : (a b : Bool) → (a && b) ≡ true → (a ≡ true) × (b ≡ true)
 both true b h = (refl, h)
@@ -52,7 +52,7 @@ kept st end s v l events answers r may found legal stays = unhanded s v events s
 
 pub unmoved : (size : ℕ) (st : State) (event : Event) (d : State × Answer) → next size st event ≡ Some d → Unmoved st event d.0
 unmoved size st event d legal =
-    let step : Step size st event d = step_of size st event d (next_of size st event d (step_of size st event d legal)) in
+    let step : Step size st event d = step_of size st event d legal in
     record {
       slot = λ k n. (slot_frame k size st event d step n, active_frame k size st event d step n);
       head = λ m n. head_frame m size st event d step n;
@@ -66,14 +66,6 @@ unmoved size st event d legal =
       batches = batches_length size st event d step;
       links = links_length size st event d step;
     }
-
--- a legal list from a reached state ends in one
-reached_by : (events : List Timed) (st end : State) (answers : List Answer) → IsReached st → Legal next st events answers end → IsReached end
-reached_by [] st end answers r legal = subst IsReached legal.end_is r
-reached_by (t ∷ events) st end answers r legal =
-    let first : (now : State) × (answer : Answer) × (rest : List Answer) × (answers ≡ answer ∷ rest) × (next t.size st t.event ≡ Some (now, answer)) × Legal next now events rest end =
-    first_event st end t events answers legal in
-    reached_by events first.0 end first.2 (reached_next st t (first.0, first.1) r first.4) first.5
 
 pub reached : (slots : ℕ) (links : List (Option ℕ)) (events : List Timed) (answers : List Answer) (end : State)
     → are_distinct (linked links) ≡ true → Legal next (opening slots links) events answers end → IsReached end
@@ -103,8 +95,6 @@ pub obeys : (slots : ℕ) (links : List (Option ℕ)) (events : List Timed) (ans
 obeys slots links events answers now later t answer distinct legal e =
     let start : State = opening slots links in
     let all : Legal next start (events ++ t ∷ []) (answers ++ answer ∷ []) later = one_more start now later events answers t answer legal e in
-    let parts : _ = parted start later events (t ∷ []) (answers ++ answer ∷ []) all in
-    let again : Legal next start ([] ++ t ∷ []) ([] ++ answer ∷ []) later → Legal next start (t ∷ []) (answer ∷ []) later = λ l. l in
     let one : Legal next now (t ∷ []) (answer ∷ []) later = one_event now later t answer e in
     let whole : Legal next start (events ++ t ∷ []) (answers ++ answer ∷ []) later = joined start now later events (t ∷ []) answers (answer ∷ []) legal (joined now now later [] (t ∷ []) [] (answer ∷ []) (no_event now) one) in
     record {
@@ -118,3 +108,30 @@ obeys slots links events answers now later t answer distinct legal e =
       no_later_holders = law_no_later_holders slots links (events ++ t ∷ []) _ later distinct whole;
       tries = law_tries slots links (events ++ t ∷ []) _ later distinct whole;
     }
+
+pub answered : (size : ℕ) (st : State) (event : Event) (d : State × Answer) → next size st event ≡ Some d → is_legal d.1 ≡ true
+answered size st event d legal = legal_answer size st event d (step_of size st event d legal)
+
+-- two events of one legal list that hand one value are one
+pub handed_once : (slots : ℕ) (links : List (Option ℕ)) (v : ℕ) (end : State) (answers : List Answer) (events more : List Timed) (t : Timed) (before : Handing slots links v events t)
+    (events2 more2 : List Timed) (t2 : Timed) (before2 : Handing slots links v events2 t2) → are_distinct (linked links) ≡ true
+    → Legal next (opening slots links) (events ++ t ∷ more) answers end → events ++ t ∷ more ≡ events2 ++ t2 ∷ more2 → length events ≡ length events2
+handed_once slots links v end answers events more t a events2 more2 t2 b distinct legal same =
+    law_at_most_once slots links (events ++ t ∷ more) answers end distinct legal v (length events) (length events2)
+    (_, moment_of_event start a.now a.later events more a.answers t (Handed v) a.begins a.hands, refl)
+    (_, ap (λ (l : List Timed). slice_get (history next start l) (length events2)) same ∙ moment_of_event start b.now b.later events2 more2 b.answers t2 (Handed v) b.begins b.hands, refl)
+  where
+    start : State
+    start = opening slots links
+
+-- a beginning of a legal list has the answers and the end of any other reading of it
+pub beginning_is : (st later now : State) (events more : List Timed) (answers told : List Answer) → Legal next st (events ++ more) answers later → Legal next st events told now
+    → (take (length events) answers ≡ told) × Legal next now more (drop (length events) answers) later
+beginning_is st later now events more answers told whole first =
+    let apart = taken_apart st later events more answers whole in
+    let one : (take (length events) answers ≡ told) × (apart.0 ≡ now) = legal_unique st apart.0 now events (take (length events) answers) told apart.1 first in
+    (one.0, subst (λ (now : State). Legal next now more (drop (length events) answers) later) one.1 apart.2)
+
+-- reached states are those that openings and legal events give
+pub again : (st : State) → IsReached st → IsReached st
+again = reached_holds IsReached (λ slots links distinct. opening_reached slots links distinct) (λ st t d r step p. reached_next st t d p (next_of t.size st t.event d step))

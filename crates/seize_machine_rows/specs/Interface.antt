@@ -1,10 +1,12 @@
 -- What the tests of the machine's facts say.
-use Rattle.std.specs.Prelude.{◌≡◌, ◌≢◌, ℕ, ◌+◌, ◌<◌, ◌≤◌, pos, neg_ℤ, ◌≤ℤ◌, Bool, true, false, List, ◌∷◌, length, Some}
+use Rattle.std.specs.Prelude.{◌≡◌, ◌≢◌, ℕ, ◌+◌, ◌<◌, ◌≤◌, pos, neg_ℤ, ◌≤ℤ◌, Bool, true, false, List, ◌∷◌, length, Some, Option}
 use Rattle.std.specs.List.{Contains}
-use Rattle.seize_machine.specs.Machine.State.{State, Place, Mark, Look, Try, Add, Out, slot_at, head_at, link_at, batch_at, is_active, has, are_distinct}
+use Rattle.seize_machine.specs.Machine.State.{State, Place, Mark, Look, Try, Add, Out, slot_at, head_at, link_at, batch_at, is_active, has, are_distinct, opening}
 use Rattle.seize_machine.specs.Machine.Event.{Event}
 use Rattle.seize_machine.specs.Machine.Next.{next}
-use Rattle.seize_machine.specs.Machine.History.{Timed, history}
+use Rattle.seize_machine.specs.declared.machine.event.Answer.{Answer}
+use Rattle.seize_machine.specs.declared.machine.event.Answer.TheVariants.{Handed}
+use Rattle.seize_machine.specs.Machine.History.{Timed, history, Legal}
 use Rattle.seize_machine.specs.Machine.Laws.{AtMostOnce, After, Quiet, Protection, Parts, Gone, Holders, NoLaterHolders, Tries, detached_by, Lists, Walks}
 use Rattle.seize_machine.specs.Machine.Frames.{changes_slot, used, changes_used, changes_head_of, changes_link, changes_batch, changes_value, slots_added, batches_added, begins_retiring}
 
@@ -54,3 +56,11 @@ pub record Obeys (st : State) (events : List Timed) : Type 0 where
   pub holders : Holders st (history next st events)
   pub no_later_holders : NoLaterHolders st (history next st events)
   pub tries : Tries st (history next st events)
+
+-- after these events, from an opening, the event hands v
+pub record Handing (slots : ℕ) (links : List (Option ℕ)) (v : ℕ) (events : List Timed) (t : Timed) : Type 0 where
+  pub now : State
+  pub later : State
+  pub answers : List Answer
+  pub begins : Legal next (opening slots links) events answers now
+  pub hands : next t.size now t.event ≡ Some (later, Handed v)

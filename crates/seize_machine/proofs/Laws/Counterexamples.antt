@@ -6,8 +6,8 @@ use Rattle.seize_machine.specs.Machine.Next.{Transition}
 use Rattle.seize_machine.specs.Machine.History.{Moment, at_size, history}
 use Rattle.seize_machine.specs.Machine.Laws.{AtMostOnce, After, Quiet, Protection, Parts, Gone, Holders, NoLaterHolders, Tries, Breaks}
 use Rattle.seize_machine.specs.Machine.Rows.{added_beside_active}
-use Rattle.seize_machine.specs.Machine.Counterexamples.{nothing_given_up, retired_alone, given_up_unless_active, given_up_below_zero, counted_down_early, given_up_and_kept, given_up_twice, handed_twice, given_up_and_forgotten, skipped_and_counted, skipped_and_added, one_value_more, retired_at_a_smaller_size, rest_passed_over, retired_beside_two, number_passed_over, read_last_alone, given_up_when_full, found_and_retired, fixed_note, made_before_put, retired_again, retired_twice, given_up_unretired, begun_alone, handed_alone, lost_at_any_time, lost_alone, left_in_the_link, found_after_its_retirement, joined_at_entry, entered_after_add, recorded_in_front, handed_in_order}
-use Rattle.seize_machine.proofs.Laws.Refuting.{not_once, not_after, not_before, not_just_once, not_protection, not_retired_since, not_quiet, not_parts, not_distinct, not_retired, not_gone, not_holders, not_no_later_holders, not_tries}
+use Rattle.seize_machine.specs.Machine.Counterexamples.{nothing_given_up, retired_alone, given_up_unless_active, given_up_below_zero, counted_down_early, given_up_and_kept, counted_alone, handed_twice, given_up_and_forgotten, skipped_and_counted, skipped_and_added, one_value_more, retired_at_a_smaller_size, rest_passed_over, retired_beside_two, number_passed_over, read_last_alone, given_up_when_full, found_and_retired, fixed_note, made_before_put, retired_again, retired_twice, given_up_unretired, begun_alone, handed_alone, lost_at_any_time, lost_alone, left_in_the_link, found_after_its_retirement, joined_at_entry, entered_after_add, left_after_add, kept_by_a_refresh, refreshed_after_add, recorded_in_front, handed_in_order}
+use Rattle.seize_machine.proofs.Laws.Refuting.{not_once, not_after, not_before, not_just_once, not_protection, not_retired_since, not_quiet, not_parts, not_distinct, not_retired, not_gone, not_holders, not_listed, not_unparted, not_held, not_tries}
 
 abbrev start : List (Option ℕ) → State
 start links = opening 0 links
@@ -16,65 +16,72 @@ abbrev moments : Transition → List (Option ℕ) → ℕ → List Event → Lis
 moments transition links size events = history transition (opening 0 links) (at_size size events)
 
 pub nothing_given_up_breaks_quiet : Breaks nothing_given_up [] (at_size 1 retired_alone) Quiet
-nothing_given_up_breaks_quiet = (refl, not_quiet (start []) (moments nothing_given_up [] 1 retired_alone) 7 2 refl (_, refl, refl) refl 1 refl refl)
+nothing_given_up_breaks_quiet = (refl, refl, not_quiet (start []) (moments nothing_given_up [] 1 retired_alone) 7 2 refl (_, refl, refl) refl 1 refl refl)
 
 pub nothing_given_up_breaks_holders : Breaks nothing_given_up [] (at_size 1 retired_alone) Holders
-nothing_given_up_breaks_holders = (refl, not_holders (start []) (moments nothing_given_up [] 1 retired_alone) 0 7 (0, omega arith, refl) refl)
+nothing_given_up_breaks_holders = (refl, refl, not_holders (start []) (moments nothing_given_up [] 1 retired_alone) 0 7 (0, omega arith, refl) refl)
 
 pub given_up_unless_active_breaks_holders : Breaks given_up_unless_active [] (at_size 1 added_beside_active) Holders
-given_up_unless_active_breaks_holders = (refl, not_holders (start []) (moments given_up_unless_active [] 1 added_beside_active) 0 7 (0, omega arith, refl) refl)
+given_up_unless_active_breaks_holders = (refl, refl, not_holders (start []) (moments given_up_unless_active [] 1 added_beside_active) 0 7 (0, omega arith, refl) refl)
 
 pub given_up_below_zero_breaks_after : Breaks given_up_below_zero [] (at_size 2 counted_down_early) After
-given_up_below_zero_breaks_after = (refl, not_after (start []) (moments given_up_below_zero [] 2 counted_down_early) 7 6 19 2 (_, refl, refl) (_, refl, refl) (_, refl, refl) refl)
+given_up_below_zero_breaks_after = (refl, refl, not_after (start []) (moments given_up_below_zero [] 2 counted_down_early) 7 6 19 2 (_, refl, refl) (_, refl, refl) (_, refl, refl) refl)
 
-pub given_up_and_kept_breaks_at_most_once : Breaks given_up_and_kept [] (at_size 1 handed_twice) AtMostOnce
-given_up_and_kept_breaks_at_most_once = (refl, not_once (start []) (moments given_up_and_kept [] 1 handed_twice) 7 13 15 (_, refl, refl) (_, refl, refl) refl)
+pub retired_again_breaks_at_most_once : Breaks retired_again [] (at_size 2 handed_twice) AtMostOnce
+retired_again_breaks_at_most_once = (refl, refl, not_once (start []) (moments retired_again [] 2 handed_twice) 7 9 10 (_, refl, refl) (_, refl, refl) refl)
 
-pub given_up_and_kept_breaks_parts : Breaks given_up_and_kept [] (at_size 1 given_up_twice) Parts
-given_up_and_kept_breaks_parts = (refl, not_distinct (start []) (moments given_up_and_kept [] 1 given_up_twice) refl)
+pub given_up_and_kept_breaks_parts : Breaks given_up_and_kept [] (at_size 1 counted_alone) Parts
+given_up_and_kept_breaks_parts = (refl, refl, not_distinct (start []) (moments given_up_and_kept [] 1 counted_alone) refl)
 
 pub given_up_and_forgotten_breaks_parts : Breaks given_up_and_forgotten [] (at_size 1 retired_alone) Parts
-given_up_and_forgotten_breaks_parts = (refl, not_parts (start []) (moments given_up_and_forgotten [] 1 retired_alone) 7 2 (_, refl, refl) refl)
+given_up_and_forgotten_breaks_parts = (refl, refl, not_parts (start []) (moments given_up_and_forgotten [] 1 retired_alone) 7 2 (_, refl, refl) refl)
 
 pub skipped_and_counted_breaks_quiet : Breaks skipped_and_counted [] (at_size 1 skipped_and_added) Quiet
-skipped_and_counted_breaks_quiet = (refl, not_quiet (start []) (moments skipped_and_counted [] 1 skipped_and_added) 7 4 refl (_, refl, refl) refl 1 refl refl)
+skipped_and_counted_breaks_quiet = (refl, refl, not_quiet (start []) (moments skipped_and_counted [] 1 skipped_and_added) 7 4 refl (_, refl, refl) refl 1 refl refl)
 
 pub one_value_more_breaks_quiet : Breaks one_value_more [] retired_at_a_smaller_size Quiet
-one_value_more_breaks_quiet = (refl, not_quiet (start []) (history one_value_more (start []) retired_at_a_smaller_size) 7 3 refl (_, refl, refl) refl 1 refl refl)
+one_value_more_breaks_quiet = (refl, refl, not_quiet (start []) (history one_value_more (start []) retired_at_a_smaller_size) 7 3 refl (_, refl, refl) refl 1 refl refl)
 
 pub rest_passed_over_breaks_after : Breaks rest_passed_over [] (at_size 1 retired_beside_two) After
-rest_passed_over_breaks_after = (refl, not_after (start []) (moments rest_passed_over [] 1 retired_beside_two) 7 6 15 2 (_, refl, refl) (_, refl, refl) (_, refl, refl) refl)
+rest_passed_over_breaks_after = (refl, refl, not_after (start []) (moments rest_passed_over [] 1 retired_beside_two) 7 6 15 2 (_, refl, refl) (_, refl, refl) (_, refl, refl) refl)
 
 pub number_passed_over_breaks_after : Breaks number_passed_over [] (at_size 1 read_last_alone) After
-number_passed_over_breaks_after = (refl, not_after (start []) (moments number_passed_over [] 1 read_last_alone) 7 5 9 1 (_, refl, refl) (_, refl, refl) (_, refl, refl) refl)
+number_passed_over_breaks_after = (refl, refl, not_after (start []) (moments number_passed_over [] 1 read_last_alone) 7 5 9 1 (_, refl, refl) (_, refl, refl) (_, refl, refl) refl)
 
 pub given_up_when_full_breaks_protection : Breaks given_up_when_full (Some 7 ∷ []) (at_size 1 found_and_retired) Protection
-given_up_when_full_breaks_protection = (refl, not_protection (start (Some 7 ∷ [])) (moments given_up_when_full (Some 7 ∷ []) 1 found_and_retired) 1 7 4 8 (_, refl, refl, refl) (_, refl, refl) refl)
+given_up_when_full_breaks_protection = (refl, refl, not_protection (start (Some 7 ∷ [])) (moments given_up_when_full (Some 7 ∷ []) 1 found_and_retired) 1 7 4 8 (_, refl, refl, refl) (_, refl, refl) refl)
 
 pub given_up_when_full_breaks_after : Breaks given_up_when_full (Some 7 ∷ []) (at_size 1 found_and_retired) After
-given_up_when_full_breaks_after = (refl, not_after (start (Some 7 ∷ [])) (moments given_up_when_full (Some 7 ∷ []) 1 found_and_retired) 7 7 8 1 (_, refl, refl) (_, refl, refl) (_, refl, refl) refl)
+given_up_when_full_breaks_after = (refl, refl, not_after (start (Some 7 ∷ [])) (moments given_up_when_full (Some 7 ∷ []) 1 found_and_retired) 7 7 8 1 (_, refl, refl) (_, refl, refl) (_, refl, refl) refl)
 
 pub fixed_note_breaks_after : Breaks fixed_note [] (at_size 1 made_before_put) After
-fixed_note_breaks_after = (refl, not_after (start []) (moments fixed_note [] 1 made_before_put) 7 4 8 1 (_, refl, refl) (_, refl, refl) (_, refl, refl) refl)
+fixed_note_breaks_after = (refl, refl, not_after (start []) (moments fixed_note [] 1 made_before_put) 7 4 8 1 (_, refl, refl) (_, refl, refl) (_, refl, refl) refl)
 
 pub retired_again_breaks_after : Breaks retired_again [] (at_size 2 retired_twice) After
-retired_again_breaks_after = (refl, not_just_once (start []) (moments retired_again [] 2 retired_twice) 7 9 2 5 (_, refl, refl) (_, refl, refl) (_, refl, refl) refl)
+retired_again_breaks_after = (refl, refl, not_just_once (start []) (moments retired_again [] 2 retired_twice) 7 9 2 5 (_, refl, refl) (_, refl, refl) (_, refl, refl) refl)
 
 pub given_up_unretired_breaks_after : Breaks given_up_unretired [] (at_size 1 handed_alone) After
-given_up_unretired_breaks_after = (refl, not_before (start []) (moments given_up_unretired [] 1 handed_alone) 7 2 (_, refl, refl) refl)
+given_up_unretired_breaks_after = (refl, refl, not_before (start []) (moments given_up_unretired [] 1 handed_alone) 7 2 (_, refl, refl) refl)
 
 pub given_up_unretired_breaks_parts : Breaks given_up_unretired [] (at_size 1 begun_alone) Parts
-given_up_unretired_breaks_parts = (refl, not_retired (start []) (moments given_up_unretired [] 1 begun_alone) 7 (0, omega arith, refl) refl)
+given_up_unretired_breaks_parts = (refl, refl, not_retired (start []) (moments given_up_unretired [] 1 begun_alone) 7 (0, omega arith, refl) refl)
 
 pub lost_at_any_time_breaks_tries : Breaks lost_at_any_time [] (at_size 1 lost_alone) Tries
-lost_at_any_time_breaks_tries = (refl, not_tries (start []) (moments lost_at_any_time [] 1 lost_alone) 0 1 3 _ refl refl refl)
+lost_at_any_time_breaks_tries = (refl, refl, not_tries (start []) (moments lost_at_any_time [] 1 lost_alone) 0 1 3 _ refl refl refl)
 
 pub left_in_the_link_breaks_protection : Breaks left_in_the_link (Some 7 ∷ []) (at_size 1 found_after_its_retirement) Protection
 left_in_the_link_breaks_protection =
-    (refl, not_retired_since (start (Some 7 ∷ [])) (moments left_in_the_link (Some 7 ∷ []) 1 found_after_its_retirement) 1 7 10 20 (_, refl, refl, refl) (_, refl, refl) refl)
+    (refl, refl, not_retired_since (start (Some 7 ∷ [])) (moments left_in_the_link (Some 7 ∷ []) 1 found_after_its_retirement) 1 7 10 20 (_, refl, refl, refl) (_, refl, refl) refl)
 
 pub joined_at_entry_breaks_no_later_holders : Breaks joined_at_entry [] (at_size 1 entered_after_add) NoLaterHolders
-joined_at_entry_breaks_no_later_holders = (refl, not_no_later_holders (start []) (moments joined_at_entry [] 1 entered_after_add) 0 10 0 _ refl refl (0, omega arith, refl) refl)
+joined_at_entry_breaks_no_later_holders = (refl, refl, not_listed (start []) (moments joined_at_entry [] 1 entered_after_add) 0 10 0 _ refl refl (0, omega arith, refl) refl)
+
+pub joined_at_entry_walks : Breaks joined_at_entry [] (at_size 1 left_after_add) NoLaterHolders
+joined_at_entry_walks = (refl, refl, not_held (start []) (moments joined_at_entry [] 1 left_after_add) 0 10 0 _ refl refl (0, omega arith, refl) refl refl)
+
+pub kept_by_a_refresh_breaks_no_later_holders : Breaks kept_by_a_refresh [] (at_size 1 refreshed_after_add) NoLaterHolders
+kept_by_a_refresh_breaks_no_later_holders =
+    (refl, refl, not_unparted (start []) (moments kept_by_a_refresh [] 1 refreshed_after_add) 0 10 1 _ refl refl (0, omega arith, refl) (13, omega arith, omega arith, (_, refl, refl)))
 
 pub recorded_in_front_breaks_gone : Breaks recorded_in_front [] (at_size 2 handed_in_order) Gone
-recorded_in_front_breaks_gone = (refl, not_gone (start []) (moments recorded_in_front [] 2 handed_in_order) refl)
+recorded_in_front_breaks_gone = (refl, refl, not_gone (start []) (moments recorded_in_front [] 2 handed_in_order) refl)

@@ -141,7 +141,7 @@ next_of size st event _ (Step.subtracted s b walk queue d e h) =
     ∙ ap (λ (o : Option Call). counted_call st s b count (moved_call (walked_on given) o)) e ∙ h
 next_of size st event _ (Step.swapped_out s stays queue e) =
     let walk : List ℕ = waiting_at (head_at st s) in
-    ap (λ (o : Option Call). swap_out st s (of_call leaving_at o)) e
+    ap (λ (o : Option Call). swap_out scheme st s (of_call leaving_at o)) e
     ∙ ap (λ (slot : Slot). Some (set_slot (set_head st s (if stays then Active [] else Inactive)) s slot, Done)) (moved_to st s (λ place. Rest [] walk) (Out stays) queue e)
 next_of size st event _ (Step.handed s v puts given walk queue e new) =
     ap (λ (o : Option Call). hand scheme st s puts (of_call handing_at o)) e

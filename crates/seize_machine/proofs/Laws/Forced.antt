@@ -1,7 +1,7 @@
 -- Where a call of a slot is under way, its place tells the next event of that slot, links aside.
-use Rattle.std.proofs.Common.{◌≡◌, ◌≢◌, ℕ, ◌<◌, ◌≤◌, Bool, true, false, ◌==◌, List, [], ◌∷◌, length, Option, Some, None, refl, sym, ◌∙◌, ap, subst, ◌⊎◌, inl, inr, arith}
+use Rattle.std.proofs.Common.{◌≡◌, ◌≢◌, ℕ, ◌<◌, ◌≤◌, true, false, ◌==◌, List, [], ◌∷◌, length, Option, Some, None, refl, sym, ◌∙◌, ap, subst, ◌⊎◌, inl, inr, arith}
 use Rattle.std.proofs.lemmas.List.{get_or_past}
-use Rattle.seize_machine.specs.Machine.State.{no_slot, State, Slot, Call, Active, Place, Append, Mark, Look, Try, Add, Out, Rest, slot_at, head_at, is_idle}
+use Rattle.seize_machine.specs.Machine.State.{no_slot, State, Slot, Call, Active, Place, Append, Mark, Look, Try, Add, Out, Rest, slot_at, head_at}
 use Rattle.seize_machine.specs.Machine.Event.{Event, Put, ReadHead, Detach, Insert, AddCount, SwapOut, SubCount, Hand, Return, slot_of}
 use Rattle.seize_machine.specs.Machine.Next.{are_fresh}
 use Rattle.seize_machine.specs.Machine.History.{is_link_event}

@@ -6,7 +6,7 @@ use Rattle.std.proofs.lemmas.List.Sums.{sum_by_push}
 use Rattle.seize_machine.specs.Machine.State.{no_slot, State, Slot, Batch, Call, Head, Inactive, Active, Place, Append, Mark, Look, Try, Add, Out, Rest, slot_at, head_at, batch_at, waiting_at, is_active, linked, are_distinct, opening}
 use Rattle.seize_machine.specs.Machine.Event.{Event}
 use Rattle.seize_machine.specs.Machine.Next.{Outcome, next, look, is_zero}
-use Rattle.seize_machine.specs.Machine.History.{Timed, Moment, end_of}
+use Rattle.seize_machine.specs.Machine.History.{Timed, Moment, end_of, is_swap_out, HasParted}
 use Rattle.seize_machine.specs.Machine.Laws.{walk_of, added_batch, added_by, Lists, Walks, NoLaterHolders}
 use Rattle.seize_machine.specs.declared.machine.event.Answer.{Answer}
 use Rattle.seize_machine.proofs.Laws.Steps.{Step, step_of, some_is, is_true, eq_true}
@@ -15,7 +15,7 @@ use Rattle.seize_machine.proofs.Laws.Lists.{contains_some, some_contained}
 use Rattle.seize_machine.proofs.Laws.Counts.{CountedIn, of_calls, owns, place_owns, walks, place_walks, change, in_range, idle_range, idle_call, in_call_of, held_range, place_quiet, look_walks, look_owns, looked_same}
 use Rattle.seize_machine.proofs.Laws.Kept.{at_set, pushed, starts}
 use Rattle.seize_machine.proofs.Laws.Invariants.{Inv, inv_step, opening_inv}
-use Rattle.seize_machine.proofs.Laws.Histories.{run, moment_of, from_first, none_in, later}
+use Rattle.seize_machine.proofs.Laws.Histories.{run, moment_of, from_first, none_in, at_first, later}
 use Rattle.seize_machine.proofs.Laws.Ends.{end_keeps}
 
 -- how often slot s lists b, and how often its call is to walk it
@@ -193,24 +193,83 @@ settled_start b size st event _ (Step.added s a won queue d e h) i adds =
     })
 settled_start b size st event _ _ i adds = absurd (cc)
 
-settled_end : (b a : ℕ) (ts : List Timed) (st : State) → Inv st → (m : Moment) → slice_get (run st ts) a ≡ Some m → added_by m.before m.timed.event ≡ Some b → Settled b m.after (end_of st (run st ts))
-settled_end b a [] st i m at adds = none_in a m at
-settled_end b zero (t ∷ ts) st i m at adds = go (next t.size st t.event) refl at
+-- a batch that is there, and to which no call has still to add, holds nobody who did not hold it
+at_rest : (b : ℕ) (st : State) → of_calls (owns b) st.slots ≡ 0 → b < length st.batches → Settled b st st
+at_rest b st none r = record { lists_less = λ s. omega arith; held_less = λ s. omega arith; unowned = none; there = r }
+
+-- so much from a settled state on, at any later event
+abbrev Since : ℕ → Moment → State → Type 0
+Since b m end = Settled b m.after end
+
+since : (b p : ℕ) (ts : List Timed) (st : State) → Settled b st st → (m : Moment) → slice_get (run st ts) p ≡ Some m → Since b m (end_of st (run st ts))
+since b p [] st c m at = none_in p m at
+since b zero (t ∷ ts) st c m at = go (next t.size st t.event) refl at
   where
-    go : (o : Outcome) → next t.size st t.event ≡ o → slice_get (from_first o st t ts) zero ≡ Some m → Settled b m.after (end_of st (from_first o st t ts))
+    go : (o : Outcome) → next t.size st t.event ≡ o → slice_get (from_first o st t ts) zero ≡ Some m → Since b m (end_of st (from_first o st t ts))
     go None n at = none_in zero m at
     go (Some d) n at =
         let m_is : moment_of st t d ≡ m = some_is _ _ at in
-        let own : added_by st t.event ≡ Some b = ap (λ (m : Moment). added_by m.before m.timed.event) m_is ∙ adds in
-        let start : Settled b d.0 d.0 = settled_start b t.size st t.event d (step_of t.size st t.event d n) i own in
-        subst (λ (m : Moment). Settled b m.after (end_of d.0 (run d.0 ts))) m_is (end_keeps (Settled b d.0) (λ size st event e step c. settled_step b size d.0 st event e step c) ts d.0 start)
-settled_end b (suc a) (t ∷ ts) st i m at adds = go (next t.size st t.event) refl at (λ st. settled_end b a ts st)
+        let k : Settled b st d.0 = settled_step b t.size st st t.event d (step_of t.size st t.event d n) c in
+        subst (λ (m : Moment). Since b m (end_of d.0 (run d.0 ts))) m_is (end_keeps (Settled b d.0) (λ size st event e step c. settled_step b size d.0 st event e step c) ts d.0 (at_rest b d.0 k.unowned k.there))
+since b (suc p) (t ∷ ts) st c m at = go (next t.size st t.event) refl at (λ st. since b p ts st)
   where
-    go : (o : Outcome) → next t.size st t.event ≡ o → slice_get (from_first o st t ts) (suc a) ≡ Some m
-        → ((st : State) → Inv st → (m : Moment) → slice_get (run st ts) a ≡ Some m → added_by m.before m.timed.event ≡ Some b → Settled b m.after (end_of st (run st ts)))
-        → Settled b m.after (end_of st (from_first o st t ts))
-    go None n at ih = none_in (suc a) m at
-    go (Some d) n at ih = ih d.0 (inv_step t.size st t.event d (step_of t.size st t.event d n) i) m at adds
+    go : (o : Outcome) → next t.size st t.event ≡ o → slice_get (from_first o st t ts) (suc p) ≡ Some m
+        → ((st : State) → Settled b st st → (m : Moment) → slice_get (run st ts) p ≡ Some m → Since b m (end_of st (run st ts))) → Since b m (end_of st (from_first o st t ts))
+    go None n at ih = none_in (suc p) m at
+    go (Some d) n at ih =
+        let k : Settled b st d.0 = settled_step b t.size st st t.event d (step_of t.size st t.event d n) c in
+        ih d.0 (at_rest b d.0 k.unowned k.there) m at
+
+-- at the add and at each later event
+since_add : (b a p : ℕ) (ts : List Timed) (st : State) → Inv st → (add : Moment) → slice_get (run st ts) a ≡ Some add → added_by add.before add.timed.event ≡ Some b
+    → a ≤ p → (m : Moment) → slice_get (run st ts) p ≡ Some m → Since b m (end_of st (run st ts))
+since_add b a p [] st i add at adds le m here = none_in a add at
+since_add b zero p (t ∷ ts) st i add at adds le m here = go p (next t.size st t.event) refl at here
+  where
+    go : (p : ℕ) (o : Outcome) → next t.size st t.event ≡ o → slice_get (from_first o st t ts) zero ≡ Some add → slice_get (from_first o st t ts) p ≡ Some m → Since b m (end_of st (from_first o st t ts))
+    go p None n at here = none_in zero add at
+    go p (Some d) n at here = which p here
+      where
+        start : Settled b d.0 d.0
+        start = settled_start b t.size st t.event d (step_of t.size st t.event d n) i (ap (λ (m : Moment). added_by m.before m.timed.event) (some_is (moment_of st t d) add at) ∙ adds)
+
+        which : (p : ℕ) → slice_get (moment_of st t d ∷ run d.0 ts) p ≡ Some m → Since b m (end_of d.0 (run d.0 ts))
+        which zero here = subst (λ (m : Moment). Since b m (end_of d.0 (run d.0 ts))) (some_is (moment_of st t d) m here) (end_keeps (Settled b d.0) (λ size st event e step c. settled_step b size d.0 st event e step c) ts d.0 start)
+        which (suc q) here = since b q ts d.0 start m here
+since_add b (suc a) zero (t ∷ ts) st i add at adds le m here = absurd (omega arith)
+since_add b (suc a) (suc p) (t ∷ ts) st i add at adds le m here = go (next t.size st t.event) refl at here (λ st. since_add b a p ts st)
+  where
+    go : (o : Outcome) → next t.size st t.event ≡ o → slice_get (from_first o st t ts) (suc a) ≡ Some add → slice_get (from_first o st t ts) (suc p) ≡ Some m
+        → ((st : State) → Inv st → (add : Moment) → slice_get (run st ts) a ≡ Some add → added_by add.before add.timed.event ≡ Some b → a ≤ p → (m : Moment) → slice_get (run st ts) p ≡ Some m → Since b m (end_of st (run st ts)))
+        → Since b m (end_of st (from_first o st t ts))
+    go None n at here ih = none_in (suc a) add at
+    go (Some d) n at here ih = ih d.0 (inv_step t.size st t.event d (step_of t.size st t.event d n) i) add at adds (omega arith) m here
+
+-- each moment is a legal event
+legal_at : (p : ℕ) (ts : List Timed) (st : State) (m : Moment) → slice_get (run st ts) p ≡ Some m → next m.timed.size m.before m.timed.event ≡ Some (m.after, m.answer)
+legal_at p [] st m at = none_in p m at
+legal_at zero (t ∷ ts) st m at = at_first (λ m. next m.timed.size m.before m.timed.event ≡ Some (m.after, m.answer)) (next t.size st t.event) st t ts m at (λ d e. e)
+legal_at (suc p) (t ∷ ts) st m at = let w = later (next t.size st t.event) st t ts p m at in legal_at p ts (w.0).0 m w.2
+
+-- who swaps its head out lists nothing then
+swapped_empty : (b s size : ℕ) (st : State) (event : Event) (d : State × Answer) → Step size st event d → is_swap_out s event ≡ true → lists b d.0 s ≡ 0
+swapped_empty b s size st event _ (Step.swapped_out i stays queue e) own =
+    subst (λ (j : ℕ). occ b (waiting_at (get_or (set st.heads i (if stays then Active [] else Inactive)) j Inactive)) ≡ 0) (eq_true i s own)
+    (go (is_true (nat_lt i (length st.heads))))
+  where
+    new : Head
+    new = if stays then Active [] else Inactive
+
+    quiet : (stays : Bool) → occ b (waiting_at (if stays then Active [] else Inactive)) ≡ 0
+    quiet true = refl
+    quiet false = refl
+
+    go : (nat_lt i (length st.heads) ≡ true) ⊎ (nat_lt i (length st.heads) ≡ false) → occ b (waiting_at (get_or (set st.heads i new) i Inactive)) ≡ 0
+    go (inl t) = let r : i < length st.heads = grind arith in ap (λ (head : Head). occ b (waiting_at head)) (get_or-set_same st.heads i new Inactive r) ∙ quiet stays
+    go (inr t) =
+        let past : length st.heads ≤ i = grind arith in
+        ap (λ (l : List Head). occ b (waiting_at (get_or l i Inactive))) (set_past st.heads i new past) ∙ ap (λ (head : Head). occ b (waiting_at head)) (get_or_past st.heads i Inactive past)
+swapped_empty b s size st event _ _ own = absurd (cc)
 
 pub walk_is : (b : ℕ) (o : Option Call) → occ b (walk_of o) ≡ walks b o
 walk_is b None = refl
@@ -226,24 +285,36 @@ walk_is b (Some call) = go call.place
     go (Rest given walk) = refl
 
 pub law_no_later_holders : (slots : ℕ) (links : List (Option ℕ)) (ts : List Timed) → are_distinct (linked links) ≡ true → NoLaterHolders (opening slots links) (run (opening slots links) ts)
-law_no_later_holders slots links ts distinct b a m at adds s = (listing, walking)
+law_no_later_holders slots links ts distinct b a add at adds s = (listing, walking)
   where
+    start : State
+    start = opening slots links
+
     end : State
     end = end_of (opening slots links) (run (opening slots links) ts)
 
-    c : Settled b m.after end
-    c = settled_end b a ts (opening slots links) (opening_inv slots links distinct) m at adds
+    c : (p : ℕ) (m : Moment) → a ≤ p → slice_get (run (opening slots links) ts) p ≡ Some m → Settled b m.after end
+    c p m le here = since_add b a p ts (opening slots links) (opening_inv slots links distinct) add at adds le m here
 
-    listing : Lists end s b → Lists m.after s b
-    listing h = contains_some b _ (omega (arith, some_contained b _ h, c.lists_less s))
+    unparted : Lists end s b → ¬ (HasParted (run (opening slots links) ts) s a (length (run (opening slots links) ts)))
+    unparted h w =
+        let p : ℕ = w.0 in
+        let after : a < p = w.1 in
+        let m : Moment = (w.3).0 in
+        let step : Step m.timed.size m.before m.timed.event (m.after, m.answer) = step_of m.timed.size m.before m.timed.event (m.after, m.answer) (legal_at p ts (opening slots links) m (w.3).1) in
+        let none : lists b m.after s ≡ 0 = swapped_empty b s m.timed.size m.before m.timed.event (m.after, m.answer) step (w.3).2 in
+        omega (arith, some_contained b _ h, (c p m (omega arith) (w.3).1).lists_less s, none)
 
-    walking : Walks end s b → Lists m.after s b ⊎ Walks m.after s b
-    walking h =
-        let some : 1 ≤ lists b m.after s + walked b m.after s = omega (arith, some_contained b _ h, walk_is b (slot_at end s).call, c.held_less s) in
-        which (nat_lt 0 (lists b m.after s)) refl some
+    listing : Lists end s b → Lists add.after s b × ¬ (HasParted (run (opening slots links) ts) s a (length (run (opening slots links) ts)))
+    listing h = (contains_some b _ (omega (arith, some_contained b _ h, (c a add (omega arith) at).lists_less s)), unparted h)
+
+    walking : Walks end s b → (p : ℕ) (m : Moment) → a ≤ p → slice_get (run (opening slots links) ts) p ≡ Some m → Lists m.after s b ⊎ Walks m.after s b
+    walking h p m le here =
+        let some : 1 ≤ lists b m.after s + walked b m.after s = omega (arith, some_contained b _ h, walk_is b (slot_at end s).call, (c p m le here).held_less s) in
+        which m (nat_lt 0 (lists b m.after s)) refl some
       where
-        which : (t : Bool) → nat_lt 0 (lists b m.after s) ≡ t → 1 ≤ lists b m.after s + walked b m.after s → Lists m.after s b ⊎ Walks m.after s b
-        which true t some = inl (contains_some b _ (grind arith))
-        which false t some =
+        which : (m : Moment) (t : Bool) → nat_lt 0 (lists b m.after s) ≡ t → 1 ≤ lists b m.after s + walked b m.after s → Lists m.after s b ⊎ Walks m.after s b
+        which m true t some = inl (contains_some b _ (grind arith))
+        which m false t some =
             let none : lists b m.after s ≡ 0 = grind arith in
             inr (contains_some b _ (omega (arith, walk_is b (slot_at m.after s).call)))

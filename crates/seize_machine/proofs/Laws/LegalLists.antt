@@ -1,6 +1,6 @@
 -- How legal lists are made and taken apart, and what a law of their moments is shown by.
 use Rattle.std.proofs.Common.{◌≡◌, ℕ, zero, suc, Bool, true, ◌&&◌, List, [], ◌∷◌, ◌++◌, length, take, drop, Option, Some, None, refl, sym, ◌∙◌, ap, subst, arith}
-use Rattle.std.specs.List.{list_all}
+use Rattle.std.specs.List.{list_all, slice_get}
 use Rattle.std.proofs.lemmas.List.{map-append}
 use Rattle.std.proofs.lemmas.List.Folds.{list_all-append}
 use Rattle.seize_machine.specs.Machine.State.{State, linked, are_distinct, opening}
@@ -78,9 +78,9 @@ drop_all [] ys n e = rw (← e) refl
 drop_all (x ∷ xs) ys zero e = absurd (omega arith)
 drop_all (x ∷ xs) ys (suc n) e = drop_all xs ys n (omega arith)
 
-pub parted : (st later : State) (events more : List Timed) (answers : List Answer) → Legal next st (events ++ more) answers later
+pub taken_apart : (st later : State) (events more : List Timed) (answers : List Answer) → Legal next st (events ++ more) answers later
     → (now : State) × Legal next st events (take (length events) answers) now × Legal next now more (drop (length events) answers) later
-parted st later events more answers l = (
+taken_apart st later events more answers l = (
   now,
   record { legal = both.0; answers_are = sym (ap (take (length events)) split ∙ take_all first last (length events) same); end_is = refl },
   record {
@@ -138,3 +138,28 @@ pub of_all : (law : State → List Moment → Type 0)
     → ((slots : ℕ) (links : List (Option ℕ)) (ts : List Timed) → are_distinct (linked links) ≡ true → law (opening slots links) (run (opening slots links) ts)) → HoldsOfAll law
 of_all law holds slots links events answers end distinct legal =
     subst (law (opening slots links)) (sym (run_is events (opening slots links) legal.legal)) (holds slots links events distinct)
+
+-- the same events have the same answers and the same end
+pub legal_unique : (st now later : State) (events : List Timed) (answers told : List Answer) → Legal next st events answers now → Legal next st events told later → (answers ≡ told) × (now ≡ later)
+legal_unique st now later events answers told a b = (sym a.answers_are ∙ b.answers_are, sym a.end_is ∙ b.end_is)
+
+-- an event of a legal list stands among its moments
+pub moment_of_event : (st now after : State) (events more : List Timed) (answers : List Answer) (t : Timed) (answer : Answer) → Legal next st events answers now → next t.size now t.event ≡ Some (after, answer)
+    → slice_get (history next st (events ++ t ∷ more)) (length events) ≡ Some (moment_of now t (after, answer))
+moment_of_event st now after events more answers t answer a e =
+    ap (λ (ms : List Moment). slice_get ms (length events)) (history-append next events (t ∷ more) st)
+    ∙ at_end (history next st events) (length events) (sym (length-moments events st))
+    ∙ ap (λ (now : State). Some (moment_of now t (done_by next now t))) a.end_is
+    ∙ ap (λ (o : Outcome). Some (moment_of now t (or_illegal now o))) e
+  where
+    tail : List Moment
+    tail = history next (end_of st (history next st events)) (t ∷ more)
+
+    length-moments : (ts : List Timed) (st : State) → length (history next st ts) ≡ length ts
+    length-moments [] st = refl
+    length-moments (t ∷ ts) st = omega (arith, length-moments ts (done_by next st t).0)
+
+    at_end : (ms : List Moment) (n : ℕ) → n ≡ length ms → slice_get (ms ++ tail) n ≡ slice_get tail zero
+    at_end [] n same = ap (slice_get tail) same
+    at_end (m ∷ ms) zero same = absurd (omega arith)
+    at_end (m ∷ ms) (suc n) same = at_end ms n (omega arith)

@@ -6,7 +6,7 @@ use Rattle.std.proofs.lemmas.List.{get_or_past}
 use Rattle.std.proofs.lemmas.List.Folds.{list_any_at}
 use Rattle.seize_machine.specs.Machine.State.{State, Slot, no_slot, Inactive, slot_at, head_at, batch_at, waiting_at, has, are_distinct}
 use Rattle.seize_machine.specs.Machine.History.{Moment, end_of, answers_of, retired_value, handed_value, handed, is_swap_out, Reclaimed, Retired, Found, IsActiveAt, HasParted}
-use Rattle.seize_machine.specs.Machine.Laws.{AtMostOnce, After, Quiet, is_quiet, bound, PutsWithin, IsBatched, Protection, Parts, parts, Gone, Holders, Lists, added_by, NoLaterHolders, walk_of, detached_by, IsHeld, begins, during, changes_head, is_lost, Tries}
+use Rattle.seize_machine.specs.Machine.Laws.{AtMostOnce, After, Quiet, is_quiet, bound, PutsWithin, IsBatched, Protection, Parts, parts, Gone, Holders, Lists, Walks, added_by, NoLaterHolders, walk_of, detached_by, IsHeld, begins, during, changes_head, is_lost, Tries}
 use Rattle.seize_machine.specs.Machine.Next.{same_list}
 use Rattle.seize_machine.proofs.Laws.Steps.{is_true, some_is, same_list-refl}
 use Rattle.seize_machine.proofs.Laws.Histories.{some_moment, none_in}
@@ -142,10 +142,24 @@ not_retired_since st ms s v e c found handed never protects =
     not_both (retired_from v (e + 1) ms) (later_retired ms v (e + 1) p.0 (omega arith) p.3) never
 
 -- a slot lists a batch and did not right after the batch's add
-pub not_no_later_holders : (st : State) (ms : List Moment) (b a s : ℕ) (m : Moment) → slice_get ms a ≡ Some m → added_by m.before m.timed.event ≡ Some b
+pub not_listed : (st : State) (ms : List Moment) (b a s : ℕ) (m : Moment) → slice_get ms a ≡ Some m → added_by m.before m.timed.event ≡ Some b
     → Lists (end_of st ms) s b → has b (waiting_at (head_at m.after s)) ≡ false → ¬ (NoLaterHolders st ms)
-not_no_later_holders st ms b a s m at adds lists none law =
-    not_both (has b (waiting_at (head_at m.after s))) (contained (waiting_at (head_at m.after s)) b ((law b a m at adds s).0 lists)) none
+not_listed st ms b a s m at adds lists none law =
+    not_both (has b (waiting_at (head_at m.after s))) (contained (waiting_at (head_at m.after s)) b ((law b a m at adds s).0 lists).0) none
+
+-- a slot lists a batch and has parted since the batch's add
+pub not_unparted : (st : State) (ms : List Moment) (b a s : ℕ) (m : Moment) → slice_get ms a ≡ Some m → added_by m.before m.timed.event ≡ Some b
+    → Lists (end_of st ms) s b → HasParted ms s a (length ms) → ¬ (NoLaterHolders st ms)
+not_unparted st ms b a s m at adds lists parts law = ((law b a m at adds s).0 lists).1 parts
+
+-- a slot walks a batch that it neither listed nor walked right after the batch's add
+pub not_held : (st : State) (ms : List Moment) (b a s : ℕ) (m : Moment) → slice_get ms a ≡ Some m → added_by m.before m.timed.event ≡ Some b
+    → Walks (end_of st ms) s b → has b (waiting_at (head_at m.after s)) ≡ false → has b (walk_of (slot_at m.after s).call) ≡ false → ¬ (NoLaterHolders st ms)
+not_held st ms b a s m at adds walks no_list no_walk law = go ((law b a m at adds s).1 walks a m (omega arith) at)
+  where
+    go : Lists m.after s b ⊎ Walks m.after s b → ⊥
+    go (inl h) = not_both (has b (waiting_at (head_at m.after s))) (contained (waiting_at (head_at m.after s)) b h) no_list
+    go (inr h) = not_both (has b (walk_of (slot_at m.after s).call)) (contained (walk_of (slot_at m.after s).call) b h) no_walk
 
 -- the values reclaimed are not those handed
 pub not_gone : (st : State) (ms : List Moment) → same_list (end_of st ms).gone (st.gone ++ handed (answers_of ms)) ≡ false → ¬ (Gone st ms)

@@ -8,7 +8,8 @@ use Rattle.seize_machine.specs.Machine.Event.{Event, slot_of}
 use Rattle.seize_machine.specs.Machine.Next.{Outcome, next, of_call, walking_at, look, looked, marked_place, is_zero}
 use Rattle.seize_machine.specs.Machine.Laws.{detached_by, walk_of, Lists, Walks}
 use Rattle.seize_machine.specs.Machine.History.{Timed, end_of, IsReached}
-use Rattle.seize_machine.specs.Machine.Frames.{changes_slot, is_number, added_at, changes_batch}
+use Rattle.seize_machine.specs.Machine.Laws.{added_batch}
+use Rattle.seize_machine.specs.Machine.Frames.{changes_slot, is_number, changes_batch}
 use Rattle.seize_machine.specs.Machine.Code.{AddFits}
 use Rattle.seize_machine.specs.declared.machine.event.Answer.{Answer}
 use Rattle.seize_machine.specs.declared.machine.event.Answer.TheVariants.{Count}
@@ -418,7 +419,7 @@ arrives_unheld size st event d b r step none_left at s = all (arrives size st ev
     arrives : (size : ℕ) (st : State) (event : Event) (d : State × Answer) (b : ℕ) → Inv st → Step size st event d → d.1 ≡ Count (pos 0) → changes_batch st b event ≡ true
         → ((batch_at d.0 b).count ≡ pos 0) × (of_calls (owns b) (d.0).slots ≡ 0)
     arrives size st event _ b v (Step.added i a won queue d e h) none_left at =
-        let a_is : a ≡ b = eq_true a b (ap (λ (o : Option Call). is_number b (added_at o)) (sym e) ∙ at) in
+        let a_is : a ≡ b = eq_true a b (ap (λ (o : Option Call). is_number b (added_batch o)) (sym e) ∙ at) in
         let z : (batch_at st a).count +ℤ pos won ≡ pos 0 = zero_at _ (ap (λ (x : State × Answer). x.1) (some_is _ _ h) ∙ none_left) in
         let mine : one (b == b) ≡ 1 = grind arith in
         let own : one (a == b) ≡ 1 = rw a_is mine in

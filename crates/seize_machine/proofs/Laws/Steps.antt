@@ -405,7 +405,7 @@ step_sub size st s d b c h =
         subtracted s b walk queue d e2 (ap (λ (o : Option Call). counted_call st s b count (moved_call (walked_on given) o)) (sym e2) ∙ h)
     here _ queue e c = absurd (cc)
 
-step_swap_out : (size : ℕ) (st : State) (s : ℕ) (d : State × Answer) (stays : Bool) → of_call leaving_at (slot_at st s).call ≡ Some stays → swap_out st s (Some stays) ≡ Some d → Step size st (SwapOut s) d
+step_swap_out : (size : ℕ) (st : State) (s : ℕ) (d : State × Answer) (stays : Bool) → of_call leaving_at (slot_at st s).call ≡ Some stays → swap_out scheme st s (Some stays) ≡ Some d → Step size st (SwapOut s) d
 step_swap_out size st s d stays c h =
     let k : (place : Place) × (queue : List ℕ) × Stands st s place queue × (leaving_at place queue ≡ Some stays) = called st s leaving_at stays c in
     here k.0 k.1 k.2 k.3
@@ -481,7 +481,7 @@ step_of size st (Detach s) d h = step_detach size st s d h
 step_of size st (Insert s n Won) d h = from_read (Step size st (Insert s n Won)) _ (insert st s n) d refl h (step_won size st s n d)
 step_of size st (Insert s n Lost) d h = from_own (Step size st (Insert s n Lost)) st s Done _ d h (step_lost size st s n)
 step_of size st (AddCount s) d h = from_read (Step size st (AddCount s)) _ (add_count scheme st s) d refl h (step_add size st s d)
-step_of size st (SwapOut s) d h = from_read (Step size st (SwapOut s)) _ (swap_out st s) d refl h (step_swap_out size st s d)
+step_of size st (SwapOut s) d h = from_read (Step size st (SwapOut s)) _ (swap_out scheme st s) d refl h (step_swap_out size st s d)
 step_of size st (SubCount s) d h = from_read (Step size st (SubCount s)) _ (sub_count scheme st s) d refl h (step_sub size st s d)
 step_of size st (Hand s puts) d h = from_read (Step size st (Hand s puts)) _ (hand scheme st s puts) d refl h (step_hand size st s puts d)
 step_of size st (Return s) d h = from_own (Step size st (Return s)) st s Done _ d h (step_return size st s)

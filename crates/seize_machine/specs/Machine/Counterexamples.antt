@@ -1,13 +1,13 @@
 -- Wrong machines, each the right scheme with one of its choices changed, and for each a list of events, legal under it, on which
 -- it breaks a law.
-use Rattle.std.specs.Prelude.{ℕ, ◌+◌, ℤ, pos, negsuc, ◌+ℤ◌, Bool, true, not, ◌&&◌, ◌==◌, if◌then◌else◌, nat_lt, nat_le, List, [], ◌∷◌, ◌++◌, map, length, slice_set, None}
+use Rattle.std.specs.Prelude.{ℕ, ◌+◌, ℤ, pos, negsuc, ◌+ℤ◌, Bool, true, false, not, ◌&&◌, ◌==◌, if◌then◌else◌, nat_lt, nat_le, List, [], ◌∷◌, ◌++◌, map, length, slice_set, None}
 use Rattle.std.specs.List.{list_all}
-use Rattle.seize_machine.specs.Machine.State.{Batch, Head, Inactive, Active, Place, Mark, Try, Rest, is_active}
+use Rattle.seize_machine.specs.Machine.State.{Batch, Head, Inactive, Active, Place, Mark, Try, Rest, is_active, waiting_at}
 use Rattle.seize_machine.specs.Machine.Event.{Event, Take, Enter, Begin, Put, ReadHead, Detach, Insert, AddCount, SwapOut, SubCount, Hand, Return, ReadLink, ExchangeLink}
 use Rattle.seize_machine.specs.Machine.Next.{Transition, next_by, scheme, is_empty, is_zero, all_if, look}
 use Rattle.seize_machine.specs.Machine.History.{Timed, at_size}
 use Rattle.seize_machine.specs.Machine.Rows.{detached, left}
-use Rattle.seize_machine.specs.declared.machine.event.Job.TheVariants.{Retire, Leave}
+use Rattle.seize_machine.specs.declared.machine.event.Job.TheVariants.{Retire, Leave, Refresh}
 use Rattle.seize_machine.specs.declared.machine.event.Try.TheVariants.{Won, Lost}
 use Rattle.seize_machine.specs.declared.machine.event.Exchange.TheVariants.{Swap}
 
@@ -15,19 +15,22 @@ use Rattle.seize_machine.specs.declared.machine.event.Exchange.TheVariants.{Swap
 
 -- **Nothing is given up.** A count of 0 gives nothing up.
 abbrev pub nothing_given_up : Transition
-nothing_given_up = next_by (record scheme { parted = λ st count values. ([], values) })
+nothing_given_up = next_by (record scheme { settled = λ st count values. ([], values) })
 
--- The only slot retires 7 with no slot active. At the end 7 is neither reclaimed nor in a slot's batch, and stands in a retired
--- batch that nothing holds.
+-- The only slot retires 7 with no slot active, and adds. At the end 7 is neither reclaimed nor in a slot's batch, and stands in a
+-- retired batch that nothing holds.
+abbrev pub counted_alone : List Event
+counted_alone = Take 0 ∷ Begin 0 (Retire 7) ∷ Put 0 ∷ ReadHead 0 0 ∷ Detach 0 ∷ AddCount 0 ∷ []
+
 abbrev pub retired_alone : List Event
-retired_alone = Take 0 ∷ Begin 0 (Retire 7) ∷ Put 0 ∷ ReadHead 0 0 ∷ Detach 0 ∷ AddCount 0 ∷ Return 0 ∷ []
+retired_alone = counted_alone ++ Return 0 ∷ []
 
 -- **Given up unless active.** A count of 0 gives up only where no slot at all is active. In the run `added_beside_active` slot 2
 -- becomes active before slot 0 adds its insertion: the count is 0, the batch is not given up, and nothing holds it.
 abbrev pub given_up_unless_active : Transition
 given_up_unless_active =
     next_by (record scheme {
-      parted = λ st count values. all_if (is_zero count && list_all (λ head. not (is_active head)) st.heads) values;
+      settled = λ st count values. all_if (is_zero count && list_all (λ head. not (is_active head)) st.heads) values;
     })
 
 -- whether a count is 0 or below
@@ -37,7 +40,7 @@ is_zero_or_below (negsuc n) = true
 
 -- **Given up below zero.** A count of 0 or below gives up.
 abbrev pub given_up_below_zero : Transition
-given_up_below_zero = next_by (record scheme { parted = λ st count values. all_if (is_zero_or_below count) values })
+given_up_below_zero = next_by (record scheme { settled = λ st count values. all_if (is_zero_or_below count) values })
 
 -- At size 2 slot 0 retires 7 and 8 while slots 1 and 2 are active, and slot 1 counts down before slot 0 adds its insertions. Slot 1
 -- hands 7, and slot 2, which was active at its retirement, has not parted.
@@ -47,21 +50,13 @@ counted_down_early =
     ∷ Begin 0 (Retire 8) ∷ Put 0 ∷ ReadHead 0 0 ∷ ReadHead 0 1 ∷ ReadHead 0 2 ∷ Detach 0 ∷ ReadHead 0 1 ∷ Insert 0 1 Won
     ∷ Begin 1 Leave ∷ SwapOut 1 ∷ SubCount 1 ∷ Hand 1 [] ∷ []
 
--- **Given up and kept.** A count of 0 or below gives up, and the values stay in the batch too.
+-- **Given up and kept.** A count of 0 gives up, and the values stay in the batch too: after `counted_alone` 7 stands twice.
 abbrev pub given_up_and_kept : Transition
-given_up_and_kept = next_by (record scheme { parted = λ st count values. (if is_zero_or_below count then values else [], values) })
-
--- Slot 1 counts down to -1 and has 7 to hand, and 7 stands in its batch as well.
-abbrev pub given_up_twice : List Event
-given_up_twice = detached ++ ReadHead 0 1 ∷ Insert 0 1 Won ∷ Begin 1 Leave ∷ SwapOut 1 ∷ SubCount 1 ∷ []
-
--- Slot 1 hands 7, slot 0 adds up to 0 and hands 7 again.
-abbrev pub handed_twice : List Event
-handed_twice = given_up_twice ++ Hand 1 [] ∷ AddCount 0 ∷ Hand 0 [] ∷ []
+given_up_and_kept = next_by (record scheme { settled = λ st count values. (if is_zero count then values else [], values) })
 
 -- **Given up and forgotten.** A count of 0 empties the batch, and nobody gets its values: after `retired_alone` 7 stands nowhere.
 abbrev pub given_up_and_forgotten : Transition
-given_up_and_forgotten = next_by (record scheme { parted = λ st count values. ([], if is_zero count then [] else values) })
+given_up_and_forgotten = next_by (record scheme { settled = λ st count values. ([], if is_zero count then [] else values) })
 
 -- Wrong reads of heads
 
@@ -146,10 +141,13 @@ made_before_put =
 abbrev pub retired_again : Transition
 retired_again = next_by (record scheme { may_retire = λ st v. true })
 
--- At size 2 the only slot retires 7 twice, and hands it.
+-- At size 2 the only slot retires 7 twice, and hands it, and hands it again.
 abbrev pub retired_twice : List Event
 retired_twice =
     Take 0 ∷ Begin 0 (Retire 7) ∷ Put 0 ∷ Return 0 ∷ Begin 0 (Retire 7) ∷ Put 0 ∷ ReadHead 0 0 ∷ Detach 0 ∷ AddCount 0 ∷ Hand 0 [] ∷ []
+
+abbrev pub handed_twice : List Event
+handed_twice = retired_twice ++ Hand 0 [] ∷ []
 
 -- **Given up unretired.** The value is given up where its retirement should begin.
 abbrev pub given_up_unretired : Transition
@@ -202,6 +200,23 @@ joined_at_entry =
 -- Slot 0 inserts its batch at slot 1 and adds, and then becomes active: it lists the batch, which it did not after the add.
 abbrev pub entered_after_add : List Event
 entered_after_add = detached ++ ReadHead 0 1 ∷ Insert 0 1 Won ∷ AddCount 0 ∷ Return 0 ∷ Enter 0 ∷ []
+
+-- Slot 0 leaves again, and is to walk the batch, which it neither listed nor walked after the add.
+abbrev pub left_after_add : List Event
+left_after_add = entered_after_add ++ Begin 0 Leave ∷ SwapOut 0 ∷ []
+
+-- **Kept by a refresh.** A slot that refreshes keeps its list, and walks nothing.
+abbrev pub refreshed_head : Head → Bool → Head × List ℕ
+refreshed_head head true = (head, [])
+refreshed_head head false = (Inactive, waiting_at head)
+
+abbrev pub kept_by_a_refresh : Transition
+kept_by_a_refresh = next_by (record scheme { left_by = refreshed_head })
+
+-- Slot 1 lists the batch of slot 0 at its add, and refreshes: it lists the batch still.
+abbrev pub refreshed_after_add : List Event
+refreshed_after_add =
+    detached ++ ReadHead 0 1 ∷ Insert 0 1 Won ∷ AddCount 0 ∷ Return 0 ∷ Begin 1 Refresh ∷ SwapOut 1 ∷ []
 
 -- **Recorded in front.** The value reclaimed last stands first.
 abbrev pub recorded_in_front : Transition

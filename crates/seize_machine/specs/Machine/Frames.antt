@@ -1,9 +1,10 @@
 -- What an event may change: everything else is as it was before. Whoever knows a part of the state knows it still after the
 -- events that don't touch it.
 use Rattle.std.specs.Prelude.{ℕ, ◌==◌, ◌||◌, Bool, true, false, if◌then◌else◌, List, map, length, Option, Some, None}
-use Rattle.seize_machine.specs.Machine.State.{State, Call, slot_at, link_at, has}
+use Rattle.seize_machine.specs.Machine.State.{State, slot_at, link_at, has}
 use Rattle.seize_machine.specs.Machine.Event.{Event, Take, Give, Enter, Begin, Detach, Insert, AddCount, SwapOut, SubCount, Hand, ReadLink, ExchangeLink, slot_of}
-use Rattle.seize_machine.specs.Machine.Next.{of_call, adding_at, walking_at, new_link}
+use Rattle.seize_machine.specs.Machine.Next.{of_call, walking_at, new_link}
+use Rattle.seize_machine.specs.Machine.Laws.{added_batch}
 use Rattle.seize_machine.specs.declared.machine.event.Job.TheVariants.{Retire}
 use Rattle.seize_machine.specs.declared.machine.event.Try.TheVariants.{Won}
 
@@ -39,11 +40,8 @@ abbrev pub is_number : ℕ → Option ℕ → Bool
 is_number n None = false
 is_number n (Some m) = m == n
 
-abbrev pub added_at : Option Call → Option ℕ
-added_at call = elim (of_call adding_at call) [ None ↦ None | Some add ↦ Some add.0 ]
-
 abbrev pub changes_batch : State → ℕ → Event → Bool
-changes_batch st b (AddCount s) = is_number b (added_at (slot_at st s).call)
+changes_batch st b (AddCount s) = is_number b (added_batch (slot_at st s).call)
 changes_batch st b (SubCount s) = is_number b (of_call walking_at (slot_at st s).call)
 changes_batch st b _ = false
 

@@ -95,8 +95,9 @@ IsHeld st b = ((s : ℕ) × Lists st s b) ⊎ ((s : ℕ) × Walks st s b) ⊎ ((
 abbrev pub Holders : State → List Moment → Type 0
 Holders st ms = (b v : ℕ) → Contains (batch_at (end_of st ms) b).values v → IsHeld (end_of st ms) b
 
--- **No later holders.** After the add of a batch, only slots list it that listed it right after the add, and only calls of slots
--- walk it that listed or walked it then. So a slot that becomes active after the add never keeps the batch back.
+-- **No later holders.** Who lists a batch after its add listed it right after the add, and has neither left nor refreshed since; and
+-- who walks it has listed or walked it after every event since. So a slot that becomes active after the add, or refreshes after it,
+-- never keeps the batch back.
 abbrev pub added_batch : Option Call → Option ℕ
 added_batch None = None
 added_batch (Some call) = elim call.place [ Add b won ↦ Some b | _ ↦ None ]
@@ -108,8 +109,9 @@ added_by st _ = None
 
 abbrev pub NoLaterHolders : State → List Moment → Type 0
 NoLaterHolders st ms =
-    (b a : ℕ) (m : Moment) → slice_get ms a ≡ Some m → added_by m.before m.timed.event ≡ Some b
-    → (s : ℕ) → (Lists (end_of st ms) s b → Lists m.after s b) × (Walks (end_of st ms) s b → Lists m.after s b ⊎ Walks m.after s b)
+    (b a : ℕ) (add : Moment) → slice_get ms a ≡ Some add → added_by add.before add.timed.event ≡ Some b → (s : ℕ)
+    → (Lists (end_of st ms) s b → Lists add.after s b × ¬ (HasParted ms s a (length ms)))
+    × (Walks (end_of st ms) s b → (p : ℕ) (m : Moment) → a ≤ p → slice_get ms p ≡ Some m → Lists m.after s b ⊎ Walks m.after s b)
 
 -- **Tries.** The insertions that a call lost at one head are at most the events of other slots that changed that head
 -- during the call.
@@ -153,4 +155,5 @@ HoldsOfAll law =
 abbrev pub Breaks : Transition → List (Option ℕ) → List Timed → (State → List Moment → Type 0) → Type 0
 Breaks transition links events law =
     let start = opening 0 links in
-    (are_legal (history transition start events) ≡ true) × ¬ (law start (history transition start events))
+    (are_distinct (linked links) ≡ true) × (are_legal (history transition start events) ≡ true)
+    × ¬ (law start (history transition start events))

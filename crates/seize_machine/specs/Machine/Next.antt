@@ -19,8 +19,8 @@ Outcome = Option (State × Answer)
 abbrev pub Transition : Type 0
 Transition = ℕ → State → Event → Outcome
 
--- **The scheme**: the choices that decide whether the laws hold. The table below leaves them open, `scheme` has the right ones,
--- and a counterexample is the right scheme with one of them changed.
+-- **The scheme**: the choices that a counterexample makes wrong, one at a time. The table below leaves them open, and `scheme` has
+-- the right ones. What else the table says decides as well whether the laws hold.
 pub record Scheme : Type 0 where
   -- whether the value may be retired
   pub may_retire : State → ℕ → Bool
@@ -39,7 +39,9 @@ pub record Scheme : Type 0 where
   -- whether an insertion at this head may be lost that was read as this list
   pub may_lose : Head → List ℕ → Bool
   -- of the values of a batch that has come to this count, those given up and those that stay
-  pub parted : State → ℤ → List ℕ → List ℕ × List ℕ
+  pub settled : State → ℤ → List ℕ → List ℕ × List ℕ
+  -- what becomes of a head that is swapped out, to stay active or not: the new head, and the list to walk
+  pub left_by : Head → Bool → Head × List ℕ
   -- what a link holds in which a value, or none, is exchanged for another
   pub stored : (old new : Option ℕ) → Option ℕ
   -- the values reclaimed, and one more
@@ -243,7 +245,7 @@ slot_lost scheme n head slot =
 
 abbrev pub counted : Scheme → State → ℕ → ℕ → ℤ → (List ℕ → Place → Place) → Outcome
 counted scheme st s b count goes_on =
-    let parts = scheme.parted st count (batch_at st b).values in
+    let parts = scheme.settled st count (batch_at st b).values in
     Some (
       record st {
         slots = slice_set st.slots s (moved (goes_on parts.0) (slot_at st s));
@@ -285,11 +287,11 @@ abbrev pub leaving_at : Place → List ℕ → Option Bool
 leaving_at (Out stays) queue = Some stays
 leaving_at _ queue = None
 
-abbrev pub swap_out : State → ℕ → Option Bool → Outcome
-swap_out st s None = None
-swap_out st s (Some stays) =
-    let walk = waiting_at (head_at st s) in
-    Some (set_slot (set_head st s (if stays then Active [] else Inactive)) s (moved (λ place. Rest [] walk) (slot_at st s)), Done)
+abbrev pub swap_out : Scheme → State → ℕ → Option Bool → Outcome
+swap_out scheme st s None = None
+swap_out scheme st s (Some stays) =
+    let left = scheme.left_by (head_at st s) stays in
+    Some (set_slot (set_head st s left.0) s (moved (λ place. Rest [] left.1) (slot_at st s)), Done)
 
 -- Hand: the first given-up value is reclaimed, and what its reclaimer puts joins the queue
 
@@ -389,7 +391,7 @@ next_by scheme size st (Detach s) = detach st s
 next_by scheme size st (Insert s n Won) = insert st s n (of_call trying_at (slot_at st s).call)
 next_by scheme size st (Insert s n Lost) = own st s Done (slot_lost scheme n (head_at st n) (slot_at st s))
 next_by scheme size st (AddCount s) = add_count scheme st s (of_call adding_at (slot_at st s).call)
-next_by scheme size st (SwapOut s) = swap_out st s (of_call leaving_at (slot_at st s).call)
+next_by scheme size st (SwapOut s) = swap_out scheme st s (of_call leaving_at (slot_at st s).call)
 next_by scheme size st (SubCount s) = sub_count scheme st s (of_call walking_at (slot_at st s).call)
 next_by scheme size st (Hand s puts) = hand scheme st s puts (of_call handing_at (slot_at st s).call)
 next_by scheme size st (Return s) = own st s Done (slot_return (slot_at st s))
@@ -434,6 +436,10 @@ is_zero (negsuc n) = false
 abbrev pub all_if : Bool → List ℕ → List ℕ × List ℕ
 all_if gives_up values = (if gives_up then values else [], if gives_up then [] else values)
 
+-- the head is empty or inactive, and the whole list comes out
+abbrev pub swapped_head : Head → Bool → Head × List ℕ
+swapped_head head stays = (if stays then Active [] else Inactive, waiting_at head)
+
 abbrev pub scheme : Scheme
 scheme =
     record {
@@ -447,7 +453,8 @@ scheme =
       looked = looked;
       may_lose = is_changed;
       -- at 0, and there alone, all values are given up
-      parted = λ st count values. all_if (is_zero count) values;
+      settled = λ st count values. all_if (is_zero count) values;
+      left_by = swapped_head;
       stored = λ old new. new;
       recorded = λ gone v. gone ++ v ∷ [];
     }

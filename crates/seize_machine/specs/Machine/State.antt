@@ -1,5 +1,5 @@
--- The state of the event machine. Slots, batches and links go by their numbers, and a read past the last of them gives
--- one with which no event is legal.
+-- The state of the event machine. Slots, batches and links go by their numbers. A read past the last of them gives a
+-- free slot with no call, a batch with no values, a link with nothing, an inactive head.
 use Rattle.std.specs.Prelude.{ℕ, ℤ, pos, Bool, true, false, not, ◌&&◌, ◌==◌, List, [], ◌∷◌, replicate, Option, None, slice_index_or, is_some, option_to_list}
 use Rattle.std.specs.List.{list_any, flat_map}
 
