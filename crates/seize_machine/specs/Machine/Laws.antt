@@ -96,8 +96,8 @@ abbrev pub Holders : State → List Moment → Type 0
 Holders st ms = (b v : ℕ) → Contains (batch_at (end_of st ms) b).values v → IsHeld (end_of st ms) b
 
 -- **No later holders.** Who lists a batch after its add listed it right after the add, and has neither left nor refreshed since; and
--- who walks it has listed or walked it after every event since. So a slot that becomes active after the add, or refreshes after it,
--- never keeps the batch back.
+-- who walks it has listed or walked it after every event since. So a slot that becomes active after the add never keeps the batch
+-- back, and one that refreshes does so only until its walk is done.
 abbrev pub added_batch : Option Call → Option ℕ
 added_batch None = None
 added_batch (Some call) = elim call.place [ Add b won ↦ Some b | _ ↦ None ]
