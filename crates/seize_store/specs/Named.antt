@@ -4,12 +4,14 @@
 --     value_of o, number_of o      its value and its number
 --     AreOf spots s   each of the spots is of the store s
 --     is_empty_list spots, count_of spots      there is none;  how many there are
+--     count_with n    how many there are when one was put to n: where the list was full, 64 were given back first
+--     IsSame o p      the blocks o and p have the same value, number, store and place
 --     store_by s, row_by s, places_by s     the store and the row of the token s, and where the row's chunks lie
 --     row_is s n      the row is that of the number n
---     HasPlace s n    the row has a chunk for n;  place_by s n   where that lies
+--     place_by s n    where the chunk of the number n lies
 --     lies_of p, header_of p   where the chunk p lies, and its header
 --     lies o          where the chunk of the block o lies
-use Rattle.std.specs.Prelude.{◌≡◌, ℕ, ◌<◌, ◌≤◌, List, [], All, length, vec_len}
+use Rattle.std.specs.Prelude.{◌≡◌, ℕ, ◌+◌, ◌==◌, if◌then◌else◌, List, [], All, vec_len}
 use denote.RawPtr.{Ptr}
 use Rattle.seize_table.specs.Place.{IsPlace}
 use Rattle.seize_store.specs.Known.{names_of, entry_of, place_in}
@@ -38,6 +40,12 @@ AreOf spots store = All (λ spot. spot.title.known.store ≡ store) spots.list.i
 abbrev pub is_empty_list : {H T : Type 0} → Spots H T → Type 0
 is_empty_list spots = spots.list.items ≡ []
 
+abbrev pub count_with : ℕ → ℕ
+count_with count = (if count == 128 then 64 else count) + 1
+
+abbrev pub IsSame : {H T : Type 0} → Owned H T → Owned H T → Type 0
+IsSame one other = (value_of one ≡ value_of other) × (one.block.title ≡ other.block.title)
+
 abbrev pub store_by : {H T : Type 0} → Seen H T → List ℕ
 store_by seen = seen.known.store
 
@@ -49,9 +57,6 @@ places_by seen = seen.known.places
 
 abbrev pub row_is : {H T : Type 0} → Seen H T → ℕ → Type 0
 row_is seen number = IsPlace number seen.known.row (entry_of seen.known.row number)
-
-abbrev pub HasPlace : {H T : Type 0} → Seen H T → ℕ → Type 0
-HasPlace seen number = row_is seen number × (number ≤ 18446744073709551583) × (entry_of seen.known.row number < length seen.known.places)
 
 abbrev pub place_by : {H T : Type 0} → Seen H T → ℕ → Ptr
 place_by seen number = place_in seen.known.places (entry_of seen.known.row number)

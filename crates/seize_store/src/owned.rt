@@ -1,6 +1,6 @@
 // The block in its owner's hands.
 ghost use Rattle.std.specs.Prelude.{◌≡◌, ◌≢◌};
-ghost use Rattle.seize_store.specs.Named.{AreOf, number_of, store_of, value_of};
+ghost use Rattle.seize_store.specs.Named.{AreOf, IsSame, count_of, count_with, number_of, store_of, value_of};
 
 use crate::block::Block;
 use crate::spot::{Spot, Spots};
@@ -35,7 +35,9 @@ impl<H, T: Drop> Owned<H, T> {
     /// atomic step else.
     pub fn empty_into(self, spots: &mut Spots<H, T>) -> T
         requires { AreOf spots.old (store_of self) }
-        ensures { (result ≡ value_of self) × AreOf spots.new (store_of self) }
+        ensures value { result ≡ value_of self }
+        ensures spots { AreOf spots.new (store_of self) }
+        ensures count { count_of spots.new ≡ count_with (count_of spots.old) }
     {
         let (value, spot) = self.empty();
         spots.put(spot);
@@ -57,8 +59,7 @@ impl<H, T: Drop> Owned<H, T> {
 pub fn apart<H, T: Drop>(first: Owned<H, T>, second: Owned<H, T>) -> (Owned<H, T>, Owned<H, T>)
     requires { store_of first ≡ store_of second }
     ensures numbers { number_of first ≢ number_of second }
-    ensures first { (value_of result.0 ≡ value_of first) × (number_of result.0 ≡ number_of first) }
-    ensures second { (value_of result.1 ≡ value_of second) × (number_of result.1 ≡ number_of second) }
+    ensures same { IsSame result.0 first × IsSame result.1 second }
 {
     let (one, first) = first.empty();
     let (two, second) = second.empty();

@@ -1,5 +1,5 @@
 // The way from a number to its chunk, for whoever knows that the number's row is made.
-ghost use Rattle.std.specs.Prelude.{◌≡◌, Some};
+ghost use Rattle.std.specs.Prelude.{◌≡◌, ◌+◌, ◌^◌, ◌<◌, length, Some};
 ghost use Rattle.seize_store.specs.Known.{name_in};
 
 use crate::chunk::Chunk;
@@ -9,13 +9,15 @@ use once_cell::race::Note;
 
 mod find;
 
-/// What shows that a row of a store is made, for good. It takes no bytes and can be copied.
+/// What shows that a row of a store is made, with all its chunks, for good. It takes no bytes and can be copied.
 #[derive(Drop)]
 pub struct Seen<H: Drop, T> {
     pub(crate) note: Note<Row<H, T>>,
     pub(crate) known: Known,
     ghost cell: { note.cell ≡ name_in known.store known.row },
     ghost same: { note.known ≡ Some known.places },
+    ghost in_store: { known.row < 59 },
+    ghost full: { length known.places ≡ 2 ^ (known.row + 5) },
 }
 
 /// The chunk of a number.

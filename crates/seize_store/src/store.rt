@@ -1,10 +1,10 @@
 // The store: rows of chunks by their numbers.
-ghost use Rattle.std.specs.Prelude.{◌≡◌, ℕ, ◌+◌, ◌^◌, ◌<◌, length, List, IfOk, IfErr, IfSome, Some};
+ghost use Rattle.std.specs.Prelude.{◌≡◌, ℕ, ◌+◌, ◌-◌, ◌^◌, ◌<◌, length, List, IfOk, IfErr, IfSome, Some};
 ghost use Rattle.seize_table.specs.Place.{IsPlace};
 ghost use Rattle.seize_table.specs.Table.{number_at};
 ghost use Rattle.seize_table.specs.declared.refusal.Refusal.TheVariants.{NoMemory};
 ghost use Rattle.seize_store.specs.Known.{name_in, place_in};
-ghost use Rattle.seize_store.specs.Named.{AreOf, is_empty_list, name_of, store_of, value_of};
+ghost use Rattle.seize_store.specs.Named.{AreOf, count_of, is_empty_list, name_of, store_of, value_of};
 
 use crate::block::Out;
 use crate::known::{Known, Title};
@@ -100,6 +100,7 @@ impl<H: Drop, T> Store<H, T> {
         ensures ok { IfOk result (λ o. (value_of o ≡ value) × (store_of o ≡ name_of self.now)) }
         ensures refused { IfErr result (λ e. (e.0 ≡ NoMemory) × (e.1 ≡ value) × is_empty_list spots.old) }
         ensures spots { AreOf spots.new (name_of self.now) }
+        ensures count { count_of spots.new ≡ count_of spots.old - 1 }
     {
         match spots.list.pop() {
             Some(spot) => Ok(spot.fill(value)),

@@ -67,6 +67,12 @@ fn zeroed() -> AtomicU64 {
     AtomicU64::new(0)
 }
 
+// What the header of the row's last chunk has, by the token that the row's first number gave.
+fn last_of_the_first_row(store: &Store<AtomicU64, u64>) -> Option<u64> {
+    let mut seen = store.seen(0)?;
+    Some(store.at(31, &mut seen).header().load(Ordering::SeqCst))
+}
+
 #[test]
 fn a_number_leads_to_its_own_chunk(rt: HostRuntime) -> Result<(), Fail> {
     let store: Store<AtomicU64, u64> = Store::new(rt.alloc());
@@ -89,6 +95,7 @@ fn a_number_leads_to_its_own_chunk(rt: HostRuntime) -> Result<(), Fail> {
         });
         assert_eq!(rt; found, Some(**owned));
     }
+    assert_eq!(rt; last_of_the_first_row(&store), Some(31));
     assert!(rt; store.seen(usize::MAX).is_none());
     Ok(())
 }

@@ -127,6 +127,7 @@ fn rounds<R: Threads + Sync>(rt: &R, alloc: Global, store: &Store<u64, u64>) -> 
 fn a_store_stops_growing(rt: HostRuntime) {
     let store = Store::new(rt.alloc());
     let (early, late) = rounds(&rt, rt.alloc(), &store);
-    // At most 2,000 blocks stand at once, so no row after the one with the 2,000th number is made: that row ends at 4,064.
-    assert!(rt; early <= late && late < 4064, "{early} and {late}");
+    // A thousand blocks stand at once, so their numbers go to 999 at least. At most 2,000 stand, and the rows that have the numbers below
+    // 4,064 are enough for them at the end as at a tenth.
+    assert!(rt; early >= 999 && late < 4064, "{early} and {late}");
 }

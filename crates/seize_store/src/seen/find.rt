@@ -1,6 +1,6 @@
 // Look-ups.
 ghost use Rattle.std.specs.Prelude.{◌≡◌, ◌<◌, ◌≤◌, IfSome};
-ghost use Rattle.seize_store.specs.Named.{HasPlace, header_of, lies, lies_of, name_of, number_of, place_by, places_by, row_by, row_is, store_by, store_of};
+ghost use Rattle.seize_store.specs.Named.{header_of, lies, lies_of, name_of, number_of, place_by, places_by, row_by, row_is, store_by, store_of};
 
 use super::{Place, Seen};
 use crate::known::Known;
@@ -44,13 +44,13 @@ impl<'a, H, T> Place<'a, H, T> {
 impl<H: Drop, T> Store<H, T> {
     /// The chunk of a number, and what shows its row, where that is made.
     pub fn find(&self, number: usize) -> Option<(Place<'_, H, T>, Seen<H, T>)>
-        ensures row { IfSome result (λ found. (store_by found.1 ≡ name_of self.now) × HasPlace found.1 number) }
+        ensures row { IfSome result (λ found. (store_by found.1 ≡ name_of self.now) × row_is found.1 number) }
         ensures place { IfSome result (λ found. lies_of found.0 ≡ place_by found.1 number) }
     {
         let place = Thread::new(number)?;
         let mut note = self.rows.cells[place.bucket].note();
         let row = self.rows.cells[place.bucket].get_as(&mut note)?;
-        if place.entry >= row.len() {
+        if row.len() != Thread::bucket_capacity(place.bucket) {
             return None;
         }
         let chunk = row.chunk(place.entry);
@@ -60,19 +60,19 @@ impl<H: Drop, T> Store<H, T> {
 
     /// What shows the number's row, where that is made.
     pub fn seen(&self, number: usize) -> Option<Seen<H, T>>
-        ensures { IfSome result (λ seen. (store_by seen ≡ name_of self.now) × HasPlace seen number) }
+        ensures { IfSome result (λ seen. (store_by seen ≡ name_of self.now) × row_is seen number) }
     {
         let (_, seen) = self.find(number)?;
         Some(seen)
     }
 
-    /// The chunk of a number whose row is known to be made. It is the chunk of every block that ever has this number.
+    /// The chunk of any number of the row that the token shows. It is the chunk of every block that ever has this number.
     ///
     /// Four loads, each of which waits for the one before: the row's cell, the list of its chunks, the chunk's place, and then what is
     /// looked for in the chunk.
     pub fn at(&self, number: usize, seen: &mut Seen<H, T>) -> Place<'_, H, T>
         requires store { store_by seen.old ≡ name_of self.now }
-        requires place { HasPlace seen.old number }
+        requires row { row_is seen.old number }
         ensures { (seen.new ≡ seen.old) × (lies_of result ≡ place_by seen.old number) }
     {
         let Some(place) = Thread::new(number) else {

@@ -1,6 +1,6 @@
 // What a list of spots does.
 ghost use Rattle.std.specs.Prelude.{◌≡◌, ◌≤◌, IfOk};
-ghost use Rattle.seize_store.specs.Named.{AreOf, count_of, is_empty_list};
+ghost use Rattle.seize_store.specs.Named.{AreOf, count_of, count_with, is_empty_list};
 
 use super::{SPOTS, Spot, Spots};
 use std::alloc::{AllocError, Global};
@@ -29,7 +29,8 @@ impl<H, T> Spots<H, T> {
     // One more spot. Where the list is full, half of it goes back first.
     pub(crate) fn put(&mut self, spot: Spot<H, T>)
         requires { AreOf self.old spot.title.known.store }
-        ensures { AreOf self.new spot.title.known.store }
+        ensures store { AreOf self.new spot.title.known.store }
+        ensures count { count_of self.new ≡ count_with (count_of self.old) }
     {
         if self.list.len() == SPOTS {
             self.list.truncate(SPOTS / 2);

@@ -1,4 +1,4 @@
-use Rattle.std.proofs.Common.{ℕ, ◌<◌, List, length, sym, ap, ◌∙◌, subst, lit<}
+use Rattle.std.proofs.Common.{◌≡◌, ℕ, ◌+◌, ◌^◌, ◌<◌, List, length, sym, ap, ◌∙◌, subst, arith, lit<}
 use denote.RawPtr.{Ptr}
 use Rattle.seize_table.proofs.Places.{one_place}
 use Rattle.seize_store.specs.Known.{entry_of, place_in}
@@ -7,16 +7,19 @@ use Rattle.seize_store.proofs.store.Store.at.Goals as goal
 -- src/seen/find.rt:57:13
 pub row-row-requires : goal.row-row-requires
 row-row-requires g c = let r = c.args.seen.now.known.row in let n = c.args.number in let at = c.in-Some.place in
-    (lit< tt, (c.requires.store, (one_place n r (entry_of r n) at.bucket at.entry c.requires.place.0 c.in-Some.ensures.place).0, at.in_table))
+    (lit< tt, (c.requires.store, (one_place n r (entry_of r n) at.bucket at.entry c.requires.row c.in-Some.ensures.place).0, at.in_table))
 
 -- src/seen/find.rt:59:20
 pub chunk-requires : goal.chunk-requires
-chunk-requires g c = let r = c.args.seen.now.known.row in let n = c.args.number in let at = c.in-Some.place in
-    let same = (one_place n r (entry_of r n) at.bucket at.entry c.requires.place.0 c.in-Some.ensures.place).1 in
-    subst (λ (ps : List Ptr). at.entry < length ps) (sym c.row-row.ensures.1) (subst (λ (e : ℕ). e < length c.args.seen.now.known.places) same c.requires.place.2)
+chunk-requires g c = let seen = c.args.seen.now in let r = seen.known.row in let n = c.args.number in let at = c.in-Some.place in
+    let same = (one_place n r (entry_of r n) at.bucket at.entry c.requires.row c.in-Some.ensures.place).0 in
+    let full : length seen.known.places ≡ 2 ^ (at.bucket + 5) = seen.full ∙ ap (λ (k : ℕ). 2 ^ (k + 5)) same in
+    let within = c.in-Some.ensures.place.within in
+    let inside : at.entry < length seen.known.places = omega arith in
+    subst (λ (ps : List Ptr). at.entry < length ps) (sym c.row-row.ensures.1) inside
 
 -- src/seen/find.rt:49:5
 pub returns : goal.returns
 returns g c = let r = c.args.seen.now.known.row in let n = c.args.number in let at = c.in-Some.place in
-    let same = (one_place n r (entry_of r n) at.bucket at.entry c.requires.place.0 c.in-Some.ensures.place).1 in
+    let same = (one_place n r (entry_of r n) at.bucket at.entry c.requires.row c.in-Some.ensures.place).1 in
     (c.row-row.ensures.0, c.chunk.ensures ∙ (ap (λ (ps : List Ptr). place_in ps at.entry) c.row-row.ensures.1 ∙ ap (λ (e : ℕ). place_in c.args.seen.now.known.places e) (sym same)))
