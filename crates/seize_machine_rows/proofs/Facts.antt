@@ -1,5 +1,5 @@
 -- The machine's facts, used by a crate that builds on it: only `proofs/Facts` of that crate is cited.
-use Rattle.std.proofs.Common.{◌≡◌, ◌≢◌, ℕ, pos, Bool, true, false, not, ◌&&◌, ◌||◌, ◌==◌, List, [], ◌∷◌, ◌++◌, option_to_list, Option, Some, None, refl, sym, ◌∙◌, ap, subst, arith, length, take, drop}
+use Rattle.std.proofs.Common.{◌≡◌, ◌≢◌, ℕ, pos, Bool, true, false, not, ◌||◌, ◌==◌, List, [], ◌∷◌, ◌++◌, option_to_list, Option, Some, None, refl, sym, ◌∙◌, ap, subst, arith, length, take, drop, ◌⊎◌, inl, inr}
 use Rattle.std.specs.List.{list_all, slice_get}
 use Rattle.std.proofs.lemmas.List.Concat.{flat_map-cons}
 use Rattle.seize_machine.specs.Machine.State.{State, link_at, has, linked, are_distinct, opening, slot_at}
@@ -11,22 +11,22 @@ use Rattle.seize_machine.specs.Machine.Frames.{changes_batch}
 use Rattle.seize_machine.specs.Machine.Kept.{KeptIn}
 use Rattle.seize_machine.specs.declared.machine.event.Answer.{Answer}
 use Rattle.seize_machine.specs.declared.machine.event.Answer.TheVariants.{Count, Handed}
-use Rattle.seize_machine.proofs.Facts.{Step, step_of, next_of, no_event, one_event, one_more, joined, taken_apart, first_event, legal_unique, moment_of_event, legal_answer, opening_reached, reached_next, law_at_most_once, law_after, law_quiet, law_protection, law_parts, law_gone, law_holders, law_no_later_holders, law_tries, slot_frame, active_frame, head_frame, batch_frame, link_frame, used_frame, value_frame, slots_length, heads_length, batches_length, links_length, named_grows, loose_stays, out_active, marks_tidy, looks_tidy, tries_tidy, adds_tidy, counts_near, one_owner, zero_unheld, arrives_unheld, kept_from_link, kept_step, kept_not_handed, reached_by, reached_holds}
+use Rattle.seize_machine.proofs.Facts.{Step, and_true, not_true, eq_true, is_true, step_of, next_of, no_event, one_event, one_more, joined, taken_apart, first_event, legal_unique, moment_of_event, legal_answer, opening_reached, reached_next, law_at_most_once, law_after, law_quiet, law_protection, law_parts, law_gone, law_holders, law_no_later_holders, law_tries, slot_frame, active_frame, head_frame, batch_frame, link_frame, used_frame, value_frame, slots_length, heads_length, batches_length, links_length, named_grows, loose_stays, out_active, marks_tidy, looks_tidy, tries_tidy, adds_tidy, counts_near, one_owner, zero_unheld, arrives_unheld, kept_from_link, kept_step, kept_not_handed, reached_by, reached_holds}
 use Rattle.seize_machine_rows.specs.Interface.{Unmoved, CallsTidy, Obeys, Handing}
 
-both : (a b : Bool) → (a && b) ≡ true → (a ≡ true) × (b ≡ true)
-both true b h = (refl, h)
-both false b h = absurd (cc)
-
 stays_in : (s : ℕ) (event : Event) → not (is_swap_out s event) ≡ true → event ≢ SwapOut s
-stays_in s event h e = (let k : not (s == s) ≡ true = ap (λ (event : Event). not (is_swap_out s event)) (sym e) ∙ h in grind arith)
+stays_in s event h e = (let k : (s == s) ≡ false = not_true (s == s) (ap (λ (event : Event). not (is_swap_out s event)) (sym e) ∙ h) in grind arith)
 
 not_the_value : (v : ℕ) (o : Option ℕ) (rest : List ℕ) → o ≢ Some v → has v rest ≡ false → has v (option_to_list o ++ rest) ≡ false
 not_the_value v None rest other h = h
 not_the_value v (Some w) rest other h = (let n : (w == v) ≡ false = differ w v (λ e. other (ap (λ (w : ℕ). Some w) e)) in ap (λ (b : Bool). b || has v rest) n ∙ h)
   where
     differ : (a b : ℕ) → a ≢ b → (a == b) ≡ false
-    differ a b h = grind arith
+    differ a b h = of (is_true (a == b))
+      where
+        of : ((a == b) ≡ true) ⊎ ((a == b) ≡ false) → (a == b) ≡ false
+        of (inl same) = absurd (let e : a ≡ b = eq_true a b same in h e)
+        of (inr other) = other
 
 -- a value that is kept back is not handed by a legal list without the slot's swap
 unhanded : (s v : ℕ) (events : List Timed) (st end : State) (answers : List Answer) → IsReached st → KeptIn s v st → Legal next st events answers end
@@ -35,7 +35,7 @@ unhanded s v [] st end answers r k legal stays = subst (λ (answers : List Answe
 unhanded s v (t ∷ events) st end answers r k legal stays =
     let first : (now : State) × (answer : Answer) × (rest : List Answer) × (answers ≡ answer ∷ rest) × (next t.size st t.event ≡ Some (now, answer)) × Legal next now events rest end =
     first_event st end t events answers legal in
-    let both_stay : (not (is_swap_out s t.event) ≡ true) × (list_all (λ t. not (is_swap_out s t.event)) events ≡ true) = both _ _ stays in
+    let both_stay : (not (is_swap_out s t.event) ≡ true) × (list_all (λ t. not (is_swap_out s t.event)) events ≡ true) = and_true _ _ stays in
     let now : State = first.0 in
     let answer : Answer = first.1 in
     let rest : List Answer = first.2 in

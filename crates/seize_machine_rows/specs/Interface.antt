@@ -1,12 +1,15 @@
 -- What the tests of the machine's facts say.
-use Rattle.std.specs.Prelude.{◌≡◌, ◌≢◌, ℕ, ◌+◌, ◌<◌, ◌≤◌, pos, neg_ℤ, ◌≤ℤ◌, Bool, true, false, List, ◌∷◌, length, Some, Option}
+use Rattle.std.specs.Prelude.{◌≡◌, ◌≢◌, ℕ, ◌+◌, ◌<◌, ◌≤◌, pos, neg_ℤ, ◌+ℤ◌, ◌≤ℤ◌, Bool, true, false, List, ◌∷◌, length, Some, Option}
 use Rattle.std.specs.List.{Contains}
-use Rattle.seize_machine.specs.Machine.State.{State, Place, Mark, Look, Try, Add, Out, slot_at, head_at, link_at, batch_at, is_active, has, are_distinct, opening}
-use Rattle.seize_machine.specs.Machine.Event.{Event}
-use Rattle.seize_machine.specs.Machine.Next.{next}
+use Rattle.seize_machine.specs.Machine.State.{State, Place, Active, Append, Mark, Look, Try, Add, Out, slot_at, is_idle, head_at, link_at, batch_at, is_active, has, are_distinct, opening}
+use Rattle.seize_machine.specs.Machine.Event.{Event, Begin, Put, Insert, AddCount, ExchangeLink, slot_of}
+use Rattle.seize_machine.specs.Machine.Next.{next, can_link, is_none_or_fresh, new_link, is_stored}
 use Rattle.seize_machine.specs.declared.machine.event.Answer.{Answer}
-use Rattle.seize_machine.specs.declared.machine.event.Answer.TheVariants.{Handed}
-use Rattle.seize_machine.specs.Machine.History.{Timed, history, Legal}
+use Rattle.seize_machine.specs.declared.machine.event.Answer.TheVariants.{Done, Count, Handed, Link}
+use Rattle.seize_machine.specs.declared.machine.event.Exchange.{Exchange}
+use Rattle.seize_machine.specs.declared.machine.event.Try.TheVariants.{Lost}
+use Rattle.seize_machine.specs.declared.machine.event.Job.TheVariants.{Leave}
+use Rattle.seize_machine.specs.Machine.History.{Timed, history, Legal, is_link_event}
 use Rattle.seize_machine.specs.Machine.Laws.{AtMostOnce, After, Quiet, Protection, Parts, Gone, Holders, NoLaterHolders, Tries, detached_by, Lists, Walks}
 use Rattle.seize_machine.specs.Machine.Frames.{changes_slot, used, changes_used, changes_head_of, changes_link, changes_batch, changes_value, slots_added, batches_added, begins_retiring}
 
@@ -29,6 +32,10 @@ pub record Unmoved (st : State) (event : Event) (later : State) : Type 0 where
 abbrev pub StandsAt : State → ℕ → Place → List ℕ → Type 0
 StandsAt st s place queue = (slot_at st s).call ≡ Some (record { place = place; queue = queue })
 
+-- the event is legal, with this answer
+abbrev pub IsLegal : ℕ → State → Event → Answer → Type 0
+IsLegal size st event answer = (later : State) × (next size st event ≡ Some (later, answer))
+
 -- what holds of calls and counts
 pub record CallsTidy (st : State) : Type 0 where
   pub heads : length st.heads ≡ length st.slots
@@ -44,6 +51,22 @@ pub record CallsTidy (st : State) : Type 0 where
   pub owners : (b i s : ℕ) → detached_by (slot_at st i).call ≡ Some b → detached_by (slot_at st s).call ≡ Some b → i ≡ s
   pub unheld : (b : ℕ) → (batch_at st b).count ≡ pos 0 → ((s : ℕ) → detached_by (slot_at st s).call ≢ Some b)
       → (s : ℕ) → ¬ (Lists st s b) × ¬ (Walks st s b)
+
+-- what a call under way does next, and what is legal for it
+pub record UnderWay (size : ℕ) (st : State) : Type 0 where
+  -- a call that has still to add does nothing else, links aside
+  pub forced : (s b won : ℕ) (queue : List ℕ) (event : Event) (d : State × Answer) → (slot_at st s).used ≡ true
+      → StandsAt st s (Add b won) queue → next size st event ≡ Some d → slot_of event ≡ s → is_link_event s event ≡ false
+      → event ≡ AddCount s
+  pub begins : (s : ℕ) → is_idle (slot_at st s) ≡ true → is_active (head_at st s) ≡ true → IsLegal size st (Begin s Leave) Done
+  pub put : (s v : ℕ) (queue : List ℕ) → StandsAt st s (Append v) queue → IsLegal size st (Put s) Done
+  pub lost : (s m b won : ℕ) (later saw queue : List ℕ) → StandsAt st s (Try b won m later saw) queue → head_at st m ≢ Active saw
+      → IsLegal size st (Insert s m Lost) Done
+  pub added : (s b won : ℕ) (queue : List ℕ) → StandsAt st s (Add b won) queue
+      → IsLegal size st (AddCount s) (Count ((batch_at st b).count +ℤ pos won))
+  pub exchanged : (s l : ℕ) (exchange : Exchange) → can_link st s l ≡ true → is_none_or_fresh st (new_link exchange) ≡ true
+      → is_stored (link_at st l) exchange ≡ true → IsLegal size st (ExchangeLink s l exchange) (Link (link_at st l))
+  pub one_outcome : (event : Event) (d other : State × Answer) → next size st event ≡ Some d → next size st event ≡ Some other → d ≡ other
 
 -- every law of these events
 pub record Obeys (st : State) (events : List Timed) : Type 0 where

@@ -1,7 +1,7 @@
 //! The facts that the machine's crate exports, each used as a crate that builds on it would. Each function does nothing: its contract
 //! is what follows.
 
-ghost use Rattle.std.specs.Prelude.{◌≡◌, ◌≢◌, ℕ, pos, true, false, not, List, [], ◌∷◌, ◌++◌, Option, Some, length, take, drop};
+ghost use Rattle.std.specs.Prelude.{◌≡◌, ◌≢◌, ◌⊎◌, ℕ, pos, true, false, not, List, [], ◌∷◌, ◌++◌, Option, Some, length, take, drop};
 ghost use Rattle.std.specs.List.{list_all};
 ghost use Rattle.seize_machine.specs.Machine.State.{State, slot_at, link_at, has, linked, are_distinct, opening};
 ghost use Rattle.seize_machine.specs.Machine.Event.{Event};
@@ -11,7 +11,8 @@ ghost use Rattle.seize_machine.specs.Machine.Laws.{detached_by, Lists, Walks};
 ghost use Rattle.seize_machine.specs.Machine.Frames.{changes_batch};
 ghost use Rattle.seize_machine.specs.declared.machine.event.Answer.{Answer};
 ghost use Rattle.seize_machine.specs.declared.machine.event.Answer.TheVariants.{Count};
-ghost use Rattle.seize_machine_rows.specs.Interface.{Unmoved, CallsTidy, Obeys, Handing};
+ghost use Rattle.seize_machine.specs.Machine.Kept.{occ};
+ghost use Rattle.seize_machine_rows.specs.Interface.{Unmoved, UnderWay, CallsTidy, Obeys, Handing};
 
 /// From the middle of a list on: a value that a slot sees in a link is not handed while the slot neither leaves nor refreshes.
 pub fn kept_while_read()
@@ -35,6 +36,13 @@ pub fn in_reached_states()
     ensures unheld { (size : ℕ) (st : State) (event : Event) (d : State × Answer) (b : ℕ) → IsReached st → next size st event ≡ Some d
         → d.1 ≡ Count (pos 0) → changes_batch st b event ≡ true
         → (s : ℕ) → ¬ (Lists d.0 s b) × ¬ (Walks d.0 s b) × (detached_by (slot_at d.0 s).call ≢ Some b) }
+{}
+
+/// What a call under way does next, and which of its events are legal; a value stands in a list of distinct ones once or not at all.
+pub fn calls_under_way()
+    ensures steps { (size : ℕ) (st : State) → UnderWay size st }
+    ensures once { (v : ℕ) (vs : List ℕ) → are_distinct vs ≡ true
+        → ((has v vs ≡ true) × (occ v vs ≡ 1)) ⊎ ((has v vs ≡ false) × (occ v vs ≡ 0)) }
 {}
 
 /// The laws of a list that goes on by one legal event; two events of a list that hand one value are one; and a beginning of a legal
