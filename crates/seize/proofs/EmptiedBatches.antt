@@ -9,7 +9,7 @@ use Rattle.std.proofs.Math.Seq.{take-length}
 use Rattle.seize_model.specs.Waiting.State.{Slot, State, no_slot, slot_at, set_slot}
 use Rattle.seize_model.specs.Waiting.Further.{put_by, further}
 use Rattle.seize_model.specs.Waiting.Calls.{without_batch}
-use Rattle.seize.specs.Told.{told_of, Queued}
+use Rattle.seize.specs.Effects.{told_of, Queued}
 
 -- the slots, those below s without their batches
 abbrev pub emptied_to : {T R : Type 0} → ℕ → List (Slot T R) → List (Slot T R)

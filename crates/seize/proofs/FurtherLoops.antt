@@ -3,12 +3,12 @@ use Rattle.std.proofs.Common.{◌≡◌, ℕ, ◌<◌, Bool, if◌then◌else◌
 use Rattle.std.proofs.lemmas.List.Sums.{fold-append}
 use Rattle.seize_model.specs.Waiting.State.{State, slot_at}
 use Rattle.seize_model.specs.Waiting.Attempt.{Outcome, put}
-use Rattle.seize_model.specs.Waiting.Further.{Lighter, put_by, further, still_to_come, afterwards, settled, drained}
-use Rattle.seize_model.specs.Waiting.Calls.{unless, freed, freed_if}
-use Rattle.seize.specs.Told.{told_of, Queued, Did, Answered}
+use Rattle.seize_model.specs.Waiting.Further.{Lighter, put_by, further, still_to_come, afterwards, with_further, gone_from}
+use Rattle.seize_model.specs.Waiting.Calls.{unless, with_number_free, with_number_free_if}
+use Rattle.seize.specs.Effects.{told_of, Queued, Did, AnsweredIfGrown}
 use Rattle.seize_table.specs.declared.refusal.Refusal.{Refusal}
 use Rattle.seize_model.proofs.WaitingSets.FurtherValues.{falls, no_rest, afterwards-nil, afterwards-cons}
-use Rattle.seize_model.proofs.WaitingSets.Drain.{weighs, lightens, drained-nil, drained-cons}
+use Rattle.seize_model.proofs.WaitingSets.Drain.{weighs, lightens, gone_from-nil, gone_from-cons}
 
 -- one turn of the loop that retires the further values
 pub settles_on : {T R Seen : Type 0} (puts : R → T → List T) (weight : T → ℕ) → Lighter puts weight → (told : Seen → T → Seen)
@@ -32,7 +32,7 @@ settles_none puts weight told st s queue seen e = rw (no_rest queue e, afterward
 pub then_settled : {T R Seen : Type 0} (puts : R → T → List T) (weight : T → ℕ) (told : Seen → T → Seen)
     → (s : ℕ) (o : Outcome T R) (mid new : State T R) (queue : List (T × R)) (seen later last : Seen)
     → Queued puts told o mid [] queue seen later → Did told (afterwards puts weight mid s queue) new later last
-    → Did told (settled puts weight s o) new seen last
+    → Did told (with_further puts weight s o) new seen last
 then_settled {T} {R} {Seen} puts weight told s o mid new queue seen later last own did =
     let after_state : Did told (afterwards puts weight o.0 s queue) new later last = subst (λ m. Did told (afterwards puts weight m s queue) new later last) own.0 did in
     let after_queue : Did told (afterwards puts weight o.0 s (further puts o.1)) new later last = subst (λ q. Did told (afterwards puts weight o.0 s q) new later last) own.1 after_state in
@@ -44,31 +44,31 @@ pub answered_settled : {A T R Seen : Type 0} (puts : R → T → List T) (weight
     → (s : ℕ) (o : Outcome T R) (mid new : State T R) (start queue : List (T × R)) (seen later last : Seen)
     → None ≡ refusal
     → start ≡ [] → Queued puts told o mid start queue seen later → Did told (afterwards puts weight mid s queue) new later last
-    → Answered told (unless refusal st (Ok a, settled puts weight s o)) (Ok a) new seen last
+    → AnsweredIfGrown told (unless refusal st (Ok a, with_further puts weight s o)) (Ok a) new seen last
 answered_settled {A} {T} {R} {Seen} puts weight told refusal a st s o mid new start queue seen later last e none own did =
-    subst (λ (r : Option Refusal). Answered told (unless {A = A} {T = T} {R = R} r st (Ok a, settled puts weight s o)) (Ok a) new seen last) e
+    subst (λ (r : Option Refusal). AnsweredIfGrown told (unless {A = A} {T = T} {R = R} r st (Ok a, with_further puts weight s o)) (Ok a) new seen last) e
     (inr (refl, then_settled puts weight told s o mid new queue seen later last (subst (λ q. Queued puts told o mid q queue seen later) none own) did))
 
 pub answered_freed : {A T R Seen : Type 0} (puts : R → T → List T) (weight : T → ℕ) (told : Seen → T → Seen) (refusal : Option Refusal) (a : A) (owned : Bool) (st : State T R)
     → (s : ℕ) (o : Outcome T R) (mid new final : State T R) (start queue : List (T × R)) (seen later last : Seen)
     → None ≡ refusal
     → start ≡ [] → Queued puts told o mid start queue seen later → Did told (afterwards puts weight mid s queue) new later last
-    → final ≡ (if owned then freed new s else new)
-    → Answered told (unless refusal st (Ok a, freed_if owned s (settled puts weight s o))) (Ok a) final seen last
+    → final ≡ (if owned then with_number_free new s else new)
+    → AnsweredIfGrown told (unless refusal st (Ok a, with_number_free_if owned s (with_further puts weight s o))) (Ok a) final seen last
 answered_freed {A} {T} {R} {Seen} puts weight told refusal a owned st s o mid new final start queue seen later last e none own did is =
-    let all : Did told (settled puts weight s o) new seen last = then_settled puts weight told s o mid new queue seen later last (subst (λ q. Queued puts told o mid q queue seen later) none own) did in
-    subst (λ (r : Option Refusal). Answered told (unless {A = A} {T = T} {R = R} r st (Ok a, freed_if owned s (settled puts weight s o))) (Ok a) final seen last) e
-    (inr (refl, (is ∙ ap (λ (k : State T R). if owned then freed k s else k) all.0, all.1)))
+    let all : Did told (with_further puts weight s o) new seen last = then_settled puts weight told s o mid new queue seen later last (subst (λ q. Queued puts told o mid q queue seen later) none own) did in
+    subst (λ (r : Option Refusal). AnsweredIfGrown told (unless {A = A} {T = T} {R = R} r st (Ok a, with_number_free_if owned s (with_further puts weight s o))) (Ok a) final seen last) e
+    (inr (refl, (is ∙ ap (λ (k : State T R). if owned then with_number_free k s else k) all.0, all.1)))
 
 -- one turn of the loop that gives the further values up
 pub drains_on : {T R Seen : Type 0} (puts : R → T → List T) (weight : T → ℕ) → Lighter puts weight → (told : Seen → T → Seen)
     → (v : T × R) (queue rest more : List (T × R)) (seen later : Seen)
     → queue ≡ v ∷ rest → more ≡ rest ++ put_by puts v → later ≡ told seen v.0
-    → (told_of told later (drained puts weight more) ≡ told_of told seen (drained puts weight queue)) × (weighs weight more < weighs weight queue)
+    → (told_of told later (gone_from puts weight more) ≡ told_of told seen (gone_from puts weight queue)) × (weighs weight more < weighs weight queue)
 drains_on puts weight h told v queue rest more seen later e joined heard =
-    rw (e, joined, heard, drained-cons puts weight h v rest) (refl, lightens puts weight h v rest)
+    rw (e, joined, heard, gone_from-cons puts weight h v rest) (refl, lightens puts weight h v rest)
 
 -- that loop is over
 pub drains_none : {T R Seen : Type 0} (puts : R → T → List T) (weight : T → ℕ) (told : Seen → T → Seen)
-    → (queue : List (T × R)) (seen : Seen) → queue ≡ drop 1 queue → told_of told seen (drained puts weight queue) ≡ seen
-drains_none puts weight told queue seen e = ap (λ q. told_of told seen (drained puts weight q)) (no_rest queue e) ∙ ap (told_of told seen) (drained-nil puts weight)
+    → (queue : List (T × R)) (seen : Seen) → queue ≡ drop 1 queue → told_of told seen (gone_from puts weight queue) ≡ seen
+drains_none puts weight told queue seen e = ap (λ q. told_of told seen (gone_from puts weight q)) (no_rest queue e) ∙ ap (told_of told seen) (gone_from-nil puts weight)

@@ -1,7 +1,7 @@
 -- Values put one after another are put together: what a reclaimer that puts values in a loop needs.
 use Rattle.std.proofs.Common.{◌≡◌, List, [], ◌∷◌, ◌++◌, map, Option, Some, None, option_map, inl, inr, refl, ap, sym, ◌∙◌, subst}
 use Rattle.std.proofs.lemmas.List.{append_assoc, map-append}
-use Rattle.seize.specs.declared.block.Owned.{Owned}
+use Rattle.seize.specs.declared.block.owned.Owned.{Owned}
 use Rattle.seize.specs.Blocks.{content, Joined}
 
 appended : {T : Type 0} (xs ys : List T) (old : Option (List T))
@@ -15,7 +15,7 @@ joined_next xs ys old mid new (inl none) (inr next) = inl (next ∙ ap (option_m
 joined_next xs ys old mid new (inr first) (inr next) = inr (next ∙ ap (option_map (λ values. values ++ ys)) first ∙ appended xs ys old)
 
 -- one block more
-pub joined_block : {T R : Type 0} (blocks : List (Owned T R)) (block : Owned T R) (old mid new : Option (List T))
+pub joined_block : {T : Type 0} (blocks : List (Owned T)) (block : Owned T) (old mid new : Option (List T))
     → Joined (map content blocks) old mid → Joined (content block ∷ []) mid new → Joined (map content (blocks ++ block ∷ [])) old new
 joined_block blocks block old mid new first next =
     subst (λ xs. Joined xs old new) (sym (map-append content blocks (block ∷ [])))

@@ -1,3 +1,4 @@
+pub mod Contents
 pub mod EmptiedBatches
 pub mod FurtherLoops
 pub mod JoinedPuts

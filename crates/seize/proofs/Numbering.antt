@@ -12,7 +12,7 @@ use Rattle.seize_table.specs.Free.{Least}
 use Rattle.seize_model.specs.declared.kind.Kind.{Kind}
 use Rattle.seize_model.specs.declared.kind.Kind.TheVariants.{Free}
 use Rattle.seize_model.specs.Waiting.State.{Slot, State, no_slot}
-use Rattle.seize_model.specs.Waiting.Calls.{Answer, is_free, least_unused, take_number, taken}
+use Rattle.seize_model.specs.Waiting.Calls.{Response, is_free, least_unused, take_number, with_number_in_use}
 use Rattle.seize_table.specs.declared.refusal.Refusal.TheVariants.{NoNumbers}
 
 abbrev pub kinds : {T R : Type 0} → List (Slot T R) → List Kind
@@ -176,19 +176,19 @@ numbered-back numbers uses n unused numbered = (λ q. same q ∙ numbered.0 q, n
 pub none_left : {T R : Type 0} (st : State T R) (kind : Kind) (guards : ℕ) → least_unused st.slots ≡ 18446744073709551584 → take_number st kind guards ≡ (Err NoNumbers, (st, []))
 none_left st kind guards e = ap (λ n. answer st kind guards n) e
   where
-    answer : {T R : Type 0} → State T R → Kind → ℕ → ℕ → Answer ℕ T R
-    answer st kind guards n = if n == 2 ^ 64 - 32 then (Err NoNumbers, (st, [])) else (Ok n, (taken st n kind guards, []))
+    answer : {T R : Type 0} → State T R → Kind → ℕ → ℕ → Response ℕ T R
+    answer st kind guards n = if n == 2 ^ 64 - 32 then (Err NoNumbers, (st, [])) else (Ok n, (with_number_in_use st n kind guards, []))
 
-pub one_left : {T R : Type 0} (st : State T R) (kind : Kind) (n guards : ℕ) → least_unused st.slots ≡ n → n ≤ 18446744073709551583 → take_number st kind guards ≡ (Ok n, (taken st n kind guards, []))
+pub one_left : {T R : Type 0} (st : State T R) (kind : Kind) (n guards : ℕ) → least_unused st.slots ≡ n → n ≤ 18446744073709551583 → take_number st kind guards ≡ (Ok n, (with_number_in_use st n kind guards, []))
 one_left st kind n guards e few =
-    ap (λ k. if k == 2 ^ 64 - 32 then (Err NoNumbers, (st, [])) else (Ok k, (taken st k kind guards, []))) e
-    ∙ ap (λ b. if b then (Err NoNumbers, (st, [])) else (Ok n, (taken st n kind guards, []))) (ne_eqb n 18446744073709551584 (λ f. omega (arith, f)))
+    ap (λ k. if k == 2 ^ 64 - 32 then (Err NoNumbers, (st, [])) else (Ok k, (with_number_in_use st k kind guards, []))) e
+    ∙ ap (λ b. if b then (Err NoNumbers, (st, [])) else (Ok n, (with_number_in_use st n kind guards, []))) (ne_eqb n 18446744073709551584 (λ f. omega (arith, f)))
 
 either_list : {T R : Type 0} (b : Bool) (st : State T R) (xs ys : List (Slot T R)) → record st { slots = if b then xs else ys } ≡ (if b then record st { slots = xs } else record st { slots = ys })
 either_list true st xs ys = refl
 either_list false st xs ys = refl
 
-pub occupied_is : {T R : Type 0} (st : State T R) (kind : Kind) (n guards : ℕ) (more : List (Slot T R)) → more ≡ occupied st.slots n kind guards → record st { slots = more } ≡ taken st n kind guards
+pub occupied_is : {T R : Type 0} (st : State T R) (kind : Kind) (n guards : ℕ) (more : List (Slot T R)) → more ≡ occupied st.slots n kind guards → record st { slots = more } ≡ with_number_in_use st n kind guards
 occupied_is st kind n guards more e =
     ap (λ ss. record st { slots = ss }) e
     ∙ either_list (n == length st.slots) st (st.slots ++ record { kind = kind; guards = guards; batch = []; order = [] } ∷ []) (slice_set st.slots n (record (get_or st.slots n no_slot) { kind = kind; guards = guards }))

@@ -7,7 +7,9 @@ use Rattle.seize_model.specs.Waiting.State.{State, new}
 use Rattle.seize_model.specs.Waiting.Calls as calls
 use Rattle.seize_model.specs.Waiting.Lists.{Call, step}
 use Rattle.seize_model.specs.Waiting.Reached.{Reached, IsReached}
-use Rattle.seize.specs.Told.{told_of, Did, AllDone, ReclaimedAll}
+use Rattle.seize_model.specs.Agreement.Origins.{IsLedTo, IsFound}
+use Rattle.seize.specs.Snapshots.{Snapshot}
+use Rattle.seize.specs.Effects.{told_of, Did, AllDone}
 
 module _ {T R : Type 0} (puts : R → T → List T) (weight : T → ℕ) where
   -- from a reached state to a reached one
@@ -50,17 +52,30 @@ module _ {T R : Type 0} (puts : R → T → List T) (weight : T → ℕ) where
   taken_is_reached short st next call result expected (inl refused) reached = subst (IsReached puts weight short) (sym refused.1) reached
   taken_is_reached short st next call result expected (inr did) reached = called_is_reached short st next call did.1 reached
 
-  -- whoever knows the state knows what a watch is told of it
-  pub reclaimed_all : {Seen : Type 0} (told : Seen → T → Seen) (short_old short_new : Bool) (old next : State T R) (seen heard : Seen)
-      → IsReached puts weight short_old old
-      → AllDone told (calls.reclaim_all puts weight old) next short_new seen heard
-      → ReclaimedAll puts weight told old.size (length old.links) short_old short_new seen heard
-  reclaimed_all {Seen} told short_old short_new old next seen heard reached did = ∥∥₁_map reached (known did)
+  -- what calls lead to may be found
+  pub reached_is_found : (short : Bool) (st : State T R) → IsReached puts weight short st → IsFound puts weight short st
+  reached_is_found short st reached = ∥∥₁_map reached go
+    where
+      go : (short ≡ true) ⊎ Reached puts weight st → (short ≡ true) ⊎ Reached puts weight st ⊎ IsLedTo st
+      go (inl t) = inl t
+      go (inr r) = inr (inl r)
+
+  -- whoever found the state knows what a watch is told of it
+  pub tells_of_found : {Seen : Type 0} (told : Seen → T → Seen) (short_old : Bool) (old new : Snapshot T R Seen) (size links : ℕ)
+      → IsFound puts weight short_old old.state → old.state.size ≡ size → length old.state.links ≡ links
+      → AllDone told (calls.reclaim_all puts weight) old new
+      → ∥ (short_old ≡ true)
+      ⊎ (new.short ≡ true)
+      ⊎ ((st : State T R) × (Reached puts weight st ⊎ IsLedTo st) × (st.size ≡ size) × (length st.links ≡ links)
+      × (new.seen ≡ told_of told old.seen (calls.reclaim_all puts weight st).1)) ∥₁
+  tells_of_found {Seen} told short_old old new size links found sized linked done = ∥∥₁_map found (known done.1)
     where
       Known : Type 0
-      Known = (st : State T R) × Reached puts weight st × (st.size ≡ old.size) × (length st.links ≡ length old.links) × (heard ≡ told_of told seen (calls.reclaim_all puts weight st).1)
+      Known = (st : State T R) × (Reached puts weight st ⊎ IsLedTo st) × (st.size ≡ size) × (length st.links ≡ links)
+          × (new.seen ≡ told_of told old.seen (calls.reclaim_all puts weight st).1)
 
-      known : AllDone told (calls.reclaim_all puts weight old) next short_new seen heard → (short_old ≡ true) ⊎ Reached puts weight old → (short_old ≡ true) ⊎ (short_new ≡ true) ⊎ Known
-      known done (inl t) = inl t
+      known : (new.short ≡ true) ⊎ Did told (calls.reclaim_all puts weight old.state) new.state old.seen new.seen
+          → (short_old ≡ true) ⊎ Reached puts weight old.state ⊎ IsLedTo old.state → (short_old ≡ true) ⊎ (new.short ≡ true) ⊎ Known
+      known did (inl t) = inl t
       known (inl t) (inr r) = inr (inl t)
-      known (inr done) (inr r) = inr (inr (old, r, refl, refl, done.1))
+      known (inr did) (inr r) = inr (inr (old.state, r, sized, linked, did.1))

@@ -1,14 +1,21 @@
 -- Lists of calls as the code has them, and what running one does.
-use Rattle.std.specs.Prelude.{◌≡◌, ℕ, ◌<◌, Bool, true, List, [], ◌∷◌, ◌++◌, None, map, option_map, ◌⊎◌}
-use Rattle.seize.specs.declared.collector.alone.Call.{Call as CodeCall}
-use Rattle.seize.specs.declared.collector.alone.Call.TheVariants.{Register as CodeRegister, EnterOwned as CodeEnterOwned, Enter as CodeEnter, Leave as CodeLeave, End as CodeEnd, Refresh as CodeRefresh, Flush as CodeFlush, Retire as CodeRetire, Protect as CodeProtect, Swap as CodeSwap}
-use Rattle.seize.specs.declared.collector.alone.Reply.{Reply as CodeReply}
-use Rattle.seize.specs.declared.collector.alone.Reply.TheVariants.{Done as CodeDone, Slot as CodeSlot, Kept as CodeKept, Found as CodeFound, Refused as CodeRefused}
-use Rattle.seize.specs.Blocks.{content}
-use Rattle.seize.specs.Told.{Did}
+use Rattle.std.specs.Prelude.{◌≡◌, ℕ, ◌<◌, Bool, true, List, [], ◌∷◌, ◌++◌, None, map, option_map, All, IfSome, ◌⊎◌}
+use Rattle.seize.specs.declared.collector.calls.Call.{Call as CodeCall}
+use Rattle.seize.specs.declared.collector.calls.Call.TheVariants.{Register as CodeRegister, EnterOwned as CodeEnterOwned}
+use Rattle.seize.specs.declared.collector.calls.Call.TheVariants.{Enter as CodeEnter, Leave as CodeLeave, End as CodeEnd}
+use Rattle.seize.specs.declared.collector.calls.Call.TheVariants.{Refresh as CodeRefresh, Flush as CodeFlush, Retire as CodeRetire}
+use Rattle.seize.specs.declared.collector.calls.Call.TheVariants.{Protect as CodeProtect, Swap as CodeSwap}
+use Rattle.seize.specs.declared.collector.calls.Reply.{Reply as CodeReply}
+use Rattle.seize.specs.declared.collector.calls.Reply.TheVariants.{Done as CodeDone, Slot as CodeSlot, Kept as CodeKept}
+use Rattle.seize.specs.declared.collector.calls.Reply.TheVariants.{Found as CodeFound, Refused as CodeRefused}
+use Rattle.seize.specs.Blocks.{content, owner_of}
+use Rattle.seize.specs.About.{About}
+use Rattle.seize.specs.Snapshots.{Snapshot}
+use Rattle.seize.specs.Effects.{Did}
 use Rattle.seize_model.specs.Waiting.State.{State}
 use Rattle.seize_model.specs.Waiting.Attempt.{Outcome}
-use Rattle.seize_model.specs.Waiting.Lists.{Call, Register, EnterOwned, Enter, Leave, End, Refresh, Flush, Retire, Protect, Swap, Reply, Done, Number, Kept, Found, Refused, step, takes_number, Replied}
+use Rattle.seize_model.specs.Waiting.Lists.{Call, Register, EnterOwned, Enter, Leave, End, Refresh, Flush, Retire, Protect, Swap, Reply}
+use Rattle.seize_model.specs.Waiting.Lists.{Done, Number, Kept, Found, Refused, step, takes_number, Replied}
 use Rattle.seize_table.specs.declared.refusal.Refusal.TheVariants.{NoMemory}
 
 -- a call, with values in the place of blocks
@@ -25,40 +32,55 @@ call_of (CodeProtect s link) = Protect s link
 call_of (CodeSwap s link new reclaim) = Swap s link (option_map content new) reclaim
 
 -- a reply, with values in the place of blocks
-abbrev pub reply_of : {T R : Type 0} → CodeReply T R → Reply T
+abbrev pub reply_of : {T : Type 0} → CodeReply T → Reply T
 reply_of CodeDone = Done
 reply_of (CodeSlot n) = Number n
 reply_of CodeKept = Kept
 reply_of (CodeFound found) = Found found
 reply_of (CodeRefused refusal back) = Refused refusal (option_map content back)
 
--- the link that the call names is below this number
-abbrev pub InRange : {T R : Type 0} → ℕ → Call T R → Type 0
-InRange links Register = Unit {0}
-InRange links EnterOwned = Unit {0}
-InRange links (Enter s) = Unit {0}
-InRange links (Leave s) = Unit {0}
-InRange links (End s) = Unit {0}
-InRange links (Refresh s) = Unit {0}
-InRange links (Flush s) = Unit {0}
-InRange links (Retire s value reclaim) = Unit {0}
-InRange links (Protect s link) = link < links
-InRange links (Swap s link new reclaim) = link < links
+-- the link that the call names is below the number of links, and the block that it brings is of the collector
+abbrev pub IsFor : {T R : Type 0} → About → CodeCall T R → Type 0
+IsFor about CodeRegister = Unit {0}
+IsFor about CodeEnterOwned = Unit {0}
+IsFor about (CodeEnter s) = Unit {0}
+IsFor about (CodeLeave s) = Unit {0}
+IsFor about (CodeEnd s) = Unit {0}
+IsFor about (CodeRefresh s) = Unit {0}
+IsFor about (CodeFlush s) = Unit {0}
+IsFor about (CodeRetire s owned reclaim) = owner_of owned ≡ about.name
+IsFor about (CodeProtect s link) = link < about.links
+IsFor about (CodeSwap s link new reclaim) = (link < about.links) × IfSome new (λ owned. owner_of owned ≡ about.name)
 
-abbrev pub AllInRange : {T R : Type 0} → ℕ → List (Call T R) → Type 0
-AllInRange links [] = Unit {0}
-AllInRange links (call ∷ calls) = InRange links call × AllInRange links calls
+abbrev pub AreFor : {T R : Type 0} → About → List (CodeCall T R) → Type 0
+AreFor about [] = Unit {0}
+AreFor about (call ∷ calls) = IsFor about call × AreFor about calls
+
+-- a block that comes back is of the collector
+abbrev pub IsFrom : {T : Type 0} → About → CodeReply T → Type 0
+IsFrom about CodeDone = Unit {0}
+IsFrom about (CodeSlot n) = Unit {0}
+IsFrom about CodeKept = Unit {0}
+IsFrom about (CodeFound found) = Unit {0}
+IsFrom about (CodeRefused refusal back) = IfSome back (λ owned. owner_of owned ≡ about.name)
+
+abbrev pub AreFrom : {T : Type 0} → About → List (CodeReply T) → Type 0
+AreFrom about replies = All (IsFrom about) replies
 
 -- one call was done and replied to, or a growth was refused, of which the collector takes note
-abbrev pub Stepped : {T R Seen : Type 0} → (R → T → List T) → (T → ℕ) → (Seen → T → Seen) → State T R → CodeCall T R → CodeReply T R → State T R → Bool → Seen → Seen → Type 0
-Stepped puts weight told old call result new short seen_old seen_new =
-    (short ≡ true)
-    ⊎ ((reply_of result ≡ (step puts weight old (call_of call)).0) × Did told (step puts weight old (call_of call)).1 new seen_old seen_new)
-    ⊎ ((takes_number (call_of call) ≡ true) × (reply_of result ≡ Refused NoMemory None) × (new ≡ old) × (seen_new ≡ seen_old))
+abbrev pub Stepped : {T R Seen : Type 0} → (R → T → List T) → (T → ℕ) → (Seen → T → Seen) → CodeCall T R → CodeReply T
+    → Snapshot T R Seen → Snapshot T R Seen → Type 0
+Stepped puts weight told call result old new =
+    let own = step puts weight old.state (call_of call) in
+    (old.short ≡ true → new.short ≡ true)
+    × ((new.short ≡ true)
+    ⊎ ((reply_of result ≡ own.0) × Did told own.1 new.state old.seen new.seen)
+    ⊎ ((takes_number (call_of call) ≡ true) × (reply_of result ≡ Refused NoMemory None) × (new.state ≡ old.state) × (new.seen ≡ old.seen)))
 
 -- all calls were done and replied to, in order, or a growth was refused, of which the collector takes note
-abbrev pub Ran : {T R Seen : Type 0} → (R → T → List T) → (T → ℕ) → (Seen → T → Seen) → State T R → List (CodeCall T R) → List (CodeReply T R) → State T R → List (CodeCall T R) → List (CodeReply T R) → Bool → Seen → Seen → Type 0
-Ran {T} {R} puts weight told old calls_old replies_old new calls_new replies_new short seen_old seen_new =
-    (short ≡ true)
-    ⊎ ((answers : List (Reply T)) × (o : Outcome T R) × Replied puts weight old (map call_of calls_old) answers o
-    × (calls_new ≡ []) × (map reply_of replies_new ≡ map reply_of replies_old ++ answers) × Did told o new seen_old seen_new)
+abbrev pub Ran : {T R Seen : Type 0} → (R → T → List T) → (T → ℕ) → (Seen → T → Seen) → List (CodeCall T R) → List (CodeCall T R)
+    → List (CodeReply T) → List (CodeReply T) → Snapshot T R Seen → Snapshot T R Seen → Type 0
+Ran {T} {R} puts weight told calls_old calls_new replies_old replies_new old new =
+    (new.short ≡ true)
+    ⊎ ((answers : List (Reply T)) × (o : Outcome T R) × Replied puts weight old.state (map call_of calls_old) answers o
+    × (calls_new ≡ []) × (map reply_of replies_new ≡ map reply_of replies_old ++ answers) × Did told o new.state old.seen new.seen)

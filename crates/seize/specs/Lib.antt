@@ -1,7 +1,12 @@
+pub mod About
 pub mod Alone
 pub mod Blocks
-pub mod Making
-pub mod Told
+pub mod Collectors
+pub mod Effects
+pub mod Names
+pub mod NewCollectors
+pub mod Plain
+pub mod Snapshots
 pub use Rattle.seize_machine.specs.Machine
 pub use Rattle.seize_model.specs.Agreement
 pub use Rattle.seize_model.specs.Waiting

@@ -1,78 +1,31 @@
 //! The collector: who makes one, what it is asked, and who is told of the values gone. It stands on the plain collector's lists and
 //! sets. `alone` has the calls that are made one after another.
-ghost use Rattle.std.specs.Prelude.{◌≡◌, ◌⊎◌, ℕ, ◌+◌, ◌==◌, false, max as greater, length, IfOk, IfErr};
+ghost use Rattle.std.specs.Prelude.{◌≡◌, ◌≢◌, ◌⊎◌, ℕ, ◌+◌, ◌==◌, false, max as greater, length, true, IfOk, IfErr};
 ghost use Rattle.std.specs.Int.{IsNextPowerOfTwo};
-ghost use Rattle.seize.specs.Making.{refusal_for};
-ghost use Rattle.seize_model.specs.Waiting.State as waiting;
+ghost use Rattle.seize.specs.NewCollectors.{refusal_for};
 ghost use Rattle.seize_model.specs.Waiting.Calls as calls;
 ghost use Rattle.seize_model.specs.Waiting.Reached.{IsReached};
-ghost use Rattle.seize.specs.Told.{AllDone, ReclaimedAll};
+ghost use Rattle.seize_model.specs.Agreement.Origins.{IsFound};
+ghost use Rattle.seize.specs.Blocks.{content, owner_of, block_of, collector_of};
 ghost use Rattle.seize_table.specs.declared.refusal.Refusal.TheVariants.{NoMemory as no_memory};
 
 mod alone;
+mod calls;
+mod ids;
 
-use crate::block::Weigh;
+use crate::block::{Owned, Unlinked};
 use crate::plain::Plain;
-use crate::reclaim::{Boxed, Reclaim};
-pub use alone::{Alone, Call, Reply};
+use crate::reclaim::{Boxed, Reclaim, Watch, Weigh};
+pub use alone::Alone;
+pub use calls::{Call, Reply};
+pub use ids::IdSource;
 use seize_table::Refusal;
 use std::alloc::Global;
 use std::cmp::max;
 use std::fmt;
-use std::marker::Model;
 
 // For how many processors a collector may be made: 2^63.
 const MOST_PROCESSORS: usize = 0x8000_0000_0000_0000;
-
-/// Is told of each value that is gone, when it is handed to its reclaimer.
-///
-/// A watch has a state and a definition of how one value changes it.
-pub trait Watch<T> {
-    ghost Seen: { Type 0 };
-
-    ghost seen: { Self → Seen };
-
-    ghost told: { Seen → T → Seen };
-
-    /// This value is gone.
-    fn gone(&mut self, value: &T)
-        ensures { seen self.new ≡ told (seen self.old) value.now };
-}
-
-/// Keeps nothing.
-impl<T> Watch<T> for () {
-    ghost Seen = { Unit {0} };
-
-    ghost seen = { λ _. tt };
-
-    ghost told = { λ _ _. tt };
-
-    fn gone(&mut self, _value: &T) {}
-}
-
-/// Where collectors get their ids: 0, 1, 2 and so on, up to 2^64 - 1.
-#[derive(Drop)]
-pub struct IdSource {
-    // how many ids it has given
-    given: u128,
-}
-
-impl Model for IdSource {
-    ghost use Rattle.std.specs.Prelude.{ℕ};
-
-    ghost Value = { ℕ };
-
-    ghost view = { λ ids. ids.given };
-}
-
-impl IdSource {
-    /// A source that has given no id.
-    pub fn new() -> IdSource
-        ensures { result ≡ 0 }
-    {
-        IdSource { given: 0 }
-    }
-}
 
 /// Keeps retired values until no slot that was active at their retirement can read them any more.
 ///
@@ -83,10 +36,12 @@ pub struct Collector<T: Weigh + Drop, R: Reclaim<T> = Boxed> {
     // a growth was refused in a call that answers no refusal
     is_short: bool,
     id: u64,
-    ghost reached: { IsReached R.puts T.weight is_short state },
+    ghost reached: { IsReached R.puts T.weight is_short state.state },
 }
 
 impl<T: Weigh + Drop, R: Reclaim<T>> Collector<T, R> {
+    ghost use Rattle.seize.specs.Collectors.{about, short_of, lent, state_of, is_short_of, ReclaimedAll};
+
     /// A collector with no slot and this many empty links. Its batch size is `max(32, processors)`, rounded up to a power of two.
     ///
     /// # Errors
@@ -100,11 +55,12 @@ impl<T: Weigh + Drop, R: Reclaim<T>> Collector<T, R> {
         links: usize,
     ) -> Result<Collector<T, R>, Refusal>
         ensures made { IfOk result (λ collector. (refusal_for processors ids.old ≡ None)
-            × IsNextPowerOfTwo (greater 32 processors) collector.state.size
-            × (collector.state ≡ waiting.new collector.state.size links)
-            × (collector.is_short ≡ false) × (collector.id ≡ ids.old) × (ids.new ≡ ids.old + 1)) }
+            × IsNextPowerOfTwo (greater 32 processors) (about collector).size
+            × ((about collector).links ≡ links) × (short_of collector ≡ false)
+            × ((about collector).id ≡ ids.old) × (ids.new ≡ ids.old + 1)) }
         ensures refused { IfErr result (λ refusal. (ids.new ≡ ids.old)
-            × ((refusal_for processors ids.old ≡ Some refusal) ⊎ ((refusal_for processors ids.old ≡ None) × (refusal ≡ no_memory)))) }
+            × ((refusal_for processors ids.old ≡ Some refusal)
+            ⊎ ((refusal_for processors ids.old ≡ None) × (refusal ≡ no_memory)))) }
     {
         if processors > MOST_PROCESSORS {
             return Err(Refusal::TooManyProcessors);
@@ -126,8 +82,8 @@ impl<T: Weigh + Drop, R: Reclaim<T>> Collector<T, R> {
 
     /// With batches of this many values, not rounded. 0 serves as 1.
     pub fn batch_size(mut self, n: usize) -> Collector<T, R>
-        ensures size { result.state ≡ record self.state { size = n } }
-        ensures rest { (result.id ≡ self.id) × (result.is_short ≡ self.is_short) }
+        ensures size { about result ≡ record (about self) { size = n } }
+        ensures short { short_of result ≡ short_of self }
     {
         self.state.set_size(n);
         self
@@ -135,38 +91,45 @@ impl<T: Weigh + Drop, R: Reclaim<T>> Collector<T, R> {
 
     /// How many links it has.
     pub fn links(&self) -> usize
-        ensures { result ≡ length self.now.state.links }
+        ensures { result ≡ (about self.now).links }
     {
         self.state.links()
     }
 
     /// The id that its source gave it.
     pub fn id(&self) -> u64
-        ensures { result ≡ self.now.id }
+        ensures { result ≡ (about self.now).id }
     {
         self.id
     }
 
-    /// Whether a growth was refused in a call that answers no refusal for it. From then on nothing is said of its state but
-    /// the number of links.
+    /// Whether a growth was refused in a call that answers no refusal for it. From then on no contract says more of its state than what
+    /// no call changes, and that a refused call changes nothing. It costs nothing to ask.
     ///
     /// Only a collector that stands on plain lists has such calls.
     pub fn is_short(&self) -> bool
-        ensures { result ≡ self.now.is_short }
+        ensures { result ≡ short_of self.now }
     {
         self.is_short
     }
 
-    pub(crate) fn allocator(&self) -> Global {
-        self.state.allocator()
+    /// Two collectors that stand at once have different names, whatever their ids are, so that a block is of one of them at most. It
+    /// does nothing: its contract is the law.
+    pub fn apart<U: Weigh + Drop, S: Reclaim<U>>(&mut self, other: &mut Collector<U, S>)
+        ensures names { (about self.old).name ≢ (about other.old).name }
+        ensures same { (about self.new ≡ about self.old) × (about other.new ≡ about other.old) }
+        ensures short { (short_of self.new ≡ short_of self.old) × (short_of other.new ≡ short_of other.old) }
+    {
+        self.state.apart(&mut other.state);
     }
 
     /// The calls that one caller makes one after another. Slots are named by number, and stay as they are when the [`Alone`] ends.
     pub fn alone(&mut self) -> Alone<'_, T, R>
-        ensures id { result.collector.now.id ≡ self.old.id }
-        ensures size { result.collector.now.state.size ≡ self.old.state.size }
-        ensures links { length result.collector.now.state.links ≡ length self.old.state.links }
-        ensures reached { IsReached R.puts T.weight result.collector.now.is_short result.collector.now.state }
+        ensures same { lent result ≡ (about self.old, self.entry.ghost_name) }
+        ensures short { is_short_of result ≡ short_of self.old }
+        ensures state { IsFound R.puts T.weight (short_of self.old) (state_of result) }
+        ensures size { (state_of result).size ≡ (about self.old).size }
+        ensures links { length (state_of result).links ≡ (about self.old).links }
     {
         Alone::of(self)
     }
@@ -174,22 +137,48 @@ impl<T: Weigh + Drop, R: Reclaim<T>> Collector<T, R> {
     /// Every slot leaves, every retired value goes to its reclaimer, and all that the reclaimers put too. Then every number is free.
     /// The links stay as they are. The watch is told each value, in order.
     pub fn reclaim_all<W: Watch<T>>(&mut self, watch: &mut W)
-        ensures told { ReclaimedAll R.puts T.weight W.told self.old.state.size (length self.old.state.links) self.old.is_short self.new.is_short (W.seen watch.old) (W.seen watch.new) }
-        ensures links { length self.new.state.links ≡ length self.old.state.links }
-        ensures id { self.new.id ≡ self.old.id }
+        ensures short { short_of self.old ≡ true → short_of self.new ≡ true }
+        ensures told { ReclaimedAll R.puts T.weight W.told self.old self.new (W.seen watch.old) (W.seen watch.new) }
+        ensures same { about self.new ≡ about self.old }
     {
-        self.empty(watch);
+        self.alone().reclaim_all(watch);
     }
+}
 
-    /// What reclaiming all does, for whoever knows the state.
-    fn empty<W: Watch<T>>(&mut self, watch: &mut W)
-        ensures done { AllDone W.told (calls.reclaim_all R.puts T.weight self.old.state) self.new.state self.new.is_short (W.seen watch.old) (W.seen watch.new) }
-        ensures links { self.new.state.links ≡ self.old.state.links }
-        ensures id { self.new.id ≡ self.old.id }
+impl<T: Weigh + Drop> Owned<T> {
+    ghost use Rattle.seize.specs.Collectors.{about};
+
+    /// A new block with this value, for links and batches of this collector.
+    ///
+    /// It lies in the collector's store, and asks for memory only where the store has to grow.
+    ///
+    /// # Errors
+    ///
+    /// `NoMemory` where the allocator refuses. The value comes back.
+    pub fn new<R: Reclaim<T>>(
+        collector: &Collector<T, R>,
+        value: T,
+    ) -> Result<Owned<T>, (Refusal, T)>
+        ensures made { IfOk result (λ owned. (content owned ≡ value) × (owner_of owned ≡ (about collector.now).name)) }
+        ensures refused { IfErr result (λ e. e ≡ (no_memory, value)) }
     {
-        if self.state.reclaim_all(watch).is_err() {
-            self.is_short = true;
-        }
+        collector.state.add(value)
+    }
+}
+
+impl<'c, T: Weigh + Drop> Unlinked<'c, T> {
+    ghost use Rattle.seize.specs.Collectors.{about};
+
+    /// A block that was never linked, to be retired. It is of this collector.
+    pub fn from_owned<R: Reclaim<T>>(
+        owned: Owned<T>,
+        collector: &'c Collector<T, R>,
+    ) -> Unlinked<'c, T>
+        requires own { owner_of owned ≡ (about collector.now).name }
+        ensures block { block_of result ≡ owned }
+        ensures collector { collector_of result ≡ (about collector.now).id }
+    {
+        Unlinked::of(owned, collector.id())
     }
 }
 
@@ -210,8 +199,9 @@ impl<T: Weigh + Drop, R: Reclaim<T>> PartialEq for Collector<T, R> {
     ghost use Rattle.std.specs.Prelude.{◌==◌};
     ghost use Rattle.std.proofs.Common.{rules};
     ghost use Rattle.std.specs.Cmp.Rules.{comparing};
+    ghost use Rattle.seize.specs.Collectors.{about};
 
-    ghost eq = { λ a b. a.id == b.id };
+    ghost eq = { λ a b. (about a).id == (about b).id };
 
     ghost laws = { Prim.search (comparing, rules) };
 

@@ -6,8 +6,9 @@ pub mod collector;
 mod plain;
 pub mod reclaim;
 
-pub use block::{Further, Owned, Shared, Unlinked, Weigh};
-pub use collector::{Alone, Call, Collector, IdSource, Reply, Watch};
+pub use block::{Owned, Shared, Unlinked};
+pub use collector::{Alone, Call, Collector, IdSource, Reply};
+pub use reclaim::{Further, Watch, Weigh};
 pub use seize_machine::machine;
 pub use seize_model::{agreement, waiting};
 pub use seize_table::{Refusal, thread_id, tls};

@@ -1,37 +1,72 @@
 //! How values end. A reclaimer is given each value that nobody can read any more, and may put further values to be retired in turn.
-//! Two ready reclaimers end the value and put nothing.
-ghost use Rattle.std.specs.Prelude.{◌≡◌, ◌<◌, List, map, sum};
+//! Two ready reclaimers end the value and put nothing. A watch is told of each value that is gone.
+ghost use Rattle.std.specs.Prelude.{◌≡◌, ℕ, ◌≤◌, ◌<◌, List, map, sum};
 ghost use Rattle.seize.specs.Blocks.{Joined};
 
-use crate::block::{Further, Weigh};
-
+mod further;
 mod ready;
 
+pub use further::Further;
 pub use ready::{Boxed, InPlace};
+
+/// A value has a weight, a whole number of at least 1 without a limit, which contracts alone see.
+///
+/// What a reclaimer puts weighs less, together, than the value that it was given. So further values come to an end.
+pub trait Weigh {
+    ghost weight: { Self → ℕ };
+
+    ghost at_least_one: { (value : Self) → 1 ≤ weight value };
+}
 
 /// What becomes of a value that nobody can read any more.
 ///
 /// A reclaimer is a small type of the caller's own: a unit struct, an enum of kinds, a struct with a reference to count by. The
 /// reclaimer that a value was retired with is called once, with that value.
-pub trait Reclaim<T: Weigh>: Copy {
+pub trait Reclaim<T: Weigh + Drop>: Copy {
     ghost puts: { Self → T → List T };
 
     /// Ends the value, or hands it on, and puts the further values.
-    fn reclaim(self, value: T, further: &mut Further<T, Self>)
+    fn reclaim(self, value: T, further: &mut Further<T>)
         ensures { Joined (puts self value) further.old further.new };
 
     ghost lighter: { (reclaimer : Self) (value : T) → sum (map T.weight (puts reclaimer value)) < T.weight value };
 }
 
+/// Is told of each value that is gone, when it is handed to its reclaimer.
+///
+/// A watch has a state and a definition of how one value changes it.
+pub trait Watch<T> {
+    ghost Seen: { Type 0 };
+
+    ghost seen: { Self → Seen };
+
+    ghost told: { Seen → T → Seen };
+
+    /// This value is gone.
+    fn gone(&mut self, value: &T)
+        ensures { seen self.new ≡ told (seen self.old) value.now };
+}
+
+/// Keeps nothing.
+impl<T> Watch<T> for () {
+    ghost Seen = { Unit {0} };
+
+    ghost seen = { λ _. tt };
+
+    ghost told = { λ _ _. tt };
+
+    fn gone(&mut self, _value: &T) {}
+}
+
 /// Ends the value and puts nothing. The block's memory is given back.
-pub fn boxed<T: Drop, R: Copy>(value: T, _further: &mut Further<T, R>)
+pub fn boxed<T: Drop>(value: T, _further: &mut Further<T>)
     ensures { _further.new ≡ _further.old }
 {
     drop(value);
 }
 
 /// Ends the value where it is and puts nothing. The memory goes with its block.
-pub fn in_place<T: Drop, R: Copy>(value: T, _further: &mut Further<T, R>)
+pub fn in_place<T: Drop>(value: T, _further: &mut Further<T>)
     ensures { _further.new ≡ _further.old }
 {
     drop(value);

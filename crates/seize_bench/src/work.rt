@@ -1,9 +1,9 @@
 //! The works.
 ghost use Rattle.std.specs.Prelude.{◌≡◌};
-ghost use Rattle.seize_store.specs.Named.{AreOf, name_of};
+ghost use Rattle.seize_store.specs.Named.{AreOf, name_of, row_is, store_by};
 
 use crate::clock::{Run, Samples};
-use seize_store::{Owned, Spots, Store};
+use seize_store::{Owned, Seen, Spots, Store};
 use std::alloc::Global;
 use std::rt::Clock;
 use std::thread::Threads;
@@ -35,6 +35,8 @@ pub(crate) enum Work {
     PipeBox,
     /// 1,024 numbers looked up, and their headers read.
     Look,
+    /// 1,024 numbers of one row looked up with that row's token, and their headers read.
+    Token,
     /// 1,024 references followed, and what they lead to read.
     LookPlain,
 }
@@ -52,6 +54,7 @@ impl Work {
             "Pipe" => Some(Work::Pipe),
             "PipeBox" => Some(Work::PipeBox),
             "Look" => Some(Work::Look),
+            "Token" => Some(Work::Token),
             "LookPlain" => Some(Work::LookPlain),
             _ => None,
         }
@@ -65,6 +68,7 @@ impl Work {
             Work::Pipe => "Pipe",
             Work::PipeBox => "PipeBox",
             Work::Look => "Look",
+            Work::Token => "Token",
             Work::LookPlain => "LookPlain",
         }
     }
@@ -81,7 +85,7 @@ impl Work {
         match self {
             Work::Make | Work::MakeBare | Work::MakeBox => 1,
             Work::Pipe | Work::PipeBox => 2 * PIPED,
-            Work::Look | Work::LookPlain => LOOKED,
+            Work::Look | Work::Token | Work::LookPlain => LOOKED,
         }
     }
 
@@ -98,6 +102,7 @@ impl Work {
             Work::Pipe => pipe(rt, alloc, &mut samples)?,
             Work::PipeBox => pipe_box(rt, alloc, &mut samples)?,
             Work::Look => look(rt, alloc, &mut samples)?,
+            Work::Token => token(rt, alloc, &mut samples)?,
             Work::LookPlain => look_plain(rt, alloc, &mut samples)?,
         }
         samples.sort();
@@ -243,6 +248,39 @@ fn look<R: Clock + CpuClock>(rt: &R, alloc: Global, samples: &mut Samples) -> io
         samples.stop(rt, run, PASSES * LOOKED)?;
     }
     samples.keep(sum);
+    Ok(())
+}
+
+/// The first number of the row that has 1,024.
+const FIRST: usize = 992;
+
+fn through_row(store: &Store<u64, u64>, seen: &mut Seen<u64, u64>) -> u64
+    requires { (store_by seen.old ≡ name_of store.now) × row_is seen.old FIRST }
+    ensures { seen.new ≡ seen.old }
+{
+    let mut sum = 0u64;
+    for number in FIRST..FIRST + LOOKED as usize {
+        sum = sum.wrapping_add(*store.at(number, seen).header());
+    }
+    sum
+}
+
+fn token<R: Clock + CpuClock>(rt: &R, alloc: Global, samples: &mut Samples) -> io::Result<()> {
+    let store = Store::new(alloc);
+    let all = blocks(alloc, &store);
+    let Some(mut seen) = store.seen(FIRST) else {
+        return Ok(());
+    };
+    let mut sum = 0u64;
+    for _ in 0..RUNS {
+        let run = Run::start(rt)?;
+        for _ in 0..PASSES {
+            sum = sum.wrapping_add(through_row(&store, &mut seen));
+        }
+        samples.stop(rt, run, PASSES * LOOKED)?;
+    }
+    samples.keep(sum);
+    drop(all);
     Ok(())
 }
 

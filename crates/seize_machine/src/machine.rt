@@ -19,12 +19,12 @@ mod batch;
 mod configuration;
 mod event;
 mod head;
-mod shown;
 mod slot;
+mod worked_runs;
 
 use configuration::Configuration;
 pub use event::{Answer, Event, Exchange, Job, Try};
-pub use shown::{counterexamples, rows, schedules};
+pub use worked_runs::{counterexamples, rows, schedules};
 
 /// The core of a collector as a machine, for one caller: slots that are taken and given back, heads, batches and their
 /// counts, links, and a call under way for each slot. Values are numbers.
@@ -50,7 +50,11 @@ impl Model for Machine {
 impl Machine {
     /// A machine with no slot made, for a batch size, where 0 is as 1, and with so many links, all empty.
     ///
-    /// Takes memory for the links. `NoMemory` where that was refused.
+    /// It takes memory for the links.
+    ///
+    /// # Errors
+    ///
+    /// `NoMemory` where that was refused; then nothing is kept.
     pub fn new(alloc: Global, size: usize, links: usize) -> Result<Machine, Refusal>
         ensures ok { IfOk result (λ machine. machine ≡ record { size = size; state = opening 0 (replicate links None) }) }
         ensures err { IfErr result (λ refusal. refusal ≡ NoMemory) }
@@ -64,7 +68,11 @@ impl Machine {
 
     /// Does the event and answers it. An illegal event answers `Illegal` and changes nothing.
     ///
-    /// May take memory. `NoMemory` where that was refused: nothing has changed.
+    /// It may take memory.
+    ///
+    /// # Errors
+    ///
+    /// `NoMemory` where that was refused; the machine is unchanged.
     pub fn step(&mut self, event: Event) -> Result<Answer, Refusal>
         ensures done { IfOk result (λ answer. HasDone event self.old self.new answer) }
         ensures unchanged { OnErr result (self.new ≡ self.old) }
@@ -82,8 +90,12 @@ impl Machine {
 
     /// Does the events in order, and pushes the answer of each.
     ///
-    /// May take memory. `NoMemory` where that was refused: then some first events are done, the answers pushed are theirs,
-    /// and the machine stands after them.
+    /// It may take memory.
+    ///
+    /// # Errors
+    ///
+    /// `NoMemory` where that was refused: then only some first events, or none, are done. The answers pushed are theirs, behind those
+    /// that were there, and the machine stands after them.
     pub fn run(&mut self, events: &[Event], answers: &mut Vec<Answer>) -> Result<(), Refusal>
         ensures ok { OnOk result (HasRun (map event_of events.now) self.old self.new answers.old.items answers.new.items) }
         ensures legal { OnOk result (HasRunLegally (map event_of events.now) self.old self.new answers.old.items answers.new.items) }

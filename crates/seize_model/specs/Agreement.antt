@@ -5,5 +5,6 @@ pub mod Play
 pub mod Statement
 pub mod Links
 pub mod Reopening
+pub mod Origins
 pub mod Driver
 pub mod Runs

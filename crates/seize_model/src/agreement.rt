@@ -20,15 +20,15 @@ pub fn runs_agree()
     ensures flushes { by_events 5 0 runs.flushes ≡ by_sets 5 0 runs.flushes }
     ensures fives { by_events 5 0 runs.fives ≡ by_sets 5 0 runs.fives }
     ensures reentrant { by_events 5 0 runs.reentrant ≡ by_sets 5 0 runs.reentrant }
-    ensures refreshing { by_events 5 0 runs.refreshing ≡ by_sets 5 0 runs.refreshing }
+    ensures refreshes { by_events 5 0 runs.refreshes ≡ by_sets 5 0 runs.refreshes }
     ensures enough { by_events 1 0 runs.enough ≡ by_sets 1 0 runs.enough }
     ensures nobody_active { by_events 0 0 runs.nobody_active ≡ by_sets 0 0 runs.nobody_active }
     ensures further_values { by_events 2 0 runs.further_values ≡ by_sets 2 0 runs.further_values }
     ensures crowd { by_events 1 0 runs.crowd ≡ by_sets 1 0 runs.crowd }
     ensures reuse { by_events 4 0 runs.reuse ≡ by_sets 4 0 runs.reuse }
     ensures left_behind { by_events 3 0 runs.left_behind ≡ by_sets 3 0 runs.left_behind }
-    ensures inherited { by_events 3 0 runs.inherited ≡ by_sets 3 0 runs.inherited }
-    ensures refused { by_events 1 0 runs.refused ≡ by_sets 1 0 runs.refused }
+    ensures inherited_batch { by_events 3 0 runs.inherited_batch ≡ by_sets 3 0 runs.inherited_batch }
+    ensures refusals { by_events 1 0 runs.refusals ≡ by_sets 1 0 runs.refusals }
     ensures links { by_events 1 1 runs.links ≡ by_sets 1 1 runs.links }
 {}
 
@@ -65,8 +65,7 @@ pub fn links_agree<T, R>()
     ensures every_exchange { ExchangeOnLists T R }
 {}
 
-/// Reclaiming all leads to a state that a machine just opened shows, with as many slots and what the links held, but for its table of
-/// retired batches: they are as many as before, and none waits for a slot. From a reached state they are all gone.
+/// Reclaiming all leads to a state that a machine just opened shows, with as many slots and the links as they were.
 pub fn reclaiming_reopens<T, R>()
     ensures { (puts : R → T → List T) (weight : T → ℕ) → ReopenedLaw puts weight }
 {}

@@ -1,5 +1,8 @@
 //! The collector in one caller's hands: each public call once, that every value ends exactly once, and that its reclaimer is called
 //! once. No contract says these.
+ghost use Rattle.std.specs.Prelude.{◌≡◌, IfOk};
+ghost use Rattle.seize.specs.Blocks.{owner_of};
+ghost use Rattle.seize.specs.Collectors.{about};
 
 use crate::items::{Counting, Item, Items, Names, block, items, known, retire};
 use seize::reclaim::{Boxed, InPlace, Reclaim};
@@ -10,7 +13,7 @@ use std::process::Abort;
 use std::test::Fail;
 
 /// The name of the value that came back with a refusal.
-fn given_back<'a>(reply: Option<Reply<Item<'a>, Counting<'a>>>) -> u64 {
+fn given_back<'a>(reply: Option<Reply<Item<'a>>>) -> u64 {
     match reply {
         Some(Reply::Refused(Refusal::NotInUse, Some(back))) => back.name,
         _ => 0,
@@ -170,6 +173,35 @@ fn sizes_and_refusals_of_new_collectors(rt: HostRuntime) -> Result<(), Fail> {
     Ok(())
 }
 
+/// Telling two collectors apart changes neither. A block outlives its collector, and ends once.
+#[test]
+fn a_block_outlives_its_collector(rt: HostRuntime) -> Result<(), Fail> {
+    let ended = Cell::new(0);
+    two_collectors(&rt, &ended)
+}
+
+fn two_collectors<'a>(rt: &(impl AllocGlobal + Abort), ended: &'a Cell<u64>) -> Result<(), Fail> {
+    let mut ids = IdSource::new();
+    let mut first = items(rt.alloc(), &mut ids, 1, 2)?;
+    let mut second = items(rt.alloc(), &mut ids, 1, 3)?;
+    first.apart(&mut second);
+    assert_eq!(rt; (first.id(), first.links()), (0, 2));
+    assert_eq!(rt; (second.id(), second.links()), (1, 3));
+    let block = match first.alone().owned(Item { name: 3, ended }) {
+        Ok(block) => block,
+        Err((refusal, item)) => {
+            drop(item);
+            return Err(refusal.into());
+        }
+    };
+    drop(first);
+    assert_eq!(rt; block.name, 3);
+    assert_eq!(rt; ended.get(), 0);
+    drop(block);
+    assert_eq!(rt; ended.get(), 1);
+    Ok(())
+}
+
 /// The ready reclaimers end the value.
 #[test]
 fn ready_reclaimers(rt: HostRuntime) -> Result<(), Fail> {
@@ -227,7 +259,9 @@ fn tree_of<'a>(
     collector: &Collector<Tree<'a>>,
     item: Item<'a>,
     below: Option<Owned<Tree<'a>>>,
-) -> Result<Owned<Tree<'a>>, Refusal> {
+) -> Result<Owned<Tree<'a>>, Refusal>
+    ensures { IfOk result (λ owned. owner_of owned ≡ (about collector.now).name) }
+{
     match Owned::new(collector, Tree { item, below }) {
         Ok(tree) => Ok(tree),
         Err((refusal, tree)) => {

@@ -1,4 +1,7 @@
 //! Further values: how far one call goes, in which order values go, and how often reclaimers are called.
+ghost use Rattle.std.specs.Prelude.{◌≡◌, IfOk};
+ghost use Rattle.seize.specs.Blocks.{owner_of};
+ghost use Rattle.seize.specs.Collectors.{about};
 
 use crate::items::{Names, known};
 use crate::nest::{Nest, PutInside};
@@ -11,27 +14,25 @@ use std::test::Fail;
 /// How long the chain and how wide the value.
 const MANY: u64 = 10_000;
 
-type Nests<'a> = Collector<Nest<'a>, PutInside<'a>>;
+type Nests<'a> = Collector<Nest, PutInside<'a>>;
 
-type Block<'a> = Owned<Nest<'a>, PutInside<'a>>;
+type Block = Owned<Nest>;
 
-impl<'a> Watch<Nest<'a>> for Names {
+impl Watch<Nest> for Names {
     ghost Seen = { Unit {0} };
 
     ghost seen = { λ _. tt };
 
     ghost told = { λ _ _. tt };
 
-    fn gone(&mut self, value: &Nest<'a>) {
+    fn gone(&mut self, value: &Nest) {
         self.keep(value.name);
     }
 }
 
-fn nest<'a>(
-    collector: &Nests<'a>,
-    name: u64,
-    inside: Vec<Block<'a>>,
-) -> Result<Block<'a>, Refusal> {
+fn nest(collector: &Nests<'_>, name: u64, inside: Vec<Block>) -> Result<Block, Refusal>
+    ensures { IfOk result (λ owned. owner_of owned ≡ (about collector.now).name) }
+{
     match Owned::new(collector, Nest { name, inside }) {
         Ok(block) => Ok(block),
         Err((refusal, nest)) => {
@@ -42,17 +43,16 @@ fn nest<'a>(
 }
 
 /// A block with nothing inside.
-fn leaf<'a>(alloc: Global, collector: &Nests<'a>, name: u64) -> Result<Block<'a>, Refusal> {
+fn leaf(alloc: Global, collector: &Nests<'_>, name: u64) -> Result<Block, Refusal>
+    ensures { IfOk result (λ owned. owner_of owned ≡ (about collector.now).name) }
+{
     nest(collector, name, Vec::new(alloc))
 }
 
 /// A block with one block inside.
-fn round<'a>(
-    alloc: Global,
-    collector: &Nests<'a>,
-    name: u64,
-    block: Block<'a>,
-) -> Result<Block<'a>, Refusal> {
+fn round(alloc: Global, collector: &Nests<'_>, name: u64, block: Block) -> Result<Block, Refusal>
+    ensures { IfOk result (λ owned. owner_of owned ≡ (about collector.now).name) }
+{
     let mut inside = Vec::new(alloc);
     inside.push(block).map_err(AllocError::from)?;
     nest(collector, name, inside)
@@ -62,10 +62,12 @@ fn round<'a>(
 fn retire<'a>(
     rt: &impl Abort,
     collector: &mut Nests<'a>,
-    block: Block<'a>,
+    block: Block,
     by: PutInside<'a>,
     names: &mut Names,
-) -> Result<(), Refusal> {
+) -> Result<(), Refusal>
+    requires { owner_of block ≡ (about collector.old).name }
+{
     let mut alone = collector.alone();
     let value = alone.unlinked(block);
     match alone.retire(0, value, by, names) {

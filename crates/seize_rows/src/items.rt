@@ -1,5 +1,7 @@
 //! What the tests of collectors share: values that count their ends, a reclaimer that counts its calls, and a watch that keeps names.
-ghost use Rattle.std.specs.Prelude.{◌≡◌, length, IfOk};
+ghost use Rattle.std.specs.Prelude.{◌≡◌, IfOk};
+ghost use Rattle.seize.specs.Blocks.{owner_of, block_of};
+ghost use Rattle.seize.specs.Collectors.{about, whose, fixed};
 
 use seize::reclaim::{Reclaim, boxed};
 use seize::{Alone, Collector, Further, IdSource, Owned, Refusal, Unlinked, Watch, Weigh};
@@ -42,7 +44,7 @@ impl<'a> Reclaim<Item<'a>> for Counting<'a> {
 
     ghost lighter = { λ _ _. lit< tt };
 
-    fn reclaim(self, value: Item<'a>, further: &mut Further<Item<'a>, Counting<'a>>) {
+    fn reclaim(self, value: Item<'a>, further: &mut Further<Item<'a>>) {
         self.calls.set(self.calls.get().saturating_add(1));
         boxed(value, further);
     }
@@ -93,7 +95,7 @@ pub fn items<'a>(
     size: usize,
     links: usize,
 ) -> Result<Items<'a>, Refusal>
-    ensures { IfOk result (λ collector. length collector.state.links ≡ links) }
+    ensures { IfOk result (λ collector. (about collector).links ≡ links) }
 {
     Ok(Collector::new(alloc, ids, 1, links)?.batch_size(size))
 }
@@ -103,7 +105,9 @@ pub fn block<'a>(
     collector: &Items<'a>,
     name: u64,
     ended: &'a Cell<u64>,
-) -> Result<Owned<Item<'a>, Counting<'a>>, Refusal> {
+) -> Result<Owned<Item<'a>>, Refusal>
+    ensures { IfOk result (λ owned. owner_of owned ≡ (about collector.now).name) }
+{
     match Owned::new(collector, Item { name, ended }) {
         Ok(block) => Ok(block),
         Err((refusal, item)) => {
@@ -126,12 +130,12 @@ pub fn retire<'c, 'a>(
     rt: &impl Abort,
     alone: &mut AloneItems<'c, 'a>,
     s: usize,
-    value: Unlinked<'c, Item<'a>, Counting<'a>>,
+    value: Unlinked<'c, Item<'a>>,
     by: Counting<'a>,
     watch: &mut Names,
 ) -> Result<(), Refusal>
-    requires { value.collector_id ≡ alone.old.collector.now.id }
-    ensures { length alone.new.collector.now.state.links ≡ length alone.old.collector.now.state.links }
+    requires { owner_of (block_of value) ≡ (whose alone.old).name }
+    ensures { fixed alone.new ≡ fixed alone.old }
 {
     match alone.retire(s, value, by, watch) {
         Ok(()) => known(alone.is_short()),

@@ -1,6 +1,8 @@
 //! Links, and guards that refresh and flush: calls of `Alone` one after another, and what the drop ends.
 
-ghost use Rattle.std.specs.Prelude.{◌≡◌, ◌<◌, length};
+ghost use Rattle.std.specs.Prelude.{◌≡◌, ◌<◌};
+ghost use Rattle.seize.specs.Blocks.{owner_of};
+ghost use Rattle.seize.specs.Collectors.{whose, lent};
 
 use crate::items::{AloneItems, Counting, Item, Names, block, items, known, retire};
 use seize::{IdSource, Owned, Refusal};
@@ -10,7 +12,7 @@ use std::test::Fail;
 
 /// The name that slot 0 finds in the link.
 fn found(alone: &AloneItems<'_, '_>, link: usize) -> Result<Option<u64>, Refusal>
-    requires { link < length alone.now.collector.now.state.links }
+    requires { link < (whose alone.now).links }
 {
     match alone.protect(0, link)? {
         Some(shared) => Ok(Some(shared.name)),
@@ -20,7 +22,7 @@ fn found(alone: &AloneItems<'_, '_>, link: usize) -> Result<Option<u64>, Refusal
 
 /// Whether slot 0 finds one block in both links.
 fn are_same(alone: &AloneItems<'_, '_>, a: usize, b: usize) -> bool
-    requires { (a < length alone.now.collector.now.state.links) × (b < length alone.now.collector.now.state.links) }
+    requires { (a < (whose alone.now).links) × (b < (whose alone.now).links) }
 {
     match (alone.protect(0, a), alone.protect(0, b)) {
         (Ok(Some(a)), Ok(Some(b))) => a.same(&b),
@@ -33,12 +35,13 @@ fn exchange<'c, 'a>(
     rt: &impl Abort,
     alone: &mut AloneItems<'c, 'a>,
     link: usize,
-    new: Owned<Item<'a>, Counting<'a>>,
+    new: Owned<Item<'a>>,
     by: Counting<'a>,
     names: &mut Names,
 ) -> Result<Option<u64>, Refusal>
-    requires { link < length alone.old.collector.now.state.links }
-    ensures { length alone.new.collector.now.state.links ≡ length alone.old.collector.now.state.links }
+    requires range { link < (whose alone.old).links }
+    requires own { owner_of new ≡ (whose alone.old).name }
+    ensures { lent alone.new ≡ lent alone.old }
 {
     match alone.swap(0, link, Some(new)) {
         Ok(None) => Ok(None),

@@ -8,12 +8,12 @@ use std::cell::Cell;
 
 /// A name, and the blocks of further values.
 #[derive(Drop)]
-pub struct Nest<'a> {
+pub struct Nest {
     pub name: u64,
-    pub inside: Vec<Owned<Nest<'a>, PutInside<'a>>>,
+    pub inside: Vec<Owned<Nest>>,
 }
 
-impl Weigh for Nest<'_> {
+impl Weigh for Nest {
     ghost weight = { weight_of };
 
     ghost at_least_one = { weight_at_least_one };
@@ -25,12 +25,12 @@ pub struct PutInside<'a> {
     pub calls: &'a Cell<u64>,
 }
 
-impl<'a> Reclaim<Nest<'a>> for PutInside<'a> {
+impl Reclaim<Nest> for PutInside<'_> {
     ghost puts = { λ _ value. inside_of value };
 
     ghost lighter = { λ _ value. inside_lighter value };
 
-    fn reclaim(self, value: Nest<'a>, further: &mut Further<Nest<'a>, PutInside<'a>>) {
+    fn reclaim(self, value: Nest, further: &mut Further<Nest>) {
         self.calls.set(self.calls.get().saturating_add(1));
         let Nest { name: _, inside } = value;
         for block in inside {

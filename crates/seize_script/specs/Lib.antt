@@ -1,5 +1,5 @@
-pub mod Links
 pub mod Ranges
+pub mod Readers
 pub mod Statuses
 pub mod Values
 pub mod Weights

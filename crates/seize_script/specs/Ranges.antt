@@ -1,23 +1,25 @@
--- Calls whose links are all below the number of links.
-use Rattle.std.specs.Prelude.{ℕ, map, All}
-use Rattle.seize.specs.Alone.{call_of, AllInRange}
+-- Calls for a collector: their links are all below its number of links, and the blocks that they bring are its own.
+use Rattle.std.specs.Prelude.{All}
+use Rattle.seize.specs.About.{About}
+use Rattle.seize.specs.Alone.{AreFor}
+use Rattle.seize.specs.Collectors.{about}
 use Rattle.seize_script.specs.declared.parser.Parser.{Parser}
 use Rattle.seize_script.specs.declared.script.Group.{Group}
 use Rattle.seize_script.specs.declared.script.Calls.{Calls}
-use Rattle.seize_script.specs.Links.{links_of}
 use Rattle.seize_script.specs.declared.script.Script.{Script}
+use Rattle.seize_script.specs.Readers.{parsed_for}
 
-abbrev pub IsGroupInRange : ℕ → Group → Type 0
-IsGroupInRange links group = AllInRange links (map call_of group.calls.items)
+abbrev pub IsGroupFor : About → Group → Type 0
+IsGroupFor whose group = AreFor whose group.calls.items
 
-abbrev pub AreInRange : ℕ → Calls → Type 0
-AreInRange links calls = All (IsGroupInRange links) calls.groups.items
+abbrev pub AreGroupsFor : About → Calls → Type 0
+AreGroupsFor whose calls = All (IsGroupFor whose) calls.groups.items
 
-abbrev pub IsInRange : Script → Type 0
-IsInRange script = AreInRange (links_of script.collector) script.calls
+-- the calls of a script are for the collector that its first line asks for
+abbrev pub IsWhole : Script → Type 0
+IsWhole script = AreGroupsFor (about script.collector) script.calls
 
 -- the groups and the calls that were read so far
 abbrev pub IsReady : Parser → Type 0
 IsReady parser =
-    let links = links_of parser.reader.collector.now in
-    All (IsGroupInRange links) parser.groups.items × AllInRange links (map call_of parser.calls.items)
+    All (IsGroupFor (parsed_for parser)) parser.groups.items × AreFor (parsed_for parser) parser.calls.items

@@ -1,7 +1,9 @@
 //! The grammar of one line: a call, and the values in it, whose blocks are made as they are read.
 ghost use Rattle.std.specs.Prelude.{◌≡◌, ◌≤◌, ◌<◌, length, IfOk};
-ghost use Rattle.seize.specs.Alone.{call_of, InRange};
-ghost use Rattle.seize_script.specs.Links.{links_of};
+ghost use Rattle.seize.specs.Alone.{IsFor};
+ghost use Rattle.seize.specs.Blocks.{owner_of};
+ghost use Rattle.seize.specs.Collectors.{about};
+ghost use Rattle.seize_script.specs.Readers.{read_for};
 
 use crate::line::{Line, LineError};
 use crate::value::{PutInside, Value};
@@ -27,7 +29,7 @@ impl<'c> CallReader<'c> {
         collector: &'c Collector<Value, PutInside>,
         reclaim: PutInside,
     ) -> CallReader<'c>
-        ensures { result.collector ≡ collector.entry }
+        ensures { read_for result ≡ about collector.now }
     {
         CallReader {
             alloc,
@@ -48,8 +50,8 @@ impl<'c> CallReader<'c> {
         word: &[u8],
         line: &mut Line<'_>,
     ) -> Result<Call<Value, PutInside>, LineError>
-        ensures call { IfOk result (λ call. InRange (links_of self.old.collector.now) (call_of call)) }
-        ensures collector { self.new.collector ≡ self.old.collector }
+        ensures call { IfOk result (λ call. IsFor (read_for self.old) call) }
+        ensures same { read_for self.new ≡ read_for self.old }
     {
         match word {
             b"register" => Ok(Call::Register),
@@ -67,8 +69,8 @@ impl<'c> CallReader<'c> {
     }
 
     fn retire(&mut self, line: &mut Line<'_>) -> Result<Call<Value, PutInside>, LineError>
-        ensures call { IfOk result (λ call. InRange (links_of self.old.collector.now) (call_of call)) }
-        ensures collector { self.new.collector ≡ self.old.collector }
+        ensures call { IfOk result (λ call. IsFor (read_for self.old) call) }
+        ensures same { read_for self.new ≡ read_for self.old }
     {
         let slot = line.number()?;
         line.expect(b" ")?;
@@ -77,8 +79,8 @@ impl<'c> CallReader<'c> {
     }
 
     fn swap(&mut self, line: &mut Line<'_>) -> Result<Call<Value, PutInside>, LineError>
-        ensures call { IfOk result (λ call. InRange (links_of self.old.collector.now) (call_of call)) }
-        ensures collector { self.new.collector ≡ self.old.collector }
+        ensures call { IfOk result (λ call. IsFor (read_for self.old) call) }
+        ensures same { read_for self.new ≡ read_for self.old }
     {
         let slot = line.number()?;
         let link = self.link(line)?;
@@ -92,7 +94,7 @@ impl<'c> CallReader<'c> {
     }
 
     fn link(&self, line: &mut Line<'_>) -> Result<usize, LineError>
-        ensures { IfOk result (λ link. link < links_of self.now.collector.now) }
+        ensures { IfOk result (λ link. link < (read_for self.now).links) }
     {
         let link = line.number()?;
         if link < self.collector.links() {
@@ -103,13 +105,10 @@ impl<'c> CallReader<'c> {
     }
 
     /// A value in a block, at most this deep.
-    fn block(
-        &mut self,
-        line: &mut Line<'_>,
-        deepest: usize,
-    ) -> Result<Owned<Value, PutInside>, LineError>
-        ensures collector { self.new.collector ≡ self.old.collector }
-        ensures shorter { length line.new.rest.now ≤ length line.old.rest.now }
+    fn block(&mut self, line: &mut Line<'_>, deepest: usize) -> Result<Owned<Value>, LineError>
+        ensures own { IfOk result (λ owned. owner_of owned ≡ (read_for self.old).name) }
+        ensures same { read_for self.new ≡ read_for self.old }
+        ensures shorter { length line.new ≤ length line.old }
     {
         let Some(deeper) = deepest.checked_sub(1) else {
             return Err(LineError::Bad);

@@ -5,6 +5,7 @@ ghost use Rattle.seize_script.specs.declared.line.LineError.TheVariants.{NoMemor
 use crate::failure::Failure;
 use crate::name::{Name, is_in_name};
 use std::alloc::{AllocError, AllocFailed};
+use std::marker::Model;
 use std::str;
 
 /// Why a line is not read.
@@ -48,17 +49,25 @@ pub struct Line<'s> {
     rest: &'s [u8],
 }
 
+impl<'s> Model for Line<'s> {
+    ghost use Rattle.std.specs.Prelude.{ℕ, List};
+
+    ghost Value = { List ℕ };
+
+    ghost view = { λ line. line.rest.now };
+}
+
 impl<'s> Line<'s> {
     /// A whole line, without its line feed.
     pub fn new(bytes: &'s [u8]) -> Line<'s>
-        ensures { result.rest.now ≡ bytes.now }
+        ensures { result ≡ bytes.now }
     {
         Line { rest: bytes }
     }
 
     /// Takes these bytes, if they come next.
     pub fn take(&mut self, bytes: &[u8]) -> bool
-        ensures { MatchBool result (self.old.rest.now ≡ bytes.now ++ self.new.rest.now) (self.new.rest.now ≡ self.old.rest.now) }
+        ensures { MatchBool result (self.old ≡ bytes.now ++ self.new) (self.new ≡ self.old) }
     {
         match self.rest.strip_prefix(bytes) {
             Some(rest) => {
@@ -71,7 +80,7 @@ impl<'s> Line<'s> {
 
     /// Takes these bytes, which have to come next.
     pub fn expect(&mut self, bytes: &[u8]) -> Result<(), LineError>
-        ensures { length self.new.rest.now ≤ length self.old.rest.now }
+        ensures { length self.new ≤ length self.old }
     {
         if self.take(bytes) {
             Ok(())
@@ -83,7 +92,7 @@ impl<'s> Line<'s> {
     /// Takes bytes up to the first that fails the test.
     fn take_while<F: Fn(&u8) -> bool>(&mut self, test: F) -> &'s [u8]
         requires { F.IsAlwaysCallable test }
-        ensures { length self.new.rest.now ≤ length self.old.rest.now }
+        ensures { length self.new ≤ length self.old }
     {
         let count = self.rest.iter().position(|byte| !test(byte));
         let (taken, rest) = self.rest.split_at(count.unwrap_or(self.rest.len()));
@@ -93,14 +102,14 @@ impl<'s> Line<'s> {
 
     /// Takes a word, up to a space or the end.
     pub fn word(&mut self) -> &'s [u8]
-        ensures { length self.new.rest.now ≤ length self.old.rest.now }
+        ensures { length self.new ≤ length self.old }
     {
         self.take_while(|byte| *byte != b' ')
     }
 
     /// Decimal digits without a leading zero, or `0`, behind a space.
     pub fn number(&mut self) -> Result<usize, LineError>
-        ensures { length self.new.rest.now ≤ length self.old.rest.now }
+        ensures { length self.new ≤ length self.old }
     {
         self.expect(b" ")?;
         let digits = self.take_while(u8::is_ascii_digit);
@@ -115,7 +124,7 @@ impl<'s> Line<'s> {
 
     /// A letter, then at most seven letters or digits.
     pub fn name(&mut self) -> Result<Name, LineError>
-        ensures { length self.new.rest.now ≤ length self.old.rest.now }
+        ensures { length self.new ≤ length self.old }
     {
         Name::new(self.take_while(is_in_name)).ok_or(LineError::Bad)
     }

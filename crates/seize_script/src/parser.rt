@@ -1,7 +1,8 @@
 //! The grammar of scripts: their lines and groups. A script is read and checked whole before anything of it runs.
 ghost use Rattle.std.specs.Prelude.{◌≡◌, length, IfOk, OnOk};
-ghost use Rattle.seize_script.specs.Ranges.{AreInRange, IsInRange, IsReady};
-ghost use Rattle.seize_script.specs.Links.{links_of};
+ghost use Rattle.seize_script.specs.Ranges.{AreGroupsFor, IsWhole, IsReady};
+ghost use Rattle.seize.specs.Collectors.{about};
+ghost use Rattle.seize_script.specs.Readers.{parsed_for};
 
 use crate::call::CallReader;
 use crate::failure::Failure;
@@ -22,7 +23,7 @@ const MOST_LINKS: usize = 1024;
 ///
 /// `BadLine` with the first line that breaks the grammar, `NoMemory` where the allocator refuses.
 pub fn parse<'a>(alloc: Global, text: &[u8], reclaim: PutInside) -> Result<Script, Failure<'a>>
-    ensures { IfOk result IsInRange }
+    ensures { IfOk result IsWhole }
 {
     let Header { size, links, line } = first_line(text)?;
     let collector = Collector::new(alloc, &mut IdSource::new(), 1, links)?.batch_size(size);
@@ -58,7 +59,7 @@ fn later_lines<'a>(
     collector: &Collector<Value, PutInside>,
     reclaim: PutInside,
 ) -> Result<Calls, Failure<'a>>
-    ensures { IfOk result (AreInRange (links_of collector.now)) }
+    ensures { IfOk result (AreGroupsFor (about collector.now)) }
 {
     let mut parser = Parser::new(alloc, collector, reclaim);
     let mut number = first;
@@ -116,7 +117,7 @@ impl<'c> Parser<'c> {
         reclaim: PutInside,
     ) -> Parser<'c>
         ensures ready { IsReady result }
-        ensures collector { result.reader.collector ≡ collector.entry }
+        ensures same { parsed_for result ≡ about collector.now }
     {
         Parser {
             reader: CallReader::new(alloc, collector, reclaim),
@@ -129,7 +130,7 @@ impl<'c> Parser<'c> {
     fn line(&mut self, bytes: &[u8]) -> Result<(), LineError>
         requires { IsReady self.old }
         ensures ready { OnOk result (IsReady self.new) }
-        ensures collector { self.new.reader.collector ≡ self.old.reader.collector }
+        ensures same { parsed_for self.new ≡ parsed_for self.old }
     {
         let mut line = Line::new(bytes);
         let word = line.word();
@@ -147,7 +148,7 @@ impl<'c> Parser<'c> {
     fn end_group(&mut self, end: GroupEnd) -> Result<(), AllocError>
         requires { IsReady self.old }
         ensures ready { OnOk result (IsReady self.new) }
-        ensures collector { self.new.reader.collector ≡ self.old.reader.collector }
+        ensures same { parsed_for self.new ≡ parsed_for self.old }
     {
         let alloc = *self.calls.allocator();
         let calls = mem::replace(&mut self.calls, VecDeque::new(alloc));

@@ -1,9 +1,9 @@
 //! The program between its arguments and its status: which script it runs, and what it prints. It is over any reader and writers.
-ghost use Rattle.std.specs.Prelude.{◌≡◌, ◌≤◌, length, map};
-ghost use Rattle.seize.specs.Alone.{call_of, AllInRange};
-ghost use Rattle.seize_script.specs.Ranges.{IsGroupInRange, IsInRange};
+ghost use Rattle.std.specs.Prelude.{◌≡◌, ◌≤◌};
+ghost use Rattle.seize.specs.Alone.{AreFor};
+ghost use Rattle.seize.specs.Collectors.{whose, lent};
+ghost use Rattle.seize_script.specs.Ranges.{IsGroupFor, IsWhole};
 ghost use Rattle.seize_script.specs.Statuses.{status_of};
-ghost use Rattle.seize_script.specs.Links.{links_of_alone};
 
 use crate::failure::Failure;
 use crate::names::Names;
@@ -94,7 +94,7 @@ fn run_script<'a, O: Write>(
     script: Script,
     output: &mut O,
 ) -> Result<(), Failure<'a>>
-    requires { IsInRange script }
+    requires { IsWhole script }
 {
     let Script {
         mut collector,
@@ -115,8 +115,8 @@ fn run_group<'a, O: Write>(
     names: &mut Names,
     output: &mut O,
 ) -> Result<(), Failure<'a>>
-    requires { IsGroupInRange (links_of_alone alone.old) group }
-    ensures { links_of_alone alone.new ≡ links_of_alone alone.old }
+    requires { IsGroupFor (whose alone.old) group }
+    ensures { lent alone.new ≡ lent alone.old }
 {
     let Group { calls, end } = group;
     run_calls(alloc, alone, calls, names, output)?;
@@ -137,8 +137,8 @@ fn run_calls<'a, O: Write>(
     names: &mut Names,
     output: &mut O,
 ) -> Result<(), Failure<'a>>
-    requires { AllInRange (links_of_alone alone.old) (map call_of calls.items) }
-    ensures { links_of_alone alone.new ≡ links_of_alone alone.old }
+    requires { AreFor (whose alone.old) calls.items }
+    ensures { lent alone.new ≡ lent alone.old }
 {
     let mut replies = Vec::new(alloc);
     alone.run(&mut calls, &mut replies, names)?;
@@ -159,7 +159,7 @@ fn reclaim_all<'a, O: Write>(
     names: &mut Names,
     output: &mut O,
 ) -> Result<(), Failure<'a>>
-    ensures { links_of_alone alone.new ≡ links_of_alone alone.old }
+    ensures { lent alone.new ≡ lent alone.old }
 {
     alone.reclaim_all(names);
     if alone.is_short() {
@@ -170,13 +170,13 @@ fn reclaim_all<'a, O: Write>(
     Ok(())
 }
 
-fn is_no_memory(reply: &Reply<Value, PutInside>) -> bool {
+fn is_no_memory(reply: &Reply<Value>) -> bool {
     matches!(reply, Reply::Refused(Refusal::NoMemory, _))
 }
 
 fn print_group<O: Write>(
     names: &Names,
-    replies: &[Reply<Value, PutInside>],
+    replies: &[Reply<Value>],
     output: &mut O,
 ) -> io::Result<()> {
     for name in names.as_slice() {
@@ -188,7 +188,7 @@ fn print_group<O: Write>(
     Ok(())
 }
 
-fn print_reply<O: Write>(reply: &Reply<Value, PutInside>, output: &mut O) -> io::Result<()> {
+fn print_reply<O: Write>(reply: &Reply<Value>, output: &mut O) -> io::Result<()> {
     match reply {
         Reply::Done => Ok(()),
         Reply::Slot(n) => writeln!(output, "slot {n}"),

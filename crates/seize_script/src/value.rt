@@ -11,7 +11,7 @@ use seize::{Further, Owned, Weigh};
 #[derive(Drop)]
 pub struct Value {
     pub name: Name,
-    pub inside: Vec<Owned<Value, PutInside>>,
+    pub inside: Vec<Owned<Value>>,
 }
 
 impl Weigh for Value {
@@ -29,7 +29,7 @@ impl Reclaim<Value> for PutInside {
 
     ghost lighter = { λ _ value. inside_lighter value };
 
-    fn reclaim(self, value: Value, further: &mut Further<Value, PutInside>) {
+    fn reclaim(self, value: Value, further: &mut Further<Value>) {
         let Value { name: _, inside } = value;
         for block in inside {
             further.put(block);

@@ -3,9 +3,11 @@ pub mod Showing
 pub mod Kit
 pub mod Memory
 pub mod Steps
+pub mod Rows
 pub mod Fields
-pub mod Vacants
+pub mod Pieces
 pub mod Fielded
 pub mod Tokens
+pub mod Identities
 pub mod Sends
 pub mod Unique

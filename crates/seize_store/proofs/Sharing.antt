@@ -2,7 +2,7 @@
 use Rattle.std.proofs.Common.{ℕ, [], ◌∷◌}
 use seplogic.Ra.Ura.{Ura}
 use base.Fraction.{full_share}
-use base.Logic.{sep, wand, apply∗}
+use base.Logic.{ent, sep, wand, apply∗}
 use base.Fml.{Lft, Fml, ffalse, fsep, fbor, flft, finv}
 use types.Logic.{Logic, sem, lfts}
 use types.Kit.{‵, raw, ◌⊛◌, later, ◌$◌, ◌∵◌, !, qed, move, drop, split, use1, use2, updating, await, now, done}
@@ -14,7 +14,14 @@ use denote.RawPtr.{Ptr, block_ptr, null_ptr, lies_at}
 use denote.Sharing.{ShrLaws, said, beside, one, always}
 use denote.SharingLaws.{one_shr_laws, always_shr_laws, beside_shr_laws, said_shr_laws}
 use denote.Struct.Lending.{Lends, Lends-first, Lends-both, Lends-false, lent_at, lent_at_shr_laws}
-use Rattle.seize_store.specs.Chunk.{Inv, home, dues, header_at, chunk_owns, chunk_shares}
+use Rattle.seize_store.specs.Body.{header_at}
+use Rattle.seize_store.specs.Chunk.{Inv, home, dues, chunk_owns, chunk_shares}
+
+-- what can be had twice is lent as itself
+pub lends_twice : {M : Type 1} {𝓤 : Ura M} (𝓛 : Logic 𝓤) (P : Fml) → ent 𝓤 (sem 𝓛 P) (sep 𝓤 (sem 𝓛 P) (sem 𝓛 P)) → (l : Lft) → Lends 𝓛 P (said P) l
+lends_twice {𝓤 = 𝓤} 𝓛 P twice l κ ts inc sp = let Back = 𝓛.H.⇛ (sep 𝓤 (𝓛.A.bor κ P) (lfts 𝓛 ts)) in
+    qed 𝓛 (‵ (fbor κ P) ∷ raw (lfts 𝓛 ts) ∷ []) ∵ updating ! $ use2 𝓛 (later (‵ P ⊛ raw (wand 𝓤 (sem 𝓛 P) Back))) (𝓛.more.bor_acc_by κ ts P sp) $ await ! tt $ split ! $ use1 𝓛 (‵ P ⊛ ‵ P) twice $ split ! $ move ! (0 ∷ 2 ∷ []) $
+    use2 𝓛 (later (‵ (fbor κ P) ⊛ raw (lfts 𝓛 ts))) (apply∗ 𝓤 (sem 𝓛 P) Back) $ await ! tt $ split ! $ drop ! $ move ! (1 ∷ 0 ∷ []) $ now ! $ done !
 
 module _ (X R : RattleType) (a δ η : ℕ) where
   pub chunk_laws : RowLaws X → (p : Ptr) (h : X.Denot) → ShrLaws (chunk_shares X R a δ η p h)

@@ -14,7 +14,8 @@ use denote.RawPtr.{Ptr, block_ptr, null_ptr, lies_at}
 use denote.Sharing.{ShrLaws, said}
 use denote.SharingLaws.{said_shr_laws}
 use denote.Struct.Lending.{Lends, Lends-first, Lends-false, lent_at, lent_at_shr_laws}
-use Rattle.seize_store.specs.Chunk.{Inv, rest, room_at}
+use Rattle.seize_store.specs.Body.{rest, room_at}
+use Rattle.seize_store.specs.Chunk.{Inv}
 use Rattle.seize_store.specs.Block.{full, block_owns, block_shares}
 
 module _ (X R : RattleType) where

@@ -17,7 +17,8 @@ use denote.Memory.{cell_at}
 use denote.RawPtr.{block_ptr}
 use denote.Steps.{nothing}
 use Rattle.core.specs.Sync.RawAtomic.{Shift, rests, enters, leaves, word, along, if_none, back, found, asks, always}
-use Rattle.seize_store.specs.Chunk.{Phase, free, taken, left, spent, header_room, room, rest, dues, parts, right, legacy, state, Inv, home}
+use Rattle.seize_store.specs.Body.{header_room, room, rest}
+use Rattle.seize_store.specs.Chunk.{Phase, free, taken, left, spent, dues, parts, right, legacy, state, Inv, home}
 
 module _ {M : Type 1} {𝓤 : Ura M} (𝓛 : Logic 𝓤) where
   open 𝓛 use {H, A}

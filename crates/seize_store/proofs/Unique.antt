@@ -10,7 +10,7 @@ use types.Logic.{Logic, sem}
 use types.Kit.{‵, ◌$◌, ◌∵◌, !, qed, by, move, keep, fsplit, fsplit3}
 use denote.RattleType.{RattleType}
 use denote.RawPtr.{block_ptr, block_of, count_of}
-use Rattle.seize_store.specs.Chunk.{rest_ty, rest_at}
+use Rattle.seize_store.specs.Body.{rest_ty, rest_at}
 use Rattle.seize_store.specs.Block.{empty}
 
 module _ (X R : RattleType) {M : Type 1} {𝓤 : Ura M} (𝓛 : Logic 𝓤) (𝓜 : Model 𝓤 𝓛.H) where

@@ -7,7 +7,8 @@ use denote.RattleType.{RattleType}
 use denote.Memory.{part_at}
 use denote.RawPtr.{Ptr, block_ptr}
 use denote.Struct.Lending.{lent_at}
-use Rattle.seize_store.specs.Chunk.{right, rest, Inv, room_at, placed}
+use Rattle.seize_store.specs.Body.{rest, room_at}
+use Rattle.seize_store.specs.Chunk.{right, Inv, placed}
 
 module _ (X R : RattleType) (b o : ℕ) where
   abbrev pub empty : ℕ × (ℕ × ℕ) → Fml

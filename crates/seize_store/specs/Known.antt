@@ -1,17 +1,12 @@
 -- What a token shows of a row: its cell has one value for good, and that is the list of places.
-use Rattle.std.specs.Prelude.{ℕ, ◌+◌, ◌-◌, ◌^◌, List, get_or, map}
-use Rattle.std.specs.declared.alloc.Global.{Global}
+use Rattle.std.specs.Prelude.{ℕ, suc, ◌+◌, ◌-◌, ◌^◌, List, get_or}
 use base.Stored.{gnil, gcons, coded_list}
 use base.Fml.{Fml, fres}
 use denote.RawPtr.{Ptr, null_ptr, coded_ptr}
 
--- the rows' names, in their order
-abbrev pub names_of : List (Global × ℕ) → List ℕ
-names_of = map (λ c. c.1)
-
--- the name of row r's cell
+-- the name of row r's cell: it stands behind the store's own name
 abbrev pub name_in : List ℕ → ℕ → ℕ
-name_in store row = get_or store row 0
+name_in store row = get_or store (suc row) 0
 
 abbrev pub known_row : List ℕ → ℕ → List Ptr → Fml
 known_row store row places = fres (name_in store row) (gcons gnil ((coded_list coded_ptr).code places))

@@ -1,6 +1,9 @@
 pub mod Freeable
+pub mod Body
+pub mod Row
 pub mod Block
 pub mod Chunk
 pub mod Known
 pub mod Named
+pub mod Parts
 pub mod Titled

@@ -1,7 +1,7 @@
 -- The words in which the contracts of the store and of its blocks speak.
---     name_of s       the store s: the names of its rows
+--     name_of s       the store s: its own name and those of its rows
 --     store_of o      the store that the block o is of
---     value_of o, number_of o      its value and its number
+--     value_of o, number_of o, title_of o      its value, its number and its title
 --     AreOf spots s   each of the spots is of the store s
 --     is_empty_list spots, count_of spots      there is none;  how many there are
 --     count_with n    how many there are when one was put to n: where the list was full, 64 were given back first
@@ -14,8 +14,9 @@
 use Rattle.std.specs.Prelude.{◌≡◌, ℕ, ◌+◌, ◌==◌, if◌then◌else◌, List, [], All, vec_len}
 use denote.RawPtr.{Ptr}
 use Rattle.seize_table.specs.Place.{IsPlace}
-use Rattle.seize_store.specs.Known.{names_of, entry_of, place_in}
-use Rattle.seize_store.specs.Titled.{place_of}
+use Rattle.seize_store.specs.Known.{entry_of, place_in}
+use Rattle.seize_store.specs.Titled.{names_of, place_of}
+use Rattle.seize_store.specs.declared.known.Title.{Title}
 use Rattle.seize_store.specs.declared.seen.Place.{Place}
 use Rattle.seize_store.specs.declared.seen.Seen.{Seen}
 use Rattle.seize_store.specs.declared.owned.Owned.{Owned}
@@ -23,7 +24,7 @@ use Rattle.seize_store.specs.declared.spot.Spots.{Spots}
 use Rattle.seize_store.specs.declared.store.Store.{Store}
 
 abbrev pub name_of : {H T : Type 0} → Store H T → List ℕ
-name_of store = names_of store.rows.cells
+name_of store = names_of store.rows
 
 abbrev pub store_of : {H T : Type 0} → Owned H T → List ℕ
 store_of owned = owned.block.title.known.store
@@ -33,6 +34,9 @@ value_of owned = owned.block.value
 
 abbrev pub number_of : {H T : Type 0} → Owned H T → ℕ
 number_of owned = owned.block.title.number
+
+abbrev pub title_of : {H T : Type 0} → Owned H T → Title
+title_of owned = owned.block.title
 
 abbrev pub AreOf : {H T : Type 0} → Spots H T → List ℕ → Type 0
 AreOf spots store = All (λ spot. spot.title.known.store ≡ store) spots.list.items

@@ -1,15 +1,15 @@
-// A chunk's room in its holder's hands: an empty spot, and a block, which is a value in a spot.
+//! A chunk's room in its holder's hands: an empty room, and a block, which is a value in a room. It uses `chunk` for the memory and
+//! `known` for titles; `spot` and `owned` wrap both for who holds them.
 ghost use Rattle.std.specs.Prelude.{◌≡◌, ◌≢◌};
 ghost use Rattle.seize_store.specs.Block.{out_owns, block_owns, block_shares};
 ghost use Rattle.seize_store.specs.Titled.{place_of};
 
 use crate::chunk::Body;
 use crate::known::Title;
-use std::alloc::Global;
+use crate::strip::Piece;
 use std::marker::{Brand, Model};
 use std::sync::atomic::Ordering::SeqCst;
 use std::sync::atomic::raw;
-use std_alloc::room::Vacant;
 
 /// The room of a chunk that is out, and empty.
 pub(crate) struct Out<H, T> {
@@ -35,10 +35,10 @@ impl<H, T> Model for Block<H, T> {
 
 impl<H, T> Out<H, T> {
     /// Puts the room back into its chunk: one swap. Where the store is gone, the chunk's memory comes out.
-    pub(crate) fn give_back(self, alloc: Global) -> Option<Vacant<Body<H, T>, Global>> {
+    pub(crate) fn give_back(self) -> Option<Piece<H, T>> {
         let Out { at } = self;
         if unsafe { raw::swap::<Brand>(&raw const (*at).state, 0, SeqCst) } == 2 {
-            Some(Vacant { ptr: at, alloc })
+            Some(Piece { at })
         } else {
             None
         }
@@ -46,9 +46,11 @@ impl<H, T> Out<H, T> {
 }
 
 impl<H, T> Out<H, T> {
+    ghost use Rattle.seize_store.specs.Parts.{room_at};
+
     /// Two rooms that are out at once lie apart. It does nothing: its contract says so.
     pub(crate) fn differ(self, other: Out<H, T>) -> (Out<H, T>, Out<H, T>)
-        ensures { (result.0.at ≡ self.at) × (result.1.at ≡ other.at) × (self.at ≢ other.at) }
+        ensures { (room_at result.0 ≡ room_at self) × (room_at result.1 ≡ room_at other) × (room_at self ≢ room_at other) }
     {
         let Out { at: first } = self;
         let Out { at: second } = other;
@@ -57,10 +59,12 @@ impl<H, T> Out<H, T> {
 }
 
 impl<H, T> Block<H, T> {
+    ghost use Rattle.seize_store.specs.Parts.{block_title, room_at};
+
     /// A block in this room. It takes no memory and no atomic step.
     pub(crate) fn of(out: Out<H, T>, title: Title, value: T) -> Block<H, T>
-        requires { place_of title ≡ out.at }
-        ensures { (result.value ≡ value) × (result.title ≡ title) }
+        requires { place_of title ≡ room_at out }
+        ensures { (result.value ≡ value) × (block_title result ≡ title) }
     {
         let Out { at } = out;
         unsafe { (&raw mut (*at).room).write(value) };
@@ -75,14 +79,14 @@ impl<H, T> Block<H, T> {
     }
 
     pub(crate) fn title(&self) -> &Title
-        ensures { result.now ≡ self.now.title }
+        ensures { result.now ≡ block_title self.now }
     {
         &self.title
     }
 
     /// The value by value, and the room where it lay.
     pub(crate) fn empty(self) -> (T, Out<H, T>, Title)
-        ensures { (result.0 ≡ self.value) × (place_of result.2 ≡ result.1.at) × (result.2 ≡ self.title) }
+        ensures { (result.0 ≡ self.value) × (place_of result.2 ≡ room_at result.1) × (result.2 ≡ block_title self) }
     {
         let Block { at, title } = self;
         let value = unsafe { (&raw const (*at).room).read() };

@@ -1,4 +1,5 @@
-// What shows where a number leads: a token without bytes, free of the types that the store is made for, and the title of a block.
+//! What shows where a number leads: a token without bytes, free of the types that the store is made for, and the title of a block.
+//! Blocks and spots carry a title, and `seen` a token.
 ghost use Rattle.std.specs.Prelude.{◌≡◌, ℕ, List, Some};
 ghost use base.Stored.{coded_list};
 ghost use denote.RawPtr.{Ptr, coded_ptr};
@@ -14,7 +15,7 @@ use std::marker::{Model, PhantomData};
 /// What shows which chunks one row of one store has, for good. It takes no bytes.
 pub struct Known {
     pub(super) marker: PhantomData<()>,
-    /// The store: the names of its rows.
+    /// The store: its own name and those of its rows.
     pub ghost store: { List ℕ },
     /// Which row it is.
     pub ghost row: { ℕ },

@@ -4,12 +4,14 @@
 
 mod block;
 mod chunk;
+mod identity;
 mod known;
 mod owned;
 mod row;
 mod seen;
 mod spot;
 mod store;
+mod strip;
 
 pub use known::Known;
 pub use owned::{Owned, apart};

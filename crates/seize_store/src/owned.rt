@@ -1,6 +1,8 @@
-// The block in its owner's hands.
+//! The block in its owner's hands, which is what a store gives out. It wraps a block of `block`, and its chunk goes back as a spot of
+//! `spot`.
 ghost use Rattle.std.specs.Prelude.{◌≡◌, ◌≢◌};
-ghost use Rattle.seize_store.specs.Named.{AreOf, IsSame, count_of, count_with, number_of, store_of, value_of};
+ghost use Rattle.seize_store.specs.Named.{AreOf, IsSame, count_of, count_with, number_of, store_of, title_of, value_of};
+ghost use Rattle.seize_store.specs.Parts.{spot_title};
 
 use crate::block::Block;
 use crate::spot::{Spot, Spots};
@@ -46,7 +48,7 @@ impl<H, T: Drop> Owned<H, T> {
 
     // The value, and the spot where it lay.
     pub(crate) fn empty(self) -> (T, Spot<H, T>)
-        ensures { (result.0 ≡ value_of self) × (result.1.title ≡ self.block.title) }
+        ensures { (result.0 ≡ value_of self) × (spot_title result.1 ≡ title_of self) }
     {
         let Owned { block } = self;
         let (value, out, title) = block.empty();

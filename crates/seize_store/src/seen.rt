@@ -1,4 +1,5 @@
-// The way from a number to its chunk, for whoever knows that the number's row is made.
+//! The way from a number to its chunk, for whoever knows that the number's row is made. It stands on `row` and `known`; the look-ups
+//! are in `find`.
 ghost use Rattle.std.specs.Prelude.{◌≡◌, ◌+◌, ◌^◌, ◌<◌, length, Some};
 ghost use Rattle.seize_store.specs.Known.{name_in};
 
@@ -24,4 +25,6 @@ pub struct Seen<H: Drop, T> {
 #[derive(Drop)]
 pub struct Place<'a, H, T> {
     pub(crate) chunk: &'a Chunk<H, T>,
+    pub(crate) header: &'a H,
+    ghost own: { header.now ≡ chunk.now.header },
 }

@@ -1,4 +1,5 @@
-// A claimed chunk with its title, and lists of these.
+//! A claimed chunk with its title, and lists of these. A store makes a spot where it claims a chunk, and a spot with a value in it is a
+//! block of `owned`.
 ghost use Rattle.std.specs.Prelude.{◌≡◌, ◌≢◌, ◌≤◌, vec_len, vec_capacity};
 ghost use Rattle.seize_store.specs.Titled.{place_of};
 
@@ -16,11 +17,13 @@ pub(crate) struct Spot<H, T> {
 }
 
 impl<H, T> Spot<H, T> {
+    ghost use Rattle.seize_store.specs.Parts.{spot_number, spot_store, spot_title};
+
     /// Two spots of one store have different numbers.
     pub(crate) fn apart(self, other: Spot<H, T>) -> (Spot<H, T>, Spot<H, T>)
-        requires { self.title.known.store ≡ other.title.known.store }
-        ensures numbers { self.title.number ≢ other.title.number }
-        ensures titles { (result.0.title ≡ self.title) × (result.1.title ≡ other.title) }
+        requires { spot_store self ≡ spot_store other }
+        ensures numbers { spot_number self ≢ spot_number other }
+        ensures titles { (spot_title result.0 ≡ spot_title self) × (spot_title result.1 ≡ spot_title other) }
     {
         let Spot { out, title } = self;
         let Spot {
@@ -41,9 +44,12 @@ impl<H, T> Spot<H, T> {
 }
 
 impl<H, T: Drop> Spot<H, T> {
+    ghost use Rattle.seize_store.specs.Named.{title_of, value_of};
+    ghost use Rattle.seize_store.specs.Parts.{spot_title};
+
     /// A block of this spot. It takes no memory and no atomic step.
     pub(crate) fn fill(self, value: T) -> Owned<H, T>
-        ensures { (result.block.value ≡ value) × (result.block.title ≡ self.title) }
+        ensures { (value_of result ≡ value) × (title_of result ≡ spot_title self) }
     {
         let Spot { out, title } = self;
         Owned {
@@ -56,8 +62,8 @@ impl<H, T> Drop for Spot<H, T> {
     // One swap. Where the store is gone, the chunk's memory goes back.
     fn drop(self) {
         let Spot { out, title } = self;
-        if let Some(room) = out.give_back(title.alloc) {
-            drop(room.free());
+        if let Some(piece) = out.give_back() {
+            piece.give(&title.alloc);
         }
     }
 }

@@ -1,12 +1,14 @@
-// The store: rows of chunks by their numbers.
-ghost use Rattle.std.specs.Prelude.{◌≡◌, ℕ, ◌+◌, ◌-◌, ◌^◌, ◌<◌, length, List, IfOk, IfErr, IfSome, Some};
+//! The store: rows of chunks by their numbers. It claims chunks of `row`, and gives them out as spots and blocks; look-ups are in `seen`.
+ghost use Rattle.std.specs.Prelude.{◌≡◌, ◌≢◌, ℕ, ◌+◌, ◌-◌, ◌^◌, ◌<◌, length, List, IfOk, IfErr, IfSome, Some};
 ghost use Rattle.seize_table.specs.Place.{IsPlace};
 ghost use Rattle.seize_table.specs.Table.{number_at};
 ghost use Rattle.seize_table.specs.declared.refusal.Refusal.TheVariants.{NoMemory};
 ghost use Rattle.seize_store.specs.Known.{name_in, place_in};
 ghost use Rattle.seize_store.specs.Named.{AreOf, count_of, is_empty_list, name_of, store_of, value_of};
+ghost use Rattle.seize_store.specs.Parts.{room_at, spot_store};
 
 use crate::block::Out;
+use crate::identity::Identity;
 use crate::known::{Known, Title};
 use crate::owned::Owned;
 use crate::row::{Row, Rows};
@@ -37,7 +39,7 @@ fn number_at_place(row: usize, entry: usize) -> usize
 
 /// Takes the first chunk of the row that is in, from an entry on and before another.
 fn first_in<H: Drop, T>(row: &Row<H, T>, from: usize, end: usize) -> Option<(usize, Out<H, T>)>
-    ensures { IfSome result (λ found. (found.0 < end) × (found.1.at ≡ place_in row.now found.0)) }
+    ensures { IfSome result (λ found. (found.0 < end) × (room_at found.1 ≡ place_in row.now found.0)) }
 {
     let end = end.min(row.chunks.len());
     for entry in from..end {
@@ -57,10 +59,19 @@ impl<H: Drop, T> Store<H, T> {
         Store {
             rows: Rows {
                 cells: array::from_fn(move |_| OnceBox::new(alloc)),
+                identity: Identity::new(),
             },
             hint: AtomicUsize::new(0),
             alloc,
         }
+    }
+
+    /// Two stores that stand at once have different names, whatever they are made for. It does nothing: its contract is the law.
+    pub fn apart<G: Drop, U>(&mut self, other: &mut Store<G, U>)
+        ensures names { name_of self.old ≢ name_of other.old }
+        ensures same { (name_of self.new ≡ name_of self.old) × (name_of other.new ≡ name_of other.old) }
+    {
+        self.rows.identity.apart(&mut other.rows.identity);
     }
 
     /// A block of the value, from any thread. It asks for memory only where no chunk was found in, and then makes a row, whose chunks
@@ -68,7 +79,7 @@ impl<H: Drop, T> Store<H, T> {
     ///
     /// # Errors
     ///
-    /// `NoMemory` where that growth was refused; the value comes back, and nothing changed.
+    /// `NoMemory` where that growth was refused; the value comes back, and no row was made, though `header` may have been called.
     pub fn add<F: Fn() -> H>(&self, value: T, header: &F) -> Result<Owned<H, T>, (Refusal, T)>
     where
         T: Drop,
@@ -111,7 +122,7 @@ impl<H: Drop, T> Store<H, T> {
     // A chunk that was in: from the hint on in its row, or else the first one, in a new row if need be.
     fn claim<F: Fn() -> H>(&self, header: &F) -> Result<Spot<H, T>, Refusal>
         requires { F.IsAlwaysCallable header.now }
-        ensures ok { IfOk result (λ spot. spot.title.known.store ≡ name_of self.now) }
+        ensures ok { IfOk result (λ spot. spot_store spot ≡ name_of self.now) }
         ensures refused { IfErr result (λ e. e ≡ NoMemory) }
     {
         if let Some(spot) = self.near_hint() {
@@ -133,7 +144,7 @@ impl<H: Drop, T> Store<H, T> {
     }
 
     fn near_hint(&self) -> Option<Spot<H, T>>
-        ensures { IfSome result (λ spot. spot.title.known.store ≡ name_of self.now) }
+        ensures { IfSome result (λ spot. spot_store spot ≡ name_of self.now) }
     {
         let place = Thread::new(self.hint.load(Relaxed))?;
         let mut note = self.rows.cells[place.bucket].note();
@@ -150,7 +161,7 @@ impl<H: Drop, T> Store<H, T> {
         note: &mut Note<Row<H, T>>,
     ) -> Option<Spot<H, T>>
         requires { (bucket < BUCKETS) × (note.old.cell ≡ name_in (name_of self.now) bucket) × (note.old.known ≡ Some row.now) }
-        ensures { IfSome result (λ spot. spot.title.known.store ≡ name_of self.now) }
+        ensures { IfSome result (λ spot. spot_store spot ≡ name_of self.now) }
     {
         let (entry, out) = first_in(row, from, Thread::bucket_capacity(bucket))?;
         let known = Known::of(&self.rows, bucket, note);

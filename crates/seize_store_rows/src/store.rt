@@ -38,6 +38,20 @@ fn numbers_follow_each_other_and_are_used_again(rt: HostRuntime) -> Result<(), F
     Ok(())
 }
 
+#[test]
+fn two_stores_told_apart_stay_as_they_were(rt: HostRuntime) -> Result<(), Fail> {
+    let mut one: Store<u64, u64> = Store::new(rt.alloc());
+    let mut other: Store<u64, u8> = Store::new(rt.alloc());
+    let first = added(&one, 10)?;
+    let second = added(&other, 11)?;
+    one.apart(&mut other);
+    assert_eq!(rt; (first.number(), *first), (0, 10));
+    assert_eq!(rt; (second.number(), *second), (0, 11));
+    assert!(rt; one.seen(0).is_some());
+    assert!(rt; other.seen(0).is_some());
+    Ok(())
+}
+
 // As many blocks as asked for, all of which stand at once.
 fn many(
     alloc: Global,
@@ -249,7 +263,7 @@ fn tokens_have_no_bytes(rt: HostRuntime) {
     assert_eq!(rt; size_of::<Known>(), 0);
     assert_eq!(rt; size_of::<Seen<u64, u64>>(), 0);
     assert_eq!(rt; size_of::<Owned<u64, [u64; 9]>>(), 16);
-    assert_eq!(rt; size_of::<Place<u64, u64>>(), 8);
+    assert_eq!(rt; size_of::<Place<u64, u64>>(), 16);
 }
 
 fn is_sent<T: Send>(value: T) -> T {

@@ -1,7 +1,7 @@
 -- The numbers in use, as a set, and how they are kept: those below `made` that are not in the heap of free ones.
 --     is_free free n             n stands in the heap
 --     in_use made free           the set
---     IsRoomy made free room     the heap has its least number first, no number twice and none that was not made, and room for all that were
+--     IsRoomy made free room     the heap has its least number first, no number twice and none that was not made, and room for all made
 --     Least used n               n is the least number that is not in use
 use Rattle.std.specs.Prelude.{◌≡◌, ℕ, ◌<◌, ◌≤◌, Bool, true, false, List, map, nat_eq}
 use Rattle.std.specs.List.{range_with_len, list_any, IsDistinct}

@@ -1,4 +1,5 @@
 pub mod Free
+pub mod Named
 pub mod Place
 pub mod Refusals
 pub mod Table

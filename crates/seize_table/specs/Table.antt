@@ -1,14 +1,16 @@
 -- What is known of a table: which cells its entries are, and what a token shows of one.
 --     number_at b e          the number whose place is entry e of bucket b
 --     IsCell note e c        the bucket that the note knows has the cell c at entry e
---     Shows bs b e f x       the token f shows that entry e of bucket b holds x, in the table of the buckets bs
---     IsOf bs b e f          the token f shows some value there
-use Rattle.std.specs.Prelude.{◌≡◌, ℕ, ◌+◌, ◌-◌, ◌^◌, List, slice_get}
+--     Shows bs t f x         the token f shows that the entry of t holds x, in the table of the buckets bs
+--     IsOf bs t f            the token f shows some value there
+--     WalksOn n v m          a step of a walk from number n leads to number m, and yields the value v or ends
+use Rattle.std.specs.Prelude.{◌≡◌, ℕ, ◌+◌, ◌-◌, ◌^◌, ◌<◌, ◌≤◌, List, slice_get, IfSome, IfNone}
 use Rattle.std.specs.declared.option.Option.{Option}
 use Rattle.std.specs.declared.option.Option.TheVariants.{Some}
 use Rattle.std.specs.declared.alloc.Global.{Global}
 use Rattle.std.specs.declared.vec.Vec.{Vec}
 use Rattle.once_cell.specs.declared.race.note.Note.{Note}
+use Rattle.seize_table.specs.declared.thread_id.Thread.{Thread}
 use Rattle.seize_table.specs.declared.tls.filled.Filled.{Filled}
 
 abbrev pub number_at : ℕ → ℕ → ℕ
@@ -27,15 +29,23 @@ IsBucket buckets bucket name = (cell : Cell) × (slice_get buckets bucket ≡ So
 abbrev pub IsCell : Note Row → ℕ → Cell → Type 0
 IsCell note entry cell = (row : Row) × (note.known ≡ Some row) × (slice_get row.items entry ≡ Some cell)
 
-pub record Shows {T : Type 0} (buckets : List Cell) (bucket entry : ℕ) (filled : Filled T) (value : T) : Type 0 where
-  pub bucket_is : IsBucket buckets bucket filled.row.cell
-  pub entry_is : (cell : Cell) × IsCell filled.row entry cell × (filled.item.cell ≡ cell.1)
+pub record Shows {T : Type 0} (buckets : List Cell) (thread : Thread) (filled : Filled T) (value : T) : Type 0 where
+  pub bucket_is : IsBucket buckets thread.bucket filled.row.cell
+  pub entry_is : (cell : Cell) × IsCell filled.row thread.entry cell × (filled.item.cell ≡ cell.1)
   pub value_is : filled.item.known ≡ Some (Some value)
 
 -- the token is of that entry
-abbrev pub IsOf : {T : Type 0} → List Cell → ℕ → ℕ → Filled T → Type 0
-IsOf {T} buckets bucket entry filled = (value : T) × Shows buckets bucket entry filled value
+abbrev pub IsOf : {T : Type 0} → List Cell → Thread → Filled T → Type 0
+IsOf {T} buckets thread filled = (value : T) × Shows buckets thread filled value
 
 -- the note shows that entry e of the row holds x
 abbrev pub HasCell : {T : Type 0} → List Cell → ℕ → Note (Option T) → T → Type 0
-HasCell items entry note value = (cell : Cell) × (slice_get items entry ≡ Some cell) × (note.cell ≡ cell.1) × (note.known ≡ Some (Some value))
+HasCell items entry note value =
+    (cell : Cell) × (slice_get items entry ≡ Some cell) × (note.cell ≡ cell.1) × (note.known ≡ Some (Some value))
+
+-- A walk by number that comes to `before` next comes to `after` next: it passed the value that it yields, or all numbers.
+abbrev pub WalksOn : {X : Type 0} → ℕ → Option X → ℕ → Type 0
+WalksOn before item after =
+    (before ≤ after)
+    × IfSome item (λ _. (before < after) × (after ≤ 2 ^ 64 - 32))
+    × IfNone item (after ≡ 2 ^ 64 - 32)

@@ -128,9 +128,13 @@ impl Numbers {
 
     /// Takes the least number that is not in use.
     ///
-    /// `NoNumbers` where all the numbers from 0 to `MAX_INDEX` are in use, and `NoMemory` where the room for the numbers made
-    /// could not grow; neither changes anything. Its cost grows with the logarithm of how many numbers are free, and at times,
-    /// where none is free, it moves the room, which takes 8 bytes for each number ever made.
+    /// Its cost grows with the logarithm of how many numbers are free, and at times, where none is free, it moves the room, which
+    /// takes 8 bytes for each number ever made.
+    ///
+    /// # Errors
+    ///
+    /// `NoNumbers` where all the numbers from 0 to `MAX_INDEX` are in use, and only then; `NoMemory` where the room for the numbers
+    /// made could not grow. After either the same numbers are in use.
     pub fn take(&mut self) -> Result<usize, Refusal>
         ensures least { IfOk result (λ n. Least self.old n) }
         ensures in_table { IfOk result (λ n. n ≤ MAX_INDEX) }

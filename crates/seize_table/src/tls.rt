@@ -3,20 +3,20 @@
 ghost use Rattle.std.specs.Prelude.{◌≡◌, ◌↔◌, ◌<◌, ◌≤◌, Err, length, IfOk, IfErr, IfSome, IsOkAnd, IsNone, Some, ◌⊎◌};
 ghost use Rattle.seize_table.specs.declared.tls.filled.Filled.{Filled as Token};
 ghost use Rattle.std.specs.Option.{ForSome};
-ghost use Rattle.seize_table.specs.Table.{IsBucket, IsCell, IsOf, Shows, number_at};
+ghost use Rattle.seize_table.specs.Table.{IsBucket, IsCell, IsOf, Shows};
 ghost use Rattle.seize_table.specs.declared.refusal.Refusal.TheVariants.{NoMemory, NoNumbers};
 
+mod cells;
 mod filled;
 mod iter;
-mod room;
 
 use crate::Refusal;
 use crate::thread_id::{BUCKETS, MAX_INDEX, Thread};
+use cells::{Cell, Row};
 pub use filled::{Filled, Loaded};
 pub use iter::Iter;
 use iter::first_filled;
 use once_cell::race::{Note, OnceBox};
-use room::{Cell, Row};
 use std::alloc::Global;
 use std::array;
 
@@ -29,10 +29,15 @@ pub struct ThreadLocal<T> {
 }
 
 impl<T: Drop> ThreadLocal<T> {
+    ghost use Rattle.seize_table.specs.Named.{cells_of, stands_at, table_of};
+
     /// A table with the buckets of the numbers from 0 to `capacity`, and no entry filled. Further buckets are made as they are
     /// needed, and the memory is given back when the table ends.
     ///
-    /// `NoNumbers` where `capacity` is above `MAX_INDEX`; `NoMemory` where a growth was refused, and then nothing is kept.
+    /// # Errors
+    ///
+    /// `NoNumbers` where `capacity` is above `MAX_INDEX`, and only then; `NoMemory` where a growth was refused. After either nothing is
+    /// kept.
     pub fn with_capacity(alloc: Global, capacity: usize) -> Result<ThreadLocal<T>, Refusal>
         ensures refusals { IfErr result (λ e. (e ≡ NoNumbers) ⊎ (e ≡ NoMemory)) }
         ensures no_numbers { (result ≡ Err NoNumbers) ↔ (MAX_INDEX < capacity) }
@@ -63,8 +68,8 @@ impl<T: Drop> ThreadLocal<T> {
 
     /// The filled entries' values, by bucket and then by entry. It takes no memory.
     pub fn iter(&self) -> Iter<'_, T>
-        ensures table { result.table.now ≡ self.now }
-        ensures start { number_at result.bucket result.entry ≡ 0 }
+        ensures table { (table_of result).now ≡ self.now }
+        ensures start { stands_at result ≡ 0 }
     {
         Iter::new(self)
     }
@@ -73,7 +78,7 @@ impl<T: Drop> ThreadLocal<T> {
     fn first_from(&self, bucket: usize, from: usize) -> Option<(Thread, Loaded<'_, T>)>
         requires { bucket < BUCKETS }
         ensures place { IfSome result (λ found. (found.0.bucket ≡ bucket) × (from ≤ found.0.entry)) }
-        ensures shown { IfSome result (λ found. Shows self.now.buckets found.0.bucket found.0.entry found.1.filled found.1.value.now) }
+        ensures shown { IfSome result (λ found. Shows (cells_of self.now) found.0 found.1.filled found.1.value.now) }
     {
         let mut row = self.buckets[bucket].note();
         let cells = self.buckets[bucket].get_as(&mut row)?;
@@ -86,20 +91,20 @@ impl<T: Drop> ThreadLocal<T> {
     // The bucket, which is made where it isn't yet. A bucket that another thread makes first is kept in place of this one.
     fn row<'a>(&'a self, bucket: usize, note: &mut Note<Row<T>>) -> Result<&'a Row<T>, Refusal>
         requires bucket { bucket < BUCKETS }
-        requires cell { IsBucket self.now.buckets bucket note.old.cell }
+        requires cell { IsBucket (cells_of self.now) bucket note.old.cell }
         ensures cell { note.new.cell ≡ note.old.cell }
         ensures known { IfOk result (λ row. note.new.known ≡ Some row.now) }
         ensures refusal { IfErr result (λ e. e ≡ NoMemory) }
     {
         let alloc = self.alloc;
         let capacity = Thread::bucket_capacity(bucket);
-        Ok(self.buckets[bucket].get_or_try_init_as(move || room::row(alloc, capacity), note)?)
+        Ok(self.buckets[bucket].get_or_try_init_as(move || cells::row(alloc, capacity), note)?)
     }
 
     // The entry's cell, in its bucket, which is made where it isn't yet. A bucket is made with a cell for each of its entries,
     // so the refusal below is only that of memory: the bucket's own cell does not say how many entries the bucket has.
     fn cell<'a>(&'a self, thread: Thread, note: &mut Note<Row<T>>) -> Result<&'a Cell<T>, Refusal>
-        requires { IsBucket self.now.buckets thread.bucket note.old.cell }
+        requires { IsBucket (cells_of self.now) thread.bucket note.old.cell }
         ensures bucket { note.new.cell ≡ note.old.cell }
         ensures cell { IfOk result (λ cell. IsCell note.new thread.entry cell.now) }
         ensures refusal { IfErr result (λ e. e ≡ NoMemory) }
@@ -116,14 +121,14 @@ impl<T: Drop> ThreadLocal<T> {
     where
         F: Drop,
         requires { F.pre create }
-        ensures shown { IfOk result (λ found. Shows self.now.buckets thread.bucket thread.entry found.filled found.value.now) }
+        ensures shown { IfOk result (λ found. Shows (cells_of self.now) thread found.filled found.value.now) }
         ensures refusal { IfErr result (λ e. e ≡ NoMemory) }
     {
         let alloc = self.alloc;
         let mut row = self.buckets[thread.bucket].note();
         let cell = self.cell(thread, &mut row)?;
         let mut item = cell.note();
-        let Ok(entry) = cell.get_or_try_init_as(move || room::filled(alloc, create), &mut item)
+        let Ok(entry) = cell.get_or_try_init_as(move || cells::filled(alloc, create), &mut item)
         else {
             return Err(Refusal::NoMemory);
         };
@@ -139,7 +144,7 @@ impl<T: Drop> ThreadLocal<T> {
     /// The entry's value, if it is filled, with the token that shows it from then on. It takes no memory and changes nothing:
     /// three loads, of which two depend on one before them, and no atomic write.
     pub fn try_load(&self, thread: Thread) -> Option<Loaded<'_, T>>
-        ensures { IfSome result (λ found. Shows self.now.buckets thread.bucket thread.entry found.filled found.value.now) }
+        ensures { IfSome result (λ found. Shows (cells_of self.now) thread found.filled found.value.now) }
     {
         let mut row = self.buckets[thread.bucket].note();
         let cell = self.buckets[thread.bucket]
@@ -155,13 +160,17 @@ impl<T: Drop> ThreadLocal<T> {
     /// The entry's value. Where the entry isn't filled, it is filled with what `create` answers; where another thread fills it
     /// first, that thread's value stays, this one's is ended, and both calls answer the value that stays.
     ///
-    /// `NoMemory` where a growth was refused; then no entry is filled, and `create` was not called. The bucket of the entry and
-    /// the entry's own memory are made here, where they aren't yet, before `create` is called, and stay until the table ends.
+    /// The bucket of the entry and the entry's own memory are made here, where they aren't yet, before `create` is called, and stay
+    /// until the table ends.
+    ///
+    /// # Errors
+    ///
+    /// `NoMemory` where a growth was refused; then no entry is filled, and `create` was not called. A bucket that was made stays.
     pub fn load_or<F: Fn() -> T>(&self, create: F, thread: Thread) -> Result<Loaded<'_, T>, Refusal>
     where
         F: Drop,
         requires { F.IsAlwaysCallable create }
-        ensures shown { IfOk result (λ found. Shows self.now.buckets thread.bucket thread.entry found.filled found.value.now) }
+        ensures shown { IfOk result (λ found. Shows (cells_of self.now) thread found.filled found.value.now) }
         ensures refusal { IfErr result (λ e. e ≡ NoMemory) }
     {
         self.fill(create, thread)
@@ -169,6 +178,10 @@ impl<T: Drop> ThreadLocal<T> {
 
     /// As `load_or`, for a caller that may have seen the entry filled and then kept the token. With a token `create` isn't
     /// called, and need not be callable, and the answer is the value that was seen.
+    ///
+    /// # Errors
+    ///
+    /// As `load_or`, where there is no token. With one it takes no memory, and does not fail.
     pub fn load_seen<F: Fn() -> T>(
         &self,
         create: F,
@@ -178,9 +191,10 @@ impl<T: Drop> ThreadLocal<T> {
     where
         F: Drop,
         requires callable { IsNone seen → F.IsAlwaysCallable create }
-        requires of_entry { ForSome seen (IsOf self.now.buckets thread.bucket thread.entry) }
-        ensures shown { IfOk result (λ found. Shows self.now.buckets thread.bucket thread.entry found.filled found.value.now) }
-        ensures kept { (f : Token T) (x : T) → seen ≡ Some f → Shows self.now.buckets thread.bucket thread.entry f x → IsOkAnd result (λ found. found.value.now ≡ x) }
+        requires of_entry { ForSome seen (IsOf (cells_of self.now) thread) }
+        ensures shown { IfOk result (λ found. Shows (cells_of self.now) thread found.filled found.value.now) }
+        ensures kept { (f : Token T) (x : T) → seen ≡ Some f → Shows (cells_of self.now) thread f x
+            → IsOkAnd result (λ found. found.value.now ≡ x) }
         ensures refusal { IfErr result (λ e. e ≡ NoMemory) }
     {
         match seen {
@@ -194,9 +208,9 @@ impl<T: Drop> ThreadLocal<T> {
 
     /// The value of an entry that was seen filled. It takes no memory and changes nothing.
     pub fn value<'a>(&'a self, thread: Thread, filled: &mut Filled<T>) -> &'a T
-        requires { IsOf self.now.buckets thread.bucket thread.entry filled.old }
-        ensures value { Shows self.now.buckets thread.bucket thread.entry filled.new result.now }
-        ensures same { (x : T) → Shows self.now.buckets thread.bucket thread.entry filled.old x → result.now ≡ x }
+        requires { IsOf (cells_of self.now) thread filled.old }
+        ensures value { Shows (cells_of self.now) thread filled.new result.now }
+        ensures same { (x : T) → Shows (cells_of self.now) thread filled.old x → result.now ≡ x }
     {
         let Some(row) = self.buckets[thread.bucket].get_as(&mut filled.row) else {
             unreachable!()
@@ -209,9 +223,9 @@ impl<T: Drop> ThreadLocal<T> {
 
     /// Two tokens of one entry show one value. It does nothing else.
     pub fn agree(&self, thread: Thread, one: &mut Filled<T>, other: Filled<T>)
-        requires one { IsOf self.now.buckets thread.bucket thread.entry one.old }
-        requires other { IsOf self.now.buckets thread.bucket thread.entry other }
-        ensures { (x y : T) → Shows self.now.buckets thread.bucket thread.entry one.old x → Shows self.now.buckets thread.bucket thread.entry other y → x ≡ y }
+        requires one { IsOf (cells_of self.now) thread one.old }
+        requires other { IsOf (cells_of self.now) thread other }
+        ensures { (x y : T) → Shows (cells_of self.now) thread one.old x → Shows (cells_of self.now) thread other y → x ≡ y }
     {
         let Filled { row, item } = other;
         one.row.compare(row);
@@ -220,9 +234,15 @@ impl<T: Drop> ThreadLocal<T> {
 }
 
 impl<T: Drop + Default> ThreadLocal<T> {
+    ghost use Rattle.seize_table.specs.Named.{cells_of};
+
     /// As `load_or`, with the default value of `T`, which is made only where the entry isn't filled and its memory is there.
+    ///
+    /// # Errors
+    ///
+    /// As `load_or`: `NoMemory` where a growth was refused; then no entry is filled, and no default was made.
     pub fn load(&self, thread: Thread) -> Result<Loaded<'_, T>, Refusal>
-        ensures shown { IfOk result (λ found. Shows self.now.buckets thread.bucket thread.entry found.filled found.value.now) }
+        ensures shown { IfOk result (λ found. Shows (cells_of self.now) thread found.filled found.value.now) }
         ensures refusal { IfErr result (λ e. e ≡ NoMemory) }
     {
         self.load_or(|| T::default(), thread)

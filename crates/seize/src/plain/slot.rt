@@ -4,6 +4,7 @@ ghost use Rattle.seize_model.specs.Waiting.State.{is_active as active, keeps as 
 ghost use Rattle.seize_model.specs.Waiting.Attempt.{wait_if_active};
 ghost use Rattle.seize_model.specs.Waiting.Calls as calls;
 
+use crate::plain::retired::Retired;
 use seize_model::Kind;
 use std::alloc::{AllocError, Global};
 use std::collections::VecDeque;
@@ -11,14 +12,14 @@ use std::marker::Model;
 use std::mem;
 
 #[derive(Drop)]
-pub(crate) struct Slot<T, R> {
+pub(crate) struct Slot<T: Drop, R: Copy> {
     kind: Kind,
     guards: u64,
-    batch: Vec<(T, R)>,
+    batch: Vec<Retired<T, R>>,
     order: VecDeque<usize>,
 }
 
-impl<T, R> Model for Slot<T, R> {
+impl<T: Drop, R: Copy> Model for Slot<T, R> {
     ghost use Rattle.seize_model.specs.Waiting.State as state;
 
     ghost Value = { state.Slot T R };
@@ -95,16 +96,16 @@ impl<T: Drop, R: Copy> Slot<T, R> {
     }
 
     /// Appends a value to its batch.
-    pub(crate) fn push(&mut self, value: T, reclaim: R) -> Result<(), AllocError>
-        ensures done { IfOk result (λ _. self.new ≡ record self.old { batch = self.old.batch ++ (value, reclaim) ∷ [] }) }
+    pub(crate) fn push(&mut self, value: Retired<T, R>) -> Result<(), AllocError>
+        ensures done { IfOk result (λ _. self.new ≡ record self.old { batch = self.old.batch ++ value ∷ [] }) }
         ensures kind { self.new.kind ≡ self.old.kind }
     {
-        self.batch.push((value, reclaim))?;
+        self.batch.push(value)?;
         Ok(())
     }
 
     /// Takes its batch out.
-    pub(crate) fn take_batch(&mut self, alloc: Global) -> Vec<(T, R)>
+    pub(crate) fn take_batch(&mut self, alloc: Global) -> Vec<Retired<T, R>>
         ensures batch { result.items ≡ self.old.batch }
         ensures rest { self.new ≡ calls.without_batch self.old }
     {

@@ -1,7 +1,6 @@
 //! The ready reclaimers.
 
-use crate::block::{Further, Weigh};
-use crate::reclaim::{Reclaim, boxed, in_place};
+use crate::reclaim::{Further, Reclaim, Weigh, boxed, in_place};
 
 /// The reclaimer that ends the value by [`boxed`].
 #[derive(Clone, Copy, Debug, PartialEq, Eq)]
@@ -14,7 +13,7 @@ impl<T: Weigh + Drop> Reclaim<T> for Boxed {
 
     ghost lighter = { λ _ value. T.at_least_one value };
 
-    fn reclaim(self, value: T, further: &mut Further<T, Boxed>) {
+    fn reclaim(self, value: T, further: &mut Further<T>) {
         boxed(value, further);
     }
 }
@@ -30,7 +29,7 @@ impl<T: Weigh + Drop> Reclaim<T> for InPlace {
 
     ghost lighter = { λ _ value. T.at_least_one value };
 
-    fn reclaim(self, value: T, further: &mut Further<T, InPlace>) {
+    fn reclaim(self, value: T, further: &mut Further<T>) {
         in_place(value, further);
     }
 }

@@ -132,23 +132,23 @@ inserts_on size base s b won n batch queue pre (Active w ∷ hs) e h =
     (inserts_on size base s b (won + 1) (n + 1) batch queue (pre ++ Active (b ∷ w) ∷ []) hs (omega arith) h))))
 
 -- the state once the batch waits for all active slots
-abbrev pub waited : State → List ℕ → State
-waited base batch =
+abbrev pub with_waiting : State → List ℕ → State
+with_waiting base batch =
     let won = length (actives 0 base.heads) in
     record base {
       heads = map (with_front (length base.batches)) base.heads;
       batches = base.batches ++ record { values = if won == 0 then [] else batch; count = pos won } ∷ [];
     }
 
-abbrev pub waited_place : State → List ℕ → Place
-waited_place base batch = Rest (if length (actives 0 base.heads) == 0 then batch else []) []
+abbrev pub place_with_waiting : State → List ℕ → Place
+place_with_waiting base batch = Rest (if length (actives 0 base.heads) == 0 then batch else []) []
 
 plus_none : (n : ℕ) → pos 0 +ℤ pos n ≡ pos n
 plus_none n = let e : 0 + n ≡ n = omega arith in ap (λ (k : ℕ). pos k) e
 
 pub attempts_on : (size : ℕ) (base : State) (s : ℕ) (batch queue : List ℕ) → s < length base.slots → length base.heads ≡ length base.slots
     → length (actives 0 base.heads) ≤ length batch
-    → Path size s (busy base s batch (Mark 0 (length base.slots) []) queue) (busy (waited base batch) s [] (waited_place base batch) queue)
+    → Path size s (busy base s batch (Mark 0 (length base.slots) []) queue) (busy (with_waiting base batch) s [] (place_with_waiting base batch) queue)
 attempts_on size base s batch queue h all le =
     let b : ℕ = length base.batches in
     let won : ℕ = length (actives 0 base.heads) in
@@ -160,9 +160,9 @@ attempts_on size base s batch queue h all le =
     let total : 0 + won ≡ won = omega arith in
     let own : batch_at (with_batch base batch) b ≡ fresh = get_or-append_seam base.batches fresh [] no_batch in
     let adds : (batch_at (with_batch base batch) b).count +ℤ pos (0 + won) ≡ pos won = ap (λ (x : Batch). x.count +ℤ pos (0 + won)) own ∙ ap (λ (k : ℕ). pos 0 +ℤ pos k) total ∙ plus_none won in
-    let ends : busy (with_count (with_heads (with_batch base batch) (map (with_front b) base.heads)) b (pos won)) s [] (counted_place (with_batch base batch) b (pos won) []) queue ≡ busy (waited base batch) s [] (waited_place base batch) queue
+    let ends : busy (with_count (with_heads (with_batch base batch) (map (with_front b) base.heads)) b (pos won)) s [] (counted_place (with_batch base batch) b (pos won) []) queue ≡ busy (with_waiting base batch) s [] (place_with_waiting base batch) queue
     = ap (λ (x : Batch). busy (record (with_heads (with_batch base batch) (map (with_front b) base.heads)) { batches = set (base.batches ++ fresh ∷ []) b (record { values = if won == 0 then [] else x.values; count = pos won }) }) s [] (Rest (if won == 0 then x.values else []) []) queue) own
-    ∙ ap (λ (l : List Batch). busy (record (with_heads (with_batch base batch) (map (with_front b) base.heads)) { batches = l }) s [] (waited_place base batch) queue) (set_seam base.batches fresh (record { values = if won == 0 then [] else batch; count = pos won }) []) in
+    ∙ ap (λ (l : List Batch). busy (record (with_heads (with_batch base batch) (map (with_front b) base.heads)) { batches = l }) s [] (place_with_waiting base batch) queue) (set_seam base.batches fresh (record { values = if won == 0 then [] else batch; count = pos won }) []) in
     and_then size s _ _ _ marking
     (Path.goes _ (Detach s) _ _ _ (detach_step size base s (length base.slots) (length base.slots) batch (actives 0 base.heads) queue h (omega arith)) refl (refl, refl, refl)
     (only_detach size base s (length base.slots) (length base.slots) batch (actives 0 base.heads) queue h (omega arith))

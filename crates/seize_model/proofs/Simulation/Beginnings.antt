@@ -18,59 +18,63 @@ use Rattle.seize_model.specs.Waiting.Calls.{unless, is_free}
 use Rattle.seize_model.specs.Waiting.Lists.{Call, Reply, Refused, Effect, reply}
 use Rattle.seize_model.specs.Waiting.Lists as calls
 use Rattle.seize_model.specs.Agreement.Shows.{Shows, ShowsReclaimers, head_of}
-use Rattle.seize_model.specs.Agreement.Play.{play, played}
+use Rattle.seize_model.specs.Agreement.Play.{play, with_answer}
 use Rattle.seize_model.specs.Agreement.Events.{IsJob, MakesFor, IsNamed, NamesOwn, ArePutBy}
 use Rattle.seize_model.specs.Agreement.Statement.{IsReply, IsOutcome, EachList}
 use Rattle.seize_model.proofs.Simulation.Views.{with_reclaimers, shows_with, stand_of}
 use Rattle.seize_model.proofs.Simulation.Runs.{Leads, Returns, to_return, ArePutFor, put_none}
 use Rattle.seize_model.proofs.Simulation.Lists.{Left, left_returns}
-use Rattle.seize_model.proofs.Simulation.Events.{busy, rested, if_yes, there, twice, return_step}
+use Rattle.seize_model.proofs.Simulation.Events.{busy, at_rest, if_yes, there, twice, return_step}
 use Rattle.seize_model.proofs.Simulation.Coupling.{Near, NearAt, Denote, CoupledSlot, Naming}
 use Rattle.seize_model.proofs.Simulation.Queues.{Ends}
 use Rattle.seize_model.proofs.Cases.{in_or_past}
 use Rattle.seize_model.proofs.Simulation.Plays.{First, first_of, both_same, play_none, play_first, handed_first}
 use Rattle.seize_machine.specs.Machine.History.{handed_value, handed}
 
-pub begin_flush : (size : ℕ) (base : State) (s : ℕ) (batch : List ℕ) → s < length base.slots → is_active (head_at base s) ≡ true
-    → next size (rested base s batch) (Begin s Flush) ≡ Some (busy base s batch (if is_empty batch then Rest [] [] else Mark 0 (length base.slots) []) [], Done)
-begin_flush size base s batch h active =
-    let st : State = rested base s batch in
-    ap (λ (slot : Slot). if is_idle slot && is_active (head_at base s) then Some (set_slot st s (record slot { call = Some (record { place = if is_empty slot.batch then Rest [] [] else Mark 0 (length st.slots) []; queue = [] }) }), Done) else None) (there base s (record { used = true; batch = batch; call = None }) h)
-    ∙ if_yes _ _ _ active
-    ∙ ap (λ (n : ℕ). Some (set_slot st s (record { used = true; batch = batch; call = Some (record { place = if is_empty batch then Rest [] [] else Mark 0 n []; queue = [] }) }), Done)) (length-set base.slots s (record { used = true; batch = batch; call = None }))
+-- an event of a slot that is in use and between calls, where a test allows it, changes the slot
+change_at_rest : (base : State) (s : ℕ) (batch : List ℕ) (test : Bool) (change : Slot → Slot) → s < length base.slots → test ≡ true
+    → (let o : Option (State × Answer) = if is_idle (machine.slot_at (at_rest base s batch) s) && test
+    then Some (set_slot (at_rest base s batch) s (change (machine.slot_at (at_rest base s batch) s)), Done)
+    else None in o ≡ Some (set_slot base s (change (record { used = true; batch = batch; call = None })), Done))
+change_at_rest base s batch test change h passes =
+    ap {B = Option (State × Answer)} (λ (slot : Slot). if is_idle slot && test then Some (set_slot (at_rest base s batch) s (change slot), Done) else None)
+    (there base s (record { used = true; batch = batch; call = None }) h)
+    ∙ if_yes _ _ _ passes
     ∙ ap (λ (k : State). Some (k, Done)) (twice base s _ _)
+
+pub begin_flush : (size : ℕ) (base : State) (s : ℕ) (batch : List ℕ) → s < length base.slots → is_active (head_at base s) ≡ true
+    → next size (at_rest base s batch) (Begin s Flush)
+    ≡ Some (busy base s batch (if is_empty batch then Rest [] [] else Mark 0 (length base.slots) []) [], Done)
+begin_flush size base s batch h active =
+    change_at_rest base s batch (is_active (head_at base s))
+    (λ (slot : Slot). record slot { call = Some (record { place = if is_empty slot.batch then Rest [] [] else Mark 0 (length (at_rest base s batch).slots) []; queue = [] }) }) h active
+    ∙ ap (λ (n : ℕ). Some (busy base s batch (if is_empty batch then Rest [] [] else Mark 0 n []) [], Done))
+    (length-set base.slots s (record { used = true; batch = batch; call = None }))
 
 pub begin_leave : (size : ℕ) (base : State) (s : ℕ) (batch : List ℕ) → s < length base.slots → is_active (head_at base s) ≡ true
-    → next size (rested base s batch) (Begin s Leave) ≡ Some (busy base s batch (Out false) [], Done)
+    → next size (at_rest base s batch) (Begin s Leave) ≡ Some (busy base s batch (Out false) [], Done)
 begin_leave size base s batch h active =
-    let st : State = rested base s batch in
-    ap (λ (slot : Slot). if is_idle slot && is_active (head_at base s) then Some (set_slot st s (record slot { call = Some (record { place = Out false; queue = [] }) }), Done) else None) (there base s (record { used = true; batch = batch; call = None }) h)
-    ∙ if_yes _ _ _ active
-    ∙ ap (λ (k : State). Some (k, Done)) (twice base s _ _)
+    change_at_rest base s batch (is_active (head_at base s))
+    (λ (slot : Slot). record slot { call = Some (record { place = Out false; queue = [] }) }) h active
 
 pub begin_refresh : (size : ℕ) (base : State) (s : ℕ) (batch : List ℕ) → s < length base.slots → is_active (head_at base s) ≡ true
-    → next size (rested base s batch) (Begin s Refresh) ≡ Some (busy base s batch (Out true) [], Done)
+    → next size (at_rest base s batch) (Begin s Refresh) ≡ Some (busy base s batch (Out true) [], Done)
 begin_refresh size base s batch h active =
-    let st : State = rested base s batch in
-    ap (λ (slot : Slot). if is_idle slot && is_active (head_at base s) then Some (set_slot st s (record slot { call = Some (record { place = Out true; queue = [] }) }), Done) else None) (there base s (record { used = true; batch = batch; call = None }) h)
-    ∙ if_yes _ _ _ active
-    ∙ ap (λ (k : State). Some (k, Done)) (twice base s _ _)
+    change_at_rest base s batch (is_active (head_at base s))
+    (λ (slot : Slot). record slot { call = Some (record { place = Out true; queue = [] }) }) h active
 
-pub begin_retire : (size : ℕ) (base : State) (s v : ℕ) (batch : List ℕ) → s < length base.slots → (not (has v base.named) || has v base.loose) ≡ true
-    → next size (rested base s batch) (Begin s (Retire v)) ≡ Some (busy (retiring base v) s batch (Append v) [], Done)
+pub begin_retire : (size : ℕ) (base : State) (s v : ℕ) (batch : List ℕ) → s < length base.slots
+    → (not (has v base.named) || has v base.loose) ≡ true
+    → next size (at_rest base s batch) (Begin s (Retire v)) ≡ Some (busy (retiring base v) s batch (Append v) [], Done)
 begin_retire size base s v batch h free =
-    let st : State = rested base s batch in
-    ap (λ (slot : Slot). if is_idle slot && (not (has v base.named) || has v base.loose) then Some (set_slot (retiring st v) s (record slot { call = Some (record { place = Append v; queue = [] }) }), Done) else None) (there base s (record { used = true; batch = batch; call = None }) h)
-    ∙ if_yes _ _ _ free
-    ∙ ap (λ (k : State). Some (k, Done)) (twice (retiring base v) s _ _)
+    change_at_rest (retiring base v) s batch (not (has v base.named) || has v base.loose)
+    (λ (slot : Slot). record slot { call = Some (record { place = Append v; queue = [] }) }) h free
 
 pub give_step : (size : ℕ) (base : State) (s : ℕ) (batch : List ℕ) → s < length base.slots → is_active (head_at base s) ≡ false
-    → next size (rested base s batch) (Give s) ≡ Some (set_slot base s (record { used = false; batch = batch; call = None }), Done)
+    → next size (at_rest base s batch) (Give s) ≡ Some (set_slot base s (record { used = false; batch = batch; call = None }), Done)
 give_step size base s batch h inactive =
-    let st : State = rested base s batch in
-    ap (λ (slot : Slot). if is_idle slot && not (is_active (head_at base s)) then Some (set_slot st s (record slot { used = false }), Done) else None) (there base s (record { used = true; batch = batch; call = None }) h)
-    ∙ if_yes _ _ _ (ap (λ (t : Bool). not t) inactive)
-    ∙ ap (λ (k : State). Some (k, Done)) (twice base s _ _)
+    change_at_rest base s batch (not (is_active (head_at base s))) (λ (slot : Slot). record slot { used = false }) h
+    (ap (λ (t : Bool). not t) inactive)
 
 -- A slot in use between calls.
 
@@ -84,8 +88,8 @@ in_use {T} {R} st s used = go (in_or_past s (length st.slots))
 pub in_machine : {T R X : Type 0} (of : Naming T R X) (st : waiting.State T R) (ms : State) (s : ℕ) → NearAt of [] st ms → s < length st.slots → s < length ms.slots
 in_machine of st ms s n h = rw n.as_many h
 
-pub is_rested : {T R X : Type 0} (of : Naming T R X) (st : waiting.State T R) (ms : State) (s : ℕ) → NearAt of [] st ms → is_free (slot_at st s).kind ≡ false → ms ≡ rested ms s (machine.slot_at ms s).batch
-is_rested {T} {R} of st ms s n used =
+pub is_at_rest : {T R X : Type 0} (of : Naming T R X) (st : waiting.State T R) (ms : State) (s : ℕ) → NearAt of [] st ms → is_free (slot_at st s).kind ≡ false → ms ≡ at_rest ms s (machine.slot_at ms s).batch
+is_at_rest {T} {R} of st ms s n used =
     let slot : Slot = machine.slot_at ms s in
     let shown : CoupledSlot of (slot_at st s) (machine.slot_at ms s) = n.slot s in
     let yes_used : (machine.slot_at ms s).used ≡ true = shown.used ∙ ap (λ (t : Bool). not t) used in
@@ -94,8 +98,8 @@ is_rested {T} {R} of st ms s n used =
     ∙ ap (λ (c : Option machine.Call). record { used = true; batch = (machine.slot_at ms s).batch; call = c }) shown.idle in
     sym (ap (λ (l : List Slot). record ms { slots = l }) (set-get_or ms.slots s no_slot)) ∙ ap (λ (x : Slot). set_slot ms s x) same
 
-pub near_rested : {T R X : Type 0} (of : Naming T R X) (st : waiting.State T R) (ms : State) (s : ℕ) → NearAt of [] st ms → is_free (slot_at st s).kind ≡ false → NearAt of [] st (rested ms s (machine.slot_at ms s).batch)
-near_rested of st ms s n used = subst (λ (k : State). NearAt of [] st k) (is_rested of st ms s n used) n
+pub near_at_rest : {T R X : Type 0} (of : Naming T R X) (st : waiting.State T R) (ms : State) (s : ℕ) → NearAt of [] st ms → is_free (slot_at st s).kind ≡ false → NearAt of [] st (at_rest ms s (machine.slot_at ms s).batch)
+near_at_rest of st ms s n used = subst (λ (k : State). NearAt of [] st k) (is_at_rest of st ms s n used) n
 
 pub head_is : {T R X : Type 0} (of : Naming T R X) (st : waiting.State T R) (slots : List Slot) (heads : List Head) (batches : List machine.Batch) (links : List (Option ℕ)) (walk : List ℕ) (s : ℕ) → Near of walk st slots heads batches links → get_or heads s Inactive ≡ head_of (slot_at st s)
 head_is of st slots heads batches links walk s n = ap (λ (l : List Head). get_or l s Inactive) n.heads_are ∙ get_or-map head_of st.slots s waiting.no_slot
@@ -113,8 +117,8 @@ head_active {T} {R} slot = go (waiting.is_active slot)
 pub record JobEnds {T R X : Type 0} (of : Naming T R X) (s guards : ℕ) (o : Outcome T R) (later : State) (answers : List Answer) : Type 0 where
   pub base : State
   pub batch : List ℕ
-  pub is : later ≡ rested base s batch
-  pub near : NearAt of [] o.0 (rested base s batch)
+  pub is : later ≡ at_rest base s batch
+  pub near : NearAt of [] o.0 (at_rest base s batch)
   pub gone : Denote of (handed answers) o.1
   pub within : s < length base.slots
   pub same_guards : (slot_at o.0 s).guards ≡ guards
@@ -132,13 +136,13 @@ pub record JobRun {T R X : Type 0} (puts : R → T → List T) (of : Naming T R 
 pub job_run : {T R X : Type 0} (puts : R → T → List T) (of : Naming T R X) (size s guards : ℕ) (j : Job) (before start : State) (o : Outcome T R) → next size before (Begin s j) ≡ Some (start, Done)
     → Ends of (λ st hs. Leads puts of size s start hs st) size s guards [] o → JobRun puts of size s guards j before o
 job_run puts of size s guards j before start o begin ends =
-    let run : Returns puts of size s start ends.handed (rested ends.base s ends.batch) = to_return puts of size s start ends.handed _ (rested ends.base s ends.batch) (return_step size ends.base s ends.batch ends.within) ends.comes in
+    let run : Returns puts of size s start ends.handed (at_rest ends.base s ends.batch) = to_return puts of size s start ends.handed _ (at_rest ends.base s ends.batch) (return_step size ends.base s ends.batch ends.within) ends.comes in
     record {
       events = Begin s j ∷ run.events;
       answers = Done ∷ run.answers;
-      later = rested ends.base s ends.batch;
+      later = at_rest ends.base s ends.batch;
       makes = (run.events, refl, run.own);
-      legal = play_first size before (Begin s j) run.events start Done begin ∙ ap (λ (r : Option (State × List Answer)). played Done r) run.legal;
+      legal = play_first size before (Begin s j) run.events start Done begin ∙ ap (λ (r : Option (State × List Answer)). with_answer Done r) run.legal;
       ends = record {
         base = ends.base;
         batch = ends.batch;
@@ -164,7 +168,7 @@ job_list {T} {R} puts of by size s guards j before start later o events answers 
     let put_all : ArePutBy puts of by (Begin s j ∷ job.0) (first.answer ∷ first.rest) = subst (λ (l : List Answer). ArePutBy puts of by (Begin s j ∷ job.0) l) first.all (subst (λ (l : List Event). ArePutBy puts of by l answers) job.1 put) in
     let ends : Ends (with_reclaimers of by) (Left puts of by size s later (handed answers)) size s guards [] o
     = work (record { events = job.0; answers = first.rest; own = job.2; legal = ap (λ (k : State). play size k job.0) (sym both.0) ∙ first.legal; put = put_all.1; all = sym none }) in
-    let last : (later ≡ rested ends.base s ends.batch) × (ends.handed ≡ handed answers) = left_returns puts of by size s later (handed answers) ends.base ends.batch ends.handed ends.within ends.comes in
+    let last : (later ≡ at_rest ends.base s ends.batch) × (ends.handed ≡ handed answers) = left_returns puts of by size s later (handed answers) ends.base ends.batch ends.handed ends.within ends.comes in
     record {
       base = ends.base;
       batch = ends.batch;
@@ -235,16 +239,9 @@ job_outcome of by call s guards told o events answers later d r =
 
 -- a call without events
 starts_none : {T R X : Type 0} (of : Naming T R X) (call : Call T R) → StartsFor of call []
-starts_none of calls.Register = tt
-starts_none of calls.EnterOwned = tt
-starts_none of (calls.Enter s) = tt
-starts_none of (calls.Leave s) = tt
-starts_none of (calls.End s) = tt
-starts_none of (calls.Refresh s) = tt
-starts_none of (calls.Flush s) = tt
 starts_none of (calls.Retire s v r) = tt
-starts_none of (calls.Protect s l) = tt
 starts_none of (calls.Swap s l new r) = tt
+starts_none of call = tt
 
 pub no_events : {T R X : Type 0} (puts : R → T → List T) (of : Naming T R X) (call : Call T R) (st : waiting.State T R) (before : State) (told : Reply T) (later : waiting.State T R) → NearAt of [] later before → MakesFor told st before call [] → IsReply call [] [] told
     → Run puts of call st before (told, (later, []))

@@ -53,20 +53,12 @@ runs_where puts weight of P lighter names st before (Swap s l new r) link holds 
 -- Runs where numbers stand for what values hold.
 
 held_for : {T R : Type 0} (of : ℕ → T) (before : machine.State) (call : Call T R) → HeldFor (contents of) before call
-held_for of before Register = tt
-held_for of before EnterOwned = tt
-held_for of before (Enter s) = tt
-held_for of before (Leave s) = tt
-held_for of before (End s) = tt
-held_for of before (Refresh s) = tt
-held_for of before (Flush s) = tt
-held_for of before (Retire s v r) = tt
-held_for of before (Protect s l) = tt
 held_for {T} {R} of before (Swap s l new r) = go (machine.link_at before l)
   where
     go : (found : Option ℕ) → links.IsHeldFor {R = R} (contents of) r found
     go None = tt
     go (Some n) = refl
+held_for of before call = tt
 
 pub agrees_where : {T R : Type 0} (puts : R → T → List T) (weight : T → ℕ) (of : ℕ → T) (P : T × R → Type 0) → Lighter puts weight → Names puts (contents of) P → (st : waiting.State T R) (before : machine.State) (call : Call T R) → HasLink st call
     → Holds T R P st → HoldsOwn P st call → Shows T R of st before → IsRun T R of call st before (step puts weight st call)
@@ -85,16 +77,8 @@ agrees_where puts weight of P lighter names st before call link holds own shows 
     }
 
 own_always : {T R : Type 0} (st : waiting.State T R) (call : Call T R) → HoldsOwn Always st call
-own_always st Register = tt
-own_always st EnterOwned = tt
-own_always st (Enter s) = tt
-own_always st (Leave s) = tt
-own_always st (End s) = tt
-own_always st (Refresh s) = tt
-own_always st (Flush s) = tt
-own_always st (Retire s v r) = tt
-own_always st (Protect s l) = tt
 own_always st (Swap s l new r) = (λ v e. tt, λ v e. tt)
+own_always st call = tt
 
 pub agrees : {T R : Type 0} (puts : R → T → List T) (weight : T → ℕ) (of : ℕ → T) → Lighter puts weight → HasNames of → Agreement puts weight of
 agrees {T} {R} puts weight of lighter names st before call link shows =
@@ -125,20 +109,12 @@ puts_with puts of by (e ∷ es) (answer ∷ answers) h = (put_with puts of by e 
 puts_with puts of by events answers h = tt
 
 held_with : {T R : Type 0} (of : ℕ → T) (by : ℕ → R) (before : machine.State) (call : Call T R) → HoldsFor by before call → HeldFor (with_reclaimers of by) before call
-held_with of by before Register h = tt
-held_with of by before EnterOwned h = tt
-held_with of by before (Enter s) h = tt
-held_with of by before (Leave s) h = tt
-held_with of by before (End s) h = tt
-held_with of by before (Refresh s) h = tt
-held_with of by before (Flush s) h = tt
-held_with of by before (Retire s v r) h = tt
-held_with of by before (Protect s l) h = tt
 held_with {T} {R} of by before (Swap s l new r) h = go (machine.link_at before l) h
   where
     go : (found : Option ℕ) → IsHeldFor by r found → links.IsHeldFor (with_reclaimers of by) r found
     go None k = tt
     go (Some n) k = ap (λ (x : R). (of n, x)) k
+held_with of by before call h = tt
 
 pub agrees_with : {T R : Type 0} (puts : R → T → List T) (weight : T → ℕ) (of : ℕ → T) (by : ℕ → R) → Lighter puts weight → HasNamesFor of by → AgreementWith puts weight of by
 agrees_with {T} {R} puts weight of by lighter names st before call link held shows reclaimers =

@@ -8,7 +8,7 @@ use Rattle.seize_machine.specs.Machine.State.{Head, Batch, has, no_batch, are_di
 use Rattle.seize_model.specs.Waiting.State as waiting
 use Rattle.seize_model.specs.Waiting.State.{keeps, retired_at}
 use Rattle.seize_model.specs.Waiting.Calls.{is_free, is_owned}
-use Rattle.seize_model.specs.Agreement.Shows.{held, head_of}
+use Rattle.seize_model.specs.Agreement.Shows.{held_value, head_of}
 use Rattle.seize_machine.proofs.Facts.{one, occ, has_none, has_some, distinct_once}
 use Rattle.seize_model.proofs.Counts.{count_same, count_less}
 use Rattle.seize_model.proofs.Cases.{or_same}
@@ -42,7 +42,7 @@ pub record Near {T R X : Type 0} (of : Naming T R X) (walk : List ℕ) (st : wai
   pub retired : length batches ≡ length st.retired
   pub values : (b : ℕ) → Denote of (get_or batches b no_batch).values (retired_at st b)
   pub counts : (b : ℕ) → (get_or batches b no_batch).count ≡ pos (count_by (keeps b) st.slots + occ b walk)
-  pub links_are : map (held of.link) links ≡ st.links
+  pub links_are : map (held_value of.link) links ≡ st.links
 
 abbrev pub NearAt : {T R X : Type 0} → Naming T R X → List ℕ → waiting.State T R → machine.State → Type 0
 NearAt of walk st ms = Near of walk st ms.slots ms.heads ms.batches ms.links

@@ -43,19 +43,19 @@ value_or d None = d
 value_or d (Some v) = v.0
 
 -- Past the bound a number stands for a value by the second part of its pair; the first part makes it as large as is wanted.
-abbrev pub renamed : {T R : Type 0} → (R → T → List T) → (ℕ → Option (T × R)) → ℕ → (ℕ → T) → ℕ → T
-renamed puts roots bound of n = if nat_lt n bound then of n else value_or (of n) (stage puts roots (pair_of (pair_of n).1).0 (pair_of (pair_of n).1).1)
+abbrev pub new_naming : {T R : Type 0} → (R → T → List T) → (ℕ → Option (T × R)) → ℕ → (ℕ → T) → ℕ → T
+new_naming puts roots bound of n = if nat_lt n bound then of n else value_or (of n) (stage puts roots (pair_of (pair_of n).1).0 (pair_of (pair_of n).1).1)
 
-pub renamed_below : {T R : Type 0} (puts : R → T → List T) (roots : ℕ → Option (T × R)) (bound : ℕ) (of : ℕ → T) → AgreeBelow bound of (renamed puts roots bound of)
-renamed_below puts roots bound of n h = if_yes (nat_lt n bound) _ _ (lt_yes n bound h)
+pub new_naming_below : {T R : Type 0} (puts : R → T → List T) (roots : ℕ → Option (T × R)) (bound : ℕ) (of : ℕ → T) → AgreeBelow bound of (new_naming puts roots bound of)
+new_naming_below puts roots bound of n h = if_yes (nat_lt n bound) _ _ (lt_yes n bound h)
 
 -- a number past a list is not in it
 has_past : (n : ℕ) (ns : List ℕ) → past ns ≤ n → has n ns ≡ false
 has_past n [] h = refl
 has_past n (m ∷ ns) h = let rest : has n ns ≡ false = has_past n ns (omega arith) in grind (arith, common_steps)
 
-pub renamed_names : {T R : Type 0} (puts : R → T → List T) (roots : ℕ → Option (T × R)) (bound : ℕ) (of : ℕ → T) → Names puts (contents (renamed puts roots bound of)) (Comes puts roots)
-renamed_names {T} {R} puts roots bound of = record {
+pub new_naming_names : {T R : Type 0} (puts : R → T → List T) (roots : ℕ → Option (T × R)) (bound : ℕ) (of : ℕ → T) → Names puts (contents (new_naming puts roots bound of)) (Comes puts roots)
+new_naming_names {T} {R} puts roots bound of = record {
   number = λ v c named.
       let code : (n : ℕ) × (pair_of n ≡ (c.0, c.1)) × (c.0 ≤ n) = number_of c.0 c.1 in
       let far : (n : ℕ) × (pair_of n ≡ (bound + past named, code.0)) × (bound + past named ≤ n) = number_of (bound + past named) code.0 in

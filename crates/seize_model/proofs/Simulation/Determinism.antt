@@ -1,9 +1,9 @@
 -- Where a call of a slot is under way and no other, the next event of that slot is forced, but for the numbers that a reclaimer puts.
-use Rattle.std.proofs.Common.{◌≡◌, ℕ, ◌<◌, ◌≤◌, Bool, true, false, List, [], ◌∷◌, length, Some, refl, ◌∙◌, ap, ◌⊎◌, inl, inr, arith}
+use Rattle.std.proofs.Common.{◌≡◌, ℕ, ◌<◌, ◌≤◌, Bool, true, false, List, [], ◌∷◌, length, Some, ◌∙◌, ap, ◌⊎◌, inl, inr, arith}
 use Rattle.std.proofs.lemmas.List.{length-set}
 use Rattle.seize_machine.specs.Machine.State.{State, Slot, Active, Place, Append, Mark, Look, Try, Add, Out, Rest, head_at}
 use Rattle.seize_machine.specs.Machine.Event.{Event, Put, ReadHead, Detach, Insert, AddCount, SwapOut, SubCount, Hand, Return, slot_of}
-use Rattle.seize_machine.specs.Machine.Next.{next, are_fresh, same_list}
+use Rattle.seize_machine.specs.Machine.Next.{next, are_fresh}
 use Rattle.seize_machine.specs.Machine.History.{is_link_event}
 use Rattle.seize_machine.specs.declared.machine.event.Try.TheVariants.{Won}
 use Rattle.seize_machine.specs.declared.machine.event.Answer.{Answer}
@@ -20,11 +20,6 @@ at : (size : ℕ) (base : State) (s : ℕ) (batch : List ℕ) (place : Place) (q
 at size base s batch place queue h e d own apart legal =
     let st : State = busy base s batch place queue in
     forced size st s place queue e d (step_of size st e d legal) own apart (ap (λ (slot : Slot). slot.used) (there base s (busy_slot batch place queue) h)) (stands base s batch place queue h)
-
--- a list is the same as itself
-pub list_same : (xs : List ℕ) → same_list xs xs ≡ true
-list_same [] = refl
-list_same (x ∷ xs) = grind (arith, list_same xs)
 
 pub only_append : (size : ℕ) (base : State) (s : ℕ) (v : ℕ) (batch queue : List ℕ) → s < length base.slots
     → Only size s (busy base s batch (Append v) queue) (Put s)

@@ -1,5 +1,5 @@
 -- What each event does to a slot whose call is under way.
-use Rattle.std.proofs.Common.{◌≡◌, ℕ, zero, suc, ◌+◌, ◌<◌, ◌≤◌, ℤ, pos, ◌+ℤ◌, ◌-ℤ◌, Bool, true, false, ◌==◌, if◌then◌else◌, nat_lt, nat_le, List, [], ◌∷◌, ◌++◌, length, set, Some, None, refl, ◌∙◌, ap, ◌⊎◌, inl, inr, arith}
+use Rattle.std.proofs.Common.{◌≡◌, ℕ, zero, suc, ◌+◌, ◌<◌, ◌≤◌, ℤ, pos, ◌+ℤ◌, ◌-ℤ◌, Bool, true, false, ◌==◌, if◌then◌else◌, nat_lt, List, [], ◌∷◌, ◌++◌, length, set, Some, None, refl, ◌∙◌, ap, ◌⊎◌, inl, inr, arith}
 use Rattle.std.proofs.lemmas.List.{get_or-set_same, length-set}
 use Rattle.seize_machine.specs.Machine.State.{State, Slot, Inactive, Active, Place, Append, Mark, Look, Try, Add, Out, Rest, slot_at, head_at, batch_at, is_active, waiting_at, no_slot}
 use Rattle.seize_machine.specs.Machine.Event.{Put, ReadHead, Detach, Insert, AddCount, SwapOut, SubCount, Hand, Return}
@@ -17,8 +17,8 @@ abbrev pub busy : State → ℕ → List ℕ → Place → List ℕ → State
 busy base s batch place queue = set_slot base s (busy_slot batch place queue)
 
 -- the same with no call under way
-abbrev pub rested : State → ℕ → List ℕ → State
-rested base s batch = set_slot base s (record { used = true; batch = batch; call = None })
+abbrev pub at_rest : State → ℕ → List ℕ → State
+at_rest base s batch = set_slot base s (record { used = true; batch = batch; call = None })
 
 pub set_twice : {X : Type 0} (xs : List X) (i : ℕ) (a b : X) → set (set xs i a) i b ≡ set xs i b
 set_twice [] i a b = refl
@@ -38,9 +38,6 @@ same n = grind arith
 
 pub lt_yes : (a b : ℕ) → a < b → nat_lt a b ≡ true
 lt_yes a b h = grind arith
-
-pub le_yes : (a b : ℕ) → a ≤ b → nat_le a b ≡ true
-le_yes a b h = grind arith
 
 pub there : (base : State) (s : ℕ) (slot : Slot) → s < length base.slots → slot_at (set_slot base s slot) s ≡ slot
 there base s slot h = get_or-set_same base.slots s slot no_slot h
@@ -155,7 +152,7 @@ hand_step size base s v puts batch given walk queue h fresh =
     ∙ goes base (with_gone base v puts) s batch (Rest (v ∷ given) walk) queue (Handed v) (on (Rest given walk) (queue ++ puts)) h
 
 pub return_step : (size : ℕ) (base : State) (s : ℕ) (batch : List ℕ) → s < length base.slots
-    → next size (busy base s batch (Rest [] []) []) (Return s) ≡ Some (rested base s batch, Done)
+    → next size (busy base s batch (Rest [] []) []) (Return s) ≡ Some (at_rest base s batch, Done)
 return_step size base s batch h =
     next_of size (busy base s batch (Rest [] []) []) (Return s) _ (Step.returned s (stands base s batch (Rest [] []) [] h))
     ∙ goes base base s batch (Rest [] []) [] Done (λ slot. record slot { call = None }) h

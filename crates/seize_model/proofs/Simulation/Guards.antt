@@ -14,8 +14,8 @@ use Rattle.seize_table.specs.declared.refusal.Refusal.TheVariants.{NotInUse, Wro
 use Rattle.seize_model.specs.Waiting.State as waiting
 use Rattle.seize_model.specs.Waiting.State.{slot_at, set_slot}
 use Rattle.seize_model.specs.Waiting.Attempt.{Outcome, release_all, part}
-use Rattle.seize_model.specs.Waiting.Further.{settled, Lighter}
-use Rattle.seize_model.specs.Waiting.Calls.{first, no_guard, not_registered, too_many, is_free, is_owned, left_by, freed, freed_if, set_guards}
+use Rattle.seize_model.specs.Waiting.Further.{with_further, Lighter}
+use Rattle.seize_model.specs.Waiting.Calls.{first, no_guard, not_registered, too_many, is_free, is_owned, one_guard_less, with_number_free, with_number_free_if, set_guards}
 use Rattle.seize_model.specs.Waiting.Lists.{Leave, Enter, Done, done, step}
 use Rattle.seize_model.specs.Agreement.Shows.{head_of}
 use Rattle.seize_model.specs.Agreement.Play.{play}
@@ -27,45 +27,49 @@ use Rattle.seize_model.proofs.Simulation.Paths.{Carried}
 use Rattle.seize_model.proofs.Simulation.Plays.{play_first, play_append, handed_append, Split, split_of, put_first}
 use Rattle.seize_model.proofs.Simulation.Runs.{Leads, run_carried, put_append}
 use Rattle.seize_model.proofs.Simulation.Lists.{left_carried}
-use Rattle.seize_model.proofs.Simulation.Events.{busy, rested, set_twice, if_yes}
+use Rattle.seize_model.proofs.Simulation.Events.{busy, at_rest, set_twice, if_yes}
 use Rattle.seize_model.proofs.Simulation.Coupling.{Near, NearAt, near_set, near_out, CoupledSlot, Naming}
 use Rattle.seize_model.proofs.Simulation.Work.{Does, own_slot}
 use Rattle.seize_model.proofs.Simulation.Names.{Names, Holds, Always, holds_always, holds_same, holds_part}
 use Rattle.seize_model.proofs.Simulation.Queues.{Ends, settled_ends}
-use Rattle.seize_model.proofs.Simulation.Beginnings.{begin_leave, give_step, in_use, in_machine, near_rested, JobEnds, JobRun, job_run, job_list, names_none, run_of, outcome_of, job_outcome, no_events, no_list, OneEvent, one_of, one_event, one_list, run_unless, list_unless, Run}
+use Rattle.seize_model.proofs.Simulation.Beginnings.{begin_leave, give_step, in_use, in_machine, near_at_rest, JobEnds, JobRun, job_run, job_list, names_none, run_of, outcome_of, job_outcome, no_events, no_list, OneEvent, one_of, one_event, one_list, run_unless, list_unless, Run}
 use Rattle.seize_model.proofs.Simulation.Jobs.{guard_of, active_head, at_idle, out_does, settled_nothing}
 
+is_some_guard : (k : ℕ) → 1 ≤ k → not (k == 0) ≡ true
+is_some_guard k h = grind arith
+
+-- a slot in use with some number of guards
+guards_coupled : {T R X : Type 0} (of : Naming T R X) (slot : waiting.Slot T R) (shown : Slot) (k : ℕ) → CoupledSlot of slot shown
+    → is_free slot.kind ≡ false → 1 ≤ k → (is_owned slot.kind ≡ true → k ≤ 1) → CoupledSlot of (record slot { guards = k }) shown
+guards_coupled of slot shown k coupled used some owned = record {
+  used = coupled.used;
+  idle = coupled.idle;
+  batch = coupled.batch;
+  free = λ e. absurd (let c : true ≡ false = sym e ∙ used in cc);
+  owned = owned;
+  inactive = λ e. absurd (let c : true ≡ false = sym (is_some_guard k some) ∙ e in cc);
+  once = coupled.once;
+}
+
 -- An active slot has some other number of guards.
-pub near_guards : {T R X : Type 0} (of : Naming T R X) (st : waiting.State T R) (ms : State) (s k : ℕ) → NearAt of [] st ms → is_free (slot_at st s).kind ≡ false → waiting.is_active (slot_at st s) ≡ true → 1 ≤ k → (is_owned (slot_at st s).kind ≡ true → k ≤ 1)
+pub near_guards : {T R X : Type 0} (of : Naming T R X) (st : waiting.State T R) (ms : State) (s k : ℕ) → NearAt of [] st ms
+    → is_free (slot_at st s).kind ≡ false → waiting.is_active (slot_at st s) ≡ true → 1 ≤ k → (is_owned (slot_at st s).kind ≡ true → k ≤ 1)
     → NearAt of [] (set_guards st s k) ms
 near_guards {T} {R} of st ms s k n used active some owned =
-    let shown : CoupledSlot of (slot_at st s) (machine.slot_at ms s) = n.slot s in
-    let on : not (k == 0) ≡ true = is_some_guard k some in
     subst (λ (l : List Slot). Near of [] (set_guards st s k) l ms.heads ms.batches ms.links) (set-get_or ms.slots s machine.no_slot)
     (near_set of [] st ms.slots ms.heads ms.batches ms.links s (record (slot_at st s) { guards = k }) (machine.slot_at ms s) n (in_use st s used)
-    (record {
-      used = shown.used;
-      idle = shown.idle;
-      batch = shown.batch;
-      free = λ e. absurd (let c : true ≡ false = sym e ∙ used in cc);
-      owned = owned;
-      inactive = λ e. absurd (let c : true ≡ false = sym on ∙ e in cc);
-      once = shown.once;
-    })
-    (ap (λ (t : Bool). if t then Active (slot_at st s).order else Inactive) (on ∙ sym active))
+    (guards_coupled of (slot_at st s) (machine.slot_at ms s) k (n.slot s) used some owned)
+    (ap (λ (t : Bool). if t then Active (slot_at st s).order else Inactive) (is_some_guard k some ∙ sym active))
     refl)
-  where
-    is_some_guard : (k : ℕ) → 1 ≤ k → not (k == 0) ≡ true
-    is_some_guard k h = grind arith
 
 -- A slot without a guard gives its number back.
-pub near_freed : {T R X : Type 0} (of : Naming T R X) (st : waiting.State T R) (base : State) (s : ℕ) (batch : List ℕ) → NearAt of [] st (rested base s batch) → s < length base.slots → s < length st.slots → (slot_at st s).guards ≡ 0
-    → NearAt of [] (freed st s) (record base { slots = set base.slots s (record { used = false; batch = batch; call = None }) })
+pub near_freed : {T R X : Type 0} (of : Naming T R X) (st : waiting.State T R) (base : State) (s : ℕ) (batch : List ℕ) → NearAt of [] st (at_rest base s batch) → s < length base.slots → s < length st.slots → (slot_at st s).guards ≡ 0
+    → NearAt of [] (with_number_free st s) (record base { slots = set base.slots s (record { used = false; batch = batch; call = None }) })
 near_freed {T} {R} of st base s batch n h within none =
     let own : CoupledSlot of (slot_at st s) (record { used = true; batch = batch; call = None }) = own_slot of st base s batch n h in
     let off : waiting.is_active (slot_at st s) ≡ false = ap (λ (k : ℕ). not (k == 0)) none in
-    subst (λ (l : List Slot). Near of [] (freed st s) l base.heads base.batches base.links) (set_twice base.slots s _ _)
-    (near_set of [] st (rested base s batch).slots base.heads base.batches base.links s (record (slot_at st s) { kind = Free; guards = 0 }) (record { used = false; batch = batch; call = None }) n within
+    subst (λ (l : List Slot). Near of [] (with_number_free st s) l base.heads base.batches base.links) (set_twice base.slots s _ _)
+    (near_set of [] st (at_rest base s batch).slots base.heads base.batches base.links s (record (slot_at st s) { kind = Free; guards = 0 }) (record { used = false; batch = batch; call = None }) n within
     (record {
       used = refl;
       idle = refl;
@@ -94,10 +98,10 @@ two_guards : (k : ℕ) → not (k == 0) ≡ true → (k == 1) ≡ false → 1 �
 two_guards k a b = grind arith
 
 stays_as : {T R : Type 0} (puts : R → T → List T) (weight : T → ℕ) (st : waiting.State T R) (s : ℕ) → ((slot_at st s).guards == 1) ≡ false → (is_free (slot_at st s).kind ≡ false) × (waiting.is_active (slot_at st s) ≡ true) → (is_owned (slot_at st s).kind ≡ true → (slot_at st s).guards ≤ 1)
-    → freed_if (is_owned (slot_at st s).kind) s (settled puts weight s (set_guards st s ((slot_at st s).guards - 1), [])) ≡ (set_guards st s ((slot_at st s).guards - 1), [])
-stays_as puts weight st s more g few = ap (λ o. freed_if (is_owned (slot_at st s).kind) s o) (settled_nothing puts weight (set_guards st s ((slot_at st s).guards - 1)) s) ∙ go (is_owned (slot_at st s).kind) refl
+    → with_number_free_if (is_owned (slot_at st s).kind) s (with_further puts weight s (set_guards st s ((slot_at st s).guards - 1), [])) ≡ (set_guards st s ((slot_at st s).guards - 1), [])
+stays_as puts weight st s more g few = ap (λ o. with_number_free_if (is_owned (slot_at st s).kind) s o) (settled_nothing puts weight (set_guards st s ((slot_at st s).guards - 1)) s) ∙ go (is_owned (slot_at st s).kind) refl
   where
-    go : (owned : Bool) → is_owned (slot_at st s).kind ≡ owned → freed_if owned s (set_guards st s ((slot_at st s).guards - 1), []) ≡ (set_guards st s ((slot_at st s).guards - 1), [])
+    go : (owned : Bool) → is_owned (slot_at st s).kind ≡ owned → with_number_free_if owned s (set_guards st s ((slot_at st s).guards - 1), []) ≡ (set_guards st s ((slot_at st s).guards - 1), [])
     go true is = absurd (one_guard (slot_at st s).guards g.1 more (few is))
     go false is = refl
 
@@ -107,8 +111,8 @@ near_stays of st ms s n more g =
     near_guards of st ms s ((slot_at st s).guards - 1) n g.0 g.1 (two_guards (slot_at st s).guards g.1 more) (λ is. absurd (one_guard (slot_at st s).guards g.1 more ((n.slot s).owned is)))
 
 leave_ends : {T R X : Type 0} (puts : R → T → List T) (weight : T → ℕ) → Lighter puts weight → (of : Naming T R X) (P : T × R → Type 0) (K : State → List ℕ → Type 0) (st : waiting.State T R) (base : State) (s : ℕ) (batch : List ℕ) → Carried puts of P s st.size K
-    → Holds T R P st → NearAt of [] st (rested base s batch) → s < length base.slots → s < length st.slots → waiting.is_active (slot_at st s) ≡ true
-    → K (busy base s batch (Out false) []) [] → Ends of K st.size s 0 [] (settled puts weight s (part (set_guards st s 0) s))
+    → Holds T R P st → NearAt of [] st (at_rest base s batch) → s < length base.slots → s < length st.slots → waiting.is_active (slot_at st s) ≡ true
+    → K (busy base s batch (Out false) []) [] → Ends of K st.size s 0 [] (with_further puts weight s (part (set_guards st s 0) s))
 leave_ends puts weight lighter of P K st base s batch carried holds rest h within active now =
     let own : CoupledSlot of (slot_at st s) (record { used = true; batch = batch; call = None }) = own_slot of st base s batch rest h in
     settled_ends puts weight lighter of P K st.size s 0 [] (part (set_guards st s 0) s) carried
@@ -126,18 +130,18 @@ begins_leave of st before s n used active =
 gives_back : {T R X : Type 0} (of : Naming T R X) (size s : ℕ) (o : Outcome T R) (later : State) (answers : List Answer) (d : JobEnds of s 0 o later answers)
     → next size later (Give s) ≡ Some (record d.base { slots = set d.base.slots s (record { used = false; batch = d.batch; call = None }) }, DoneEvent)
 gives_back of size s o later answers d =
-    let idle_head : is_active (head_at d.base s) ≡ false = active_head of o.0 (rested d.base s d.batch) s false d.near (ap (λ (k : ℕ). not (k == 0)) d.same_guards) in
+    let idle_head : is_active (head_at d.base s) ≡ false = active_head of o.0 (at_rest d.base s d.batch) s false d.near (ap (λ (k : ℕ). not (k == 0)) d.same_guards) in
     ap (λ (k : State). next size k (Give s)) d.is ∙ give_step size d.base s d.batch d.within idle_head
 
 given_near : {T R X : Type 0} (of : Naming T R X) (s : ℕ) (o : Outcome T R) (later : State) (answers : List Answer) (d : JobEnds of s 0 o later answers)
-    → NearAt of [] (freed o.0 s) (record d.base { slots = set d.base.slots s (record { used = false; batch = d.batch; call = None }) })
+    → NearAt of [] (with_number_free o.0 s) (record d.base { slots = set d.base.slots s (record { used = false; batch = d.batch; call = None }) })
 given_near of s o later answers d =
     near_freed of o.0 d.base s d.batch d.near d.within
     (omega (arith, d.within, d.near.as_many, length-set d.base.slots s (record { used = true; batch = d.batch; call = None })))
     d.same_guards
 
 left_run : {T R X : Type 0} (puts : R → T → List T) (of : Naming T R X) (st : waiting.State T R) (before : State) (s : ℕ) (o : Outcome T R) → ((slot_at st s).guards == 1) ≡ true → JobRun puts of st.size s 0 job.TheVariants.Leave before o
-    → (owned : Bool) → is_owned (slot_at st s).kind ≡ owned → Run puts of (Leave s) st before (Done, freed_if owned s o)
+    → (owned : Bool) → is_owned (slot_at st s).kind ≡ owned → Run puts of (Leave s) st before (Done, with_number_free_if owned s o)
 left_run {T} {R} puts of st before s o last run false is =
     run_of puts of (Leave s) st before st.size s 0 job.TheVariants.Leave Done o refl run
     (subst (λ (b : Bool). Where b (IsLeft s (is_owned (slot_at st s).kind)) run.events) (sym last) (subst (λ (b : Bool). IsLeft s b run.events) (sym is) (run.events, sym (append-nil run.events), run.makes))) (names_none {R = R} of.link (Leave s) run.events (λ e. tt)) tt refl
@@ -161,18 +165,18 @@ left_run {T} {R} puts of st before s o last run true is =
 pub leave_run : {T R X : Type 0} (puts : R → T → List T) (weight : T → ℕ) → Lighter puts weight → (of : Naming T R X) (P : T × R → Type 0) → Names puts of P → (st : waiting.State T R) (before : State) (s : ℕ) → Holds T R P st → NearAt of [] st before
     → Run puts of (Leave s) st before (step puts weight st (Leave s))
 leave_run {T} {R} puts weight lighter of P names st before s holds near =
-    run_unless puts of (Leave s) st before done None (no_guard st s) tt (freed_if (is_owned (slot_at st s).kind) s (settled puts weight s (left_by st s))) near (λ e. go ((slot_at st s).guards == 1) refl (guard_of st s e))
+    run_unless puts of (Leave s) st before done None (no_guard st s) tt (with_number_free_if (is_owned (slot_at st s).kind) s (with_further puts weight s (one_guard_less st s))) near (λ e. go ((slot_at st s).guards == 1) refl (guard_of st s e))
   where
-    parts : (is_free (slot_at st s).kind ≡ false) × (waiting.is_active (slot_at st s) ≡ true) → JobRun puts of st.size s 0 job.TheVariants.Leave before (settled puts weight s (part (set_guards st s 0) s))
+    parts : (is_free (slot_at st s).kind ≡ false) × (waiting.is_active (slot_at st s) ≡ true) → JobRun puts of st.size s 0 job.TheVariants.Leave before (with_further puts weight s (part (set_guards st s 0) s))
     parts g =
         let n : NearAt of [] st before = near in
         let within : s < length st.slots = in_use st s g.0 in
-        job_run puts of st.size s 0 job.TheVariants.Leave before _ (settled puts weight s (part (set_guards st s 0) s)) (begins_leave of st before s n g.0 g.1)
-        (leave_ends puts weight lighter of P _ st before s _ (run_carried puts of P names st.size s _) holds (near_rested of st before s n g.0) (in_machine of st before s n within) within g.1 (Leads.stays _))
+        job_run puts of st.size s 0 job.TheVariants.Leave before _ (with_further puts weight s (part (set_guards st s 0) s)) (begins_leave of st before s n g.0 g.1)
+        (leave_ends puts weight lighter of P _ st before s _ (run_carried puts of P names st.size s _) holds (near_at_rest of st before s n g.0) (in_machine of st before s n within) within g.1 (Leads.stays _))
 
     go : (t : Bool) → ((slot_at st s).guards == 1) ≡ t → (is_free (slot_at st s).kind ≡ false) × (waiting.is_active (slot_at st s) ≡ true)
-        → Run puts of (Leave s) st before (Done, freed_if (is_owned (slot_at st s).kind) s (settled puts weight s (if t then part (set_guards st s 0) s else (set_guards st s ((slot_at st s).guards - 1), []))))
-    go true e g = left_run puts of st before s (settled puts weight s (part (set_guards st s 0) s)) e (parts g) (is_owned (slot_at st s).kind) refl
+        → Run puts of (Leave s) st before (Done, with_number_free_if (is_owned (slot_at st s).kind) s (with_further puts weight s (if t then part (set_guards st s 0) s else (set_guards st s ((slot_at st s).guards - 1), []))))
+    go true e g = left_run puts of st before s (with_further puts weight s (part (set_guards st s 0) s)) e (parts g) (is_owned (slot_at st s).kind) refl
     go false e g = subst (λ (o : Outcome T R). Run puts of (Leave s) st before (Done, o)) (sym (stays_as puts weight st s e g (near.slot s).owned))
         (no_events puts of (Leave s) st before Done (set_guards st s ((slot_at st s).guards - 1)) (near_stays of st before s (near) e g)
         (subst (λ (b : Bool). Where b (IsLeft s (is_owned (slot_at st s).kind)) []) (sym e) refl) refl)
@@ -180,7 +184,7 @@ leave_run {T} {R} puts weight lighter of P names st before s holds near =
 left_list : {T R : Type 0} (puts : R → T → List T) (of : ℕ → T) (by : ℕ → R) (st : waiting.State T R) (before : State) (s : ℕ) (o : Outcome T R)
     → ((events : List Event) (answers : List Answer) (later : State) → IsJob s job.TheVariants.Leave events → play st.size before events ≡ Some (later, answers) → ArePutBy puts of by events answers → JobEnds (with_reclaimers of by) s 0 o later answers)
     → (owned : Bool) (events : List Event) (answers : List Answer) (later : State) → IsLeft s owned events → play st.size before events ≡ Some (later, answers) → ArePutBy puts of by events answers
-    → IsOutcome T R of by (Leave s) (Done, freed_if owned s o) events answers later
+    → IsOutcome T R of by (Leave s) (Done, with_number_free_if owned s o) events answers later
 left_list {T} {R} puts of by st before s o job_ends false events answers later made legal put =
     let same : events ≡ made.0 = made.1 ∙ append-nil made.0 in
     job_outcome of by (Leave s) s 0 Done o events answers later
@@ -191,24 +195,24 @@ left_list {T} {R} puts of by st before s o job_ends true events answers later ma
     let d : JobEnds (with_reclaimers of by) s 0 o split.middle split.first = job_ends made.0 split.first split.middle made.2 split.begins (put_first puts of by st.size before split.middle made.0 (Give s ∷ []) split.first split.last split.begins put_all) in
     let given : OneEvent _ _ later split.last = one_of st.size split.middle _ (Give s) DoneEvent later split.last (gives_back (with_reclaimers of by) st.size s o split.middle split.first d) split.goes_on in
     let same : handed answers ≡ handed split.first = ap handed split.all ∙ handed_append split.first split.last ∙ ap (λ (l : List Answer). handed split.first ++ handed l) given.1 ∙ append-nil (handed split.first) in
-    outcome_of of by (Leave s) Done (freed o.0 s, o.1) events answers later
-    (subst (λ (k : State). NearAt (with_reclaimers of by) [] (freed o.0 s) k) (sym given.0) (given_near (with_reclaimers of by) s o split.middle split.first d))
+    outcome_of of by (Leave s) Done (with_number_free o.0 s, o.1) events answers later
+    (subst (λ (k : State). NearAt (with_reclaimers of by) [] (with_number_free o.0 s) k) (sym given.0) (given_near (with_reclaimers of by) s o split.middle split.first d))
     (ap (λ (hs : List ℕ). map {B = T × R} (λ n. (of n, by n)) hs) same ∙ d.gone) refl
 
 pub leave_list : {T R : Type 0} (puts : R → T → List T) (weight : T → ℕ) → Lighter puts weight → (of : ℕ → T) (by : ℕ → R) (st : waiting.State T R) (before : State) (s : ℕ) → NearAt (with_reclaimers of by) [] st before
     → EachList puts of by (Leave s) st before (step puts weight st (Leave s))
 leave_list {T} {R} puts weight lighter of by st before s n =
-    list_unless puts of by (Leave s) st before done None (no_guard st s) tt (freed_if (is_owned (slot_at st s).kind) s (settled puts weight s (left_by st s))) n (λ e events answers later makes legal names with put.
+    list_unless puts of by (Leave s) st before done None (no_guard st s) tt (with_number_free_if (is_owned (slot_at st s).kind) s (with_further puts weight s (one_guard_less st s))) n (λ e events answers later makes legal names with put.
     go ((slot_at st s).guards == 1) refl (guard_of st s e) events answers later makes legal put)
   where
     go : (t : Bool) → ((slot_at st s).guards == 1) ≡ t → (is_free (slot_at st s).kind ≡ false) × (waiting.is_active (slot_at st s) ≡ true) → (events : List Event) (answers : List Answer) (later : State) → Where t (IsLeft s (is_owned (slot_at st s).kind)) events
         → play st.size before events ≡ Some (later, answers) → ArePutBy puts of by events answers
-        → IsOutcome T R of by (Leave s) (Done, freed_if (is_owned (slot_at st s).kind) s (settled puts weight s (if t then part (set_guards st s 0) s else (set_guards st s ((slot_at st s).guards - 1), [])))) events answers later
+        → IsOutcome T R of by (Leave s) (Done, with_number_free_if (is_owned (slot_at st s).kind) s (with_further puts weight s (if t then part (set_guards st s 0) s else (set_guards st s ((slot_at st s).guards - 1), [])))) events answers later
     go true e g events answers later makes legal put =
         let within : s < length st.slots = in_use st s g.0 in
-        left_list puts of by st before s (settled puts weight s (part (set_guards st s 0) s)) (λ es told end whole legal_job put_job.
-        job_list puts of by st.size s 0 job.TheVariants.Leave before _ end (settled puts weight s (part (set_guards st s 0) s)) es told (begins_leave (with_reclaimers of by) st before s n g.0 g.1) whole legal_job put_job (λ now.
-        leave_ends puts weight lighter (with_reclaimers of by) Always _ st before s _ (left_carried puts of by st.size s end (handed told)) (holds_always st) (near_rested (with_reclaimers of by) st before s n g.0) (in_machine (with_reclaimers of by) st before s n within) within g.1 now))
+        left_list puts of by st before s (with_further puts weight s (part (set_guards st s 0) s)) (λ es told end whole legal_job put_job.
+        job_list puts of by st.size s 0 job.TheVariants.Leave before _ end (with_further puts weight s (part (set_guards st s 0) s)) es told (begins_leave (with_reclaimers of by) st before s n g.0 g.1) whole legal_job put_job (λ now.
+        leave_ends puts weight lighter (with_reclaimers of by) Always _ st before s _ (left_carried puts of by st.size s end (handed told)) (holds_always st) (near_at_rest (with_reclaimers of by) st before s n g.0) (in_machine (with_reclaimers of by) st before s n within) within g.1 now))
         (is_owned (slot_at st s).kind) events answers later makes legal put
     go false e g events answers later makes legal put =
         subst (λ (o : Outcome T R). IsOutcome T R of by (Leave s) (Done, o) events answers later) (sym (stays_as puts weight st s e g (n.slot s).owned))
@@ -229,30 +233,19 @@ first_none None b e = refl
 first_none (Some r) b e = absurd (cc)
 
 -- an inactive slot in use becomes active, with this many guards
-pub near_entered : {T R X : Type 0} (of : Naming T R X) (st : waiting.State T R) (ms : State) (s k : ℕ) → NearAt of [] st ms → is_free (slot_at st s).kind ≡ false → waiting.is_active (slot_at st s) ≡ false → 1 ≤ k → (is_owned (slot_at st s).kind ≡ true → k ≤ 1)
+pub near_entered : {T R X : Type 0} (of : Naming T R X) (st : waiting.State T R) (ms : State) (s k : ℕ) → NearAt of [] st ms
+    → is_free (slot_at st s).kind ≡ false → waiting.is_active (slot_at st s) ≡ false → 1 ≤ k → (is_owned (slot_at st s).kind ≡ true → k ≤ 1)
     → NearAt of [] (set_guards st s k) (set_head ms s (Active []))
 near_entered {T} {R} of st ms s k n used inactive some owned =
-    let shown : CoupledSlot of (slot_at st s) (machine.slot_at ms s) = n.slot s in
-    let on : not (k == 0) ≡ true = is_some_guard k some in
-    let none : (slot_at st s).order ≡ [] = shown.inactive inactive in
-    let head : head_of (record (slot_at st s) { guards = k }) ≡ Active [] = ap (λ (t : Bool). if t then Active (slot_at st s).order else Inactive) on ∙ ap (λ (l : List ℕ). Active l) none in
+    let none : (slot_at st s).order ≡ [] = (n.slot s).inactive inactive in
+    let head : head_of (record (slot_at st s) { guards = k }) ≡ Active []
+    = ap (λ (t : Bool). if t then Active (slot_at st s).order else Inactive) (is_some_guard k some) ∙ ap (λ (l : List ℕ). Active l) none in
     let out : Near of (slot_at st s).order (set_guards st s k) (set ms.slots s (machine.slot_at ms s)) (set ms.heads s (head_of (record (slot_at st s) { guards = k }))) ms.batches ms.links
     = near_out of st ms.slots ms.heads ms.batches ms.links s (record (slot_at st s) { guards = k }) (machine.slot_at ms s) n (in_use st s used)
-    (record {
-      used = shown.used;
-      idle = shown.idle;
-      batch = shown.batch;
-      free = λ e. absurd (let c : true ≡ false = sym e ∙ used in cc);
-      owned = owned;
-      inactive = λ e. absurd (let c : true ≡ false = sym on ∙ e in cc);
-      once = shown.once;
-    }) none in
+    (guards_coupled of (slot_at st s) (machine.slot_at ms s) k (n.slot s) used some owned) none in
     subst (λ (l : List ℕ). Near of l (set_guards st s k) ms.slots (set ms.heads s (Active [])) ms.batches ms.links) none
     (subst (λ (x : Head). Near of (slot_at st s).order (set_guards st s k) ms.slots (set ms.heads s x) ms.batches ms.links) head
     (subst (λ (l : List Slot). Near of (slot_at st s).order (set_guards st s k) l (set ms.heads s (head_of (record (slot_at st s) { guards = k }))) ms.batches ms.links) (set-get_or ms.slots s machine.no_slot) out))
-  where
-    is_some_guard : (k : ℕ) → 1 ≤ k → not (k == 0) ≡ true
-    is_some_guard k h = grind arith
 
 pub enter_step : {T R X : Type 0} (of : Naming T R X) (size : ℕ) (st : waiting.State T R) (ms : State) (s : ℕ) → NearAt of [] st ms → is_free (slot_at st s).kind ≡ false → waiting.is_active (slot_at st s) ≡ false
     → next size ms (EnterHead s) ≡ Some (set_head ms s (Active []), DoneEvent)

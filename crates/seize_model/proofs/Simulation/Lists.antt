@@ -10,7 +10,7 @@ use Rattle.seize_model.specs.Waiting.Further.{put_by}
 use Rattle.seize_model.specs.Agreement.Shows.{StandFor}
 use Rattle.seize_model.specs.Agreement.Play.{play}
 use Rattle.seize_model.specs.Agreement.Events.{IsToReturn, is_return, IsPutBy, ArePutBy}
-use Rattle.seize_model.proofs.Simulation.Events.{busy, rested, with_gone, hand_step, return_step}
+use Rattle.seize_model.proofs.Simulation.Events.{busy, at_rest, with_gone, hand_step, return_step}
 use Rattle.seize_model.proofs.Simulation.Determinism.{Only, only_hand, only_return}
 use Rattle.seize_model.proofs.Simulation.Coupling.{Denote}
 use Rattle.seize_model.proofs.Simulation.Views.{with_reclaimers, denote_for}
@@ -87,13 +87,13 @@ left_carried {T} {R} puts of by size s end total = record {
 
 -- the return
 pub left_returns : {T R : Type 0} (puts : R → T → List T) (of : ℕ → T) (by : ℕ → R) (size s : ℕ) (end : State) (total : List ℕ) (base : State) (batch hs : List ℕ) → s < length base.slots
-    → Left puts of by size s end total (busy base s batch (Rest [] []) []) hs → (end ≡ rested base s batch) × (hs ≡ total)
+    → Left puts of by size s end total (busy base s batch (Rest [] []) []) hs → (end ≡ at_rest base s batch) × (hs ≡ total)
 left_returns puts of by size s end total base batch hs h k = go k.events k.answers k.own k.legal k.all
   where
-    go : (events : List Event) (answers : List Answer) → IsToReturn s events → play size (busy base s batch (Rest [] []) []) events ≡ Some (end, answers) → hs ++ handed answers ≡ total → (end ≡ rested base s batch) × (hs ≡ total)
+    go : (events : List Event) (answers : List Answer) → IsToReturn s events → play size (busy base s batch (Rest [] []) []) events ≡ Some (end, answers) → hs ++ handed answers ≡ total → (end ≡ at_rest base s batch) × (hs ≡ total)
     go _ answers IsToReturn.returns legal all =
         let first : First size (busy base s batch (Rest [] []) []) (Return s) [] end answers = first_of size _ (Return s) [] end answers legal in
-        let both : (first.later ≡ rested base s batch) × (first.answer ≡ Done) = both_same (first.later, first.answer) (rested base s batch, Done) (sym first.step ∙ return_step size base s batch h) in
+        let both : (first.later ≡ at_rest base s batch) × (first.answer ≡ Done) = both_same (first.later, first.answer) (at_rest base s batch, Done) (sym first.step ∙ return_step size base s batch h) in
         let none : (end ≡ first.later) × (first.rest ≡ []) = play_none size first.later end first.rest first.legal in
         let nothing : handed answers ≡ [] = ap handed (first.all ∙ ap (λ (a : Answer). a ∷ first.rest) both.1 ∙ ap (λ (l : List Answer). Done ∷ l) none.1) in
         (none.0 ∙ both.0, sym (append-nil hs) ∙ ap (λ (l : List ℕ). hs ++ l) (sym nothing) ∙ all)

@@ -5,7 +5,7 @@ use Rattle.std.proofs.lemmas.List.Concat.{flat_map-cons}
 use Rattle.std.proofs.Math.ListN.{get_or-map}
 use Rattle.seize_machine.specs.Machine.State.{has}
 use Rattle.seize_model.specs.Waiting.State.{Slot, State, slot_at, retired_at, set_slot, no_slot, is_kept}
-use Rattle.seize_model.specs.Waiting.Attempt.{Outcome, release, release_all, wait_if_active, detached, gives_up, attempt, appended, put, part}
+use Rattle.seize_model.specs.Waiting.Attempt.{Outcome, release, release_all, wait_if_active, with_batch_retired, gives_up, attempt, with_value, put, part}
 use Rattle.seize_model.specs.Waiting.Further.{put_by, further}
 use Rattle.seize_model.proofs.Cases.{either}
 use Rattle.seize_model.proofs.Simulation.Coupling.{Naming}
@@ -78,7 +78,7 @@ holds_release {T} {R} P st b h =
     (record { batches = h.batches; retired = λ i. at_set (λ (l : List (T × R)). AllByRecursion P l) st.retired b [] i [] tt (h.retired i) }, h.retired b)
 
 -- a batch that was detached, and one that was detached and released
-holds_detached : {T R : Type 0} (P : T × R → Type 0) (st : State T R) (s : ℕ) → Holds T R P st → Holds T R P (detached st s)
+holds_detached : {T R : Type 0} (P : T × R → Type 0) (st : State T R) (s : ℕ) → Holds T R P st → Holds T R P (with_batch_retired st s)
 holds_detached {T} {R} P st s h =
     let emptied : Holds T R P (set_slot st s (record (slot_at st s) { batch = [] })) = holds_set P st s (record (slot_at st s) { batch = [] }) h tt in
     record {
@@ -89,18 +89,18 @@ holds_detached {T} {R} P st s h =
 
 pub holds_attempt : {T R : Type 0} (P : T × R → Type 0) (st : State T R) (s : ℕ) → Holds T R P st → HoldsAfter P (attempt st s)
 holds_attempt {T} {R} P st s h =
-    either (λ (o : Outcome T R). HoldsAfter P o) (gives_up st s) _ _ (h, tt) (holds_release P (detached st s) (length st.retired) (holds_detached P st s h))
+    either (λ (o : Outcome T R). HoldsAfter P o) (gives_up st s) _ _ (h, tt) (holds_release P (with_batch_retired st s) (length st.retired) (holds_detached P st s h))
 
-pub holds_detach : {T R : Type 0} (P : T × R → Type 0) (st : State T R) (s : ℕ) → Holds T R P st → HoldsAfter P (release (detached st s) (length st.retired))
-holds_detach P st s h = holds_release P (detached st s) (length st.retired) (holds_detached P st s h)
+pub holds_detach : {T R : Type 0} (P : T × R → Type 0) (st : State T R) (s : ℕ) → Holds T R P st → HoldsAfter P (release (with_batch_retired st s) (length st.retired))
+holds_detach P st s h = holds_release P (with_batch_retired st s) (length st.retired) (holds_detached P st s h)
 
-pub holds_appended : {T R : Type 0} (P : T × R → Type 0) (st : State T R) (s : ℕ) (v : T × R) → Holds T R P st → P v → Holds T R P (appended st s v)
+pub holds_appended : {T R : Type 0} (P : T × R → Type 0) (st : State T R) (s : ℕ) (v : T × R) → Holds T R P st → P v → Holds T R P (with_value st s v)
 holds_appended P st s v h k = holds_set P st s _ h (all_append P (slot_at st s).batch (v ∷ []) (h.batches s) (k, tt))
 
 pub holds_put : {T R : Type 0} (P : T × R → Type 0) (st : State T R) (s : ℕ) (v : T × R) → Holds T R P st → P v → HoldsAfter P (put st s v)
 holds_put {T} {R} P st s v h k =
-    let next : Holds T R P (appended st s v) = holds_appended P st s v h k in
-    either (λ (o : Outcome T R). HoldsAfter P o) _ _ _ (holds_attempt P (appended st s v) s next) (next, tt)
+    let next : Holds T R P (with_value st s v) = holds_appended P st s v h k in
+    either (λ (o : Outcome T R). HoldsAfter P o) _ _ _ (holds_attempt P (with_value st s v) s next) (next, tt)
 
 pub holds_release_all : {T R : Type 0} (P : T × R → Type 0) (st : State T R) (bs : List ℕ) → Holds T R P st → HoldsAfter P (release_all st bs)
 holds_release_all P st [] h = (h, tt)

@@ -9,16 +9,16 @@ use Rattle.seize_model.specs.Agreement.Events.{NamesOwn}
 use Rattle.seize_model.specs.Waiting.State as waiting
 use Rattle.seize_model.specs.Waiting.State.{slot_at, retired_at}
 use Rattle.seize_model.specs.Waiting.Calls.{link_at}
-use Rattle.seize_model.specs.Waiting.Lists.{Call, Register, EnterOwned, Enter, Leave, End, Refresh, Flush, Retire, Protect, Swap, step}
+use Rattle.seize_model.specs.Waiting.Lists.{Call, Retire, Protect, Swap, step}
 use Rattle.seize_model.specs.Agreement.Shows.{Shows}
 use Rattle.seize_machine.specs.Machine.History.{handed}
 use Rattle.seize_model.specs.Agreement.Statement.{HasLink, IsRun, AreRuns, AgreementAnew}
-use Rattle.seize_model.proofs.WaitingSets.LinkCounts.{step_kept}
+use Rattle.seize_model.proofs.WaitingSets.LinkCounts.{step_links}
 use Rattle.seize_model.proofs.Simulation.Names.{Holds}
 use Rattle.seize_model.proofs.Simulation.Calls.{HoldsOwn, agrees_where}
 use Rattle.seize_model.proofs.Simulation.Pairs.{pair_of, number_of}
 use Rattle.seize_model.proofs.Simulation.Renaming.{AgreeBelow, past, past_state, map_same, stand_same, shows_same}
-use Rattle.seize_model.proofs.Simulation.Descendants.{Comes, all_at, renamed, renamed_below, renamed_names}
+use Rattle.seize_model.proofs.Simulation.Descendants.{Comes, all_at, new_naming, new_naming_below, new_naming_names}
 use Rattle.seize_model.specs.Waiting.Further.{Lighter}
 
 -- The roots of a call: the values that wait or are retired, and those that the call retires or puts into a link.
@@ -53,15 +53,7 @@ roots_hold {T} {R} puts st own = record {
 }
 
 own_holds : {T R : Type 0} (puts : R → T → List T) (st : waiting.State T R) (call : Call T R) → HoldsOwn (Comes puts (roots st (own_values st call))) st call
-own_holds puts st Register = tt
-own_holds puts st EnterOwned = tt
-own_holds puts st (Enter s) = tt
-own_holds puts st (Leave s) = tt
-own_holds puts st (End s) = tt
-own_holds puts st (Refresh s) = tt
-own_holds puts st (Flush s) = tt
 own_holds puts st (Retire s v r) = root_comes puts st ((v, r) ∷ []) 0 0 (v, r) refl
-own_holds puts st (Protect s l) = tt
 own_holds {T} {R} puts st (Swap s l new r) = (
   λ v e. root_comes puts st (with_reclaimer r new ++ with_reclaimer r (link_at st l)) 0 0 (v, r) (first new v e),
   λ v e. root_comes puts st (with_reclaimer r new ++ with_reclaimer r (link_at st l)) 0 (place new) (v, r) (second new (link_at st l) v e),
@@ -77,30 +69,24 @@ own_holds {T} {R} puts st (Swap s l new r) = (
     second : (x y : Option T) (v : T) → y ≡ Some v → slice_get (with_reclaimer r x ++ with_reclaimer r y) (place x) ≡ Some (v, r)
     second None y v e = ap (λ (z : Option T). slice_get (with_reclaimer r z) 0) e
     second (Some x) y v e = ap (λ (z : Option T). slice_get (with_reclaimer r z) 0) e
+own_holds puts st call = tt
 
 -- one call is a run under a naming that is as before below a bound
 pub call_anew : {T R : Type 0} (puts : R → T → List T) (weight : T → ℕ) → Lighter puts weight → (bound : ℕ) (of : ℕ → T) (st : waiting.State T R) (before : machine.State) (call : Call T R) → HasLink st call → Shows T R of st before → past_state before ≤ bound
     → (other : ℕ → T) × AgreeBelow bound of other × IsRun T R other call st before (step puts weight st call)
 call_anew {T} {R} puts weight lighter bound of st before call link shows h =
-    let same : AgreeBelow bound of (renamed puts (roots st (own_values st call)) bound of) = renamed_below puts (roots st (own_values st call)) bound of in (
-      renamed puts (roots st (own_values st call)) bound of,
+    let same : AgreeBelow bound of (new_naming puts (roots st (own_values st call)) bound of) = new_naming_below puts (roots st (own_values st call)) bound of in (
+      new_naming puts (roots st (own_values st call)) bound of,
       same,
-      agrees_where puts weight (renamed puts (roots st (own_values st call)) bound of) (Comes puts (roots st (own_values st call))) lighter (renamed_names puts (roots st (own_values st call)) bound of) st before call link
-          (roots_hold puts st (own_values st call)) (own_holds puts st call) (shows_same bound of (renamed puts (roots st (own_values st call)) bound of) st before same h shows),
+      agrees_where puts weight (new_naming puts (roots st (own_values st call)) bound of) (Comes puts (roots st (own_values st call))) lighter (new_naming_names puts (roots st (own_values st call)) bound of) st before call link
+          (roots_hold puts st (own_values st call)) (own_holds puts st call) (shows_same bound of (new_naming puts (roots st (own_values st call)) bound of) st before same h shows),
     )
 
 -- a link that is there stays there
 still_linked : {T R : Type 0} (st later : waiting.State T R) (call : Call T R) → length later.links ≡ length st.links → HasLink st call → HasLink later call
-still_linked st later Register e h = tt
-still_linked st later EnterOwned e h = tt
-still_linked st later (Enter s) e h = tt
-still_linked st later (Leave s) e h = tt
-still_linked st later (End s) e h = tt
-still_linked st later (Refresh s) e h = tt
-still_linked st later (Flush s) e h = tt
-still_linked st later (Retire s v r) e h = tt
 still_linked st later (Protect s l) e h = omega arith
 still_linked st later (Swap s l new r) e h = omega arith
+still_linked st later call e h = tt
 
 -- past the number with which a call begins
 abbrev pub number_in : Event → List ℕ
@@ -131,7 +117,7 @@ calls_anew {T} {R} puts weight lighter bound of st before (call ∷ calls) links
     let run : IsRun T R one.0 call st before (step puts weight st call) = one.2 in
     let rest : (other : ℕ → T) × AgreeBelow (bound + past_state before + past (handed run.answers) + past_first run.events) one.0 other × Shows T R other (step puts weight st call).1.0 run.later × AreRuns puts weight other (step puts weight st call).1.0 run.later calls
     = calls_anew puts weight lighter (bound + past_state before + past (handed run.answers) + past_first run.events) one.0 (step puts weight st call).1.0 run.later calls
-    (λ k d h. still_linked st (step puts weight st call).1.0 (get_or calls k d) (step_kept puts weight st call (length st.links) refl) (links (suc k) d (omega arith))) run.shows in
+    (λ k d h. still_linked st (step puts weight st call).1.0 (get_or calls k d) (step_links puts weight st call) (links (suc k) d (omega arith))) run.shows in
     let same : AgreeBelow (bound + past_state before) of rest.0 = λ n h. rest.1 n (omega arith) ∙ one.1 n h in (
       rest.0,
       λ n h. same n (omega arith),

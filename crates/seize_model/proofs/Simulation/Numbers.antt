@@ -18,10 +18,10 @@ use Rattle.seize_model.specs.declared.kind.Kind.TheVariants.{Registered, Owned}
 use Rattle.seize_table.specs.declared.refusal.Refusal.TheVariants.{NoNumbers}
 use Rattle.seize_model.specs.Waiting.State as waiting
 use Rattle.seize_model.specs.Waiting.State.{slot_at, set_slot, keeps}
-use Rattle.seize_model.specs.Waiting.Calls.{least_unused, taken, is_free, set_guards}
+use Rattle.seize_model.specs.Waiting.Calls.{least_unused, with_number_in_use, is_free, set_guards}
 use Rattle.seize_model.specs.Waiting.Lists.{Register, EnterOwned, Number, Refused, reply, step}
 use Rattle.seize_model.specs.Agreement.Shows.{head_of}
-use Rattle.seize_model.specs.Agreement.Play.{play, number_taken, played}
+use Rattle.seize_model.specs.Agreement.Play.{play, number_taken, with_answer}
 use Rattle.seize_machine.specs.Machine.History.{handed}
 use Rattle.seize_model.specs.Agreement.Statement.{EachList}
 use Rattle.seize_model.proofs.Simulation.Views.{with_reclaimers}
@@ -166,11 +166,11 @@ pub register_run : {T R X : Type 0} (puts : R → T → List T) (weight : T → 
 register_run {T} {R} puts weight of st before near = go (least_unused st.slots == 2 ^ 64 - 32) refl
   where
     go : (t : Bool) → (least_unused st.slots == 2 ^ 64 - 32) ≡ t
-        → Run puts of Register st before (reply Number None (if t then (Err NoNumbers, (st, [])) else (Ok (least_unused st.slots), (taken st (least_unused st.slots) Registered 0, []))))
+        → Run puts of Register st before (reply Number None (if t then (Err NoNumbers, (st, [])) else (Ok (least_unused st.slots), (with_number_in_use st (least_unused st.slots) Registered 0, []))))
     go true e = no_events puts of Register st before (Refused NoNumbers None) st (near) refl refl
     go false e =
         let n : NearAt of [] st before = near in
-        one_event puts of Register st before _ (Take (least_unused st.slots)) DoneEvent (Number (least_unused st.slots)) (taken st (least_unused st.slots) Registered 0) (take_step of st.size st before n n.numbers e)
+        one_event puts of Register st before _ (Take (least_unused st.slots)) DoneEvent (Number (least_unused st.slots)) (with_number_in_use st (least_unused st.slots) Registered 0) (take_step of st.size st before n n.numbers e)
         (near_taken of st before (least_unused st.slots) Registered (least_unused st.slots == length st.slots) n refl refl e refl) (least_unused st.slots, refl) tt tt refl refl
 
 pub register_list : {T R : Type 0} (puts : R → T → List T) (weight : T → ℕ) (of : ℕ → T) (by : ℕ → R) (st : waiting.State T R) (before : State) → NearAt (with_reclaimers of by) [] st before
@@ -178,18 +178,18 @@ pub register_list : {T R : Type 0} (puts : R → T → List T) (weight : T → �
 register_list {T} {R} puts weight of by st before n = go (least_unused st.slots == 2 ^ 64 - 32) refl
   where
     go : (t : Bool) → (least_unused st.slots == 2 ^ 64 - 32) ≡ t
-        → EachList puts of by Register st before (reply Number None (if t then (Err NoNumbers, (st, [])) else (Ok (least_unused st.slots), (taken st (least_unused st.slots) Registered 0, []))))
+        → EachList puts of by Register st before (reply Number None (if t then (Err NoNumbers, (st, [])) else (Ok (least_unused st.slots), (with_number_in_use st (least_unused st.slots) Registered 0, []))))
     go true e = λ events answers later makes legal names with put. no_list of by Register st.size before (Refused NoNumbers None) st events answers later n makes legal refl
     go false e = λ events answers later makes legal names with put.
         let first : First st.size before (Take makes.0) [] later answers = first_of st.size before (Take makes.0) [] later answers (ap (λ (l : List Event). play st.size before l) (sym makes.1) ∙ legal) in
         let least : makes.0 ≡ least_unused st.slots = taken_is_first st.size before first.later makes.0 first.answer first.step ∙ same_first (with_reclaimers of by) st before n in
-        one_list of by Register st.size before _ (Take (least_unused st.slots)) DoneEvent (Number (least_unused st.slots)) (taken st (least_unused st.slots) Registered 0) events answers later (take_step (with_reclaimers of by) st.size st before n n.numbers e)
+        one_list of by Register st.size before _ (Take (least_unused st.slots)) DoneEvent (Number (least_unused st.slots)) (with_number_in_use st (least_unused st.slots) Registered 0) events answers later (take_step (with_reclaimers of by) st.size st before n n.numbers e)
         (near_taken (with_reclaimers of by) st before (least_unused st.slots) Registered (least_unused st.slots == length st.slots) n refl refl e refl)
         (makes.1 ∙ ap (λ (k : ℕ). Take k ∷ []) least) legal refl refl
 
 -- the entry of an owned guard: the number is taken, and its slot becomes active
 taken_near : {T R X : Type 0} (of : Naming T R X) (st : waiting.State T R) (before : State) → NearAt of [] st before → (least_unused st.slots == 2 ^ 64 - 32) ≡ false
-    → NearAt of [] (taken st (least_unused st.slots) Owned 0) (shown_if (least_unused st.slots == length st.slots) before (least_unused st.slots))
+    → NearAt of [] (with_number_in_use st (least_unused st.slots) Owned 0) (shown_if (least_unused st.slots == length st.slots) before (least_unused st.slots))
 taken_near of st before n e = near_taken of st before (least_unused st.slots) Owned (least_unused st.slots == length st.slots) n refl refl e refl
 
 owned_step : {T R X : Type 0} (of : Naming T R X) (st : waiting.State T R) (before : State) → NearAt of [] st before → (least_unused st.slots == 2 ^ 64 - 32) ≡ false
@@ -197,26 +197,26 @@ owned_step : {T R X : Type 0} (of : Naming T R X) (st : waiting.State T R) (befo
     ≡ Some (set_head (shown_if (least_unused st.slots == length st.slots) before (least_unused st.slots)) (least_unused st.slots) (Active []), DoneEvent)
 owned_step {T} {R} of st before n e =
     let own : _ × _ × _ = slot_taken st (least_unused st.slots) Owned (least_unused st.slots == length st.slots) refl refl in
-    let used : is_free (slot_at (taken st (least_unused st.slots) Owned 0) (least_unused st.slots)).kind ≡ false = ap is_free own.0 in
-    let off : waiting.is_active (slot_at (taken st (least_unused st.slots) Owned 0) (least_unused st.slots)) ≡ false = ap (λ (g : ℕ). not (g == 0)) own.1 in
-    enter_step of st.size (taken st (least_unused st.slots) Owned 0) _ (least_unused st.slots) (taken_near of st before n e) used off
+    let used : is_free (slot_at (with_number_in_use st (least_unused st.slots) Owned 0) (least_unused st.slots)).kind ≡ false = ap is_free own.0 in
+    let off : waiting.is_active (slot_at (with_number_in_use st (least_unused st.slots) Owned 0) (least_unused st.slots)) ≡ false = ap (λ (g : ℕ). not (g == 0)) own.1 in
+    enter_step of st.size (with_number_in_use st (least_unused st.slots) Owned 0) _ (least_unused st.slots) (taken_near of st before n e) used off
 
 owned_near : {T R X : Type 0} (of : Naming T R X) (st : waiting.State T R) (before : State) → NearAt of [] st before → (least_unused st.slots == 2 ^ 64 - 32) ≡ false
-    → NearAt of [] (taken st (least_unused st.slots) Owned 1) (set_head (shown_if (least_unused st.slots == length st.slots) before (least_unused st.slots)) (least_unused st.slots) (Active []))
+    → NearAt of [] (with_number_in_use st (least_unused st.slots) Owned 1) (set_head (shown_if (least_unused st.slots == length st.slots) before (least_unused st.slots)) (least_unused st.slots) (Active []))
 owned_near {T} {R} of st before n e =
     let own : _ × _ × _ = slot_taken st (least_unused st.slots) Owned (least_unused st.slots == length st.slots) refl refl in
-    let used : is_free (slot_at (taken st (least_unused st.slots) Owned 0) (least_unused st.slots)).kind ≡ false = ap is_free own.0 in
-    let off : waiting.is_active (slot_at (taken st (least_unused st.slots) Owned 0) (least_unused st.slots)) ≡ false = ap (λ (g : ℕ). not (g == 0)) own.1 in
+    let used : is_free (slot_at (with_number_in_use st (least_unused st.slots) Owned 0) (least_unused st.slots)).kind ≡ false = ap is_free own.0 in
+    let off : waiting.is_active (slot_at (with_number_in_use st (least_unused st.slots) Owned 0) (least_unused st.slots)) ≡ false = ap (λ (g : ℕ). not (g == 0)) own.1 in
     let later : State = set_head (shown_if (least_unused st.slots == length st.slots) before (least_unused st.slots)) (least_unused st.slots) (Active []) in
     subst (λ (x : waiting.State T R). NearAt of [] x later) own.2
-    (near_entered of (taken st (least_unused st.slots) Owned 0) (shown_if (least_unused st.slots == length st.slots) before (least_unused st.slots)) (least_unused st.slots) 1 (taken_near of st before n e) used off (omega arith) (λ f. omega arith))
+    (near_entered of (with_number_in_use st (least_unused st.slots) Owned 0) (shown_if (least_unused st.slots == length st.slots) before (least_unused st.slots)) (least_unused st.slots) 1 (taken_near of st before n e) used off (omega arith) (λ f. omega arith))
 
 pub owned_run : {T R X : Type 0} (puts : R → T → List T) (weight : T → ℕ) (of : Naming T R X) (st : waiting.State T R) (before : State) → NearAt of [] st before
     → Run puts of EnterOwned st before (step puts weight st EnterOwned)
 owned_run {T} {R} puts weight of st before near = go (least_unused st.slots == 2 ^ 64 - 32) refl
   where
     go : (t : Bool) → (least_unused st.slots == 2 ^ 64 - 32) ≡ t
-        → Run puts of EnterOwned st before (reply Number None (if t then (Err NoNumbers, (st, [])) else (Ok (least_unused st.slots), (taken st (least_unused st.slots) Owned 1, []))))
+        → Run puts of EnterOwned st before (reply Number None (if t then (Err NoNumbers, (st, [])) else (Ok (least_unused st.slots), (with_number_in_use st (least_unused st.slots) Owned 1, []))))
     go true e = no_events puts of EnterOwned st before (Refused NoNumbers None) st (near) refl refl
     go false e =
         let n : NearAt of [] st before = near in
@@ -230,7 +230,7 @@ owned_run {T} {R} puts weight of st before near = go (least_unused st.slots == 2
           names = tt;
           starts = tt;
           legal = play_first st.size before (Take (least_unused st.slots)) (EnterHead (least_unused st.slots) ∷ []) middle DoneEvent (take_step of st.size st before n n.numbers e)
-              ∙ ap (λ o. played DoneEvent o) (play_first st.size middle (EnterHead (least_unused st.slots)) [] later DoneEvent (owned_step of st before n e));
+              ∙ ap (λ o. with_answer DoneEvent o) (play_first st.size middle (EnterHead (least_unused st.slots)) [] later DoneEvent (owned_step of st before n e));
           near = owned_near of st before n e;
           gone = refl;
           reply = refl;
@@ -242,7 +242,7 @@ pub owned_list : {T R : Type 0} (puts : R → T → List T) (weight : T → ℕ)
 owned_list {T} {R} puts weight of by st before n = go (least_unused st.slots == 2 ^ 64 - 32) refl
   where
     go : (t : Bool) → (least_unused st.slots == 2 ^ 64 - 32) ≡ t
-        → EachList puts of by EnterOwned st before (reply Number None (if t then (Err NoNumbers, (st, [])) else (Ok (least_unused st.slots), (taken st (least_unused st.slots) Owned 1, []))))
+        → EachList puts of by EnterOwned st before (reply Number None (if t then (Err NoNumbers, (st, [])) else (Ok (least_unused st.slots), (with_number_in_use st (least_unused st.slots) Owned 1, []))))
     go true e = λ events answers later makes legal names with put. no_list of by EnterOwned st.size before (Refused NoNumbers None) st events answers later n makes legal refl
     go false e = λ events answers later makes legal names with put.
         let first : First st.size before (Take makes.0) (EnterHead makes.0 ∷ []) later answers = first_of st.size before (Take makes.0) (EnterHead makes.0 ∷ []) later answers (ap (λ (l : List Event). play st.size before l) (sym makes.1) ∙ legal) in
@@ -255,6 +255,6 @@ owned_list {T} {R} puts weight of by st before n = go (least_unused st.slots == 
         let ends : OneEvent _ _ later one.rest = one_of st.size middle _ (EnterHead (least_unused st.slots)) DoneEvent later one.rest (owned_step (with_reclaimers of by) st before n e)
         (ap (λ (k : State). play st.size k (EnterHead (least_unused st.slots) ∷ [])) (sym both.0) ∙ one.legal) in
         let told : answers ≡ DoneEvent ∷ DoneEvent ∷ [] = one.all ∙ ap (λ (a : Answer). a ∷ one.rest) both.1 ∙ ap (λ (l : List Answer). DoneEvent ∷ l) ends.1 in
-        outcome_of of by EnterOwned (Number (least_unused st.slots)) (taken st (least_unused st.slots) Owned 1, []) events answers later
-        (subst (λ (k : State). NearAt (with_reclaimers of by) [] (taken st (least_unused st.slots) Owned 1) k) (sym ends.0) (owned_near (with_reclaimers of by) st before n e))
+        outcome_of of by EnterOwned (Number (least_unused st.slots)) (with_number_in_use st (least_unused st.slots) Owned 1, []) events answers later
+        (subst (λ (k : State). NearAt (with_reclaimers of by) [] (with_number_in_use st (least_unused st.slots) Owned 1) k) (sym ends.0) (owned_near (with_reclaimers of by) st before n e))
         (ap (λ (l : List Answer). map {B = T × R} (λ n. (of n, by n)) (handed l)) told) (sym (ap (λ (l : List Event). number_taken l) made))

@@ -7,11 +7,11 @@ use Rattle.seize_machine.specs.Machine.Next.{next}
 use Rattle.seize_machine.specs.Machine.History.{Timed, at_size, Legal, handed_value, handed}
 use Rattle.seize_machine.specs.declared.machine.event.Answer.{Answer}
 use Rattle.seize_machine.proofs.Facts.{some_is, no_event, one_event, joined, first_event}
-use Rattle.seize_model.specs.Agreement.Play.{play, played, PlaysAreLegal}
+use Rattle.seize_model.specs.Agreement.Play.{play, with_answer, PlaysAreLegal}
 use Rattle.seize_model.specs.Agreement.Events.{ArePutBy}
 
-pub play_first : (size : ℕ) (st : State) (e : Event) (es : List Event) (later : State) (answer : Answer) → next size st e ≡ Some (later, answer) → play size st (e ∷ es) ≡ played answer (play size later es)
-play_first size st e es later answer h = ap (λ (o : Option (State × Answer)). elim o [ None ↦ None | Some d ↦ played d.1 (play size d.0 es) ]) h
+pub play_first : (size : ℕ) (st : State) (e : Event) (es : List Event) (later : State) (answer : Answer) → next size st e ≡ Some (later, answer) → play size st (e ∷ es) ≡ with_answer answer (play size later es)
+play_first size st e es later answer h = ap (λ (o : Option (State × Answer)). elim o [ None ↦ None | Some d ↦ with_answer d.1 (play size d.0 es) ]) h
 
 -- two outcomes are the same in both parts
 pub both_same : {A B : Type 0} (x y : A × B) → Some x ≡ Some y → (x.0 ≡ y.0) × (x.1 ≡ y.1)
@@ -29,11 +29,11 @@ pub record First (size : ℕ) (st : State) (e : Event) (es : List Event) (end : 
 pub first_of : (size : ℕ) (st : State) (e : Event) (es : List Event) (end : State) (answers : List Answer) → play size st (e ∷ es) ≡ Some (end, answers) → First size st e es end answers
 first_of size st e es end answers legal = go (next size st e) refl legal
   where
-    go : (o : Option (State × Answer)) → next size st e ≡ o → ◌≡◌ {A = Option (State × List Answer)} (elim o [ None ↦ None | Some d ↦ played d.1 (play size d.0 es) ]) (Some (end, answers)) → First size st e es end answers
+    go : (o : Option (State × Answer)) → next size st e ≡ o → ◌≡◌ {A = Option (State × List Answer)} (elim o [ None ↦ None | Some d ↦ with_answer d.1 (play size d.0 es) ]) (Some (end, answers)) → First size st e es end answers
     go None is h = absurd (cc)
     go (Some d) is h = on (play size d.0 es) refl h
       where
-        on : (r : Option (State × List Answer)) → play size d.0 es ≡ r → played d.1 r ≡ Some (end, answers) → First size st e es end answers
+        on : (r : Option (State × List Answer)) → play size d.0 es ≡ r → with_answer d.1 r ≡ Some (end, answers) → First size st e es end answers
         on None same h = absurd (cc)
         on (Some r) same h =
             let told : (r.0 ≡ end) × (d.1 ∷ r.1 ≡ answers) = both_same (r.0, d.1 ∷ r.1) (end, answers) h in
@@ -61,7 +61,7 @@ play_append size st middle end [] fs first last h k =
 play_append size st middle end (e ∷ es) fs first last h k =
     let one : First size st e es middle first = first_of size st e es middle first h in
     play_first size st e (es ++ fs) one.later one.answer one.step
-    ∙ ap (λ (r : Option (State × List Answer)). played one.answer r) (play_append size one.later middle end es fs one.rest last one.legal k)
+    ∙ ap (λ (r : Option (State × List Answer)). with_answer one.answer r) (play_append size one.later middle end es fs one.rest last one.legal k)
     ∙ ap (λ (l : List Answer). Some (end, l ++ last)) (sym one.all)
 
 pub record Split (size : ℕ) (st : State) (es fs : List Event) (end : State) (answers : List Answer) : Type 0 where
@@ -81,7 +81,7 @@ split_of size st (e ∷ es) fs end answers h =
       middle = rest.middle;
       first = one.answer ∷ rest.first;
       last = rest.last;
-      begins = play_first size st e es one.later one.answer one.step ∙ ap (λ (r : Option (State × List Answer)). played one.answer r) rest.begins;
+      begins = play_first size st e es one.later one.answer one.step ∙ ap (λ (r : Option (State × List Answer)). with_answer one.answer r) rest.begins;
       goes_on = rest.goes_on;
       all = one.all ∙ ap (λ (l : List Answer). one.answer ∷ l) rest.all;
     }
@@ -111,7 +111,7 @@ play_of size [] st later answers legal = ap (λ (now : State). Some (now, [])) l
 play_of size (e ∷ events) st later answers legal =
     let one = first_event st later (record { size = size; event = e }) (at_size size events) answers legal in
     play_first size st e events one.0 one.1 one.4
-    ∙ ap (λ (r : Option (State × List Answer)). played one.1 r) (play_of size events one.0 later one.2 one.5)
+    ∙ ap (λ (r : Option (State × List Answer)). with_answer one.1 r) (play_of size events one.0 later one.2 one.5)
     ∙ ap (λ (l : List Answer). Some (later, l)) (sym one.3)
 
 pub plays_are_legal : PlaysAreLegal

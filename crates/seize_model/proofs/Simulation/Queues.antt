@@ -6,11 +6,11 @@ use Rattle.seize_machine.specs.Machine.Event.{Put}
 use Rattle.seize_model.specs.Waiting.State as waiting
 use Rattle.seize_model.specs.Waiting.State.{slot_at}
 use Rattle.seize_model.specs.Waiting.Attempt.{Outcome, after, put}
-use Rattle.seize_model.specs.Waiting.Further.{further, settle, settled, still_to_come, Lighter}
+use Rattle.seize_model.specs.Waiting.Further.{further, settle, with_further, still_to_come, Lighter}
 use Rattle.seize_model.proofs.Simulation.Paths.{Carried}
 use Rattle.seize_model.proofs.Simulation.Determinism.{only_queue}
 use Rattle.seize_machine.proofs.Facts.{after_put as put_place}
-use Rattle.seize_model.proofs.Simulation.Events.{busy, rested, put_next_step}
+use Rattle.seize_model.proofs.Simulation.Events.{busy, at_rest, put_next_step}
 use Rattle.seize_model.proofs.Simulation.Coupling.{NearAt, Denote, Naming}
 use Rattle.seize_model.proofs.Simulation.Names.{Holds, HoldsAfter, all_append, all_further, holds_put}
 use Rattle.seize_model.proofs.Simulation.Work.{Does, denote_append}
@@ -23,7 +23,7 @@ pub record Ends {T R X : Type 0} (of : Naming T R X) (K : State → List ℕ →
   pub batch : List ℕ
   pub handed : List ℕ
   pub comes : K (busy base s batch (Rest [] []) []) (hs ++ handed)
-  pub near : NearAt of [] o.0 (rested base s batch)
+  pub near : NearAt of [] o.0 (at_rest base s batch)
   pub gone : Denote of handed o.1
   pub within : s < length base.slots
   pub same_size : o.0.size ≡ size
@@ -44,7 +44,7 @@ ends_after of K size s guards hs given gone o e d = record {
 }
 
 -- nothing is queued
-at_once : {T R X : Type 0} (of : Naming T R X) (K : State → List ℕ → Type 0) (size guards : ℕ) (st : waiting.State T R) (base : State) (s : ℕ) (batch hs : List ℕ) → NearAt of [] st (rested base s batch) → s < length base.slots → st.size ≡ size → (slot_at st s).guards ≡ guards
+at_once : {T R X : Type 0} (of : Naming T R X) (K : State → List ℕ → Type 0) (size guards : ℕ) (st : waiting.State T R) (base : State) (s : ℕ) (batch hs : List ℕ) → NearAt of [] st (at_rest base s batch) → s < length base.slots → st.size ≡ size → (slot_at st s).guards ≡ guards
     → K (busy base s batch (Rest [] []) []) hs → Ends of K size s guards hs (st, [])
 at_once of K size guards st base s batch hs n h e g now = record {
   base = base;
@@ -59,7 +59,7 @@ at_once of K size guards st base s batch hs n h e g now = record {
 }
 
 pub settle_ends : {T R X : Type 0} (puts : R → T → List T) (weight : T → ℕ) → Lighter puts weight → (of : Naming T R X) (P : T × R → Type 0) (K : State → List ℕ → Type 0) (n size guards : ℕ) (st : waiting.State T R) (base : State) (s : ℕ) (batch queue hs : List ℕ) (values : List (T × R)) → Carried puts of P s size K
-    → Holds T R P st → AllByRecursion P values → NearAt of [] st (rested base s batch) → s < length base.slots → Denote of queue values → st.size ≡ size → (slot_at st s).guards ≡ guards → still_to_come weight (slot_at st s).batch values ≤ n
+    → Holds T R P st → AllByRecursion P values → NearAt of [] st (at_rest base s batch) → s < length base.slots → Denote of queue values → st.size ≡ size → (slot_at st s).guards ≡ guards → still_to_come weight (slot_at st s).batch values ≤ n
     → K (busy base s batch (Rest [] []) queue) hs → Ends of K size s guards hs (settle puts n st s values)
 settle_ends puts weight lighter of P K zero size guards st base s batch [] hs [] carried holds all near h e same g le now = at_once of K size guards st base s batch hs near h same g now
 settle_ends puts weight lighter of P K (suc n) size guards st base s batch [] hs [] carried holds all near h e same g le now = at_once of K size guards st base s batch hs near h same g now
@@ -83,7 +83,7 @@ settle_ends {T} {R} puts weight lighter of P K (suc n) size guards st base s bat
 
 -- a call's own work, and then what the values gone put
 pub settled_ends : {T R X : Type 0} (puts : R → T → List T) (weight : T → ℕ) → Lighter puts weight → (of : Naming T R X) (P : T × R → Type 0) (K : State → List ℕ → Type 0) (size s guards : ℕ) (hs : List ℕ) (o : Outcome T R) → Carried puts of P s size K
-    → HoldsAfter P o → Does puts of K size s guards [] hs o → Ends of K size s guards hs (settled puts weight s o)
+    → HoldsAfter P o → Does puts of K size s guards [] hs o → Ends of K size s guards hs (with_further puts weight s o)
 settled_ends {T} {R} puts weight lighter of P K size s guards hs o carried held d =
     ends_after of K size s guards hs d.handed o.1 (settle puts (still_to_come weight (slot_at o.0 s).batch (further puts o.1)) o.0 s (further puts o.1)) d.gone
     (settle_ends puts weight lighter of P K (still_to_come weight (slot_at o.0 s).batch (further puts o.1)) size guards o.0 d.base s d.batch d.more (hs ++ d.handed) (further puts o.1) carried held.0 (all_further puts P carried.closed o.1 held.1) d.near d.within d.further_stand d.same_size d.same_guards (omega arith) d.comes)

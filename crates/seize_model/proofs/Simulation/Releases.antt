@@ -42,8 +42,8 @@ counts_change ys b shown f g old h now others i = go (or_same i b)
     go (inr other) = ap (λ (k : Batch). k.count) (get_or-set_other ys b i shown no_batch other) ∙ old i ∙ ap (λ (n : ℕ). pos n) (others i other)
 
 -- a batch with a count that is not 0 is there
-made : (batches : List Batch) (b n : ℕ) → (get_or batches b no_batch).count ≡ pos (n + 1) → b < length batches
-made batches b n e = go (in_or_past b (length batches))
+is_made : (batches : List Batch) (b n : ℕ) → (get_or batches b no_batch).count ≡ pos (n + 1) → b < length batches
+is_made batches b n e = go (in_or_past b (length batches))
   where
     go : (b < length batches) ⊎ (length batches ≤ b) → b < length batches
     go (inl h) = h
@@ -61,7 +61,7 @@ near_less {T} {R} of b walk st slots heads batches links n first =
     let own : one (b == b) ≡ 1 = grind arith in
     let was : count_by (keeps b) st.slots + occ b (b ∷ walk) ≡ count_by (keeps b) st.slots + 1 = omega arith in
     let count : (get_or batches b no_batch).count ≡ pos (count_by (keeps b) st.slots + 1) = n.counts b ∙ ap (λ (k : ℕ). pos k) was in
-    let there : b < length batches = made batches b (count_by (keeps b) st.slots) count in
+    let there : b < length batches = is_made batches b (count_by (keeps b) st.slots) count in
     let shown : Batch = record { values = (get_or batches b no_batch).values; count = pos (count_by (keeps b) st.slots) } in
     let now : pos (count_by (keeps b) st.slots) ≡ pos (count_by (keeps b) st.slots + occ b walk) = ap (λ (k : ℕ). pos k) (omega arith) in (
       there,

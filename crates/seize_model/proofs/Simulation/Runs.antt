@@ -9,7 +9,7 @@ use Rattle.seize_machine.specs.Machine.History.{handed_value, handed}
 use Rattle.seize_machine.specs.declared.machine.event.Answer.{Answer}
 use Rattle.seize_machine.specs.declared.machine.event.Answer.TheVariants.{Done, Handed}
 use Rattle.seize_model.specs.Waiting.Further.{put_by}
-use Rattle.seize_model.specs.Agreement.Play.{play, played}
+use Rattle.seize_model.specs.Agreement.Play.{play, with_answer}
 use Rattle.seize_model.specs.Agreement.Events.{IsToReturn}
 use Rattle.seize_model.proofs.Simulation.Events.{hand_step}
 use Rattle.seize_model.proofs.Simulation.Coupling.{Naming, Denote}
@@ -101,7 +101,7 @@ to_return puts of size s st hs last end r (Leads.goes _ e later _ answer gs n h 
       events = e ∷ rest.events;
       answers = answer ∷ rest.answers;
       own = IsToReturn.goes_on e rest.events own.0 own.1 own.2 rest.own;
-      legal = play_first size st e rest.events later answer n ∙ ap (λ o. played answer o) rest.legal;
+      legal = play_first size st e rest.events later answer n ∙ ap (λ o. with_answer answer o) rest.legal;
       handed_are = flat_map-cons (λ a. option_to_list (handed_value a)) answer rest.answers ∙ ap (λ o. option_to_list o ++ handed rest.answers) h ∙ rest.handed_are;
       put = (put_none puts of e answer h, rest.put);
     }
@@ -111,7 +111,7 @@ to_return puts of size s st hs last end r (Leads.hands _ ns later _ v gs n put m
       events = Hand s ns ∷ rest.events;
       answers = Handed v ∷ rest.answers;
       own = IsToReturn.goes_on (Hand s ns) rest.events refl refl refl rest.own;
-      legal = play_first size st (Hand s ns) rest.events later (Handed v) n ∙ ap (λ o. played (Handed v) o) rest.legal;
+      legal = play_first size st (Hand s ns) rest.events later (Handed v) n ∙ ap (λ o. with_answer (Handed v) o) rest.legal;
       handed_are = flat_map-cons (λ a. option_to_list (handed_value a)) (Handed v) rest.answers ∙ ap (λ (l : List ℕ). v ∷ l) rest.handed_are;
       put = (put, rest.put);
     }

@@ -3,40 +3,53 @@ use Rattle.std.proofs.Common.{◌≡◌, ℕ, pos, List, [], ◌∷◌, map, ref
 use Rattle.std.proofs.lemmas.List.{map-id}
 use Rattle.seize_machine.specs.Machine.State as machine
 use Rattle.seize_model.specs.Waiting.State as waiting
-use Rattle.seize_model.specs.Agreement.Shows.{Stand, StandFor, ShowsSlot, Shows, ShowsReclaimers}
+use Rattle.seize_model.specs.Agreement.Shows.{Stand, StandFor, held_value, ShowsSlot, Shows, ShowsReclaimers}
 use Rattle.seize_model.proofs.Simulation.Coupling.{Naming, Denote, CoupledSlot, NearAt}
 
 -- numbers stand for what values hold
 abbrev pub contents : {T R : Type 0} → (ℕ → T) → Naming T R T
 contents of = record { link = of; name = of; view = λ v. v.0 }
 
-pub near_of : {T R : Type 0} (of : ℕ → T) (st : waiting.State T R) (ms : machine.State) → Shows T R of st ms → NearAt (contents of) [] st ms
-near_of of st ms h = record {
+-- the one from the other, where numbers stand in each of its ways for what waits and what is retired
+near_by : {T R X : Type 0} (of : ℕ → T) (name : Naming T R X) (st : waiting.State T R) (ms : machine.State) → Shows T R of st ms
+    → ((s : ℕ) → Denote name (machine.slot_at ms s).batch (waiting.slot_at st s).batch)
+    → ((b : ℕ) → Denote name (machine.batch_at ms b).values (waiting.retired_at st b))
+    → map (held_value name.link) ms.links ≡ st.links → NearAt name [] st ms
+near_by of name st ms h batches values links = record {
   numbers = h.numbers;
   as_many = h.slots;
   slot = λ s.
       let own : ShowsSlot _ _ of (waiting.slot_at st s) (machine.slot_at ms s) = h.slot s in
-      record { used = own.used; idle = own.idle; batch = own.batch; free = own.free; owned = own.owned; inactive = own.inactive; once = own.once };
+      record { used = own.used; idle = own.idle; batch = batches s; free = own.free; owned = own.owned; inactive = own.inactive; once = own.once };
   heads_are = h.heads;
   retired = h.retired;
-  values = h.values;
+  values = values;
   counts = λ b. h.counts b ∙ ap (λ (n : ℕ). pos n) (omega arith);
-  links_are = h.links;
+  links_are = links;
 }
 
-pub shows_of : {T R : Type 0} (of : ℕ → T) (st : waiting.State T R) (ms : machine.State) → NearAt (contents of) [] st ms → Shows T R of st ms
-shows_of of st ms h = record {
+pub shows_by : {T R X : Type 0} (of : ℕ → T) (name : Naming T R X) (st : waiting.State T R) (ms : machine.State) → NearAt name [] st ms
+    → ((s : ℕ) → Stand of (machine.slot_at ms s).batch (waiting.slot_at st s).batch)
+    → ((b : ℕ) → Stand of (machine.batch_at ms b).values (waiting.retired_at st b))
+    → map (held_value of) ms.links ≡ st.links → Shows T R of st ms
+shows_by of name st ms h batches values links = record {
   numbers = h.numbers;
   slots = h.as_many;
   slot = λ s.
-      let own : CoupledSlot (contents of) (waiting.slot_at st s) (machine.slot_at ms s) = h.slot s in
-      record { used = own.used; idle = own.idle; batch = own.batch; free = own.free; owned = own.owned; inactive = own.inactive; once = own.once };
+      let own : CoupledSlot name (waiting.slot_at st s) (machine.slot_at ms s) = h.slot s in
+      record { used = own.used; idle = own.idle; batch = batches s; free = own.free; owned = own.owned; inactive = own.inactive; once = own.once };
   heads = h.heads_are;
   retired = h.retired;
-  values = h.values;
+  values = values;
   counts = λ b. h.counts b ∙ ap (λ (n : ℕ). pos n) (omega arith);
-  links = h.links_are;
+  links = links;
 }
+
+pub near_of : {T R : Type 0} (of : ℕ → T) (st : waiting.State T R) (ms : machine.State) → Shows T R of st ms → NearAt (contents of) [] st ms
+near_of of st ms h = near_by of (contents of) st ms h (λ s. (h.slot s).batch) h.values h.links
+
+pub shows_of : {T R : Type 0} (of : ℕ → T) (st : waiting.State T R) (ms : machine.State) → NearAt (contents of) [] st ms → Shows T R of st ms
+shows_of of st ms h = shows_by of (contents of) st ms h (λ s. (h.slot s).batch) h.values h.links_are
 
 -- numbers stand for values with their reclaimers
 abbrev pub with_reclaimers : {T R : Type 0} → (ℕ → T) → (ℕ → R) → Naming T R (T × R)
@@ -57,33 +70,16 @@ stand_of {T} {R} of by (n ∷ numbers) (v ∷ values) e =
     let rest : Denote (with_reclaimers of by) numbers values = cc in
     ap (λ (x : T × R). x.0 ∷ map of numbers) first ∙ ap (λ l. v.0 ∷ l) (stand_of of by numbers values rest)
 
-pub near_with : {T R : Type 0} (of : ℕ → T) (by : ℕ → R) (st : waiting.State T R) (ms : machine.State) → Shows T R of st ms → ShowsReclaimers T R of by st ms → NearAt (with_reclaimers of by) [] st ms
-near_with of by st ms h r = record {
-  numbers = h.numbers;
-  as_many = h.slots;
-  slot = λ s.
-      let own : ShowsSlot _ _ of (waiting.slot_at st s) (machine.slot_at ms s) = h.slot s in
-      record { used = own.used; idle = own.idle; batch = denote_for of by _ _ (r.batches s); free = own.free; owned = own.owned; inactive = own.inactive; once = own.once };
-  heads_are = h.heads;
-  retired = h.retired;
-  values = λ b. denote_for of by _ _ (r.retired b);
-  counts = λ b. h.counts b ∙ ap (λ (n : ℕ). pos n) (omega arith);
-  links_are = h.links;
-}
+pub near_with : {T R : Type 0} (of : ℕ → T) (by : ℕ → R) (st : waiting.State T R) (ms : machine.State)
+    → Shows T R of st ms → ShowsReclaimers T R of by st ms → NearAt (with_reclaimers of by) [] st ms
+near_with of by st ms h r =
+    near_by of (with_reclaimers of by) st ms h
+    (λ s. denote_for of by _ _ (r.batches s)) (λ b. denote_for of by _ _ (r.retired b)) h.links
 
-pub shows_with : {T R : Type 0} (of : ℕ → T) (by : ℕ → R) (st : waiting.State T R) (ms : machine.State) → NearAt (with_reclaimers of by) [] st ms → Shows T R of st ms × ShowsReclaimers T R of by st ms
+pub shows_with : {T R : Type 0} (of : ℕ → T) (by : ℕ → R) (st : waiting.State T R) (ms : machine.State)
+    → NearAt (with_reclaimers of by) [] st ms → Shows T R of st ms × ShowsReclaimers T R of by st ms
 shows_with of by st ms h = (
-  record {
-    numbers = h.numbers;
-    slots = h.as_many;
-    slot = λ s.
-        let own : CoupledSlot (with_reclaimers of by) (waiting.slot_at st s) (machine.slot_at ms s) = h.slot s in
-        record { used = own.used; idle = own.idle; batch = stand_of of by _ _ own.batch; free = own.free; owned = own.owned; inactive = own.inactive; once = own.once };
-    heads = h.heads_are;
-    retired = h.retired;
-    values = λ b. stand_of of by _ _ (h.values b);
-    counts = λ b. h.counts b ∙ ap (λ (n : ℕ). pos n) (omega arith);
-    links = h.links_are;
-  },
+  shows_by of (with_reclaimers of by) st ms h
+      (λ s. stand_of of by _ _ (h.slot s).batch) (λ b. stand_of of by _ _ (h.values b)) h.links_are,
   record { batches = λ s. stand_for of by _ _ (h.slot s).batch; retired = λ b. stand_for of by _ _ (h.values b) },
 )

@@ -8,13 +8,13 @@ use Rattle.seize_machine.specs.Machine.State.{State, Batch, Mark, Rest, has, are
 use Rattle.seize_machine.specs.Machine.Event.{SubCount}
 use Rattle.seize_model.specs.Waiting.State as waiting
 use Rattle.seize_model.specs.Waiting.State.{slot_at, keeps, is_kept}
-use Rattle.seize_model.specs.Waiting.Attempt.{Outcome, after, release, release_all, attempt, put, appended}
+use Rattle.seize_model.specs.Waiting.Attempt.{Outcome, after, release, release_all, attempt, put, with_value}
 use Rattle.seize_model.specs.Waiting.Further.{further, put_by}
 use Rattle.seize_machine.proofs.Facts.{and_true, not_true}
 use Rattle.seize_model.proofs.Simulation.Paths.{Carried}
 use Rattle.seize_model.proofs.Simulation.Determinism.{only_sub}
 use Rattle.seize_machine.proofs.Facts.{after_put as put_place}
-use Rattle.seize_model.proofs.Simulation.Events.{busy, rested, set_twice, sub_step, with_count}
+use Rattle.seize_model.proofs.Simulation.Events.{busy, at_rest, set_twice, sub_step, with_count}
 use Rattle.seize_model.proofs.Simulation.Coupling.{Near, NearAt, near_set, Denote, CoupledSlot, Naming}
 use Rattle.seize_model.proofs.Simulation.Releases.{near_less, near_release, BothGone, batch_with}
 use Rattle.seize_model.proofs.Simulation.Names.{Holds, HoldsAfter, holds_release, holds_appended}
@@ -48,7 +48,7 @@ does_after puts of K size s guards queue more hs given gone o e f d = record {
 }
 
 pub walk_does : {T R X : Type 0} (puts : R → T → List T) (of : Naming T R X) (P : T × R → Type 0) (K : State → List ℕ → Type 0) (size guards : ℕ) (st : waiting.State T R) (base : State) (s : ℕ) (batch walk queue hs : List ℕ) → Carried puts of P s size K
-    → Holds T R P st → NearAt of walk st (rested base s batch) → s < length base.slots
+    → Holds T R P st → NearAt of walk st (at_rest base s batch) → s < length base.slots
     → are_distinct walk ≡ true → st.size ≡ size → (slot_at st s).guards ≡ guards
     → K (busy base s batch (Rest [] walk) queue) hs → Does puts of K size s guards queue hs (release_all st walk)
 walk_does {T} {R} puts of P K size guards st base s batch [] queue hs carried holds n h distinct e g now =
@@ -60,7 +60,7 @@ walk_does {T} {R} puts of P K size guards st base s batch (b ∷ walk) queue hs 
     let d : (not (has b walk) ≡ true) × (are_distinct walk ≡ true) = and_true _ _ distinct in
     let first : has b walk ≡ false = not_true _ d.0 in
     let k : ℕ = count_by (keeps b) st.slots in
-    let slots : List machine.Slot = (rested base s batch).slots in
+    let slots : List machine.Slot = (at_rest base s batch).slots in
     let less : (b < length base.batches) × ((get_or base.batches b no_batch).count -ℤ pos 1 ≡ pos k) × Near of walk st slots base.heads (batch_with base.batches b false (pos k)) base.links
     = near_less of b walk st slots base.heads base.batches base.links n first in
     let there : b < length (batch_with base.batches b false (pos k)) = rw (length-set base.batches b (record { values = (get_or base.batches b no_batch).values; count = pos k })) less.0 in
@@ -90,10 +90,10 @@ walk_does {T} {R} puts of P K size guards st base s batch (b ∷ walk) queue hs 
 -- Retirements.
 
 pub after_put : {T R X : Type 0} (puts : R → T → List T) (of : Naming T R X) (P : T × R → Type 0) (K : State → List ℕ → Type 0) (st : waiting.State T R) (base : State) (s n : ℕ) (v : T × R) (batch queue hs : List ℕ) → Carried puts of P s st.size K
-    → Holds T R P st → P v → NearAt of [] st (rested base s batch) → s < length base.slots → of.name n ≡ of.view v
+    → Holds T R P st → P v → NearAt of [] st (at_rest base s batch) → s < length base.slots → of.name n ≡ of.view v
     → K (busy base s (batch ++ n ∷ []) (put_place st.size (length base.slots) (batch ++ n ∷ [])) queue) hs → Does puts of K st.size s (slot_at st s).guards queue hs (put st s v)
 after_put {T} {R} puts of P K st base s n v batch queue hs carried holds own_holds near h stands now =
-    go (nat_le (max 1 st.size) (length (slot_at (appended st s v) s).batch)) refl
+    go (nat_le (max 1 st.size) (length (slot_at (with_value st s v) s).batch)) refl
     (subst (λ k. K (busy base s (batch ++ n ∷ []) (if nat_le (max 1 st.size) k then Mark 0 (length base.slots) [] else Rest [] []) queue) hs) long now)
   where
     own : CoupledSlot of (slot_at st s) (record { used = true; batch = batch; call = None })
@@ -105,27 +105,27 @@ after_put {T} {R} puts of P K st base s n v batch queue hs carried holds own_hol
     both : Denote of (batch ++ n ∷ []) ((slot_at st s).batch ++ v ∷ [])
     both = denote_append of batch (n ∷ []) (slot_at st s).batch (v ∷ []) own.batch (ap (λ x. x ∷ []) stands)
 
-    next_near : NearAt of [] (appended st s v) (rested base s (batch ++ n ∷ []))
-    next_near = subst (λ (l : List machine.Slot). Near of [] (appended st s v) l base.heads base.batches base.links) (set_twice base.slots s _ _)
-        (near_set of [] st (rested base s batch).slots base.heads base.batches base.links s (record (slot_at st s) { batch = (slot_at st s).batch ++ v ∷ [] }) (record { used = true; batch = batch ++ n ∷ []; call = None }) near within
+    next_near : NearAt of [] (with_value st s v) (at_rest base s (batch ++ n ∷ []))
+    next_near = subst (λ (l : List machine.Slot). Near of [] (with_value st s v) l base.heads base.batches base.links) (set_twice base.slots s _ _)
+        (near_set of [] st (at_rest base s batch).slots base.heads base.batches base.links s (record (slot_at st s) { batch = (slot_at st s).batch ++ v ∷ [] }) (record { used = true; batch = batch ++ n ∷ []; call = None }) near within
         (record { used = own.used; idle = refl; batch = both; free = own.free; owned = own.owned; inactive = own.inactive; once = own.once }) refl refl)
 
-    next_own : CoupledSlot of (slot_at (appended st s v) s) (record { used = true; batch = batch ++ n ∷ []; call = None })
-    next_own = own_slot of (appended st s v) base s (batch ++ n ∷ []) next_near h
+    next_own : CoupledSlot of (slot_at (with_value st s v) s) (record { used = true; batch = batch ++ n ∷ []; call = None })
+    next_own = own_slot of (with_value st s v) base s (batch ++ n ∷ []) next_near h
 
-    long : length (batch ++ n ∷ []) ≡ length (slot_at (appended st s v) s).batch
-    long = sym (length-map (batch ++ n ∷ []) of.name) ∙ ap length next_own.batch ∙ length-map (slot_at (appended st s v) s).batch of.view
+    long : length (batch ++ n ∷ []) ≡ length (slot_at (with_value st s v) s).batch
+    long = sym (length-map (batch ++ n ∷ []) of.name) ∙ ap length next_own.batch ∙ length-map (slot_at (with_value st s v) s).batch of.view
 
-    guards : (slot_at (appended st s v) s).guards ≡ (slot_at st s).guards
+    guards : (slot_at (with_value st s v) s).guards ≡ (slot_at st s).guards
     guards = ap (λ (x : waiting.Slot T R). x.guards) (get_or-set_same st.slots s (record (slot_at st s) { batch = (slot_at st s).batch ++ v ∷ [] }) waiting.no_slot within)
 
-    go : (t : Bool) → nat_le (max 1 st.size) (length (slot_at (appended st s v) s).batch) ≡ t
+    go : (t : Bool) → nat_le (max 1 st.size) (length (slot_at (with_value st s v) s).batch) ≡ t
         → K (busy base s (batch ++ n ∷ []) (if t then Mark 0 (length base.slots) [] else Rest [] []) queue) hs
-        → Does puts of K st.size s (slot_at st s).guards queue hs (if t then attempt (appended st s v) s else (appended st s v, []))
+        → Does puts of K st.size s (slot_at st s).guards queue hs (if t then attempt (with_value st s v) s else (with_value st s v, []))
     go true e k =
         let some : 1 ≤ length (batch ++ n ∷ []) = omega (arith, length-append batch (n ∷ [])) in
-        subst (λ g. Does puts of K st.size s g queue hs (attempt (appended st s v) s)) guards
-        (attempt_does puts of P K (appended st s v) base s (batch ++ n ∷ []) queue hs carried (holds_appended P st s v holds own_holds) next_near h some k)
+        subst (λ g. Does puts of K st.size s g queue hs (attempt (with_value st s v) s)) guards
+        (attempt_does puts of P K (with_value st s v) base s (batch ++ n ∷ []) queue hs carried (holds_appended P st s v holds own_holds) next_near h some k)
     go false e k =
-        subst (λ g. Does puts of K st.size s g queue hs (appended st s v, [])) guards
-        (nothing_done puts of K (appended st s v) base s (batch ++ n ∷ []) queue hs next_near h k)
+        subst (λ g. Does puts of K st.size s g queue hs (with_value st s v, [])) guards
+        (nothing_done puts of K (with_value st s v) base s (batch ++ n ∷ []) queue hs next_near h k)

@@ -9,12 +9,12 @@ use Rattle.seize_machine.specs.Machine.State as machine
 use Rattle.seize_machine.specs.Machine.State.{State, Head, Batch, Mark, Rest, has, are_distinct, no_batch}
 use Rattle.seize_model.specs.Waiting.State as waiting
 use Rattle.seize_model.specs.Waiting.State.{slot_at, keeps}
-use Rattle.seize_model.specs.Waiting.Attempt.{Outcome, release, wait_if_active, attempt, gives_up, detached, active_slots}
+use Rattle.seize_model.specs.Waiting.Attempt.{Outcome, release, wait_if_active, attempt, gives_up, with_batch_retired, active_slots}
 use Rattle.seize_model.specs.Waiting.Further.{further, put_by}
 use Rattle.seize_model.specs.Agreement.Shows.{head_of}
 use Rattle.seize_model.proofs.Simulation.Paths.{Carried, along}
-use Rattle.seize_model.proofs.Simulation.Events.{busy, rested, set_twice, with_gone}
-use Rattle.seize_model.proofs.Simulation.Attempts.{actives, with_front, set_seam, waited, attempts_on, attempts_stop, waited_place}
+use Rattle.seize_model.proofs.Simulation.Events.{busy, at_rest, set_twice, with_gone}
+use Rattle.seize_model.proofs.Simulation.Attempts.{actives, with_front, set_seam, with_waiting, attempts_on, attempts_stop, place_with_waiting}
 use Rattle.seize_model.proofs.Simulation.Coupling.{Near, NearAt, near_set, Denote, CoupledSlot, Naming}
 use Rattle.seize_model.proofs.Simulation.Releases.{near_release, BothGone, batch_with}
 use Rattle.seize_model.proofs.Simulation.Detachment.{actives_count, near_waits}
@@ -70,14 +70,14 @@ pub record Does {T R X : Type 0} (puts : R → T → List T) (of : Naming T R X)
   pub more : List ℕ
   pub handed : List ℕ
   pub comes : K (busy base s batch (Rest [] []) (queue ++ more)) (hs ++ handed)
-  pub near : NearAt of [] o.0 (rested base s batch)
+  pub near : NearAt of [] o.0 (at_rest base s batch)
   pub gone : Denote of handed o.1
   pub further_stand : Denote of more (further puts o.1)
   pub within : s < length base.slots
   pub same_size : o.0.size ≡ size
   pub same_guards : (slot_at o.0 s).guards ≡ guards
 
-pub nothing_done : {T R X : Type 0} (puts : R → T → List T) (of : Naming T R X) (K : State → List ℕ → Type 0) (st : waiting.State T R) (base : State) (s : ℕ) (batch queue hs : List ℕ) → NearAt of [] st (rested base s batch) → s < length base.slots
+pub nothing_done : {T R X : Type 0} (puts : R → T → List T) (of : Naming T R X) (K : State → List ℕ → Type 0) (st : waiting.State T R) (base : State) (s : ℕ) (batch queue hs : List ℕ) → NearAt of [] st (at_rest base s batch) → s < length base.slots
     → K (busy base s batch (Rest [] []) queue) hs → Does puts of K st.size s (slot_at st s).guards queue hs (st, [])
 nothing_done puts of K st base s batch queue hs n h k = record {
   base = base;
@@ -95,28 +95,28 @@ nothing_done puts of K st base s batch queue hs n h k = record {
 
 -- Attempts.
 
-pub in_slots : {T R X : Type 0} (of : Naming T R X) (st : waiting.State T R) (base : State) (s : ℕ) (batch : List ℕ) → NearAt of [] st (rested base s batch) → length base.slots ≡ length st.slots
+pub in_slots : {T R X : Type 0} (of : Naming T R X) (st : waiting.State T R) (base : State) (s : ℕ) (batch : List ℕ) → NearAt of [] st (at_rest base s batch) → length base.slots ≡ length st.slots
 in_slots of st base s batch n = sym (length-set base.slots s _) ∙ n.as_many
 
-pub in_heads : {T R X : Type 0} (of : Naming T R X) (st : waiting.State T R) (base : State) (s : ℕ) (batch : List ℕ) → NearAt of [] st (rested base s batch) → length base.heads ≡ length base.slots
+pub in_heads : {T R X : Type 0} (of : Naming T R X) (st : waiting.State T R) (base : State) (s : ℕ) (batch : List ℕ) → NearAt of [] st (at_rest base s batch) → length base.heads ≡ length base.slots
 in_heads of st base s batch n = ap length n.heads_are ∙ length-map st.slots head_of ∙ sym (in_slots of st base s batch n)
 
 -- the slot of the call, between its pieces of work
-pub own_slot : {T R X : Type 0} (of : Naming T R X) (st : waiting.State T R) (base : State) (s : ℕ) (batch : List ℕ) → NearAt of [] st (rested base s batch) → s < length base.slots
+pub own_slot : {T R X : Type 0} (of : Naming T R X) (st : waiting.State T R) (base : State) (s : ℕ) (batch : List ℕ) → NearAt of [] st (at_rest base s batch) → s < length base.slots
     → CoupledSlot of (slot_at st s) (record { used = true; batch = batch; call = None })
 own_slot {T} {R} of st base s batch n h = subst (λ x. CoupledSlot of (slot_at st s) x) (get_or-set_same base.slots s _ machine.no_slot h) (n.slot s)
 
 waits_guards : {T R : Type 0} (b : ℕ) (slot : waiting.Slot T R) → (wait_if_active b slot).guards ≡ slot.guards
 waits_guards b slot = by_active (λ x t. x.guards ≡ slot.guards) b slot (λ e. refl) (λ e. refl)
 
-detached_guards : {T R : Type 0} (st : waiting.State T R) (s : ℕ) → s < length st.slots → (slot_at (detached st s) s).guards ≡ (slot_at st s).guards
+detached_guards : {T R : Type 0} (st : waiting.State T R) (s : ℕ) → s < length st.slots → (slot_at (with_batch_retired st s) s).guards ≡ (slot_at st s).guards
 detached_guards {T} {R} st s h =
     ap (λ (x : waiting.Slot T R). x.guards) (get_or-map (wait_if_active (length st.retired)) (set st.slots s (record (slot_at st s) { batch = [] })) s waiting.no_slot)
     ∙ waits_guards (length st.retired) _
     ∙ ap (λ (x : waiting.Slot T R). x.guards) (get_or-set_same st.slots s (record (slot_at st s) { batch = [] }) waiting.no_slot h)
 
 pub attempt_does : {T R X : Type 0} (puts : R → T → List T) (of : Naming T R X) (P : T × R → Type 0) (K : State → List ℕ → Type 0) (st : waiting.State T R) (base : State) (s : ℕ) (batch queue hs : List ℕ) → Carried puts of P s st.size K
-    → Holds T R P st → NearAt of [] st (rested base s batch) → s < length base.slots → 1 ≤ length batch
+    → Holds T R P st → NearAt of [] st (at_rest base s batch) → s < length base.slots → 1 ≤ length batch
     → K (busy base s batch (Mark 0 (length base.slots) []) queue) hs → Does puts of K st.size s (slot_at st s).guards queue hs (attempt st s)
 attempt_does {T} {R} puts of P K st base s batch queue hs carried holds n h some k =
     go (gives_up st s) refl
@@ -145,39 +145,39 @@ attempt_does {T} {R} puts of P K st base s batch queue hs carried holds n h some
     emptied : waiting.State T R
     emptied = waiting.set_slot st s (record (slot_at st s) { batch = [] })
 
-    on : gives_up st s ≡ false → Does puts of K st.size s (slot_at st s).guards queue hs (release (detached st s) (length st.retired))
+    on : gives_up st s ≡ false → Does puts of K st.size s (slot_at st s).guards queue hs (release (with_batch_retired st s) (length st.retired))
     on e =
         let b : ℕ = length st.retired in
         let won : ℕ = length (actives 0 base.heads) in
         let fresh : Batch = record { values = batch; count = pos won } in
-        let kept : Near of [] (waiting.set_slot st s (record (slot_at st s) { batch = [] })) (set (rested base s batch).slots s (record { used = true; batch = []; call = None })) base.heads base.batches base.links
-        = near_set of [] st (rested base s batch).slots base.heads base.batches base.links s (record (slot_at st s) { batch = [] }) (record { used = true; batch = []; call = None }) n within
+        let kept : Near of [] (waiting.set_slot st s (record (slot_at st s) { batch = [] })) (set (at_rest base s batch).slots s (record { used = true; batch = []; call = None })) base.heads base.batches base.links
+        = near_set of [] st (at_rest base s batch).slots base.heads base.batches base.links s (record (slot_at st s) { batch = [] }) (record { used = true; batch = []; call = None }) n within
         (record { used = own.used; idle = refl; batch = refl; free = own.free; owned = own.owned; inactive = own.inactive; once = own.once }) refl refl in
-        let kept_in : Near of [] (waiting.set_slot st s (record (slot_at st s) { batch = [] })) (rested base s []).slots base.heads base.batches base.links
+        let kept_in : Near of [] (waiting.set_slot st s (record (slot_at st s) { batch = [] })) (at_rest base s []).slots base.heads base.batches base.links
         = subst (λ (l : List machine.Slot). Near of [] (waiting.set_slot st s (record (slot_at st s) { batch = [] })) l base.heads base.batches base.links) (set_twice base.slots s _ _) kept in
-        let waits : (count_by (keeps b) (detached st s).slots ≡ won) × Near of [] (detached st s) (rested base s []).slots (map (with_front b) base.heads) (base.batches ++ fresh ∷ []) base.links
-        = near_waits of batch (slot_at st s).batch (waiting.set_slot st s (record (slot_at st s) { batch = [] })) (rested base s []).slots base.heads base.batches base.links kept_in own.batch in
+        let waits : (count_by (keeps b) (with_batch_retired st s).slots ≡ won) × Near of [] (with_batch_retired st s) (at_rest base s []).slots (map (with_front b) base.heads) (base.batches ++ fresh ∷ []) base.links
+        = near_waits of batch (slot_at st s).batch (waiting.set_slot st s (record (slot_at st s) { batch = [] })) (at_rest base s []).slots base.heads base.batches base.links kept_in own.batch in
         let last : b < length (base.batches ++ fresh ∷ []) = omega (arith, length-append base.batches (fresh ∷ []), n.retired) in
-        let gone : BothGone of b [] (rested base s []).slots (map (with_front b) base.heads) (base.batches ++ fresh ∷ []) base.links won (won == 0) (release (detached st s) b)
-        = subst (λ (k : ℕ). BothGone of b [] (rested base s []).slots (map (with_front b) base.heads) (base.batches ++ fresh ∷ []) base.links k (k == 0) (release (detached st s) b)) waits.0
-        (near_release of b [] (detached st s) (rested base s []).slots (map (with_front b) base.heads) (base.batches ++ fresh ∷ []) base.links waits.1 last refl) in
+        let gone : BothGone of b [] (at_rest base s []).slots (map (with_front b) base.heads) (base.batches ++ fresh ∷ []) base.links won (won == 0) (release (with_batch_retired st s) b)
+        = subst (λ (k : ℕ). BothGone of b [] (at_rest base s []).slots (map (with_front b) base.heads) (base.batches ++ fresh ∷ []) base.links k (k == 0) (release (with_batch_retired st s) b)) waits.0
+        (near_release of b [] (with_batch_retired st s) (at_rest base s []).slots (map (with_front b) base.heads) (base.batches ++ fresh ∷ []) base.links waits.1 last refl) in
         let place : b ≡ length base.batches = sym n.retired in
         let own_batch : get_or (base.batches ++ fresh ∷ []) b no_batch ≡ fresh = rw place (get_or-append_seam base.batches fresh [] no_batch) in
-        let put_there : batch_with (base.batches ++ fresh ∷ []) b (won == 0) (pos won) ≡ (waited base batch).batches
+        let put_there : batch_with (base.batches ++ fresh ∷ []) b (won == 0) (pos won) ≡ (with_waiting base batch).batches
         = ap (λ (x : Batch). set (base.batches ++ fresh ∷ []) b (record { values = if won == 0 then [] else x.values; count = pos won })) own_batch
         ∙ ap (λ (k : ℕ). set (base.batches ++ fresh ∷ []) k (record { values = if won == 0 then [] else batch; count = pos won })) place
         ∙ set_seam base.batches fresh _ [] in
-        let near : NearAt of [] (release (detached st s) b).0 (rested (waited base batch) s [])
-        = subst (λ (k : ℕ). Near of [] (release (detached st s) b).0 (rested base s []).slots (map (with_front k) base.heads) (waited base batch).batches base.links) place
-        (subst (λ (l : List Batch). Near of [] (release (detached st s) b).0 (rested base s []).slots (map (with_front b) base.heads) l base.links) put_there gone.0) in
-        let stand : Denote of (if won == 0 then batch else []) (release (detached st s) b).1
-        = subst (λ (x : Batch). Denote of (if won == 0 then x.values else []) (release (detached st s) b).1) own_batch gone.1 in
-        let tried : K (busy (waited base batch) s [] (waited_place base batch) queue) hs
+        let near : NearAt of [] (release (with_batch_retired st s) b).0 (at_rest (with_waiting base batch) s [])
+        = subst (λ (k : ℕ). Near of [] (release (with_batch_retired st s) b).0 (at_rest base s []).slots (map (with_front k) base.heads) (with_waiting base batch).batches base.links) place
+        (subst (λ (l : List Batch). Near of [] (release (with_batch_retired st s) b).0 (at_rest base s []).slots (map (with_front b) base.heads) l base.links) put_there gone.0) in
+        let stand : Denote of (if won == 0 then batch else []) (release (with_batch_retired st s) b).1
+        = subst (λ (x : Batch). Denote of (if won == 0 then x.values else []) (release (with_batch_retired st s) b).1) own_batch gone.1 in
+        let tried : K (busy (with_waiting base batch) s [] (place_with_waiting base batch) queue) hs
         = along puts of P s st.size K carried _ _ hs (attempts_on st.size base s batch queue h all (keeps_on _ _ _ _ some long active e)) k in
-        let handing : Handing puts of K (waited base batch) s [] (if won == 0 then batch else []) [] queue hs (release (detached st s) (length st.retired)).1
-        = hands_on puts of P s st.size K carried (waited base batch) [] (if won == 0 then batch else []) [] queue hs (release (detached st s) (length st.retired)).1 h stand (holds_detach P st s holds).1 tried in
+        let handing : Handing puts of K (with_waiting base batch) s [] (if won == 0 then batch else []) [] queue hs (release (with_batch_retired st s) (length st.retired)).1
+        = hands_on puts of P s st.size K carried (with_waiting base batch) [] (if won == 0 then batch else []) [] queue hs (release (with_batch_retired st s) (length st.retired)).1 h stand (holds_detach P st s holds).1 tried in
         record {
-          base = record (waited base batch) { gone = handing.gone; named = handing.named };
+          base = record (with_waiting base batch) { gone = handing.gone; named = handing.named };
           batch = [];
           more = handing.more;
           handed = if won == 0 then batch else [];
@@ -186,10 +186,10 @@ attempt_does {T} {R} puts of P K st base s batch queue hs carried holds n h some
           gone = stand;
           further_stand = handing.stand;
           within = h;
-          same_size = either (λ (o : Outcome T R). o.0.size ≡ st.size) (waiting.is_kept (detached st s) b) _ _ refl refl;
-          same_guards = either (λ (o : Outcome T R). (slot_at o.0 s).guards ≡ (slot_at st s).guards) (waiting.is_kept (detached st s) b) _ _ (detached_guards st s within) (detached_guards st s within);
+          same_size = either (λ (o : Outcome T R). o.0.size ≡ st.size) (waiting.is_kept (with_batch_retired st s) b) _ _ refl refl;
+          same_guards = either (λ (o : Outcome T R). (slot_at o.0 s).guards ≡ (slot_at st s).guards) (waiting.is_kept (with_batch_retired st s) b) _ _ (detached_guards st s within) (detached_guards st s within);
         }
 
-    go : (t : Bool) → gives_up st s ≡ t → Does puts of K st.size s (slot_at st s).guards queue hs (if t then (st, []) else release (detached st s) (length st.retired))
+    go : (t : Bool) → gives_up st s ≡ t → Does puts of K st.size s (slot_at st s).guards queue hs (if t then (st, []) else release (with_batch_retired st s) (length st.retired))
     go true e = nothing_done puts of K st base s batch queue hs n h (along puts of P s st.size K carried _ _ hs (attempts_stop st.size base s batch queue h all (gives _ _ _ _ some long active e)) k)
     go false e = on e

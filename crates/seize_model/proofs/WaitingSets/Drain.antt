@@ -2,7 +2,7 @@
 use Rattle.std.proofs.Common.{◌≡◌, ℕ, zero, suc, ◌<◌, ◌≤◌, List, [], ◌∷◌, ◌++◌, map, sum, refl, ap, arith}
 use Rattle.std.specs.List.{sum_by}
 use Rattle.std.proofs.lemmas.List.Sums.{sum_by-append, sum_by-cons, sum-map}
-use Rattle.seize_model.specs.Waiting.Further.{Lighter, put_by, drain, drained}
+use Rattle.seize_model.specs.Waiting.Further.{Lighter, put_by, drain, gone_from}
 
 -- what the queued values weigh together
 abbrev pub weighs : {T R : Type 0} → (T → ℕ) → List (T × R) → ℕ
@@ -35,20 +35,20 @@ enough puts weight h (suc n) (suc m) (v ∷ queue) a b =
     let f : weighs weight (queue ++ put_by puts v) < weighs weight (v ∷ queue) = lightens puts weight h v queue in
     ap (λ rest. v ∷ rest) (enough puts weight h n m (queue ++ put_by puts v) (omega arith) (omega arith))
 
-pub drained-nil : {T R : Type 0} (puts : R → T → List T) (weight : T → ℕ) → drained {T = T} {R = R} puts weight [] ≡ []
-drained-nil {T} {R} puts weight = go (weighs {T = T} {R = R} weight [])
+pub gone_from-nil : {T R : Type 0} (puts : R → T → List T) (weight : T → ℕ) → gone_from {T = T} {R = R} puts weight [] ≡ []
+gone_from-nil {T} {R} puts weight = go (weighs {T = T} {R = R} weight [])
   where
     go : (n : ℕ) → drain {T = T} {R = R} puts n [] ≡ []
     go zero = refl
     go (suc n) = refl
 
 unfolds : {T R : Type 0} (puts : R → T → List T) (weight : T → ℕ) → Lighter puts weight → (n : ℕ) (v : T × R) (queue : List (T × R))
-    → weighs weight (v ∷ queue) ≤ n → drain puts n (v ∷ queue) ≡ v ∷ drained puts weight (queue ++ put_by puts v)
+    → weighs weight (v ∷ queue) ≤ n → drain puts n (v ∷ queue) ≡ v ∷ gone_from puts weight (queue ++ put_by puts v)
 unfolds puts weight h zero v queue a = absurd (omega (arith, lightens puts weight h v queue))
 unfolds puts weight h (suc n) v queue a =
     let f : weighs weight (queue ++ put_by puts v) < weighs weight (v ∷ queue) = lightens puts weight h v queue in
     ap (λ rest. v ∷ rest) (enough puts weight h n (weighs weight (queue ++ put_by puts v)) (queue ++ put_by puts v) (omega arith) (omega arith))
 
-pub drained-cons : {T R : Type 0} (puts : R → T → List T) (weight : T → ℕ) → Lighter puts weight → (v : T × R) (queue : List (T × R))
-    → drained puts weight (v ∷ queue) ≡ v ∷ drained puts weight (queue ++ put_by puts v)
-drained-cons puts weight h v queue = unfolds puts weight h (weighs weight (v ∷ queue)) v queue (omega arith)
+pub gone_from-cons : {T R : Type 0} (puts : R → T → List T) (weight : T → ℕ) → Lighter puts weight → (v : T × R) (queue : List (T × R))
+    → gone_from puts weight (v ∷ queue) ≡ v ∷ gone_from puts weight (queue ++ put_by puts v)
+gone_from-cons puts weight h v queue = unfolds puts weight h (weighs weight (v ∷ queue)) v queue (omega arith)

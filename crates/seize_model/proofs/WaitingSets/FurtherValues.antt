@@ -6,7 +6,7 @@ use Rattle.std.proofs.lemmas.List.Sums.{sum_by-append, sum_by-cons, sum_by_push,
 use Rattle.std.proofs.lemmas.List.Concat.{flat_map-cons}
 use Rattle.std.proofs.Math.Seq.{get_or-append_seam}
 use Rattle.seize_model.specs.Waiting.State.{Slot, State, slot_at, retired_at, set_slot, is_active, is_kept, no_slot}
-use Rattle.seize_model.specs.Waiting.Attempt.{Outcome, after, release, attempt, gives_up, wait_if_active, detached, put, appended}
+use Rattle.seize_model.specs.Waiting.Attempt.{Outcome, after, release, attempt, gives_up, wait_if_active, with_batch_retired, put, with_value}
 use Rattle.seize_model.specs.Waiting.Further.{Lighter, put_by, further, settle, still_to_come, afterwards}
 use Rattle.seize_model.proofs.Cases.{either, in_or_past}
 
@@ -17,19 +17,19 @@ twice weight v = 2 * weight v.0
 abbrev pub less : {T R : Type 0} → (T → ℕ) → T × R → ℕ
 less weight v = 2 * weight v.0 - 1
 
-abbrev pub queued : {T R : Type 0} → (T → ℕ) → List (T × R) → ℕ
-queued weight queue = sum_by (twice weight) queue
+abbrev pub queue_total : {T R : Type 0} → (T → ℕ) → List (T × R) → ℕ
+queue_total weight queue = sum_by (twice weight) queue
 
-abbrev pub held : {T R : Type 0} → (T → ℕ) → List (T × R) → ℕ
-held weight batch = sum_by (less weight) batch
+abbrev pub batch_total : {T R : Type 0} → (T → ℕ) → List (T × R) → ℕ
+batch_total weight batch = sum_by (less weight) batch
 
-queued-one : {T R : Type 0} (weight : T → ℕ) (r : R) (vs : List T) → queued weight (map (λ x. (x, r)) vs) ≡ 2 * sum (map weight vs)
+queued-one : {T R : Type 0} (weight : T → ℕ) (r : R) (vs : List T) → queue_total weight (map (λ x. (x, r)) vs) ≡ 2 * sum (map weight vs)
 queued-one weight r [] = refl
 queued-one weight r (v ∷ vs) =
     omega (arith, sum_by-cons (twice weight) (v, r) (map (λ x. (x, r)) vs), sum-map weight (v ∷ vs), sum-map weight vs, sum_by-cons weight v vs, queued-one weight r vs)
 
 pub further_weighs : {T R : Type 0} (puts : R → T → List T) (weight : T → ℕ) → Lighter puts weight → (gone : List (T × R))
-    → queued weight (further puts gone) ≤ held weight gone
+    → queue_total weight (further puts gone) ≤ batch_total weight gone
 further_weighs puts weight h [] = omega arith
 further_weighs puts weight h (v ∷ gone) =
     let e : further puts (v ∷ gone) ≡ put_by puts v ++ further puts gone = flat_map-cons (put_by puts) v gone in
@@ -50,7 +50,7 @@ Shape s batch o =
 pub waits_batch : {T R : Type 0} (b : ℕ) (slot : Slot T R) → (wait_if_active b slot).batch ≡ slot.batch
 waits_batch b slot = either (λ k. k.batch ≡ slot.batch) (is_active slot) (record slot { order = b ∷ slot.order }) slot refl refl
 
-emptied_batch : {T R : Type 0} (st : State T R) (s : ℕ) → (slot_at (detached st s) s).batch ≡ []
+emptied_batch : {T R : Type 0} (st : State T R) (s : ℕ) → (slot_at (with_batch_retired st s) s).batch ≡ []
 emptied_batch {T} {R} st s = go (in_or_past s (length st.slots))
   where
     next : State T R
@@ -59,25 +59,25 @@ emptied_batch {T} {R} st s = go (in_or_past s (length st.slots))
     slots : length next.slots ≡ length st.slots
     slots = length-set st.slots s (record (slot_at st s) { batch = [] })
 
-    waiting : length (detached st s).slots ≡ length st.slots
+    waiting : length (with_batch_retired st s).slots ≡ length st.slots
     waiting = length-map next.slots (wait_if_active (length st.retired)) ∙ slots
 
-    go : (s < length st.slots) ⊎ (length st.slots ≤ s) → (slot_at (detached st s) s).batch ≡ []
+    go : (s < length st.slots) ⊎ (length st.slots ≤ s) → (slot_at (with_batch_retired st s) s).batch ≡ []
     go (inl h) =
         let at : slot_at next s ≡ record (slot_at st s) { batch = [] } = get_or-set_same st.slots s _ no_slot h in
-        let waits : slot_at (detached st s) s ≡ wait_if_active (length st.retired) (slot_at next s) = get_or-map (wait_if_active (length st.retired)) next.slots s no_slot no_slot (rw slots h) in
+        let waits : slot_at (with_batch_retired st s) s ≡ wait_if_active (length st.retired) (slot_at next s) = get_or-map (wait_if_active (length st.retired)) next.slots s no_slot no_slot (rw slots h) in
         ap (λ k. k.batch) waits ∙ waits_batch (length st.retired) (slot_at next s) ∙ ap (λ k. k.batch) at
-    go (inr h) = ap (λ k. k.batch) (get_or_past (detached st s).slots s no_slot (rw waiting h))
+    go (inr h) = ap (λ k. k.batch) (get_or_past (with_batch_retired st s).slots s no_slot (rw waiting h))
 
-retired_last : {T R : Type 0} (st : State T R) (s : ℕ) → retired_at (detached st s) (length st.retired) ≡ (slot_at st s).batch
+retired_last : {T R : Type 0} (st : State T R) (s : ℕ) → retired_at (with_batch_retired st s) (length st.retired) ≡ (slot_at st s).batch
 retired_last st s = get_or-append_seam st.retired (slot_at st s).batch [] []
 
 attempt_shape : {T R : Type 0} (st : State T R) (s : ℕ) → Shape s (slot_at st s).batch (attempt st s)
 attempt_shape st s =
-    either (Shape s (slot_at st s).batch) (gives_up st s) (st, []) (release (detached st s) (length st.retired)) (inl (refl, refl)) released
+    either (Shape s (slot_at st s).batch) (gives_up st s) (st, []) (release (with_batch_retired st s) (length st.retired)) (inl (refl, refl)) released
   where
-    released : Shape s (slot_at st s).batch (release (detached st s) (length st.retired))
-    released = either (Shape s (slot_at st s).batch) (is_kept (detached st s) (length st.retired)) _ _
+    released : Shape s (slot_at st s).batch (release (with_batch_retired st s) (length st.retired))
+    released = either (Shape s (slot_at st s).batch) (is_kept (with_batch_retired st s) (length st.retired)) _ _
         (inr (emptied_batch st s, inl refl))
         (inr (emptied_batch st s, inr (retired_last st s)))
 
@@ -94,7 +94,7 @@ put_shape {T} {R} st s v = go (in_or_past s (length st.slots))
     batch = (slot_at st s).batch ++ v ∷ []
 
     next : State T R
-    next = appended st s v
+    next = with_value st s v
 
     own : Shape s (slot_at next s).batch (put st s v)
     own = either (Shape s (slot_at next s).batch) (nat_le (max 1 st.size) (length (slot_at next s).batch)) (attempt next s) (next, []) (attempt_shape next s) (inl (refl, refl))
@@ -115,31 +115,31 @@ falls puts weight h st s v queue = go (put_shape st s v)
     one : 1 ≤ weight v.0
     one = omega (arith, h v.1 v.0)
 
-    both : held weight ((slot_at st s).batch ++ v ∷ []) ≡ held weight (slot_at st s).batch + (2 * weight v.0 - 1)
+    both : batch_total weight ((slot_at st s).batch ++ v ∷ []) ≡ batch_total weight (slot_at st s).batch + (2 * weight v.0 - 1)
     both = sum_by_push (less weight) (slot_at st s).batch v
 
-    queues : queued weight (queue ++ further puts (put st s v).1) ≡ queued weight queue + queued weight (further puts (put st s v).1)
+    queues : queue_total weight (queue ++ further puts (put st s v).1) ≡ queue_total weight queue + queue_total weight (further puts (put st s v).1)
     queues = sum_by-append (twice weight) queue (further puts (put st s v).1)
 
-    first : queued weight (v ∷ queue) ≡ 2 * weight v.0 + queued weight queue
+    first : queue_total weight (v ∷ queue) ≡ 2 * weight v.0 + queue_total weight queue
     first = sum_by-cons (twice weight) v queue
 
-    weighs : queued weight (further puts (put st s v).1) ≤ held weight (put st s v).1
+    weighs : queue_total weight (further puts (put st s v).1) ≤ batch_total weight (put st s v).1
     weighs = further_weighs puts weight h (put st s v).1
 
     go : (((slot_at (put st s v).0 s).batch ≡ (slot_at st s).batch ++ v ∷ []) × ((put st s v).1 ≡ [])) ⊎ (((slot_at (put st s v).0 s).batch ≡ []) × (((put st s v).1 ≡ []) ⊎ ((put st s v).1 ≡ (slot_at st s).batch ++ v ∷ [])))
         → still_to_come weight (slot_at (put st s v).0 s).batch (queue ++ further puts (put st s v).1) < still_to_come weight (slot_at st s).batch (v ∷ queue)
     go (inl (batch, none)) =
-        let b : held weight (slot_at (put st s v).0 s).batch ≡ held weight ((slot_at st s).batch ++ v ∷ []) = ap (held weight) batch in
-        let n : held weight (put st s v).1 ≡ 0 = ap (held weight) none in
+        let b : batch_total weight (slot_at (put st s v).0 s).batch ≡ batch_total weight ((slot_at st s).batch ++ v ∷ []) = ap (batch_total weight) batch in
+        let n : batch_total weight (put st s v).1 ≡ 0 = ap (batch_total weight) none in
         omega (arith, one, both, queues, first, weighs, b, n)
     go (inr (batch, inl none)) =
-        let b : held weight (slot_at (put st s v).0 s).batch ≡ 0 = ap (held weight) batch in
-        let n : held weight (put st s v).1 ≡ 0 = ap (held weight) none in
+        let b : batch_total weight (slot_at (put st s v).0 s).batch ≡ 0 = ap (batch_total weight) batch in
+        let n : batch_total weight (put st s v).1 ≡ 0 = ap (batch_total weight) none in
         omega (arith, one, both, queues, first, weighs, b, n)
     go (inr (batch, inr all)) =
-        let b : held weight (slot_at (put st s v).0 s).batch ≡ 0 = ap (held weight) batch in
-        let n : held weight (put st s v).1 ≡ held weight ((slot_at st s).batch ++ v ∷ []) = ap (held weight) all in
+        let b : batch_total weight (slot_at (put st s v).0 s).batch ≡ 0 = ap (batch_total weight) batch in
+        let n : batch_total weight (put st s v).1 ≡ batch_total weight ((slot_at st s).batch ++ v ∷ []) = ap (batch_total weight) all in
         omega (arith, one, both, queues, first, weighs, b, n)
 
 -- more fuel than is needed changes nothing

@@ -75,12 +75,12 @@ unless_refused (Refused r back) events = []
 unless_refused _ events = events
 
 -- the state of the machine after these calls and the values handed, where a value is its number, or none where an event is illegal
-abbrev pub driven : {R : Type 0} → (R → ℕ → List ℕ) → (ℕ → ℕ) → Puts → waiting.State ℕ R → machine.State → List (Call ℕ R)
+abbrev pub machine_after : {R : Type 0} → (R → ℕ → List ℕ) → (ℕ → ℕ) → Puts → waiting.State ℕ R → machine.State → List (Call ℕ R)
     → Option (machine.State × List ℕ)
-driven by weight puts st shown [] = Some (shown, [])
-driven by weight puts st shown (c ∷ cs) =
+machine_after by weight puts st shown [] = Some (shown, [])
+machine_after by weight puts st shown (c ∷ cs) =
     let told = step by weight st c in
     elim (play st.size shown (unless_refused told.0 (events_of puts 300 st shown c))) [
       | None ↦ None
-      | Some r ↦ elim (driven by weight puts told.1.0 r.0 cs) [ None ↦ None | Some d ↦ Some (d.0, handed r.1 ++ d.1) ]
+      | Some r ↦ elim (machine_after by weight puts told.1.0 r.0 cs) [ None ↦ None | Some d ↦ Some (d.0, handed r.1 ++ d.1) ]
     ]

@@ -12,7 +12,7 @@ use Rattle.seize_model.specs.Waiting.State as waiting
 use Rattle.seize_model.specs.Waiting.Calls.{is_owned}
 use Rattle.seize_model.specs.Waiting.Further.{put_by}
 use Rattle.seize_model.specs.Waiting.Lists.{Call, Register, EnterOwned, Enter, Leave, End, Refresh, Flush, Retire, Protect, Swap, Reply, Refused}
-use Rattle.seize_model.specs.Agreement.Shows.{held, StandFor}
+use Rattle.seize_model.specs.Agreement.Shows.{held_value, StandFor}
 
 abbrev pub is_return : Event → Bool
 is_return (Return s) = true
@@ -66,7 +66,7 @@ MakesFor _ st shown call events = Makes st shown call events
 -- the number with which the call begins stands for the value that it names
 abbrev pub IsNamed : {T R : Type 0} → (ℕ → T) → Call T R → Event → Type 0
 IsNamed of (Retire s v r) (Begin i (RetireJob n)) = of n ≡ v
-IsNamed of (Swap s l new r) (ExchangeLink i k (SwapLink n)) = held of n ≡ new
+IsNamed of (Swap s l new r) (ExchangeLink i k (SwapLink n)) = held_value of n ≡ new
 IsNamed of call e = Unit {0}
 
 abbrev pub NamesOwn : {T R : Type 0} → (ℕ → T) → Call T R → List Event → Type 0

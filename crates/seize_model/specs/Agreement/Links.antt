@@ -8,12 +8,12 @@ use Rattle.seize_machine.specs.declared.machine.event.Answer.{Answer}
 use Rattle.seize_machine.specs.declared.machine.event.Answer.TheVariants.{Link}
 use Rattle.seize_model.specs.Waiting.State as waiting
 use Rattle.seize_model.specs.Waiting.Calls as calls
-use Rattle.seize_model.specs.Agreement.Shows.{held, Shows, ShowsReclaimers}
+use Rattle.seize_model.specs.Agreement.Shows.{held_value, Shows, ShowsReclaimers}
 use Rattle.seize_model.specs.Agreement.Play.{play}
 
 -- the number that was found in the link stands for what it held
 abbrev pub IsFound : {T : Type 0} → (ℕ → T) → Result (Option T) Refusal → List Answer → Type 0
-IsFound of (Ok found) answers = (n : Option ℕ) × (answers ≡ Link n ∷ []) × (held of n ≡ found)
+IsFound of (Ok found) answers = (n : Option ℕ) × (answers ≡ Link n ∷ []) × (held_value of n ≡ found)
 IsFound of (Err r) answers = answers ≡ []
 
 -- the one event of a read, or none where it is refused
@@ -34,7 +34,7 @@ exchange_events (Ok found) s l n = ExchangeLink s l (SwapLink n) ∷ []
 exchange_events (Err r) s l n = []
 
 -- these answers and this state after them are those of the exchange
-pub record IsExchanged (T R : Type 0) (of : ℕ → T) (told : calls.Answer (Option T) T R)
+pub record IsExchanged (T R : Type 0) (of : ℕ → T) (told : calls.Response (Option T) T R)
     (answers : List Answer) (later : machine.State) : Type 0 where
   pub shows : Shows T R of told.1.0 later
   pub found : IsFound of told.0 answers
@@ -45,7 +45,7 @@ pub record IsExchange (T R : Type 0) (of : ℕ → T) (st : waiting.State T R) (
   pub number : Option ℕ
   pub answers : List Answer
   pub later : machine.State
-  pub names : held of number ≡ new
+  pub names : held_value of number ≡ new
   pub legal : play st.size before (exchange_events (calls.swap st s l new).0 s l number) ≡ Some (later, answers)
   pub exchanged : IsExchanged T R of (calls.swap st s l new) answers later
 
@@ -59,6 +59,6 @@ ExchangeAgreement {T} R of =
 abbrev pub ExchangeOnLists : (T R : Type 0) → Type 0
 ExchangeOnLists T R =
     (of : ℕ → T) (by : ℕ → R) (st : waiting.State T R) (before later : machine.State) (s l : ℕ) (new : Option T) (n : Option ℕ)
-    (answers : List Answer) → l < length st.links → Shows T R of st before → ShowsReclaimers T R of by st before → held of n ≡ new
+    (answers : List Answer) → l < length st.links → Shows T R of st before → ShowsReclaimers T R of by st before → held_value of n ≡ new
     → play st.size before (exchange_events (calls.swap st s l new).0 s l n) ≡ Some (later, answers)
     → IsExchanged T R of (calls.swap st s l new) answers later × ShowsReclaimers T R of by (calls.swap st s l new).1.0 later

@@ -9,14 +9,14 @@ use Rattle.seize_machine.specs.declared.machine.event.Answer.TheVariants.{Link}
 use Rattle.seize_model.specs.Waiting.Lists.{Call, Register, EnterOwned, End, Protect, Reply, Done, Number, Kept, Found}
 
 -- one event before a list
-abbrev pub played : Answer → Option (State × List Answer) → Option (State × List Answer)
-played answer None = None
-played answer (Some r) = Some (r.0, answer ∷ r.1)
+abbrev pub with_answer : Answer → Option (State × List Answer) → Option (State × List Answer)
+with_answer answer None = None
+with_answer answer (Some r) = Some (r.0, answer ∷ r.1)
 
 -- the state after these events, and their answers, or none where one is illegal
 abbrev pub play : ℕ → State → List Event → Option (State × List Answer)
 play size st [] = Some (st, [])
-play size st (e ∷ es) = elim (next size st e) [ None ↦ None | Some d ↦ played d.1 (play size d.0 es) ]
+play size st (e ∷ es) = elim (next size st e) [ None ↦ None | Some d ↦ with_answer d.1 (play size d.0 es) ]
 
 -- **These are the machine's legal lists**, at one size
 abbrev pub PlaysAreLegal : Type 0

@@ -5,7 +5,7 @@ use Rattle.seize_model.specs.Waiting.State.{new}
 use Rattle.seize_model.specs.Waiting.Lists.{Call, run}
 use Rattle.seize_model.specs.Waiting.Runs.{puts, weight, Group, Calls, All}
 use Rattle.seize_model.specs.Agreement.Shows.{head_of}
-use Rattle.seize_model.specs.Agreement.Driver.{driven}
+use Rattle.seize_model.specs.Agreement.Driver.{machine_after}
 
 -- the calls of a run, up to its first reclaim all
 abbrev pub calls_of : List Group → List (Call ℕ (Unit {0}))
@@ -16,7 +16,7 @@ calls_of (All ∷ groups) = []
 -- the heads after these calls and the values handed, in order, by the events of the machine: none where one is illegal
 abbrev pub by_events : ℕ → ℕ → List Group → Option (List Head × List ℕ)
 by_events size links groups =
-    elim (driven puts weight (puts tt) (new size links) (opening 0 (replicate links None)) (calls_of groups)) [
+    elim (machine_after puts weight (puts tt) (new size links) (opening 0 (replicate links None)) (calls_of groups)) [
       | None ↦ None
       | Some d ↦ Some (d.0.heads, d.1)
     ]

@@ -15,9 +15,9 @@ abbrev pub StandFor : {T R : Type 0} → (ℕ → T) → (ℕ → R) → List �
 StandFor {T} {R} of by numbers values = map {B = T × R} (λ n. (of n, by n)) numbers ≡ values
 
 -- what a link holds by the number in it
-abbrev pub held : {T : Type 0} → (ℕ → T) → Option ℕ → Option T
-held of None = None
-held of (Some n) = Some (of n)
+abbrev pub held_value : {T : Type 0} → (ℕ → T) → Option ℕ → Option T
+held_value of None = None
+held_value of (Some n) = Some (of n)
 
 -- a slot's head lists the batches that wait for the slot
 abbrev pub head_of : {T R : Type 0} → waiting.Slot T R → machine.Head
@@ -43,7 +43,7 @@ pub record Shows (T R : Type 0) (of : ℕ → T) (st : waiting.State T R) (shown
   pub retired : length shown.batches ≡ length st.retired
   pub values : (b : ℕ) → Stand of (machine.batch_at shown b).values (waiting.retired_at st b)
   pub counts : (b : ℕ) → (machine.batch_at shown b).count ≡ pos (count_by (waiting.keeps b) st.slots)
-  pub links : map (held of) shown.links ≡ st.links
+  pub links : map (held_value of) shown.links ≡ st.links
 
 -- Besides, where each number has a reclaimer too: the values that wait or are retired are to be reclaimed by those of their numbers.
 pub record ShowsReclaimers (T R : Type 0) (of : ℕ → T) (by : ℕ → R) (st : waiting.State T R) (shown : machine.State) : Type 0 where

@@ -32,8 +32,8 @@ abbrev pub wait_if_active : {T R : Type 0} → ℕ → Slot T R → Slot T R
 wait_if_active b slot = if is_active slot then record slot { order = b ∷ slot.order } else slot
 
 -- the batch of s becomes a retired batch, which waits for all active slots
-abbrev pub detached : {T R : Type 0} → State T R → ℕ → State T R
-detached st s =
+abbrev pub with_batch_retired : {T R : Type 0} → State T R → ℕ → State T R
+with_batch_retired st s =
     let emptied = set_slot st s (record (slot_at st s) { batch = [] }) in
     record st {
       slots = map (wait_if_active (length st.retired)) emptied.slots;
@@ -45,17 +45,17 @@ abbrev pub attempt : {T R : Type 0} → State T R → ℕ → Outcome T R
 attempt st s =
     if gives_up st s
     then (st, [])
-    else release (detached st s) (length st.retired)
+    else release (with_batch_retired st s) (length st.retired)
 
 -- value v is the last one in the batch of s
-abbrev pub appended : {T R : Type 0} → State T R → ℕ → T × R → State T R
-appended st s v = set_slot st s (record (slot_at st s) { batch = (slot_at st s).batch ++ v ∷ [] })
+abbrev pub with_value : {T R : Type 0} → State T R → ℕ → T × R → State T R
+with_value st s v = set_slot st s (record (slot_at st s) { batch = (slot_at st s).batch ++ v ∷ [] })
 
 -- **Retire v by s.** The value joins the batch of s, and an attempt follows if the batch is then long enough. A size of 0
 -- serves as 1.
 abbrev pub put : {T R : Type 0} → State T R → ℕ → T × R → Outcome T R
 put st s v =
-    let next = appended st s v in
+    let next = with_value st s v in
     if nat_le (max 1 st.size) (length (slot_at next s).batch)
     then attempt next s
     else (next, [])

@@ -35,8 +35,8 @@ abbrev pub afterwards : {T R : Type 0} → (R → T → List T) → (T → ℕ) 
 afterwards puts weight st s queue = settle puts (still_to_come weight (slot_at st s).batch queue) st s queue
 
 -- a call's own work, and then what the values gone put
-abbrev pub settled : {T R : Type 0} → (R → T → List T) → (T → ℕ) → ℕ → Outcome T R → Outcome T R
-settled puts weight s o = after o.1 (afterwards puts weight o.0 s (further puts o.1))
+abbrev pub with_further : {T R : Type 0} → (R → T → List T) → (T → ℕ) → ℕ → Outcome T R → Outcome T R
+with_further puts weight s o = after o.1 (afterwards puts weight o.0 s (further puts o.1))
 
 -- The values that go to their reclaimers where these are given up and what they put is given up too, in turn, for at most this
 -- many values.
@@ -46,9 +46,9 @@ drain puts (suc n) [] = []
 drain puts (suc n) (v ∷ queue) = v ∷ drain puts n (queue ++ put_by puts v)
 
 -- **Drained.** The queue is taken from its front, each value is gone, and what it puts joins the end, until the queue is empty.
--- `DrainedLaws` says the same without a number of values.
-abbrev pub drained : {T R : Type 0} → (R → T → List T) → (T → ℕ) → List (T × R) → List (T × R)
-drained puts weight queue = drain puts (sum_by (λ v. weight v.0) queue) queue
+-- `DrainLaws` says the same without a number of values.
+abbrev pub gone_from : {T R : Type 0} → (R → T → List T) → (T → ℕ) → List (T × R) → List (T × R)
+gone_from puts weight queue = drain puts (sum_by (λ v. weight v.0) queue) queue
 
 -- an empty queue leaves all as it is; of another one the first value is retired, and then the rest, with what the values gone put
 -- behind it
@@ -60,7 +60,7 @@ AfterwardsLaws {T} {R} puts weight =
     ≡ after (put st s v).1 (afterwards puts weight (put st s v).0 s (queue ++ further puts (put st s v).1)))
 
 -- nothing goes where nothing is queued; else the first goes, and then the rest, with what it puts behind it
-abbrev pub DrainedLaws : {T R : Type 0} → (R → T → List T) → (T → ℕ) → Type 0
-DrainedLaws {T} {R} puts weight =
-    (drained puts weight [] ≡ [])
-    × ((v : T × R) (queue : List (T × R)) → drained puts weight (v ∷ queue) ≡ v ∷ drained puts weight (queue ++ put_by puts v))
+abbrev pub DrainLaws : {T R : Type 0} → (R → T → List T) → (T → ℕ) → Type 0
+DrainLaws {T} {R} puts weight =
+    (gone_from puts weight [] ≡ [])
+    × ((v : T × R) (queue : List (T × R)) → gone_from puts weight (v ∷ queue) ≡ v ∷ gone_from puts weight (queue ++ put_by puts v))

@@ -6,7 +6,7 @@ use Rattle.seize_table.specs.declared.refusal.Refusal.{Refusal}
 use Rattle.seize_table.specs.declared.refusal.Refusal.TheVariants.{NoMemory}
 use Rattle.seize_model.specs.Waiting.State.{State}
 use Rattle.seize_model.specs.Waiting.Attempt.{Outcome, after}
-use Rattle.seize_model.specs.Waiting.Calls.{Answer, take_number, enter, leave, end_slot, refresh, flush, retire, protect, swap}
+use Rattle.seize_model.specs.Waiting.Calls.{Response, take_number, enter, leave, end_slot, refresh, flush, retire, protect, swap}
 
 -- one call of a list, with its slot
 pub data Call (T R : Type 0) : Type 0 where
@@ -38,24 +38,25 @@ abbrev pub Effect : (T R : Type 0) → Type 0
 Effect T R = Reply T × Outcome T R
 
 -- the reply to an answer; a refusal gives this value back
-abbrev pub reply_of : {A T : Type 0} → (A → Reply T) → Option T → Result A Refusal → Reply T
-reply_of f back (Ok a) = f a
-reply_of f back (Err r) = Refused r back
+abbrev pub reply_to : {A T : Type 0} → (A → Reply T) → Option T → Result A Refusal → Reply T
+reply_to f back (Ok a) = f a
+reply_to f back (Err r) = Refused r back
 
-abbrev pub reply : {A T R : Type 0} → (A → Reply T) → Option T → Answer A T R → Effect T R
-reply f back a = (reply_of f back a.0, a.1)
+abbrev pub reply : {A T R : Type 0} → (A → Reply T) → Option T → Response A T R → Effect T R
+reply f back a = (reply_to f back a.0, a.1)
 
 abbrev pub done : {A T : Type 0} → A → Reply T
 done _ = Done
 
-abbrev pub ended : {T : Type 0} → Bool → Reply T
-ended freed = if freed then Done else Kept
+abbrev pub end_reply : {T : Type 0} → Bool → Reply T
+end_reply given = if given then Done else Kept
 
 -- what a swap took out is retired
-abbrev pub swapped : {T R : Type 0} → (R → T → List T) → (T → ℕ) → ℕ → Option T → R → Result (Option T) Refusal → Outcome T R → Effect T R
-swapped puts weight s new reclaim (Err r) o = (Refused r new, o)
-swapped puts weight s new reclaim (Ok None) o = (Done, o)
-swapped puts weight s new reclaim (Ok (Some v)) o = reply done (Some v) (retire puts weight o.0 s v reclaim)
+abbrev pub retire_old : {T R : Type 0} → (R → T → List T) → (T → ℕ) → ℕ → Option T → R → Result (Option T) Refusal → Outcome T R
+    → Effect T R
+retire_old puts weight s new reclaim (Err r) o = (Refused r new, o)
+retire_old puts weight s new reclaim (Ok None) o = (Done, o)
+retire_old puts weight s new reclaim (Ok (Some v)) o = reply done (Some v) (retire puts weight o.0 s v reclaim)
 
 -- **One call.**
 abbrev pub step : {T R : Type 0} → (R → T → List T) → (T → ℕ) → State T R → Call T R → Effect T R
@@ -63,12 +64,12 @@ step puts weight st Register = reply Number None (take_number st Registered 0)
 step puts weight st EnterOwned = reply Number None (take_number st Owned 1)
 step puts weight st (Enter s) = reply done None (enter st s)
 step puts weight st (Leave s) = reply done None (leave puts weight st s)
-step puts weight st (End s) = reply ended None (end_slot st s)
+step puts weight st (End s) = reply end_reply None (end_slot st s)
 step puts weight st (Refresh s) = reply done None (refresh puts weight st s)
 step puts weight st (Flush s) = reply done None (flush puts weight st s)
 step puts weight st (Retire s v r) = reply done (Some v) (retire puts weight st s v r)
 step puts weight st (Protect s l) = reply (λ found. Found (is_some found)) None (protect st s l)
-step puts weight st (Swap s l new r) = let a = swap st s l new in swapped puts weight s new r a.0 a.1
+step puts weight st (Swap s l new r) = let a = swap st s l new in retire_old puts weight s new r a.0 a.1
 
 -- **A list of calls.**
 abbrev pub run : {T R : Type 0} → (R → T → List T) → (T → ℕ) → State T R → List (Call T R) → List (Reply T) × Outcome T R

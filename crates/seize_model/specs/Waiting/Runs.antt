@@ -23,14 +23,14 @@ pub data Group : Type 0 where
 abbrev pub Telling : Type 0
 Telling = List ℕ × List (Reply ℕ)
 
-abbrev pub told : State ℕ (Unit {0}) → List Group → List Telling
-told st [] = []
-told st (Calls calls ∷ groups) =
+abbrev pub tellings : State ℕ (Unit {0}) → List Group → List Telling
+tellings st [] = []
+tellings st (Calls calls ∷ groups) =
     let r = run puts weight st calls in
-    (map (λ v. v.0) r.1.1, r.0) ∷ told r.1.0 groups
-told st (All ∷ groups) =
+    (map (λ v. v.0) r.1.1, r.0) ∷ tellings r.1.0 groups
+tellings st (All ∷ groups) =
     let o = reclaim_all puts weight st in
-    (map (λ v. v.0) o.1, []) ∷ told o.0 groups
+    (map (λ v. v.0) o.1, []) ∷ tellings o.0 groups
 
 -- the state after one list of calls
 abbrev pub state_after : State ℕ (Unit {0}) → List (Call ℕ (Unit {0})) → State ℕ (Unit {0})
@@ -95,12 +95,12 @@ reentrant_told =
     beside_three_told ∷ ([], dones 1) ∷ ([], dones 1) ∷ (1 ∷ 2 ∷ 3 ∷ 4 ∷ 5 ∷ [], dones 1) ∷ []
 
 -- **Refreshing.** A refresh parts only where there is one guard.
-abbrev pub refreshing : List Group
-refreshing =
+abbrev pub refreshes : List Group
+refreshes =
     Calls beside_three ∷ Calls (Refresh 0 ∷ Leave 0 ∷ []) ∷ Calls (Refresh 0 ∷ Leave 0 ∷ []) ∷ Calls (Refresh 0 ∷ []) ∷ []
 
-abbrev pub refreshing_told : List Telling
-refreshing_told =
+abbrev pub refreshes_told : List Telling
+refreshes_told =
     beside_three_told ∷ ([], dones 2) ∷ ([], dones 2) ∷ (1 ∷ 2 ∷ 3 ∷ 4 ∷ 5 ∷ [], dones 1) ∷ []
 
 -- **Enough.** As many values as active slots are enough, and one less is not.
@@ -127,8 +127,8 @@ abbrev pub nobody_active_told : List Telling
 nobody_active_told = (1 ∷ [], Number 0 ∷ dones 1) ∷ ([], dones 3) ∷ []
 
 -- **Further.** 12 and 20 are gone, then 13 and 14, which 12 put; 15, which 13 put, stays in the batch until all is reclaimed.
-abbrev pub furthered : List (Call ℕ (Unit {0}))
-furthered = Register ∷ gives 0 12 ∷ gives 0 20 ∷ []
+abbrev pub further_in_batch : List (Call ℕ (Unit {0}))
+further_in_batch = Register ∷ gives 0 12 ∷ gives 0 20 ∷ []
 
 abbrev pub further_values : List Group
 further_values = Calls (Register ∷ gives 0 12 ∷ []) ∷ Calls (gives 0 20 ∷ []) ∷ All ∷ []
@@ -138,20 +138,20 @@ further_values_told =
     ([], Number 0 ∷ dones 1) ∷ (12 ∷ 20 ∷ 13 ∷ 14 ∷ [], dones 1) ∷ (15 ∷ [], []) ∷ []
 
 -- **All.** First the batch that waited for slot 0, then the batches of the slots; then every number is free.
-abbrev pub reclaimed : List Group
-reclaimed =
+abbrev pub reclaims : List Group
+reclaims =
     Calls (Register ∷ Register ∷ Enter 0 ∷ gives 0 4 ∷ gives 1 1 ∷ gives 1 2 ∷ gives 1 3 ∷ []) ∷ All ∷ Calls (Register ∷ []) ∷ []
 
-abbrev pub reclaimed_told : List Telling
-reclaimed_told =
+abbrev pub reclaims_told : List Telling
+reclaims_told =
     ([], Number 0 ∷ Number 1 ∷ dones 5) ∷ (1 ∷ 2 ∷ 4 ∷ 3 ∷ [], []) ∷ ([], Number 0 ∷ []) ∷ []
 
 -- **All at any depth.** What further values put is reclaimed too.
-abbrev pub reclaimed_deep : List Group
-reclaimed_deep = Calls (Register ∷ gives 0 12 ∷ []) ∷ All ∷ []
+abbrev pub deep_reclaims : List Group
+deep_reclaims = Calls (Register ∷ gives 0 12 ∷ []) ∷ All ∷ []
 
-abbrev pub reclaimed_deep_told : List Telling
-reclaimed_deep_told = ([], Number 0 ∷ dones 1) ∷ (12 ∷ 13 ∷ 14 ∷ 15 ∷ [], []) ∷ []
+abbrev pub deep_reclaims_told : List Telling
+deep_reclaims_told = ([], Number 0 ∷ dones 1) ∷ (12 ∷ 13 ∷ 14 ∷ 15 ∷ [], []) ∷ []
 
 -- **Many.** And all of it is, however much one value puts.
 abbrev pub many : List Group
@@ -177,12 +177,12 @@ abbrev pub reuse_told : List Telling
 reuse_told = ([], Number 0 ∷ Number 1 ∷ Number 2 ∷ Done ∷ Number 1 ∷ Done ∷ Kept ∷ Number 3 ∷ []) ∷ []
 
 -- **Forgotten.** The number of an owned guard that was forgotten stays in use until all is reclaimed.
-abbrev pub forgotten : List Group
-forgotten =
+abbrev pub forgotten_guard : List Group
+forgotten_guard =
     Calls (EnterOwned ∷ Register ∷ End 1 ∷ Register ∷ End 1 ∷ []) ∷ All ∷ Calls (Register ∷ []) ∷ []
 
-abbrev pub forgotten_told : List Telling
-forgotten_told =
+abbrev pub forgotten_guard_told : List Telling
+forgotten_guard_told =
     ([], Number 0 ∷ Number 1 ∷ Done ∷ Number 1 ∷ Done ∷ []) ∷ ([], []) ∷ ([], Number 0 ∷ []) ∷ []
 
 -- **Left behind.** What a slot retired under earlier guards stays in its batch, and goes with it, in order of retirement.
@@ -196,20 +196,20 @@ abbrev pub left_behind_told : List Telling
 left_behind_told = ([], Number 0 ∷ Number 1 ∷ dones 10) ∷ (1 ∷ 2 ∷ 3 ∷ [], dones 1) ∷ []
 
 -- **Inherited.** The batch of a slot that ended is that of the next slot with its number.
-abbrev pub inherited : List Group
-inherited =
+abbrev pub inherited_batch : List Group
+inherited_batch =
     Calls (Register ∷ gives 0 1 ∷ End 0 ∷ []) ∷ Calls (EnterOwned ∷ gives 0 2 ∷ gives 0 3 ∷ []) ∷ Calls (Leave 0 ∷ []) ∷ []
 
-abbrev pub inherited_told : List Telling
-inherited_told = ([], Number 0 ∷ dones 2) ∷ ([], Number 0 ∷ dones 2) ∷ (1 ∷ 2 ∷ 3 ∷ [], dones 1) ∷ []
+abbrev pub inherited_batch_told : List Telling
+inherited_batch_told = ([], Number 0 ∷ dones 2) ∷ ([], Number 0 ∷ dones 2) ∷ (1 ∷ 2 ∷ 3 ∷ [], dones 1) ∷ []
 
 -- **Refused.** A number not in use, a slot without a guard, an owned slot.
-abbrev pub refused : List Group
-refused =
+abbrev pub refusals : List Group
+refusals =
     Calls (Leave 0 ∷ Register ∷ Leave 0 ∷ Flush 0 ∷ EnterOwned ∷ Enter 1 ∷ []) ∷ []
 
-abbrev pub refused_told : List Telling
-refused_told =
+abbrev pub refusals_told : List Telling
+refusals_told =
     ([], Refused NotInUse None ∷ Number 0 ∷ Refused NotActive None ∷ Refused NotActive None ∷ Number 1 ∷ Refused WrongKind None ∷ []) ∷ []
 
 -- **Links.** A value that a link held is retired, and the value that it holds then is not.

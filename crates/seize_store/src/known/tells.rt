@@ -1,4 +1,4 @@
-// How a token comes from a note of the row's cell, and how it is copied.
+//! How a token comes from a note of the row's cell, how it is copied, and that two of one row agree. The token is that of `known`.
 ghost use Rattle.std.specs.Prelude.{◌≡◌};
 ghost use Rattle.seize_store.specs.Titled.{IsSeen, Shows};
 
@@ -14,8 +14,8 @@ impl Known {
         index: usize,
         note: &mut Note<Row<H, T>>,
     ) -> Known
-        requires { IsSeen rows.now.cells index note.old }
-        ensures { (note.new ≡ note.old) × Shows rows.now.cells index note.old result }
+        requires { IsSeen rows.now index note.old }
+        ensures { (note.new ≡ note.old) × Shows rows.now index note.old result }
     {
         Known {
             marker: PhantomData,

@@ -1,4 +1,4 @@
-// Look-ups.
+//! Look-ups: from a number to its chunk, in a store that made the number's row. `seen` says what they answer.
 ghost use Rattle.std.specs.Prelude.{◌≡◌, ◌<◌, ◌≤◌, IfSome};
 ghost use Rattle.seize_store.specs.Named.{header_of, lies, lies_of, name_of, number_of, place_by, places_by, row_by, row_is, store_by, store_of};
 
@@ -36,8 +36,7 @@ impl<'a, H, T> Place<'a, H, T> {
     pub fn header(&self) -> &'a H
         ensures { result.now ≡ header_of self.now }
     {
-        let chunk = self.chunk;
-        chunk.header()
+        self.header
     }
 }
 
@@ -55,7 +54,7 @@ impl<H: Drop, T> Store<H, T> {
         }
         let chunk = row.chunk(place.entry);
         let known = Known::of(&self.rows, place.bucket, &mut note);
-        Some((Place { chunk }, Seen { note, known }))
+        Some((chunk, Seen { note, known }))
     }
 
     /// What shows the number's row, where that is made.
@@ -68,8 +67,8 @@ impl<H: Drop, T> Store<H, T> {
 
     /// The chunk of any number of the row that the token shows. It is the chunk of every block that ever has this number.
     ///
-    /// Four loads, each of which waits for the one before: the row's cell, the list of its chunks, the chunk's place, and then what is
-    /// looked for in the chunk.
+    /// Three loads, each of which waits for the one before: the row's cell, where its chunks begin, and then what is looked for in the
+    /// chunk.
     pub fn at(&self, number: usize, seen: &mut Seen<H, T>) -> Place<'_, H, T>
         requires store { store_by seen.old ≡ name_of self.now }
         requires row { row_is seen.old number }
@@ -79,9 +78,7 @@ impl<H: Drop, T> Store<H, T> {
             unreachable!();
         };
         let row = self.row(place.bucket, seen);
-        Place {
-            chunk: row.chunk(place.entry),
-        }
+        row.chunk(place.entry)
     }
 
     // The row that the token shows.

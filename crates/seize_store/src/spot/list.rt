@@ -1,6 +1,7 @@
-// What a list of spots does.
+//! What a list of spots does. The list is that of `spot`; `owned` puts spots into it, and `store` takes them out.
 ghost use Rattle.std.specs.Prelude.{◌≡◌, ◌≤◌, IfOk};
 ghost use Rattle.seize_store.specs.Named.{AreOf, count_of, count_with, is_empty_list};
+ghost use Rattle.seize_store.specs.Parts.{spot_store};
 
 use super::{SPOTS, Spot, Spots};
 use std::alloc::{AllocError, Global};
@@ -28,8 +29,8 @@ impl<H, T> Spots<H, T> {
 
     // One more spot. Where the list is full, half of it goes back first.
     pub(crate) fn put(&mut self, spot: Spot<H, T>)
-        requires { AreOf self.old spot.title.known.store }
-        ensures store { AreOf self.new spot.title.known.store }
+        requires { AreOf self.old (spot_store spot) }
+        ensures store { AreOf self.new (spot_store spot) }
         ensures count { count_of self.new ≡ count_with (count_of self.old) }
     {
         if self.list.len() == SPOTS {

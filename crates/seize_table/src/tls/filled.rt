@@ -1,7 +1,7 @@
-// What shows that an entry of a table is filled, and what a load answers.
+//! What shows that an entry of a table is filled, and what a load answers. `tls` makes both, and passes them on to its callers.
 ghost use Rattle.std.specs.Prelude.{◌≡◌};
 
-use super::room::Row;
+use super::cells::Row;
 use once_cell::race::Note;
 use std::ops::Deref;
 

@@ -1,9 +1,9 @@
-// The walk of a table: by bucket, then by entry.
+//! The walk of a table: by bucket, then by entry. It stands on the table of `tls`, which begins it.
 ghost use Rattle.std.specs.Prelude.{◌≡◌, ◌+◌, ◌-◌, ◌^◌, ◌<◌, ◌≤◌, IfSome, IfNone};
 ghost use Rattle.std.specs.Iterator.{at_most};
-ghost use Rattle.seize_table.specs.Table.{Shows, number_at, HasCell};
+ghost use Rattle.seize_table.specs.Table.{HasCell, Shows, WalksOn};
 
-use super::room::Cell;
+use super::cells::Cell;
 use super::{Loaded, ThreadLocal};
 use crate::thread_id::{BUCKETS, MAX_INDEX, Thread};
 use once_cell::race::Note;
@@ -23,8 +23,10 @@ pub struct Iter<'a, T> {
 }
 
 impl<'a, T: Drop> Iter<'a, T> {
+    ghost use Rattle.seize_table.specs.Named.{bucket_of, cells_of, entry_of, stands_at, table_of};
+
     pub(super) fn new(table: &'a ThreadLocal<T>) -> Iter<'a, T>
-        ensures { (result.table.now ≡ table.now) × (result.bucket ≡ 0) × (result.entry ≡ 0) }
+        ensures { ((table_of result).now ≡ table.now) × (bucket_of result ≡ 0) × (entry_of result ≡ 0) }
     {
         Iter {
             table,
@@ -35,12 +37,13 @@ impl<'a, T: Drop> Iter<'a, T> {
 
     /// The next filled entry: its place, and its value with the token that shows it from then on.
     pub fn next_seen(&mut self) -> Option<(Thread, Loaded<'a, T>)>
-        ensures table { self.new.table ≡ self.old.table }
-        ensures forward { number_at self.old.bucket self.old.entry ≤ number_at self.new.bucket self.new.entry }
-        ensures in_table { number_at self.new.bucket self.new.entry ≤ MAX_INDEX + 1 }
-        ensures place { IfSome result (λ found. (number_at self.old.bucket self.old.entry ≤ found.0.id) × (number_at self.new.bucket self.new.entry ≡ found.0.id + 1)) }
-        ensures shown { IfSome result (λ found. Shows self.old.table.now.buckets found.0.bucket found.0.entry found.1.filled found.1.value.now) }
-        ensures none { IfNone result (number_at self.new.bucket self.new.entry ≡ MAX_INDEX + 1) }
+        ensures table { table_of self.new ≡ table_of self.old }
+        ensures forward { stands_at self.old ≤ stands_at self.new }
+        ensures in_table { stands_at self.new ≤ MAX_INDEX + 1 }
+        ensures place { IfSome result (λ found. stands_at self.old ≤ found.0.id) }
+        ensures past { IfSome result (λ found. stands_at self.new ≡ found.0.id + 1) }
+        ensures shown { IfSome result (λ found. Shows (cells_of (table_of self.old).now) found.0 found.1.filled found.1.value.now) }
+        ensures none { IfNone result (stands_at self.new ≡ MAX_INDEX + 1) }
     {
         while self.bucket < BUCKETS {
             if let Some(found) = self.next_in_bucket() {
@@ -54,12 +57,14 @@ impl<'a, T: Drop> Iter<'a, T> {
 
     // The next filled entry of this bucket.
     fn next_in_bucket(&mut self) -> Option<(Thread, Loaded<'a, T>)>
-        requires { self.old.bucket < BUCKETS }
-        ensures table { self.new.table ≡ self.old.table }
-        ensures bucket { self.new.bucket ≡ self.old.bucket }
-        ensures place { IfSome result (λ found. (found.0.bucket ≡ self.old.bucket) × (self.old.entry ≤ found.0.entry) × (self.new.entry ≡ found.0.entry + 1)) }
-        ensures shown { IfSome result (λ found. Shows self.old.table.now.buckets found.0.bucket found.0.entry found.1.filled found.1.value.now) }
-        ensures none { IfNone result (self.new.entry ≡ self.old.entry) }
+        requires { bucket_of self.old < BUCKETS }
+        ensures table { table_of self.new ≡ table_of self.old }
+        ensures bucket { bucket_of self.new ≡ bucket_of self.old }
+        ensures same_bucket { IfSome result (λ found. found.0.bucket ≡ bucket_of self.old) }
+        ensures place { IfSome result (λ found. entry_of self.old ≤ found.0.entry) }
+        ensures past { IfSome result (λ found. entry_of self.new ≡ found.0.entry + 1) }
+        ensures shown { IfSome result (λ found. Shows (cells_of (table_of self.old).now) found.0 found.1.filled found.1.value.now) }
+        ensures none { IfNone result (entry_of self.new ≡ entry_of self.old) }
     {
         let found = self.table.first_from(self.bucket, self.entry)?;
         self.entry = found.0.entry + 1;
@@ -68,11 +73,14 @@ impl<'a, T: Drop> Iter<'a, T> {
 }
 
 impl<'a, T: Drop> Iterator for Iter<'a, T> {
+    ghost use Rattle.seize_table.specs.Named.{stands_at, table_of};
+
     type Item = &'a T;
 
-    ghost next_gives = { λ old item new. (new.table ≡ old.table) × (number_at old.bucket old.entry ≤ number_at new.bucket new.entry) × IfSome item (λ _. (number_at old.bucket old.entry < number_at new.bucket new.entry) × (number_at new.bucket new.entry ≤ 18446744073709551584)) × IfNone item (number_at new.bucket new.entry ≡ 18446744073709551584) };
+    ghost next_gives = { λ old item new. (table_of new ≡ table_of old)
+        × WalksOn (stands_at old) item (stands_at new) };
 
-    ghost remaining = { λ it. at_most (18446744073709551584 - number_at it.bucket it.entry) };
+    ghost remaining = { λ it. at_most (18446744073709551584 - stands_at it) };
 
     fn next(&mut self) -> Option<&'a T> {
         let (_thread, found) = self.next_seen()?;

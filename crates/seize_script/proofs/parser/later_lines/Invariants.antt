@@ -1,10 +1,11 @@
 use Rattle.std.proofs.Common.{◌≡◌}
 use Rattle.seize_script.specs.Ranges.{IsReady}
-use Rattle.seize_script.specs.Links.{links_of}
+use Rattle.seize.specs.Collectors.{about}
+use Rattle.seize_script.specs.Readers.{parsed_for}
 use Rattle.seize_script.proofs.parser.later_lines.Given as goal
 
 abbrev pub invariant-loop-bytes : goal.invariant-loop-bytes
 invariant-loop-bytes l = record {
   ready : IsReady l.parser;
-  links : links_of l.parser.reader.collector.now ≡ links_of l.fn.collector;
+  same : parsed_for l.parser ≡ about l.fn.collector;
 }

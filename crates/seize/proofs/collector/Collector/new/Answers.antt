@@ -4,5 +4,5 @@ use Rattle.seize.proofs.collector.Collector.new.Goals as goal
 
 pub invariant_of-result : goal.invariant_of-result
 invariant_of-result g c = record {
-  reached = made_is_reached g.R.Reclaim.puts g.T.Weigh.weight false _ _ c.in-Ok-new.state c.in-Ok-new.ensures;
+  reached = made_is_reached g.R.Reclaim.puts g.T.Weigh.weight false _ _ c.in-Ok-new.state.state c.in-Ok-new.ensures;
 }

@@ -5,6 +5,6 @@ use Rattle.seize.proofs.plain.Plain.flush.Goals as goal
 
 pub returns-clause-done : goal.returns-clause-done
 returns-clause-done g c =
-    answered_settled g.R.Reclaim.puts g.T.Weigh.weight g.W.Watch.told (calls.no_guard c.args.self.now c.args.s) tt c.args.self.now c.args.s (waiting.attempt c.args.self.now c.args.s)
-    c.attempt.new.self c.afterwards.new.self c.new-queue.result.items c.attempt.new.queue.items (g.W.Watch.seen c.args.watch.now) (g.W.Watch.seen c.attempt.new.watch) (g.W.Watch.seen c.afterwards.new.watch)
+    answered_settled g.R.Reclaim.puts g.T.Weigh.weight g.W.Watch.told (calls.no_guard c.args.self.now.state c.args.s) tt c.args.self.now.state c.args.s (waiting.attempt c.args.self.now.state c.args.s)
+    c.attempt.new.self.state c.afterwards.new.self.state c.new-queue.result.items c.attempt.new.queue.items (g.W.Watch.seen c.args.watch.now) (g.W.Watch.seen c.attempt.new.watch) (g.W.Watch.seen c.afterwards.new.watch)
     c.in_default.ensures c.new-queue.ensures.items c.in-Ok.ensures.done c.in-Ok-afterwards.ensures.done

@@ -1,5 +1,21 @@
+use Rattle.std.proofs.Common.{◌≡◌, ℕ, zero, suc, List, ◌∷◌, Option, None, map, option_map, replicate, refl, ap, IfSome}
+use Rattle.std.proofs.lemmas.List.Elements.{All-same, All-replicate}
+use Rattle.seize.specs.Blocks.{content, owner_of}
+use Rattle.seize.specs.declared.block.owned.Owned.{Owned}
+use Rattle.seize_store.specs.Named.{name_of}
 use Rattle.seize.proofs.Numbering.{numbered-none}
 use Rattle.seize.proofs.plain.Plain.new.Goals as goal
 
+map-replicate : {X Y : Type 0} (f : X → Y) (n : ℕ) (x : X) → map f (replicate n x) ≡ replicate n (f x)
+map-replicate f zero x = refl
+map-replicate f (suc n) x = ap (λ ys. f x ∷ ys) (map-replicate f n x)
+
 pub invariant_of-result : goal.invariant_of-result
-invariant_of-result g c = rw (c.new-2.ensures, c.new.ensures.items) numbered-none
+invariant_of-result g c =
+    let Own : Option (Owned g.row.T.Denot) → Type 0 = λ link. IfSome link (λ owned. owner_of owned ≡ name_of c.new.result) in (
+      rw (c.new-3.ensures, c.new-2.ensures.items) numbered-none,
+      All-same Own c.in_ok-links.links.items (replicate c.args.links None) c.in_ok-links.ensures (All-replicate Own c.args.links None tt),
+    )
+
+pub returns : goal.returns
+returns g c = rw (c.new-2.ensures.items, c.new-4.ensures.items, c.in_ok-links.ensures, map-replicate (option_map content) c.args.links None) refl

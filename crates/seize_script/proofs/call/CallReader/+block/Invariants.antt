@@ -1,4 +1,5 @@
 use Rattle.std.proofs.Common.{◌≡◌, ◌≤◌, length}
+use Rattle.seize_script.specs.Readers.{read_for}
 use Rattle.seize_script.proofs.call.CallReader.+block.Given as goal
 
 abbrev pub decreases-block : goal.decreases-block
@@ -6,9 +7,9 @@ decreases-block l = l.deepest
 
 abbrev pub invariant-loop-inside : goal.invariant-loop-inside
 invariant-loop-inside l = record {
-  collector : l.self.collector ≡ l.fn.self.collector;
-  shorter : length l.line.rest.now ≤ length l.fn.line.rest.now;
+  same : read_for l.self ≡ read_for l.fn.self;
+  shorter : length l.line ≤ length l.fn.line;
 }
 
 abbrev pub decreases-loop-inside : goal.decreases-loop-inside
-decreases-loop-inside l = length l.line.rest.now
+decreases-loop-inside l = length l.line

@@ -20,8 +20,8 @@ use Rattle.once_cell.proofs.Values.{both_tt}
 use mir.Val.{has_ty}
 use types.Kit.{learn}
 use types.Run.{look}
-use Rattle.seize_store.specs.Chunk.{room_at}
-use Rattle.seize_store.specs.Chunk.{room as room_of}
+use Rattle.seize_store.specs.Body.{room_at}
+use Rattle.seize_store.specs.Body.{room as room_of}
 use Rattle.seize_store.specs.Titled.{place_of}
 use Rattle.seize_store.specs.contracts.block.Out as room
 use Rattle.seize_store.specs.contracts.block.Block as block

@@ -12,7 +12,7 @@ use denote.RawPtr.{Ptr, in_a_block}
 use denote.Struct.Lending.{lent_out}
 use types.Run.{look}
 use Rattle.std_alloc.proofs.Words.{pointer_in, pointer_out}
-use Rattle.seize_store.specs.Chunk.{room_at}
+use Rattle.seize_store.specs.Body.{room_at}
 use Rattle.seize_store.specs.Block.{block_shares}
 use Rattle.seize_store.specs.contracts.block.Block as block
 use Rattle.seize_store.specs.contracts.known.Title as title

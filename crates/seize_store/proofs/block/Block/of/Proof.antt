@@ -13,7 +13,7 @@ use denote.Memory.{part_at}
 use denote.Param.Laws.{param_laws}
 use types.Run.{init, assigns_last}
 use Rattle.core.proofs.cell.Inside.{one}
-use Rattle.seize_store.specs.Chunk.{room_at}
+use Rattle.seize_store.specs.Body.{room_at}
 use Rattle.seize_store.specs.Titled.{place_of}
 use Rattle.seize_store.specs.contracts.block.Out as room
 use Rattle.seize_store.specs.contracts.block.Block as block

@@ -1,6 +1,7 @@
-use Rattle.std.proofs.Common.{◌≡◌, ◌≤◌, vec_len}
+use Rattle.std.proofs.Common.{◌≡◌, ◌+◌, ◌≤◌, ◌++◌, length, map, vec_len}
 use Rattle.std.specs.Prelude.{vec_capacity}
 use Rattle.seize_store.proofs.row.Row.new.Given as goal
 
 abbrev pub invariant-loop : goal.invariant-loop
-invariant-loop g l = (vec_len l.chunks ≡ l.counter) × (l.len ≤ vec_capacity l.chunks)
+invariant-loop g l = (vec_len l.chunks ≡ l.counter) × (l.len ≤ vec_capacity l.chunks) × (length l.strip.places + l.counter ≡ l.len)
+    × (l.base.places ≡ map (λ k. k.chunk.at) l.chunks.items ++ l.strip.places)

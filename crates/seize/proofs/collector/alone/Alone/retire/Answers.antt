@@ -4,5 +4,5 @@ use Rattle.seize.proofs.collector.alone.Alone.retire.Goals as goal
 
 pub invariant_of-collector : goal.invariant_of-collector
 invariant_of-collector g c = record {
-  reached = noted_is_reached g.R.Reclaim.puts g.T.Weigh.weight g.W.Watch.told c.args.self.now.collector.now.is_short c.note.new.is_short c.args.self.now.collector.now.state c.retire-answer.new.self (Retire c.args.s _ c.args.reclaim) c.retire-answer.result _ (g.W.Watch.seen c.args.watch.now) (g.W.Watch.seen c.retire-answer.new.watch) c.retire-answer.ensures.done c.note.ensures.noted c.args.self.now.collector.now.reached;
+  reached = noted_is_reached g.R.Reclaim.puts g.T.Weigh.weight g.W.Watch.told c.args.self.now.collector.now.is_short c.note.new.is_short c.args.self.now.collector.now.state.state c.retire-answer.new.self.state (Retire c.args.s _ c.args.reclaim) c.retire-answer.result _ (g.W.Watch.seen c.args.watch.now) (g.W.Watch.seen c.retire-answer.new.watch) c.retire-answer.ensures.done c.note.ensures.noted c.args.self.now.collector.now.reached;
 }

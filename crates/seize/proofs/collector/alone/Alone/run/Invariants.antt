@@ -1,14 +1,16 @@
-use Rattle.std.proofs.Common.{◌≡◌, length, ◌≤◌, ◌+◌, vec_len, vec_capacity, deque_len}
+use Rattle.std.proofs.Common.{◌≡◌, ◌≤◌, ◌+◌, vec_len, vec_capacity, deque_len}
+use Rattle.seize.specs.Alone.{AreFrom}
+use Rattle.seize.specs.Collectors.{whose, lent, at}
 use Rattle.seize.proofs.Running.{Made}
 use Rattle.seize.proofs.collector.alone.Alone.run.Given as goal
 
 abbrev pub invariant-loop-self : goal.invariant-loop-self
 invariant-loop-self g l = record {
-  made : Made g.R.Reclaim.puts g.T.Weigh.weight g.W.Watch.told
-      l.fn.self.collector.now.state l.fn.calls.items l.fn.replies.items (g.W.Watch.seen l.fn.watch)
-      l.self.collector.now.state l.calls.items l.replies.items (g.W.Watch.seen l.watch) l.self.collector.now.is_short;
-  links : length l.self.collector.now.state.links ≡ length l.fn.self.collector.now.state.links;
-  id : l.self.collector.now.id ≡ l.fn.self.collector.now.id;
+  made : Made g.R.Reclaim.puts g.T.Weigh.weight g.W.Watch.told (whose l.fn.self)
+      l.fn.calls.items l.calls.items l.fn.replies.items l.replies.items
+      (at l.fn.self (g.W.Watch.seen l.fn.watch)) (at l.self (g.W.Watch.seen l.watch));
+  same : lent l.self ≡ lent l.fn.self;
+  own : AreFrom (whose l.fn.self) l.fn.replies.items → AreFrom (whose l.fn.self) l.replies.items;
   room : vec_len l.replies + deque_len l.calls ≤ vec_capacity l.replies;
 }
 

@@ -1,0 +1,50 @@
+//! A block in one owner's hands.
+ghost use Rattle.std.specs.Prelude.{◌≡◌};
+ghost use Rattle.seize_store.specs.Named as store;
+ghost use Rattle.seize.specs.Blocks.{content, number_of, owner_of};
+
+use std::ops::Deref;
+
+/// A block in one owner's hands. It reads as its value, and may be dropped, which ends the value and frees the block's place in its
+/// store. It may outlive its collector.
+#[derive(Drop)]
+pub struct Owned<T: Drop> {
+    block: seize_store::Owned<(), T>,
+}
+
+impl<T: Drop> Owned<T> {
+    pub(crate) fn of(block: seize_store::Owned<(), T>) -> Owned<T>
+        ensures content { content result ≡ store.value_of block }
+        ensures number { number_of result ≡ store.number_of block }
+        ensures owner { owner_of result ≡ store.store_of block }
+    {
+        Owned { block }
+    }
+
+    pub(crate) fn number(&self) -> usize
+        ensures { result ≡ number_of self.now }
+    {
+        self.block.number()
+    }
+
+    /// The value by value. The block's place is free again.
+    pub(crate) fn into_value(self) -> T
+        ensures { result ≡ content self }
+    {
+        let Owned { block } = self;
+        block.into_inner()
+    }
+}
+
+impl<T: Drop> Deref for Owned<T> {
+    type Target = T;
+
+    ghost use Rattle.std.specs.Prelude.{◌≡◌};
+    ghost use Rattle.seize.specs.Blocks.{content};
+
+    ghost deref_gives = { λ owned value. value ≡ content owned };
+
+    fn deref(&self) -> &T {
+        &self.block
+    }
+}

@@ -1,0 +1,71 @@
+use Rattle.seize_machine.proofs.Laws.Counterexamples.{nothing_given_up_breaks_quiet, nothing_given_up_breaks_holders, given_up_unless_active_breaks_holders, given_up_below_zero_breaks_after, retired_again_breaks_at_most_once, given_up_and_kept_breaks_parts, given_up_and_forgotten_breaks_parts, skipped_and_counted_breaks_quiet, one_value_more_breaks_quiet, rest_passed_over_breaks_after, number_passed_over_breaks_after, given_up_when_full_breaks_protection, given_up_when_full_breaks_after, fixed_note_breaks_after, retired_again_breaks_after, given_up_unretired_breaks_after, given_up_unretired_breaks_parts, lost_at_any_time_breaks_tries, left_in_the_link_breaks_protection, joined_at_entry_breaks_no_later_holders, joined_at_entry_walks, kept_by_a_refresh_breaks_no_later_holders, recorded_in_front_breaks_gone}
+use Rattle.seize_machine.proofs.machine.worked_runs.counterexamples.Goals as goal
+
+pub returns-clause-nothing_given_up_breaks_quiet : goal.returns-clause-nothing_given_up_breaks_quiet
+returns-clause-nothing_given_up_breaks_quiet c = nothing_given_up_breaks_quiet
+
+pub returns-clause-nothing_given_up_breaks_holders : goal.returns-clause-nothing_given_up_breaks_holders
+returns-clause-nothing_given_up_breaks_holders c = nothing_given_up_breaks_holders
+
+pub returns-clause-given_up_unless_active_breaks_holders : goal.returns-clause-given_up_unless_active_breaks_holders
+returns-clause-given_up_unless_active_breaks_holders c = given_up_unless_active_breaks_holders
+
+pub returns-clause-given_up_below_zero_breaks_after : goal.returns-clause-given_up_below_zero_breaks_after
+returns-clause-given_up_below_zero_breaks_after c = given_up_below_zero_breaks_after
+
+pub returns-clause-retired_again_breaks_at_most_once : goal.returns-clause-retired_again_breaks_at_most_once
+returns-clause-retired_again_breaks_at_most_once c = retired_again_breaks_at_most_once
+
+pub returns-clause-given_up_and_kept_breaks_parts : goal.returns-clause-given_up_and_kept_breaks_parts
+returns-clause-given_up_and_kept_breaks_parts c = given_up_and_kept_breaks_parts
+
+pub returns-clause-given_up_and_forgotten_breaks_parts : goal.returns-clause-given_up_and_forgotten_breaks_parts
+returns-clause-given_up_and_forgotten_breaks_parts c = given_up_and_forgotten_breaks_parts
+
+pub returns-clause-skipped_and_counted_breaks_quiet : goal.returns-clause-skipped_and_counted_breaks_quiet
+returns-clause-skipped_and_counted_breaks_quiet c = skipped_and_counted_breaks_quiet
+
+pub returns-clause-one_value_more_breaks_quiet : goal.returns-clause-one_value_more_breaks_quiet
+returns-clause-one_value_more_breaks_quiet c = one_value_more_breaks_quiet
+
+pub returns-clause-rest_passed_over_breaks_after : goal.returns-clause-rest_passed_over_breaks_after
+returns-clause-rest_passed_over_breaks_after c = rest_passed_over_breaks_after
+
+pub returns-clause-number_passed_over_breaks_after : goal.returns-clause-number_passed_over_breaks_after
+returns-clause-number_passed_over_breaks_after c = number_passed_over_breaks_after
+
+pub returns-clause-given_up_when_full_breaks_protection : goal.returns-clause-given_up_when_full_breaks_protection
+returns-clause-given_up_when_full_breaks_protection c = given_up_when_full_breaks_protection
+
+pub returns-clause-given_up_when_full_breaks_after : goal.returns-clause-given_up_when_full_breaks_after
+returns-clause-given_up_when_full_breaks_after c = given_up_when_full_breaks_after
+
+pub returns-clause-fixed_note_breaks_after : goal.returns-clause-fixed_note_breaks_after
+returns-clause-fixed_note_breaks_after c = fixed_note_breaks_after
+
+pub returns-clause-retired_again_breaks_after : goal.returns-clause-retired_again_breaks_after
+returns-clause-retired_again_breaks_after c = retired_again_breaks_after
+
+pub returns-clause-given_up_unretired_breaks_after : goal.returns-clause-given_up_unretired_breaks_after
+returns-clause-given_up_unretired_breaks_after c = given_up_unretired_breaks_after
+
+pub returns-clause-given_up_unretired_breaks_parts : goal.returns-clause-given_up_unretired_breaks_parts
+returns-clause-given_up_unretired_breaks_parts c = given_up_unretired_breaks_parts
+
+pub returns-clause-lost_at_any_time_breaks_tries : goal.returns-clause-lost_at_any_time_breaks_tries
+returns-clause-lost_at_any_time_breaks_tries c = lost_at_any_time_breaks_tries
+
+pub returns-clause-left_in_the_link_breaks_protection : goal.returns-clause-left_in_the_link_breaks_protection
+returns-clause-left_in_the_link_breaks_protection c = left_in_the_link_breaks_protection
+
+pub returns-clause-joined_at_entry_breaks_no_later_holders : goal.returns-clause-joined_at_entry_breaks_no_later_holders
+returns-clause-joined_at_entry_breaks_no_later_holders c = joined_at_entry_breaks_no_later_holders
+
+pub returns-clause-joined_at_entry_walks : goal.returns-clause-joined_at_entry_walks
+returns-clause-joined_at_entry_walks c = joined_at_entry_walks
+
+pub returns-clause-kept_by_a_refresh_breaks_no_later_holders : goal.returns-clause-kept_by_a_refresh_breaks_no_later_holders
+returns-clause-kept_by_a_refresh_breaks_no_later_holders c = kept_by_a_refresh_breaks_no_later_holders
+
+pub returns-clause-recorded_in_front_breaks_gone : goal.returns-clause-recorded_in_front_breaks_gone
+returns-clause-recorded_in_front_breaks_gone c = recorded_in_front_breaks_gone
