@@ -1,11 +1,11 @@
 -- The loops over the further values: the one that retires them, with the calls that end with it, and the one that gives them up.
-use Rattle.std.proofs.Common.{◌≡◌, ℕ, ◌<◌, Bool, if◌then◌else◌, List, [], ◌∷◌, ◌++◌, Option, None, Ok, refl, sym, ◌∙◌, ap, subst, inr, drop}
+use Rattle.std.proofs.Common.{◌≡◌, ℕ, ◌<◌, Bool, if◌then◌else◌, List, [], ◌∷◌, ◌++◌, Option, None, Ok, refl, sym, ◌∙◌, ap, subst, drop}
 use Rattle.std.proofs.lemmas.List.Sums.{fold-append}
 use Rattle.seize_model.specs.Waiting.State.{State, slot_at}
 use Rattle.seize_model.specs.Waiting.Attempt.{Outcome, put}
 use Rattle.seize_model.specs.Waiting.Further.{Lighter, put_by, further, still_to_come, afterwards, with_further, gone_from}
 use Rattle.seize_model.specs.Waiting.Calls.{unless, with_number_free, with_number_free_if}
-use Rattle.seize.specs.Effects.{told_of, Queued, Did, AnsweredIfGrown}
+use Rattle.seize.specs.Effects.{told_of, Queued, Did}
 use Rattle.seize_table.specs.declared.refusal.Refusal.{Refusal}
 use Rattle.seize_model.proofs.WaitingSets.FurtherValues.{falls, no_rest, afterwards-nil, afterwards-cons}
 use Rattle.seize_model.proofs.WaitingSets.Drain.{weighs, lightens, gone_from-nil, gone_from-cons}
@@ -39,26 +39,26 @@ then_settled {T} {R} {Seen} puts weight told s o mid new queue seen later last o
     let after_seen : Did told (afterwards puts weight o.0 s (further puts o.1)) new (told_of told seen o.1) last = subst (λ k. Did told (afterwards puts weight o.0 s (further puts o.1)) new k last) own.2 after_queue in
     (after_seen.0, after_seen.1 ∙ sym (fold-append (λ s v. told s v.0) seen o.1 (afterwards puts weight o.0 s (further puts o.1)).1))
 
--- a call that was not refused
-pub answered_settled : {A T R Seen : Type 0} (puts : R → T → List T) (weight : T → ℕ) (told : Seen → T → Seen) (refusal : Option Refusal) (a : A) (st : State T R)
+-- a call that is not refused
+pub done_settled : {A T R Seen : Type 0} (puts : R → T → List T) (weight : T → ℕ) (told : Seen → T → Seen) (refusal : Option Refusal) (a : A) (st : State T R)
     → (s : ℕ) (o : Outcome T R) (mid new : State T R) (start queue : List (T × R)) (seen later last : Seen)
-    → None ≡ refusal
+    → refusal ≡ None
     → start ≡ [] → Queued puts told o mid start queue seen later → Did told (afterwards puts weight mid s queue) new later last
-    → AnsweredIfGrown told (unless refusal st (Ok a, with_further puts weight s o)) (Ok a) new seen last
-answered_settled {A} {T} {R} {Seen} puts weight told refusal a st s o mid new start queue seen later last e none own did =
-    subst (λ (r : Option Refusal). AnsweredIfGrown told (unless {A = A} {T = T} {R = R} r st (Ok a, with_further puts weight s o)) (Ok a) new seen last) e
-    (inr (refl, then_settled puts weight told s o mid new queue seen later last (subst (λ q. Queued puts told o mid q queue seen later) none own) did))
+    → Did told (unless refusal st (Ok a, with_further puts weight s o)).1 new seen last
+done_settled {A} {T} {R} {Seen} puts weight told refusal a st s o mid new start queue seen later last e none own did =
+    subst (λ (r : Option Refusal). Did told (unless {A = A} {T = T} {R = R} r st (Ok a, with_further puts weight s o)).1 new seen last) (sym e)
+    (then_settled puts weight told s o mid new queue seen later last (subst (λ q. Queued puts told o mid q queue seen later) none own) did)
 
-pub answered_freed : {A T R Seen : Type 0} (puts : R → T → List T) (weight : T → ℕ) (told : Seen → T → Seen) (refusal : Option Refusal) (a : A) (owned : Bool) (st : State T R)
+pub done_freed : {A T R Seen : Type 0} (puts : R → T → List T) (weight : T → ℕ) (told : Seen → T → Seen) (refusal : Option Refusal) (a : A) (owned : Bool) (st : State T R)
     → (s : ℕ) (o : Outcome T R) (mid new final : State T R) (start queue : List (T × R)) (seen later last : Seen)
-    → None ≡ refusal
+    → refusal ≡ None
     → start ≡ [] → Queued puts told o mid start queue seen later → Did told (afterwards puts weight mid s queue) new later last
     → final ≡ (if owned then with_number_free new s else new)
-    → AnsweredIfGrown told (unless refusal st (Ok a, with_number_free_if owned s (with_further puts weight s o))) (Ok a) final seen last
-answered_freed {A} {T} {R} {Seen} puts weight told refusal a owned st s o mid new final start queue seen later last e none own did is =
+    → Did told (unless refusal st (Ok a, with_number_free_if owned s (with_further puts weight s o))).1 final seen last
+done_freed {A} {T} {R} {Seen} puts weight told refusal a owned st s o mid new final start queue seen later last e none own did is =
     let all : Did told (with_further puts weight s o) new seen last = then_settled puts weight told s o mid new queue seen later last (subst (λ q. Queued puts told o mid q queue seen later) none own) did in
-    subst (λ (r : Option Refusal). AnsweredIfGrown told (unless {A = A} {T = T} {R = R} r st (Ok a, with_number_free_if owned s (with_further puts weight s o))) (Ok a) final seen last) e
-    (inr (refl, (is ∙ ap (λ (k : State T R). if owned then with_number_free k s else k) all.0, all.1)))
+    subst (λ (r : Option Refusal). Did told (unless {A = A} {T = T} {R = R} r st (Ok a, with_number_free_if owned s (with_further puts weight s o))).1 final seen last) (sym e)
+    (is ∙ ap (λ (k : State T R). if owned then with_number_free k s else k) all.0, all.1)
 
 -- one turn of the loop that gives the further values up
 pub drains_on : {T R Seen : Type 0} (puts : R → T → List T) (weight : T → ℕ) → Lighter puts weight → (told : Seen → T → Seen)

@@ -1,12 +1,14 @@
 -- What one reclaimer put is queued.
-use Rattle.std.proofs.Common.{◌≡◌, List, [], ◌∷◌, map, Option, Some, inl, inr, refl, ◌∙◌, ap}
-use Rattle.seize.specs.Blocks.{content, Joined}
+use Rattle.std.proofs.Common.{◌≡◌, List, [], ◌∷◌, map, Some, inl, inr, refl, ◌∙◌, ap}
+use Rattle.seize.specs.Blocks.{content, Gathered, Joined}
+use Rattle.seize.specs.Names.{Name}
 use Rattle.seize.specs.declared.block.owned.Owned.{Owned}
 
 -- what was put into nothing is what was put
-pub joined_first : {T : Type 0} (more values : List T) (new : Option (List T)) → Joined more (Some []) new → new ≡ Some values → values ≡ more
-joined_first more values new (inl none) e = cc
-joined_first more values new (inr all) e = cc
+pub joined_first : {T : Type 0} (more values : List T) (owner : Name) (new : Gathered T)
+    → Joined more (record { values = Some []; owner = owner }) new → new.values ≡ Some values → values ≡ more
+joined_first more values owner new (same, inl none) e = cc
+joined_first more values owner new (same, inr all) e = cc
 
 pub queued_puts : {T R : Type 0} (puts : R → T → List T) (value : T) (reclaim : R) (blocks : List (Owned T)) (values : List T)
     → map content blocks ≡ values → map {B = T × R} (λ owned. (content owned, reclaim)) blocks ≡ map {B = T × R} (λ x. (x, reclaim)) values

@@ -1,9 +1,10 @@
 -- Each call leads from a reached state to a reached one, unless a growth was refused.
-use Rattle.std.proofs.Common.{◌≡◌, ℕ, Bool, true, List, length, Option, Result, Ok, Err, ◌⊎◌, inl, inr, refl, sym, subst}
+use Rattle.std.proofs.Common.{◌≡◌, ℕ, Bool, true, List, length, Option, Result, Ok, Err, IfOk, ◌⊎◌, inl, inr, sym, subst}
 use Rattle.std.proofs.Math.Logic.{∥∥₁_map}
 use Rattle.seize_table.specs.declared.refusal.Refusal.{Refusal}
 use Rattle.seize_table.specs.declared.refusal.Refusal.TheVariants.{NoMemory}
 use Rattle.seize_model.specs.Waiting.State.{State, new}
+use Rattle.seize_model.specs.Waiting.Attempt.{Outcome}
 use Rattle.seize_model.specs.Waiting.Calls as calls
 use Rattle.seize_model.specs.Waiting.Lists.{Call, step}
 use Rattle.seize_model.specs.Waiting.Reached.{Reached, IsReached}
@@ -36,14 +37,22 @@ module _ {T R : Type 0} (puts : R → T → List T) (weight : T → ℕ) where
   reclaimed_is_reached short st next same = moved short st (calls.reclaim_all puts weight st).0 next (Reached.reclaimed st) same
 
   -- a call that takes note of a refused growth
-  pub noted_is_reached : {Seen : Type 0} (told : Seen → T → Seen) (short later : Bool) (st next : State T R) (call : Call T R) (answer expected : Result (Unit {0}) Refusal) (seen heard : Seen)
-      → (answer ≡ Err NoMemory) ⊎ ((answer ≡ expected) × Did told (step puts weight st call).1 next seen heard)
+  pub noted_is_reached : {Seen : Type 0} (told : Seen → T → Seen) (short later : Bool) (st next : State T R) (call : Call T R) {E : Type 0} (answer : Result (Unit {0}) E) (seen heard : Seen)
+      → IfOk answer (λ _. Did told (step puts weight st call).1 next seen heard)
       → (later ≡ true) ⊎ ((answer ≡ Ok tt) × (later ≡ short))
       → IsReached puts weight short st → IsReached puts weight later next
-  noted_is_reached told short later st next call answer expected seen heard did (inl t) reached = ∣ inl t ∣₁
-  noted_is_reached told short later st next call answer expected seen heard (inl refused) (inr (ok, same)) reached = absurd cc
-  noted_is_reached told short later st next call answer expected seen heard (inr (is, did)) (inr (ok, same)) reached =
-      subst (λ b. IsReached puts weight b next) (sym same) (called_is_reached short st next call did.0 reached)
+  noted_is_reached told short later st next call answer seen heard did (inl t) reached = ∣ inl t ∣₁
+  noted_is_reached told short later st next call answer seen heard did (inr (ok, same)) reached =
+      subst (λ b. IsReached puts weight b next) (sym same)
+      (called_is_reached short st next call (subst (λ (r : Result (Unit {0}) _). IfOk r (λ _. Did told (step puts weight st call).1 next seen heard)) ok did).0 reached)
+
+  -- what such a call did, or the note
+  pub noted_did : {Seen : Type 0} (told : Seen → T → Seen) (short later : Bool) {E : Type 0} (answer : Result (Unit {0}) E) (o : Outcome T R) (next : State T R) (seen heard : Seen)
+      → IfOk answer (λ _. Did told o next seen heard)
+      → (later ≡ true) ⊎ ((answer ≡ Ok tt) × (later ≡ short)) → (later ≡ true) ⊎ Did told o next seen heard
+  noted_did told short later answer o next seen heard did (inl t) = inl t
+  noted_did told short later answer o next seen heard did (inr (ok, same)) =
+      inr (subst (λ (r : Result (Unit {0}) _). IfOk r (λ _. Did told o next seen heard)) ok did)
 
   -- a call that takes a number, whose memory may be refused
   pub taken_is_reached : (short : Bool) (st next : State T R) (call : Call T R) (result expected : Result ℕ Refusal)

@@ -1,12 +1,12 @@
 -- One turn of the loop over a list of calls.
-use Rattle.std.proofs.Common.{◌≡◌, ℕ, suc, Bool, true, false, List, [], ◌∷◌, ◌++◌, length, map, All, ◌⊎◌, inl, inr, refl, sym, ◌∙◌, ap, subst}
+use Rattle.std.proofs.Common.{◌≡◌, ℕ, true, false, List, [], ◌∷◌, ◌++◌, map, All, ◌⊎◌, inl, inr, refl, sym, ◌∙◌, ap, subst}
 use Rattle.std.proofs.lemmas.List.Elements.{All-nil, All-cons, All-append, All-same}
 use Rattle.std.proofs.lemmas.List.{append_assoc, append-nil, map-append}
 use Rattle.std.proofs.lemmas.List.Sums.{fold-append}
-use Rattle.seize_model.specs.Waiting.State.{State}
 use Rattle.seize_model.specs.Waiting.Attempt.{Outcome, after}
 use Rattle.seize_model.specs.Waiting.Lists.{Call, Reply, step, Answered, Replied}
 use Rattle.seize_model.proofs.WaitingSets.Lists.{replied_more}
+use Rattle.seize.specs.Names.{Name}
 use Rattle.seize.specs.About.{About}
 use Rattle.seize.specs.Snapshots.{Snapshot}
 use Rattle.seize.specs.Effects.{told_of, Did}
@@ -17,7 +17,8 @@ use Rattle.seize.specs.declared.collector.calls.Reply.{Reply as CodeReply}
 pub all_pushed : {X : Type 0} (P : X → Type 0) (xs ys : List X) (x : X) → All P xs → P x → ys ≡ xs ++ x ∷ [] → All P ys
 all_pushed P xs ys x all one e = All-same P ys (xs ++ x ∷ []) e (All-append P xs (x ∷ []) all (All-cons P x [] one (All-nil P)))
 
-module _ {T R Seen : Type 0} (puts : R → T → List T) (weight : T → ℕ) (told : Seen → T → Seen) (about : About) where
+module _ {T R Seen : Type 0} (puts : R → T → List T) (weight : T → ℕ) (told : Seen → T → Seen)
+    (owners : T → List Name) (about : About) where
   -- what was done so far, or a growth was refused
   abbrev pub Made : List (CodeCall T R) → List (CodeCall T R) → List (CodeReply T) → List (CodeReply T) → Snapshot T R Seen → Snapshot T R Seen → Type 0
   Made calls0 calls replies0 replies old new =
@@ -25,20 +26,20 @@ module _ {T R Seen : Type 0} (puts : R → T → List T) (weight : T → ℕ) (t
       ⊎ ((made : List (Call T R)) × (answers : List (Reply T)) × (o : Outcome T R)
       × Replied puts weight old.state made answers o
       × (made ++ map call_of calls ≡ map call_of calls0)
-      × AreFor about calls
+      × AreFor owners about calls
       × (map reply_of replies ≡ map reply_of replies0 ++ answers)
       × Did told o new.state old.seen new.seen)
 
   pub made_none_yet : (calls : List (CodeCall T R)) (replies start : List (CodeReply T)) (now : Snapshot T R Seen)
-      → AreFor about calls → start ≡ replies → Made calls calls replies start now now
+      → AreFor owners about calls → start ≡ replies → Made calls calls replies start now now
   made_none_yet calls replies start now h e =
       inr ([], [], (now.state, []), Replied.no_call now.state, refl, h, ap (map reply_of) e ∙ sym (append-nil (map reply_of replies)), (refl, refl))
 
   -- the call in turn is for the collector
   pub made_in_range : (calls0 calls : List (CodeCall T R)) (replies0 replies : List (CodeReply T)) (old now : Snapshot T R Seen) (call : CodeCall T R) (rest : List (CodeCall T R))
-      → Made calls0 calls replies0 replies old now → now.short ≡ false → calls ≡ call ∷ rest → IsFor about call
+      → Made calls0 calls replies0 replies old now → now.short ≡ false → calls ≡ call ∷ rest → IsFor owners about call
   made_in_range calls0 calls replies0 replies old now call rest (inl t) f e = absurd cc
-  made_in_range calls0 calls replies0 replies old now call rest (inr made) f e = (subst (λ (cs : List (CodeCall T R)). AreFor about cs) e made.5).0
+  made_in_range calls0 calls replies0 replies old now call rest (inr made) f e = (subst (λ (cs : List (CodeCall T R)). AreFor owners about cs) e made.5).0
 
   -- one call after these
   one_more : (calls0 calls : List (CodeCall T R)) (replies0 replies more : List (CodeReply T)) (old now next : Snapshot T R Seen)
@@ -59,7 +60,7 @@ module _ {T R Seen : Type 0} (puts : R → T → List T) (weight : T → ℕ) (t
         replied_more puts weight old.state made answers o (call_of call) (reply_of reply) last replied
             (subst (λ k. Answered puts weight k (call_of call) (reply_of reply) last) before.0 answered),
         append_assoc made (call_of call ∷ []) (map call_of rest) ∙ ap (λ cs. made ++ map call_of cs) (sym e) ∙ split,
-        (subst (λ (cs : List (CodeCall T R)). AreFor about cs) e ranges).1,
+        (subst (λ (cs : List (CodeCall T R)). AreFor owners about cs) e ranges).1,
         ap (map reply_of) pushed ∙ map-append reply_of replies (reply ∷ []) ∙ ap (λ rs. rs ++ reply_of reply ∷ []) texts ∙ append_assoc (map reply_of replies0) answers (reply_of reply ∷ []),
         (did.0, did.1 ∙ ap (λ s. told_of told s last.1) before.1 ∙ sym (fold-append (λ s v. told s v.0) old.seen o.1 last.1)),
       )

@@ -1,5 +1,5 @@
 -- Lists of calls as the code has them, and what running one does.
-use Rattle.std.specs.Prelude.{◌≡◌, ℕ, ◌<◌, Bool, true, List, [], ◌∷◌, ◌++◌, None, map, option_map, All, IfSome, ◌⊎◌}
+use Rattle.std.specs.Prelude.{◌≡◌, ℕ, ◌<◌, true, List, [], ◌∷◌, ◌++◌, None, map, option_map, All, IfSome, ◌⊎◌}
 use Rattle.seize.specs.declared.collector.calls.Call.{Call as CodeCall}
 use Rattle.seize.specs.declared.collector.calls.Call.TheVariants.{Register as CodeRegister, EnterOwned as CodeEnterOwned}
 use Rattle.seize.specs.declared.collector.calls.Call.TheVariants.{Enter as CodeEnter, Leave as CodeLeave, End as CodeEnd}
@@ -8,11 +8,11 @@ use Rattle.seize.specs.declared.collector.calls.Call.TheVariants.{Protect as Cod
 use Rattle.seize.specs.declared.collector.calls.Reply.{Reply as CodeReply}
 use Rattle.seize.specs.declared.collector.calls.Reply.TheVariants.{Done as CodeDone, Slot as CodeSlot, Kept as CodeKept}
 use Rattle.seize.specs.declared.collector.calls.Reply.TheVariants.{Found as CodeFound, Refused as CodeRefused}
-use Rattle.seize.specs.Blocks.{content, owner_of}
+use Rattle.seize.specs.Blocks.{content, Belongs}
+use Rattle.seize.specs.Names.{Name}
 use Rattle.seize.specs.About.{About}
 use Rattle.seize.specs.Snapshots.{Snapshot}
 use Rattle.seize.specs.Effects.{Did}
-use Rattle.seize_model.specs.Waiting.State.{State}
 use Rattle.seize_model.specs.Waiting.Attempt.{Outcome}
 use Rattle.seize_model.specs.Waiting.Lists.{Call, Register, EnterOwned, Enter, Leave, End, Refresh, Flush, Retire, Protect, Swap, Reply}
 use Rattle.seize_model.specs.Waiting.Lists.{Done, Number, Kept, Found, Refused, step, takes_number, Replied}
@@ -39,33 +39,33 @@ reply_of CodeKept = Kept
 reply_of (CodeFound found) = Found found
 reply_of (CodeRefused refusal back) = Refused refusal (option_map content back)
 
--- the link that the call names is below the number of links, and the block that it brings is of the collector
-abbrev pub IsFor : {T R : Type 0} → About → CodeCall T R → Type 0
-IsFor about CodeRegister = Unit {0}
-IsFor about CodeEnterOwned = Unit {0}
-IsFor about (CodeEnter s) = Unit {0}
-IsFor about (CodeLeave s) = Unit {0}
-IsFor about (CodeEnd s) = Unit {0}
-IsFor about (CodeRefresh s) = Unit {0}
-IsFor about (CodeFlush s) = Unit {0}
-IsFor about (CodeRetire s owned reclaim) = owner_of owned ≡ about.name
-IsFor about (CodeProtect s link) = link < about.links
-IsFor about (CodeSwap s link new reclaim) = (link < about.links) × IfSome new (λ owned. owner_of owned ≡ about.name)
+-- the link that the call names is below the number of links, and the block that it brings, with each block inside it, is of the collector
+abbrev pub IsFor : {T R : Type 0} → (T → List Name) → About → CodeCall T R → Type 0
+IsFor owners about CodeRegister = Unit {0}
+IsFor owners about CodeEnterOwned = Unit {0}
+IsFor owners about (CodeEnter s) = Unit {0}
+IsFor owners about (CodeLeave s) = Unit {0}
+IsFor owners about (CodeEnd s) = Unit {0}
+IsFor owners about (CodeRefresh s) = Unit {0}
+IsFor owners about (CodeFlush s) = Unit {0}
+IsFor owners about (CodeRetire s owned reclaim) = Belongs owners about.name owned
+IsFor owners about (CodeProtect s link) = link < about.links
+IsFor owners about (CodeSwap s link new reclaim) = (link < about.links) × IfSome new (Belongs owners about.name)
 
-abbrev pub AreFor : {T R : Type 0} → About → List (CodeCall T R) → Type 0
-AreFor about [] = Unit {0}
-AreFor about (call ∷ calls) = IsFor about call × AreFor about calls
+abbrev pub AreFor : {T R : Type 0} → (T → List Name) → About → List (CodeCall T R) → Type 0
+AreFor owners about [] = Unit {0}
+AreFor owners about (call ∷ calls) = IsFor owners about call × AreFor owners about calls
 
--- a block that comes back is of the collector
-abbrev pub IsFrom : {T : Type 0} → About → CodeReply T → Type 0
-IsFrom about CodeDone = Unit {0}
-IsFrom about (CodeSlot n) = Unit {0}
-IsFrom about CodeKept = Unit {0}
-IsFrom about (CodeFound found) = Unit {0}
-IsFrom about (CodeRefused refusal back) = IfSome back (λ owned. owner_of owned ≡ about.name)
+-- a block that comes back is of the collector, with each block inside it
+abbrev pub IsFrom : {T : Type 0} → (T → List Name) → About → CodeReply T → Type 0
+IsFrom owners about CodeDone = Unit {0}
+IsFrom owners about (CodeSlot n) = Unit {0}
+IsFrom owners about CodeKept = Unit {0}
+IsFrom owners about (CodeFound found) = Unit {0}
+IsFrom owners about (CodeRefused refusal back) = IfSome back (Belongs owners about.name)
 
-abbrev pub AreFrom : {T : Type 0} → About → List (CodeReply T) → Type 0
-AreFrom about replies = All (IsFrom about) replies
+abbrev pub AreFrom : {T : Type 0} → (T → List Name) → About → List (CodeReply T) → Type 0
+AreFrom owners about replies = All (IsFrom owners about) replies
 
 -- one call was done and replied to, or a growth was refused, of which the collector takes note
 abbrev pub Stepped : {T R Seen : Type 0} → (R → T → List T) → (T → ℕ) → (Seen → T → Seen) → CodeCall T R → CodeReply T

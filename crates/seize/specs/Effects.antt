@@ -1,15 +1,14 @@
 -- What a watch is told, and what a call answered and did.
 --     told_of told seen gone     what a watch has seen once it was told of these values
---     Did, Queued, AnsweredIfGrown      of the plain collector's calls
+--     Did, Queued                of the plain collector's calls
 --     Said, Grew                 of calls that tell nobody
 --     Answers, AllDone           of the calls of a collector in one caller's hands
-use Rattle.std.specs.Prelude.{◌≡◌, ℕ, Bool, true, List, ◌++◌, length, Result, Ok, Err, IfErr, ◌⊎◌}
+use Rattle.std.specs.Prelude.{◌≡◌, true, List, ◌++◌, Result, Ok, Err, IfErr, ◌⊎◌}
 use Rattle.std.specs.List.{fold}
 use Rattle.seize_model.specs.Waiting.State.{State}
 use Rattle.seize_model.specs.Waiting.Attempt.{Outcome}
 use Rattle.seize_model.specs.Waiting.Further.{further}
 use Rattle.seize_model.specs.Waiting.Calls.{Response}
-use Rattle.seize_model.specs.Waiting.Reached.{Reached}
 use Rattle.seize_table.specs.declared.refusal.Refusal.{Refusal}
 use Rattle.seize_table.specs.declared.refusal.Refusal.TheVariants.{NoMemory}
 use Rattle.seize.specs.Snapshots.{Snapshot}
@@ -26,12 +25,6 @@ abbrev pub Queued : {T R Seen : Type 0} → (R → T → List T) → (Seen → T
     → Outcome T R → State T R → List (T × R) → List (T × R) → Seen → Seen → Type 0
 Queued puts told o new queue_old queue_new seen_old seen_new =
     (new ≡ o.0) × (queue_new ≡ queue_old ++ further puts o.1) × (seen_new ≡ told_of told seen_old o.1)
-
--- a call gave this answer and did so, or a growth was refused
-abbrev pub AnsweredIfGrown : {A T R Seen : Type 0} → (Seen → T → Seen) → Response A T R → Result A Refusal
-    → State T R → Seen → Seen → Type 0
-AnsweredIfGrown told a result new seen_old seen_new =
-    (result ≡ Err NoMemory) ⊎ ((result ≡ a.0) × Did told a.1 new seen_old seen_new)
 
 -- a call that tells nobody gave this answer and did so
 abbrev pub Said : {A T R : Type 0} → Response A T R → Result A Refusal → State T R → Type 0

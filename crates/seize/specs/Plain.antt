@@ -1,11 +1,11 @@
 -- What contracts see of the plain collector: its state, its name, which is that of the store in which its blocks lie, and which blocks
 -- its links hold.
---     fixed h      what no call but an exchange of a link changes
---     AreOf n ls   each block in the links ls is of the collector n
-use Rattle.std.specs.Prelude.{◌≡◌, ℕ, List, Option, All, IfSome}
+--     fixed h                 what no call but an exchange of a link changes
+--     BelongAll owners n ls   each block in the links ls, with each block inside it, is of the collector n
+use Rattle.std.specs.Prelude.{ℕ, List, Option, All, IfSome}
 use Rattle.seize_model.specs.Waiting.State.{State}
 use Rattle.seize.specs.Names.{Name}
-use Rattle.seize.specs.Blocks.{owner_of}
+use Rattle.seize.specs.Blocks.{Belongs}
 use Rattle.seize.specs.declared.block.owned.Owned.{Owned}
 
 pub record Held (T R : Type 0) : Type 0 where
@@ -17,5 +17,5 @@ pub record Held (T R : Type 0) : Type 0 where
 abbrev pub fixed : {T R : Type 0} → Held T R → Name × ℕ × List (Option T) × List (Option ℕ)
 fixed held = (held.name, held.state.size, held.state.links, held.numbers)
 
-abbrev pub AreOf : {T : Type 0} → Name → List (Option (Owned T)) → Type 0
-AreOf name links = All (λ link. IfSome link (λ owned. owner_of owned ≡ name)) links
+abbrev pub BelongAll : {T : Type 0} → (T → List Name) → Name → List (Option (Owned T)) → Type 0
+BelongAll owners name links = All (λ link. IfSome link (Belongs owners name)) links

@@ -36,7 +36,7 @@ mod slot;
 
 /// The state of a collector.
 #[derive(Drop)]
-pub(crate) struct Plain<T: Drop, R: Copy> {
+pub(crate) struct Plain<T: Weigh + Drop, R: Copy> {
     alloc: Global,
     store: Store<(), T>,
     size: usize,
@@ -47,14 +47,15 @@ pub(crate) struct Plain<T: Drop, R: Copy> {
     links: Vec<Option<Owned<T>>>,
 }
 
-impl<T: Drop, R: Copy> Model for Plain<T, R> {
+impl<T: Weigh + Drop, R: Copy> Model for Plain<T, R> {
     ghost use Rattle.std.specs.Prelude.{◌≡◌, ◌≤◌, ℕ, not, length, map, option_map, slice_index_or};
     ghost use Rattle.std.specs.FinSet as set;
     ghost use Rattle.seize_model.specs.declared.kind.Kind.TheVariants.{Free};
     ghost use Rattle.seize_model.specs.Waiting.Calls.{is_free};
     ghost use Rattle.seize_store.specs.Named.{name_of};
+    ghost use Rattle.seize_table.specs.Place.{all_numbers};
     ghost use Rattle.seize.specs.Blocks.{content, number_of};
-    ghost use Rattle.seize.specs.Plain.{Held, AreOf};
+    ghost use Rattle.seize.specs.Plain.{Held, BelongAll};
 
     ghost Value = { Held T R };
 
@@ -66,12 +67,12 @@ impl<T: Drop, R: Copy> Model for Plain<T, R> {
 
     ghost invariant = { λ c. (((n : ℕ) →
         set.contains c.numbers n ≡ not (is_free (slice_index_or (map (λ slot. slot.kind) c.slots.items) n Free)))
-        × (length (map (λ slot. slot.kind) c.slots.items) ≤ 18446744073709551584))
-        × AreOf (name_of c.store) c.links.items };
+        × (length (map (λ slot. slot.kind) c.slots.items) ≤ all_numbers))
+        × BelongAll T.owners (name_of c.store) c.links.items };
 }
 
 // All active slots wait for batch `b`.
-fn wait_all<T: Drop, R: Copy>(slots: &mut [Slot<T, R>], b: usize) -> Result<(), AllocError>
+fn wait_all<T: Weigh + Drop, R: Copy>(slots: &mut [Slot<T, R>], b: usize) -> Result<(), AllocError>
     ensures done { IfOk result (λ _. slots.new ≡ map (waiting.wait_if_active b) slots.old) }
     ensures kinds { map (λ slot. slot.kind) slots.new ≡ map (λ slot. slot.kind) slots.old }
 {
@@ -93,7 +94,7 @@ fn empty_links<T: Drop>(alloc: Global, links: usize) -> Result<Vec<Option<Owned<
     Ok(all)
 }
 
-impl<T: Drop, R: Copy> Plain<T, R> {
+impl<T: Weigh + Drop, R: Copy> Plain<T, R> {
     /// A collector just made.
     pub(crate) fn new(alloc: Global, size: usize, links: usize) -> Result<Plain<T, R>, AllocError>
         ensures { IfOk result (λ plain. plain.state ≡ state.new size links) }
@@ -122,7 +123,7 @@ impl<T: Drop, R: Copy> Plain<T, R> {
     }
 
     /// Two plain collectors have different names. It does nothing: its contract is the law.
-    pub(crate) fn apart<U: Drop, S: Copy>(&mut self, other: &mut Plain<U, S>)
+    pub(crate) fn apart<U: Weigh + Drop, S: Copy>(&mut self, other: &mut Plain<U, S>)
         ensures names { self.old.name ≢ other.old.name }
         ensures same { (self.new ≡ self.old) × (other.new ≡ other.old) }
     {

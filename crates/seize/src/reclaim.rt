@@ -1,7 +1,8 @@
 //! How values end. A reclaimer is given each value that nobody can read any more, and may put further values to be retired in turn.
 //! Two ready reclaimers end the value and put nothing. A watch is told of each value that is gone.
-ghost use Rattle.std.specs.Prelude.{◌≡◌, ℕ, ◌≤◌, ◌<◌, List, map, sum};
-ghost use Rattle.seize.specs.Blocks.{Joined};
+ghost use Rattle.std.specs.Prelude.{◌≡◌, ℕ, ◌≤◌, ◌<◌, List, [], map, sum};
+ghost use Rattle.seize.specs.Blocks.{HoldsOnly, Joined};
+ghost use Rattle.seize.specs.Names.{Name};
 
 mod further;
 mod ready;
@@ -9,13 +10,19 @@ mod ready;
 pub use further::Further;
 pub use ready::{Boxed, InPlace};
 
-/// A value has a weight, a whole number of at least 1 without a limit, which contracts alone see.
+/// What contracts see of a value: its weight, and the collectors of the blocks that it holds.
 ///
-/// What a reclaimer puts weighs less, together, than the value that it was given. So further values come to an end.
+/// A weight is a whole number of at least 1 without a limit. What a reclaimer puts weighs less, together, than the value that it was
+/// given. So further values come to an end.
+///
+/// A value that holds no block that its reclaimer may put has no owners.
 pub trait Weigh {
     ghost weight: { Self → ℕ };
 
     ghost at_least_one: { (value : Self) → 1 ≤ weight value };
+
+    /// The collectors of the blocks that it holds.
+    ghost owners: { Self → List Name } = { λ _. [] };
 }
 
 /// What becomes of a value that nobody can read any more.
@@ -25,8 +32,9 @@ pub trait Weigh {
 pub trait Reclaim<T: Weigh + Drop>: Copy {
     ghost puts: { Self → T → List T };
 
-    /// Ends the value, or hands it on, and puts the further values.
+    /// Ends the value, or hands it on, and puts the further values. The value's blocks are of the collector that it was retired by.
     fn reclaim(self, value: T, further: &mut Further<T>)
+        requires { HoldsOnly T.owners further.old.owner value }
         ensures { Joined (puts self value) further.old further.new };
 
     ghost lighter: { (reclaimer : Self) (value : T) → sum (map T.weight (puts reclaimer value)) < T.weight value };
@@ -59,14 +67,14 @@ impl<T> Watch<T> for () {
 }
 
 /// Ends the value and puts nothing. The block's memory is given back.
-pub fn boxed<T: Drop>(value: T, _further: &mut Further<T>)
+pub fn boxed<T: Weigh + Drop>(value: T, _further: &mut Further<T>)
     ensures { _further.new ≡ _further.old }
 {
     drop(value);
 }
 
 /// Ends the value where it is and puts nothing. The memory goes with its block.
-pub fn in_place<T: Drop>(value: T, _further: &mut Further<T>)
+pub fn in_place<T: Weigh + Drop>(value: T, _further: &mut Further<T>)
     ensures { _further.new ≡ _further.old }
 {
     drop(value);

@@ -1,11 +1,11 @@
 -- What other crates may build on: the facts of the machine, each with its statement. The definitions that the statements cite are in
--- `specs/Machine`, but for the steps: `Step` and what is brought in beside it here stand in `proofs/Laws/Steps` and `Forced`, and are
--- part of this page. All else in `proofs/Laws` is no interface, and may change.
-pub use Rattle.seize_machine.proofs.Laws.Steps.{Step, Stands, go_on, counted, swapped, beginning, after_put}
-pub use Rattle.seize_machine.proofs.Laws.Forced.{Forced}
+-- `specs/Machine`, but for the steps: `Step` and what is brought in beside it here stand in `proofs/Steps`, `Relation` and `Forced`,
+-- and are part of this page. All else in `proofs` is no interface, and may change.
+pub use Rattle.seize_machine.proofs.Steps.Relation.{Step, Stands, go_on, counted, swapped, beginning, after_put}
+pub use Rattle.seize_machine.proofs.Steps.Forced.{Forced}
 -- on tests, and on how often a value stands in a list
-pub use Rattle.seize_machine.proofs.Laws.Steps.{if_some, and_true, not_true, is_true, eq_true, lt_true, some_is}
-pub use Rattle.seize_machine.proofs.Laws.Sums.{one, occ, has_none, has_some, distinct_once}
+pub use Rattle.seize_machine.proofs.Steps.Relation.{if_some, and_true, not_true, is_true, eq_true, lt_true, some_is}
+pub use Rattle.seize_machine.proofs.Counting.Sums.{one, occ, has_none, has_some, distinct_once}
 use Rattle.std.proofs.Common.{◌≡◌, ◌≢◌, ℕ, ◌+◌, ◌<◌, ◌≤◌, pos, neg_ℤ, ◌≤ℤ◌, Bool, true, false, List, [], ◌∷◌, ◌++◌, length, take, drop, Option, Some, ◌⊎◌, arith, subst}
 use Rattle.std.specs.List.{Contains, slice_get}
 use Rattle.seize_machine.specs.Machine.State.{State, Mark, Look, Try, Add, Out, slot_at, head_at, link_at, batch_at, is_active, has, linked, are_distinct, opening, Place, Append, Rest}
@@ -17,19 +17,20 @@ use Rattle.seize_machine.specs.Machine.Frames.{changes_slot, used, changes_used,
 use Rattle.seize_machine.specs.Machine.Kept.{KeptIn}
 use Rattle.seize_machine.specs.declared.machine.event.Answer.{Answer}
 use Rattle.seize_machine.specs.declared.machine.event.Answer.TheVariants.{Done, Count}
-use Rattle.seize_machine.proofs.Laws.Exactness as exactness
-use Rattle.seize_machine.proofs.Laws.Steps as steps
-use Rattle.seize_machine.proofs.Laws.Forced as forcing
-use Rattle.seize_machine.proofs.Laws.Frames as frames
-use Rattle.seize_machine.proofs.Laws.LegalLists as lists
-use Rattle.seize_machine.proofs.Laws.Reached as reached
-use Rattle.seize_machine.proofs.Laws.States as states
-use Rattle.seize_machine.proofs.Laws.Invariants as invariants
-use Rattle.seize_machine.proofs.Laws.Kept as kept
-use Rattle.seize_machine.proofs.Laws.Reclaiming as reclaiming
+use Rattle.seize_machine.proofs.Steps.Exactness as exactness
+use Rattle.seize_machine.proofs.Steps.Relation as steps
+use Rattle.seize_machine.proofs.Steps.Forced as forcing
+use Rattle.seize_machine.proofs.Steps.Frames as frames
+use Rattle.seize_machine.proofs.Lists.LegalLists as lists
+use Rattle.seize_machine.proofs.Invariants.Reached as reached
+use Rattle.seize_machine.proofs.Invariants.States as states
+use Rattle.seize_machine.proofs.Invariants.Always as invariants
+use Rattle.seize_machine.proofs.Invariants.Kept as kept
+use Rattle.seize_machine.proofs.Laws.AtMostOnce as at_most_once
+use Rattle.seize_machine.proofs.Laws.After as after
 use Rattle.seize_machine.proofs.Laws.Protection as protection
 use Rattle.seize_machine.proofs.Laws.Quiet as quiet
-use Rattle.seize_machine.proofs.Laws.PartsLaw as parts
+use Rattle.seize_machine.proofs.Laws.Parts as parts
 use Rattle.seize_machine.proofs.Laws.Gone as gone
 use Rattle.seize_machine.proofs.Laws.Holders as holders
 use Rattle.seize_machine.proofs.Laws.LaterHolders as later_holders
@@ -126,10 +127,10 @@ reached_holds = states.reached_holds
 -- The laws, of every legal list from every opening.
 
 pub law_at_most_once : HoldsOfAll AtMostOnce
-law_at_most_once = lists.of_all AtMostOnce reclaiming.law_at_most_once
+law_at_most_once = lists.of_all AtMostOnce at_most_once.law_at_most_once
 
 pub law_after : HoldsOfAll After
-law_after = lists.of_all After reclaiming.law_after
+law_after = lists.of_all After after.law_after
 
 pub law_quiet : HoldsOfAll Quiet
 law_quiet = lists.of_all Quiet quiet.law_quiet
@@ -251,7 +252,7 @@ pub kept_from_link : (s v l : ℕ) (st : State) → IsReached st → can_link st
 kept_from_link s v l st r may found =
     let sees : protection.Sees s v st = protection.seen s v st s l may (grind arith) found in
     let once = (reached.reached_inv st r).once v in
-    reclaiming.keeps_new s v st (omega (arith, once.once, protection.unretired v st, sees.1)) sees.0
+    after.keeps_new s v st (omega (arith, once.once, protection.unretired v st, sees.1)) sees.0
 
 pub kept_step : (s v size : ℕ) (st : State) (event : Event) (d : State × Answer) → IsReached st → Step size st event d → event ≢ SwapOut s → KeptIn s v st → KeptIn s v d.0
 kept_step s v size st event d r step stays k = kept.kept_step s v size st event d step stays (reached.reached_inv st r).sound k

@@ -1,22 +1,8 @@
--- The proofs of the laws.
-pub mod Steps
-pub mod Exactness
-pub mod Forced
-pub mod Sums
-pub mod Counts
-pub mod Once
-pub mod Kept
-pub mod Frames
-pub mod Parts
-pub mod Fits
-pub mod Histories
-pub mod LegalLists
+-- The laws of the machine, and the machines that break them.
+pub mod AtMostOnce
+pub mod After
 pub mod Gone
-pub mod Invariants
-pub mod Reclaiming
-pub mod Lists
-pub mod Ends
-pub mod PartsLaw
+pub mod Parts
 pub mod Holders
 pub mod LaterHolders
 pub mod Quiet
@@ -24,5 +10,3 @@ pub mod Protection
 pub mod Tries
 pub mod Refuting
 pub mod Counterexamples
-pub mod Reached
-pub mod States

@@ -11,7 +11,7 @@ use Rattle.seize_machine.specs.Machine.History.{Timed, at_size, Moment, done_by,
 use Rattle.seize_machine.specs.Machine.Code.{event_of, SubFits, CountFits, CallCountsFit, CountsFit, Sized, HasDone, HasRun, HasRunLegally}
 use Rattle.seize_machine.specs.declared.machine.event.Answer.{Answer}
 use Rattle.seize_machine.specs.declared.machine.event.Event.{Event as Written}
-use Rattle.seize_machine.proofs.Laws.LegalLists.{end_of-append, history-append, are_legal-answers}
+use Rattle.seize_machine.proofs.Lists.LegalLists.{end_of-append, history-append, are_legal-answers}
 
 -- what `==` answers of two lists of numbers
 pub same_list-is : (xs ys : List ℕ) → pointwise nat_eq xs ys ≡ same_list xs ys

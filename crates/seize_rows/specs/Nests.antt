@@ -1,6 +1,7 @@
 -- What a value holds, and what it weighs: 1, and what the values inside it weigh.
 use Rattle.std.specs.Prelude.{ℕ, ◌+◌, List, map, sum}
-use Rattle.seize.specs.Blocks.{content}
+use Rattle.seize.specs.Names.{Name}
+use Rattle.seize.specs.Blocks.{content, owners_in}
 use Rattle.seize_rows.specs.declared.nest.Nest.{Nest}
 use Rattle.seize_rows.specs.declared.nest.Nest.TheOpen.{Nest-F}
 use Rattle.seize_rows.specs.declared.nest.Nest.TheViews.{out-Nest}
@@ -16,3 +17,10 @@ weight_step value = sum (map content value.inside.items) + 1
 
 abbrev pub weight_of : Nest → ℕ
 weight_of = fold-Nest ℕ weight_step
+
+-- the collectors of the blocks inside, however deep
+abbrev pub owners_step : Nest-F (List Name) → List Name
+owners_step value = owners_in (λ owners. owners) value.inside.items
+
+abbrev pub owners_of : Nest → List Name
+owners_of = fold-Nest (List Name) owners_step

@@ -1,7 +1,8 @@
 //! Further values: how far one call goes, in which order values go, and how often reclaimers are called.
-ghost use Rattle.std.specs.Prelude.{◌≡◌, IfOk};
-ghost use Rattle.seize.specs.Blocks.{owner_of};
+ghost use Rattle.std.specs.Prelude.{All, IfOk};
+ghost use Rattle.seize.specs.Blocks.{Belongs};
 ghost use Rattle.seize.specs.Collectors.{about};
+ghost use Rattle.seize_rows.specs.Nests.{owners_of};
 
 use crate::items::{Names, known};
 use crate::nest::{Nest, PutInside};
@@ -31,7 +32,8 @@ impl Watch<Nest> for Names {
 }
 
 fn nest(collector: &Nests<'_>, name: u64, inside: Vec<Block>) -> Result<Block, Refusal>
-    ensures { IfOk result (λ owned. owner_of owned ≡ (about collector.now).name) }
+    requires { All (Belongs owners_of (about collector.now).name) inside.items }
+    ensures { IfOk result (Belongs owners_of (about collector.now).name) }
 {
     match Owned::new(collector, Nest { name, inside }) {
         Ok(block) => Ok(block),
@@ -44,14 +46,15 @@ fn nest(collector: &Nests<'_>, name: u64, inside: Vec<Block>) -> Result<Block, R
 
 /// A block with nothing inside.
 fn leaf(alloc: Global, collector: &Nests<'_>, name: u64) -> Result<Block, Refusal>
-    ensures { IfOk result (λ owned. owner_of owned ≡ (about collector.now).name) }
+    ensures { IfOk result (Belongs owners_of (about collector.now).name) }
 {
     nest(collector, name, Vec::new(alloc))
 }
 
 /// A block with one block inside.
 fn round(alloc: Global, collector: &Nests<'_>, name: u64, block: Block) -> Result<Block, Refusal>
-    ensures { IfOk result (λ owned. owner_of owned ≡ (about collector.now).name) }
+    requires { Belongs owners_of (about collector.now).name block }
+    ensures { IfOk result (Belongs owners_of (about collector.now).name) }
 {
     let mut inside = Vec::new(alloc);
     inside.push(block).map_err(AllocError::from)?;
@@ -66,7 +69,7 @@ fn retire<'a>(
     by: PutInside<'a>,
     names: &mut Names,
 ) -> Result<(), Refusal>
-    requires { owner_of block ≡ (about collector.old).name }
+    requires { Belongs owners_of (about collector.old).name block }
 {
     let mut alone = collector.alone();
     let value = alone.unlinked(block);

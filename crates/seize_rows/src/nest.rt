@@ -1,5 +1,5 @@
 //! Values that hold blocks of their own type, and the reclaimer that puts these: what the tests of further values share.
-ghost use Rattle.seize_rows.specs.Nests.{inside_of, weight_of};
+ghost use Rattle.seize_rows.specs.Nests.{inside_of, owners_of, weight_of};
 ghost use Rattle.seize_rows.specs.Weights.{weight_at_least_one, inside_lighter};
 
 use seize::reclaim::Reclaim;
@@ -17,6 +17,8 @@ impl Weigh for Nest {
     ghost weight = { weight_of };
 
     ghost at_least_one = { weight_at_least_one };
+
+    ghost owners = { owners_of };
 }
 
 /// Puts the values inside, in their order, and counts its calls.
@@ -33,8 +35,6 @@ impl Reclaim<Nest> for PutInside<'_> {
     fn reclaim(self, value: Nest, further: &mut Further<Nest>) {
         self.calls.set(self.calls.get().saturating_add(1));
         let Nest { name: _, inside } = value;
-        for block in inside {
-            further.put(block);
-        }
+        further.put_all(inside);
     }
 }

@@ -1,5 +1,6 @@
 -- Calls for a collector: one more, and groups taken from the front.
 use Rattle.std.proofs.Common.{◌≡◌, suc, List, [], ◌∷◌, ◌++◌, All, sym, subst, arith}
+use Rattle.seize.specs.Names.{Name}
 use Rattle.seize.specs.About.{About}
 use Rattle.seize.specs.Alone.{IsFor, AreFor}
 use Rattle.seize.specs.declared.collector.calls.Call.{Call}
@@ -7,20 +8,21 @@ use Rattle.seize_script.specs.declared.value.Value.{Value}
 use Rattle.seize_script.specs.declared.value.PutInside.{PutInside}
 use Rattle.seize_script.specs.declared.script.Group.{Group}
 use Rattle.seize_script.specs.Ranges.{IsGroupFor}
+use Rattle.seize_script.specs.Values.{owners_of}
 
-for_pushed : {T R : Type 0} (whose : About) (calls : List (Call T R)) (call : Call T R)
-    → AreFor whose calls → IsFor whose call → AreFor whose (calls ++ call ∷ [])
-for_pushed whose [] call all one = (one, tt)
-for_pushed whose (first ∷ calls) call all one = (all.0, for_pushed whose calls call all.1 one)
+for_pushed : {T R : Type 0} (owners : T → List Name) (whose : About) (calls : List (Call T R)) (call : Call T R)
+    → AreFor owners whose calls → IsFor owners whose call → AreFor owners whose (calls ++ call ∷ [])
+for_pushed owners whose [] call all one = (one, tt)
+for_pushed owners whose (first ∷ calls) call all one = (all.0, for_pushed owners whose calls call all.1 one)
 
 -- one call more, beside groups that were for the collector
 pub ready_pushed : (whose later : About) (groups : List Group) (calls more : List (Call Value PutInside)) (call : Call Value PutInside)
-    → later ≡ whose → All (IsGroupFor whose) groups → AreFor whose calls → IsFor whose call
-    → more ≡ calls ++ call ∷ [] → All (IsGroupFor later) groups × AreFor later more
+    → later ≡ whose → All (IsGroupFor whose) groups → AreFor owners_of whose calls → IsFor owners_of whose call
+    → more ≡ calls ++ call ∷ [] → All (IsGroupFor later) groups × AreFor owners_of later more
 ready_pushed whose later groups calls more call e all each one pushed =
-    subst (λ n. All (IsGroupFor n) groups × AreFor n more) (sym e) (
+    subst (λ n. All (IsGroupFor n) groups × AreFor owners_of n more) (sym e) (
       all,
-      subst (λ (cs : List (Call Value PutInside)). AreFor whose cs) (sym pushed) (for_pushed whose calls call each one),
+      subst (λ (cs : List (Call Value PutInside)). AreFor owners_of whose cs) (sym pushed) (for_pushed owners_of whose calls call each one),
     )
 
 -- the first of several groups, and the others, while the collector is the same

@@ -8,9 +8,10 @@ use Rattle.seize_script.specs.declared.script.Group.{Group}
 use Rattle.seize_script.specs.declared.script.Calls.{Calls}
 use Rattle.seize_script.specs.declared.script.Script.{Script}
 use Rattle.seize_script.specs.Readers.{parsed_for}
+use Rattle.seize_script.specs.Values.{owners_of}
 
 abbrev pub IsGroupFor : About → Group → Type 0
-IsGroupFor whose group = AreFor whose group.calls.items
+IsGroupFor whose group = AreFor owners_of whose group.calls.items
 
 abbrev pub AreGroupsFor : About → Calls → Type 0
 AreGroupsFor whose calls = All (IsGroupFor whose) calls.groups.items
@@ -22,4 +23,4 @@ IsWhole script = AreGroupsFor (about script.collector) script.calls
 -- the groups and the calls that were read so far
 abbrev pub IsReady : Parser → Type 0
 IsReady parser =
-    All (IsGroupFor (parsed_for parser)) parser.groups.items × AreFor (parsed_for parser) parser.calls.items
+    All (IsGroupFor (parsed_for parser)) parser.groups.items × AreFor owners_of (parsed_for parser) parser.calls.items

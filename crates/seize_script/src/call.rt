@@ -1,11 +1,13 @@
 //! The grammar of one line: a call, and the values in it, whose blocks are made as they are read.
-ghost use Rattle.std.specs.Prelude.{◌≡◌, ◌≤◌, ◌<◌, length, IfOk};
+ghost use Rattle.std.specs.Prelude.{All, ◌≡◌, ◌≤◌, ◌<◌, length, IfOk};
 ghost use Rattle.seize.specs.Alone.{IsFor};
-ghost use Rattle.seize.specs.Blocks.{owner_of};
+ghost use Rattle.seize.specs.Blocks.{Belongs};
 ghost use Rattle.seize.specs.Collectors.{about};
 ghost use Rattle.seize_script.specs.Readers.{read_for};
+ghost use Rattle.seize_script.specs.Values.{owners_of};
 
 use crate::line::{Line, LineError};
+use crate::name::Name;
 use crate::value::{PutInside, Value};
 use seize::{Call, Collector, Owned};
 use std::alloc::Global;
@@ -50,7 +52,7 @@ impl<'c> CallReader<'c> {
         word: &[u8],
         line: &mut Line<'_>,
     ) -> Result<Call<Value, PutInside>, LineError>
-        ensures call { IfOk result (λ call. IsFor (read_for self.old) call) }
+        ensures call { IfOk result (λ call. IsFor owners_of (read_for self.old) call) }
         ensures same { read_for self.new ≡ read_for self.old }
     {
         match word {
@@ -69,7 +71,7 @@ impl<'c> CallReader<'c> {
     }
 
     fn retire(&mut self, line: &mut Line<'_>) -> Result<Call<Value, PutInside>, LineError>
-        ensures call { IfOk result (λ call. IsFor (read_for self.old) call) }
+        ensures call { IfOk result (λ call. IsFor owners_of (read_for self.old) call) }
         ensures same { read_for self.new ≡ read_for self.old }
     {
         let slot = line.number()?;
@@ -79,7 +81,7 @@ impl<'c> CallReader<'c> {
     }
 
     fn swap(&mut self, line: &mut Line<'_>) -> Result<Call<Value, PutInside>, LineError>
-        ensures call { IfOk result (λ call. IsFor (read_for self.old) call) }
+        ensures call { IfOk result (λ call. IsFor owners_of (read_for self.old) call) }
         ensures same { read_for self.new ≡ read_for self.old }
     {
         let slot = line.number()?;
@@ -106,7 +108,7 @@ impl<'c> CallReader<'c> {
 
     /// A value in a block, at most this deep.
     fn block(&mut self, line: &mut Line<'_>, deepest: usize) -> Result<Owned<Value>, LineError>
-        ensures own { IfOk result (λ owned. owner_of owned ≡ (read_for self.old).name) }
+        ensures own { IfOk result (Belongs owners_of (read_for self.old).name) }
         ensures same { read_for self.new ≡ read_for self.old }
         ensures shorter { length line.new ≤ length line.old }
     {
@@ -123,6 +125,17 @@ impl<'c> CallReader<'c> {
             }
             line.expect(b")")?;
         }
-        Owned::new(self.collector, Value { name, inside }).map_err(|_| LineError::NoMemory)
+        self.bracketed(name, inside)
+    }
+
+    /// A block with the value of this name that has these blocks of the collector in its brackets.
+    fn bracketed(&self, name: Name, inside: Vec<Owned<Value>>) -> Result<Owned<Value>, LineError>
+        requires { All (Belongs owners_of (read_for self.now).name) inside.items }
+        ensures { IfOk result (Belongs owners_of (read_for self.now).name) }
+    {
+        match Owned::new(self.collector, Value { name, inside }) {
+            Ok(block) => Ok(block),
+            Err(_) => Err(LineError::NoMemory),
+        }
     }
 }

@@ -2,6 +2,7 @@
 ghost use Rattle.std.specs.Prelude.{◌≡◌, ◌≤◌};
 ghost use Rattle.seize.specs.Alone.{AreFor};
 ghost use Rattle.seize.specs.Collectors.{whose, lent};
+ghost use Rattle.seize_script.specs.Values.{owners_of};
 ghost use Rattle.seize_script.specs.Ranges.{IsGroupFor, IsWhole};
 ghost use Rattle.seize_script.specs.Statuses.{status_of};
 
@@ -137,7 +138,7 @@ fn run_calls<'a, O: Write>(
     names: &mut Names,
     output: &mut O,
 ) -> Result<(), Failure<'a>>
-    requires { AreFor (whose alone.old) calls.items }
+    requires { AreFor owners_of (whose alone.old) calls.items }
     ensures { lent alone.new ≡ lent alone.old }
 {
     let mut replies = Vec::new(alloc);

@@ -1,6 +1,6 @@
 //! Values of scripts.
 ghost use Rattle.std.specs.Prelude.{◌<◌};
-ghost use Rattle.seize_script.specs.Values.{inside_of, weight_of};
+ghost use Rattle.seize_script.specs.Values.{inside_of, owners_of, weight_of};
 ghost use Rattle.seize_script.specs.Weights.{weight_at_least_one, inside_lighter};
 
 use crate::name::Name;
@@ -18,6 +18,8 @@ impl Weigh for Value {
     ghost weight = { weight_of };
 
     ghost at_least_one = { weight_at_least_one };
+
+    ghost owners = { owners_of };
 }
 
 /// Puts the values in the brackets, in their order.
@@ -31,8 +33,6 @@ impl Reclaim<Value> for PutInside {
 
     fn reclaim(self, value: Value, further: &mut Further<Value>) {
         let Value { name: _, inside } = value;
-        for block in inside {
-            further.put(block);
-        }
+        further.put_all(inside);
     }
 }

@@ -1,7 +1,7 @@
 -- The words in which the contracts of the store and of its blocks speak.
 --     name_of s       the store s: its own name and those of its rows
 --     store_of o      the store that the block o is of
---     value_of o, number_of o, title_of o      its value, its number and its title
+--     value_of o, number_of o, title_of o, known_of o      its value, its number, its title, and the token of its row
 --     AreOf spots s   each of the spots is of the store s
 --     is_empty_list spots, count_of spots      there is none;  how many there are
 --     count_with n    how many there are when one was put to n: where the list was full, 64 were given back first
@@ -16,6 +16,7 @@ use denote.RawPtr.{Ptr}
 use Rattle.seize_table.specs.Place.{IsPlace}
 use Rattle.seize_store.specs.Known.{entry_of, place_in}
 use Rattle.seize_store.specs.Titled.{names_of, place_of}
+use Rattle.seize_store.specs.declared.known.Known.{Known}
 use Rattle.seize_store.specs.declared.known.Title.{Title}
 use Rattle.seize_store.specs.declared.seen.Place.{Place}
 use Rattle.seize_store.specs.declared.seen.Seen.{Seen}
@@ -37,6 +38,9 @@ number_of owned = owned.block.title.number
 
 abbrev pub title_of : {H T : Type 0} → Owned H T → Title
 title_of owned = owned.block.title
+
+abbrev pub known_of : {H T : Type 0} → Owned H T → Known
+known_of owned = owned.block.title.known
 
 abbrev pub AreOf : {H T : Type 0} → Spots H T → List ℕ → Type 0
 AreOf spots store = All (λ spot. spot.title.known.store ≡ store) spots.list.items

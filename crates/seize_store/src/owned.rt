@@ -1,10 +1,11 @@
 //! The block in its owner's hands, which is what a store gives out. It wraps a block of `block`, and its chunk goes back as a spot of
 //! `spot`.
 ghost use Rattle.std.specs.Prelude.{◌≡◌, ◌≢◌};
-ghost use Rattle.seize_store.specs.Named.{AreOf, IsSame, count_of, count_with, number_of, store_of, title_of, value_of};
+ghost use Rattle.seize_store.specs.Named.{AreOf, IsSame, count_of, count_with, known_of, number_of, store_of, title_of, value_of};
 ghost use Rattle.seize_store.specs.Parts.{spot_title};
 
 use crate::block::Block;
+use crate::known::Known;
 use crate::spot::{Spot, Spots};
 use std::ops::Deref;
 
@@ -28,9 +29,20 @@ impl<H, T: Drop> Owned<H, T> {
     pub fn into_inner(self) -> T
         ensures { result ≡ value_of self }
     {
-        let (value, spot) = self.empty();
-        drop(spot);
+        let (value, _) = self.into_parts();
         value
+    }
+
+    /// The same, and what shows the row in which the value lay.
+    pub fn into_parts(self) -> (T, Known)
+        ensures value { result.0 ≡ value_of self }
+        ensures known { result.1 ≡ known_of self }
+    {
+        let (value, mut spot) = self.empty();
+        let title = &mut spot.title;
+        let known = title.known.again();
+        drop(spot);
+        (value, known)
     }
 
     /// The value by value. The chunk stays claimed, and its spot goes to the list; where that is full, half of it goes back first. No

@@ -9,6 +9,7 @@ use Rattle.std.specs.Ordering.{nat_cmp}
 use Rattle.std.specs.BinaryHeap.{IsHeap}
 use Rattle.std.specs.declared.cmp.Reverse.{Reverse}
 use Rattle.std.specs.FinSet as set
+use Rattle.seize_table.specs.Place.{all_numbers}
 
 abbrev pub is_free : List (Reverse ℕ) → ℕ → Bool
 is_free free n = list_any (λ r. nat_eq r.0 n) free
@@ -21,7 +22,7 @@ pub record IsRoomy (made : ℕ) (free : List (Reverse ℕ)) (room : ℕ) : Type 
   pub once : IsDistinct (λ x y. nat_eq y.0 x.0) free
   pub below : (n : ℕ) → is_free free n ≡ true → n < made
   pub room_for_all : made ≤ room
-  pub in_table : made ≤ 18446744073709551584
+  pub in_table : made ≤ all_numbers
 
 pub record Least (used : set.FinSet nat_cmp) (n : ℕ) : Type 0 where
   pub unused : set.contains used n ≡ false

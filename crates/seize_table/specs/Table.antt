@@ -12,6 +12,7 @@ use Rattle.std.specs.declared.vec.Vec.{Vec}
 use Rattle.once_cell.specs.declared.race.note.Note.{Note}
 use Rattle.seize_table.specs.declared.thread_id.Thread.{Thread}
 use Rattle.seize_table.specs.declared.tls.filled.Filled.{Filled}
+use Rattle.seize_table.specs.Place.{all_numbers}
 
 abbrev pub number_at : ℕ → ℕ → ℕ
 number_at bucket entry = 2 ^ (bucket + 5) + entry - 32
@@ -47,5 +48,5 @@ HasCell items entry note value =
 abbrev pub WalksOn : {X : Type 0} → ℕ → Option X → ℕ → Type 0
 WalksOn before item after =
     (before ≤ after)
-    × IfSome item (λ _. (before < after) × (after ≤ 2 ^ 64 - 32))
-    × IfNone item (after ≡ 2 ^ 64 - 32)
+    × IfSome item (λ _. (before < after) × (after ≤ all_numbers))
+    × IfNone item (after ≡ all_numbers)

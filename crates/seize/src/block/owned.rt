@@ -3,6 +3,7 @@ ghost use Rattle.std.specs.Prelude.{◌≡◌};
 ghost use Rattle.seize_store.specs.Named as store;
 ghost use Rattle.seize.specs.Blocks.{content, number_of, owner_of};
 
+use seize_store::Known;
 use std::ops::Deref;
 
 /// A block in one owner's hands. It reads as its value, and may be dropped, which ends the value and frees the block's place in its
@@ -27,12 +28,13 @@ impl<T: Drop> Owned<T> {
         self.block.number()
     }
 
-    /// The value by value. The block's place is free again.
-    pub(crate) fn into_value(self) -> T
-        ensures { result ≡ content self }
+    /// The value by value, and what shows of which collector it was. The block's place is free again.
+    pub(crate) fn into_parts(self) -> (T, Known)
+        ensures value { result.0 ≡ content self }
+        ensures owner { result.1.store ≡ owner_of self }
     {
         let Owned { block } = self;
-        block.into_inner()
+        block.into_parts()
     }
 }
 

@@ -4,7 +4,7 @@ ghost use Rattle.std.specs.Prelude.{◌≡◌, ◌⊎◌, ◌<◌, true, false, 
 ghost use Rattle.seize_model.specs.Waiting.Calls as calls;
 ghost use Rattle.seize_model.specs.Waiting.Lists as lists;
 ghost use Rattle.seize.specs.Alone.{reply_of, IsFor, AreFor, IsFrom, AreFrom, Stepped, Ran};
-ghost use Rattle.seize.specs.Blocks.{content, number_of, number_at, owner_of, block_of, collector_of, shared_content, shared_number, shared_owner};
+ghost use Rattle.seize.specs.Blocks.{content, Belongs, number_of, number_at, owner_of, block_of, collector_of, shared_content, shared_number, shared_owner};
 ghost use Rattle.seize.specs.Collectors.{
   about,
   kept_by,
@@ -27,6 +27,7 @@ use crate::collector::{Call, Collector, Reply};
 use crate::reclaim::{Boxed, Reclaim, Watch, Weigh};
 use seize_model::Kind;
 use seize_table::Refusal;
+use std::alloc::AllocError;
 use std::collections::VecDeque;
 
 /// The collector in one caller's hands. No call changes which collector it is, its id, its size or how many links there are, and none
@@ -183,7 +184,7 @@ impl<'c, T: Weigh + Drop, R: Reclaim<T>> Alone<'c, T, R> {
 
     /// Retires the block by the slot: it joins the slot's batch, and an attempt follows if that is then long enough.
     ///
-    /// The block is of this collector. It may take note of a refused growth.
+    /// The block, with each block inside it, is of this collector. It may take note of a refused growth.
     ///
     /// # Errors
     ///
@@ -195,7 +196,7 @@ impl<'c, T: Weigh + Drop, R: Reclaim<T>> Alone<'c, T, R> {
         reclaim: R,
         watch: &mut W,
     ) -> Result<(), (Refusal, Unlinked<'c, T>)>
-        requires own { owner_of (block_of value) ≡ (whose self.old).name }
+        requires own { Belongs T.owners (whose self.old).name (block_of value) }
         ensures done { Answers W.told (λ st. calls.retire R.puts T.weight st s (content (block_of value.entry)) reclaim)
             (without_block result) (at self.old (W.seen watch.old)) (at self.new (W.seen watch.new)) }
         ensures back { IfErr result (λ e. e.1 ≡ value.entry) }
@@ -231,8 +232,8 @@ impl<'c, T: Weigh + Drop, R: Reclaim<T>> Alone<'c, T, R> {
         }
     }
 
-    /// Exchanges what the link holds, and answers what it held. The link is below `links()`, and the block is of this collector. It takes
-    /// no memory.
+    /// Exchanges what the link holds, and answers what it held. The link is below `links()`, and the block, with each block
+    /// inside it, is of this collector. It takes no memory.
     ///
     /// # Errors
     ///
@@ -244,7 +245,7 @@ impl<'c, T: Weigh + Drop, R: Reclaim<T>> Alone<'c, T, R> {
         new: Option<Owned<T>>,
     ) -> Result<Option<Unlinked<'c, T>>, (Refusal, Option<Owned<T>>)>
         requires range { link < (whose self.old).links }
-        requires own { IfSome new (λ owned. owner_of owned ≡ (whose self.old).name) }
+        requires own { IfSome new (Belongs T.owners (whose self.old).name) }
         ensures answer { MatchResult result (λ _. calls.no_guard (state_of self.old) s ≡ None)
             (λ e. (calls.no_guard (state_of self.old) s ≡ Some e.0) × (e.1 ≡ new)) }
         ensures held { IfOk result (λ old. option_map (λ unlinked. content (block_of unlinked)) old
@@ -252,7 +253,7 @@ impl<'c, T: Weigh + Drop, R: Reclaim<T>> Alone<'c, T, R> {
         ensures number { IfOk result (λ old. option_map (λ unlinked. number_of (block_of unlinked)) old
             ≡ number_at (numbers_of self.old) link) }
         ensures own { IfOk result (λ old. IfSome old (λ unlinked.
-            (owner_of (block_of unlinked) ≡ (whose self.old).name) × (collector_of unlinked ≡ (whose self.old).id))) }
+            Belongs T.owners (whose self.old).name (block_of unlinked) × (collector_of unlinked ≡ (whose self.old).id))) }
         ensures state { state_of self.new ≡ (calls.swap (state_of self.old) s link (option_map content new)).1.0 }
         ensures numbers { MatchResult result (λ _. numbers_of self.new ≡ slice_set (numbers_of self.old) link (option_map number_of new))
             (λ _. numbers_of self.new ≡ numbers_of self.old) }
@@ -291,8 +292,8 @@ impl<'c, T: Weigh + Drop, R: Reclaim<T>> Alone<'c, T, R> {
         reclaim: R,
         watch: &mut W,
     ) -> Reply<T>
-        requires { IsFor (whose self.old) (Call.Swap s link new reclaim) }
-        ensures own { IsFrom (whose self.old) result }
+        requires { IsFor T.owners (whose self.old) (Call.Swap s link new reclaim) }
+        ensures own { IsFrom T.owners (whose self.old) result }
         ensures done { Stepped R.puts T.weight W.told (Call.Swap s link new reclaim) result
             (at self.old (W.seen watch.old)) (at self.new (W.seen watch.new)) }
         ensures same { lent self.new ≡ lent self.old }
@@ -310,8 +311,8 @@ impl<'c, T: Weigh + Drop, R: Reclaim<T>> Alone<'c, T, R> {
 
     /// Does one call of a list.
     fn reply<W: Watch<T>>(&mut self, call: Call<T, R>, watch: &mut W) -> Reply<T>
-        requires { IsFor (whose self.old) call }
-        ensures own { IsFrom (whose self.old) result }
+        requires { IsFor T.owners (whose self.old) call }
+        ensures own { IsFrom T.owners (whose self.old) result }
         ensures done { Stepped R.puts T.weight W.told call result
             (at self.old (W.seen watch.old)) (at self.new (W.seen watch.new)) }
         ensures same { lent self.new ≡ lent self.old }
@@ -343,8 +344,8 @@ impl<'c, T: Weigh + Drop, R: Reclaim<T>> Alone<'c, T, R> {
         }
     }
 
-    /// Takes the calls from the front, one reply each. Every link that they name is below `links()`, and every block that they bring is of
-    /// this collector.
+    /// Takes the calls from the front, one reply each. Every link that they name is below `links()`, and every block that they bring,
+    /// with each block inside it, is of this collector.
     ///
     /// It first makes room for all replies. Where the memory for a number is refused, that call's reply says so, and the next calls
     /// follow. It stops early only where a growth is refused in a call that answers no refusal for it (`is_short`); the calls after
@@ -359,14 +360,14 @@ impl<'c, T: Weigh + Drop, R: Reclaim<T>> Alone<'c, T, R> {
         replies: &mut Vec<Reply<T>>,
         watch: &mut W,
     ) -> Result<(), Refusal>
-        requires { AreFor (whose self.old) calls.old.items }
+        requires { AreFor T.owners (whose self.old) calls.old.items }
         ensures before { IfOk result (λ _. is_short_of self.old ≡ false) }
         ensures ran { IfOk result (λ _. Ran R.puts T.weight W.told calls.old.items calls.new.items replies.old.items replies.new.items
             (at self.old (W.seen watch.old)) (at self.new (W.seen watch.new))) }
         ensures refused { IfErr result (λ refusal. (refusal ≡ no_memory)
             × (at self.new (W.seen watch.new) ≡ at self.old (W.seen watch.old))
             × (calls.new.items ≡ calls.old.items) × (replies.new.items ≡ replies.old.items)) }
-        ensures own { AreFrom (whose self.old) replies.old.items → AreFrom (whose self.old) replies.new.items }
+        ensures own { AreFrom T.owners (whose self.old) replies.old.items → AreFrom T.owners (whose self.old) replies.new.items }
         ensures same { lent self.new ≡ lent self.old }
     {
         if self.collector.is_short {
@@ -394,7 +395,7 @@ impl<'c, T: Weigh + Drop, R: Reclaim<T>> Alone<'c, T, R> {
 }
 
 /// Takes note of a growth that was refused in a call that answers no refusal for it.
-fn note(is_short: &mut bool, answer: Result<(), Refusal>)
+fn note(is_short: &mut bool, answer: Result<(), AllocError>)
     ensures noted { (is_short.new ≡ true) ⊎ ((answer ≡ Ok tt) × (is_short.new ≡ is_short.old)) }
     ensures needed { answer ≡ Ok tt → is_short.new ≡ is_short.old }
     ensures held { is_short.old ≡ true → is_short.new ≡ true }

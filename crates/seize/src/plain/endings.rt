@@ -1,17 +1,16 @@
 //! The calls of the plain collector by which values end.
-ghost use Rattle.std.specs.Prelude.{◌≡◌, IfOk};
+ghost use Rattle.std.specs.Prelude.{◌≡◌, None, IfOk};
 ghost use Rattle.seize_model.specs.Waiting.Further as further;
 ghost use Rattle.seize_model.specs.Waiting.Calls as calls;
-ghost use Rattle.seize.specs.Blocks.{content};
+ghost use Rattle.seize.specs.Blocks.{content, IsUnmixed};
 ghost use Rattle.seize.specs.Plain.{fixed};
-ghost use Rattle.seize.specs.Effects.{Did, Queued, AnsweredIfGrown};
+ghost use Rattle.seize.specs.Effects.{Did, Queued};
 
 use crate::block::Owned;
 use crate::plain::Plain;
 use crate::plain::retired::Retired;
 use crate::reclaim::{Reclaim, Watch, Weigh};
 use seize_model::Kind;
-use seize_table::Refusal;
 use std::alloc::AllocError;
 use std::collections::VecDeque;
 
@@ -52,22 +51,16 @@ impl<T: Weigh + Drop, R: Reclaim<T>> Plain<T, R> {
         Ok(())
     }
 
-    pub(crate) fn leave<W: Watch<T>>(&mut self, s: usize, watch: &mut W) -> Result<(), Refusal>
-        ensures done { AnsweredIfGrown W.told (calls.leave R.puts T.weight self.old.state s) result
-            self.new.state (W.seen watch.old) (W.seen watch.new) }
+    pub(crate) fn leave<W: Watch<T>>(&mut self, s: usize, watch: &mut W) -> Result<(), AllocError>
+        requires { calls.no_guard self.old.state s ≡ None }
+        ensures done { IfOk result (λ _. Did W.told (calls.leave R.puts T.weight self.old.state s).1
+            self.new.state (W.seen watch.old) (W.seen watch.new)) }
         ensures same { fixed self.new ≡ fixed self.old }
     {
-        if let Some(refusal) = self.no_guard(s) {
-            return Err(refusal);
-        }
         let owned = self.is_owned(s);
         let mut queue = VecDeque::new(self.alloc);
-        let Ok(()) = self.one_guard_less(s, &mut queue, watch) else {
-            return Err(Refusal::NoMemory);
-        };
-        let Ok(()) = self.afterwards(s, queue, watch) else {
-            return Err(Refusal::NoMemory);
-        };
+        self.one_guard_less(s, &mut queue, watch)?;
+        self.afterwards(s, queue, watch)?;
         self.free_if(s, owned);
         Ok(())
     }
@@ -89,40 +82,26 @@ impl<T: Weigh + Drop, R: Reclaim<T>> Plain<T, R> {
         Ok(())
     }
 
-    pub(crate) fn refresh<W: Watch<T>>(&mut self, s: usize, watch: &mut W) -> Result<(), Refusal>
-        ensures done { AnsweredIfGrown W.told (calls.refresh R.puts T.weight self.old.state s) result
-            self.new.state (W.seen watch.old) (W.seen watch.new) }
+    pub(crate) fn refresh<W: Watch<T>>(&mut self, s: usize, watch: &mut W) -> Result<(), AllocError>
+        requires { calls.no_guard self.old.state s ≡ None }
+        ensures done { IfOk result (λ _. Did W.told (calls.refresh R.puts T.weight self.old.state s).1
+            self.new.state (W.seen watch.old) (W.seen watch.new)) }
         ensures same { fixed self.new ≡ fixed self.old }
     {
-        if let Some(refusal) = self.no_guard(s) {
-            return Err(refusal);
-        }
         let mut queue = VecDeque::new(self.alloc);
-        let Ok(()) = self.part_if_alone(s, &mut queue, watch) else {
-            return Err(Refusal::NoMemory);
-        };
-        let Ok(()) = self.afterwards(s, queue, watch) else {
-            return Err(Refusal::NoMemory);
-        };
-        Ok(())
+        self.part_if_alone(s, &mut queue, watch)?;
+        self.afterwards(s, queue, watch)
     }
 
-    pub(crate) fn flush<W: Watch<T>>(&mut self, s: usize, watch: &mut W) -> Result<(), Refusal>
-        ensures done { AnsweredIfGrown W.told (calls.flush R.puts T.weight self.old.state s) result
-            self.new.state (W.seen watch.old) (W.seen watch.new) }
+    pub(crate) fn flush<W: Watch<T>>(&mut self, s: usize, watch: &mut W) -> Result<(), AllocError>
+        requires { calls.no_guard self.old.state s ≡ None }
+        ensures done { IfOk result (λ _. Did W.told (calls.flush R.puts T.weight self.old.state s).1
+            self.new.state (W.seen watch.old) (W.seen watch.new)) }
         ensures same { fixed self.new ≡ fixed self.old }
     {
-        if let Some(refusal) = self.no_guard(s) {
-            return Err(refusal);
-        }
         let mut queue = VecDeque::new(self.alloc);
-        let Ok(()) = self.attempt(s, &mut queue, watch) else {
-            return Err(Refusal::NoMemory);
-        };
-        let Ok(()) = self.afterwards(s, queue, watch) else {
-            return Err(Refusal::NoMemory);
-        };
-        Ok(())
+        self.attempt(s, &mut queue, watch)?;
+        self.afterwards(s, queue, watch)
     }
 
     pub(crate) fn retire<W: Watch<T>>(
@@ -131,22 +110,16 @@ impl<T: Weigh + Drop, R: Reclaim<T>> Plain<T, R> {
         block: Owned<T>,
         reclaim: R,
         watch: &mut W,
-    ) -> Result<(), Refusal>
-        ensures done { AnsweredIfGrown W.told (calls.retire R.puts T.weight self.old.state s (content block) reclaim) result
-            self.new.state (W.seen watch.old) (W.seen watch.new) }
+    ) -> Result<(), AllocError>
+        requires used { calls.unused self.old.state s ≡ None }
+        requires unmixed { IsUnmixed T.owners block }
+        ensures done { IfOk result (λ _. Did W.told (calls.retire R.puts T.weight self.old.state s (content block) reclaim).1
+            self.new.state (W.seen watch.old) (W.seen watch.new)) }
         ensures same { fixed self.new ≡ fixed self.old }
     {
-        if let Some(refusal) = self.unused(s) {
-            return Err(refusal);
-        }
         let value = Retired::new(block, reclaim);
         let mut queue = VecDeque::new(self.alloc);
-        let Ok(()) = self.put(s, value, &mut queue, watch) else {
-            return Err(Refusal::NoMemory);
-        };
-        let Ok(()) = self.afterwards(s, queue, watch) else {
-            return Err(Refusal::NoMemory);
-        };
-        Ok(())
+        self.put(s, value, &mut queue, watch)?;
+        self.afterwards(s, queue, watch)
     }
 }

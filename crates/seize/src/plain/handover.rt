@@ -1,6 +1,6 @@
 //! How the plain collector gives values to their reclaimers.
-ghost use Rattle.std.specs.Prelude.{◌≡◌, ◌++◌, map, IfOk};
-ghost use Rattle.seize.specs.Blocks.{content};
+ghost use Rattle.std.specs.Prelude.{◌≡◌, ◌++◌, All, map, IfOk};
+ghost use Rattle.seize.specs.Blocks.{content, IsUnmixed};
 ghost use Rattle.seize_model.specs.Waiting.Further.{put_by, further};
 ghost use Rattle.seize.specs.Effects.{told_of};
 
@@ -11,11 +11,12 @@ use std::alloc::{AllocError, Global};
 use std::collections::VecDeque;
 
 /// What one reclaimer put joins the queue.
-fn queue_all<T: Drop, R: Copy>(
+fn queue_all<T: Weigh + Drop, R: Copy>(
     values: Vec<Owned<T>>,
     reclaim: R,
     queue: &mut VecDeque<Retired<T, R>>,
 ) -> Result<(), AllocError>
+    requires { All (IsUnmixed T.owners) values.items }
     ensures { IfOk result (λ _. queue.new.items ≡ queue.old.items ++ map (λ owned. (content owned, reclaim)) values.items) }
 {
     for owned in values {
@@ -36,8 +37,9 @@ pub(crate) fn give<T: Weigh + Drop, R: Reclaim<T>, W: Watch<T>>(
 {
     let (block, reclaim) = value.into_parts();
     watch.gone(&block);
-    let mut further = Further::new(alloc);
-    reclaim.reclaim(block.into_value(), &mut further);
+    let (value, known) = block.into_parts();
+    let mut further = Further::new(alloc, known);
+    reclaim.reclaim(value, &mut further);
     let values = further.into_values()?;
     queue_all(values, reclaim, queue)
 }

@@ -1,14 +1,15 @@
 //! Links of the plain collector.
 ghost use Rattle.std.specs.Prelude.{◌≡◌, ◌<◌, length, slice_set, IfOk, IfSome, MatchResult, option_map, None, Some};
-ghost use Rattle.seize.specs.Blocks.{content, number_of, number_at, owner_of};
+ghost use Rattle.seize.specs.Blocks.{content, number_of, number_at, owner_of, Belongs};
 ghost use Rattle.seize_model.specs.Waiting.Calls as calls;
 
 use crate::block::Owned;
 use crate::plain::Plain;
+use crate::reclaim::Weigh;
 use seize_table::Refusal;
 use std::mem;
 
-impl<T: Drop, R: Copy> Plain<T, R> {
+impl<T: Weigh + Drop, R: Copy> Plain<T, R> {
     /// What the link holds.
     pub(crate) fn protect(&self, s: usize, link: usize) -> Result<Option<&Owned<T>>, Refusal>
         requires { link < length self.now.state.links }
@@ -27,8 +28,8 @@ impl<T: Drop, R: Copy> Plain<T, R> {
     /// Exchanges what the link holds.
     pub(crate) fn swap(&mut self, link: usize, new: Option<Owned<T>>) -> Option<Owned<T>>
         requires range { link < length self.old.state.links }
-        requires own { IfSome new (λ owned. owner_of owned ≡ self.old.name) }
-        ensures owner { IfSome result (λ owned. owner_of owned ≡ self.old.name) }
+        requires own { IfSome new (Belongs T.owners self.old.name) }
+        ensures own { IfSome result (Belongs T.owners self.old.name) }
         ensures held { option_map content result ≡ calls.link_at self.old.state link }
         ensures number { option_map number_of result ≡ number_at self.old.numbers link }
         ensures holds { self.new ≡ record self.old {

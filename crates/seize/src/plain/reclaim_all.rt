@@ -28,7 +28,7 @@ fn drain<T: Weigh + Drop, R: Reclaim<T>, W: Watch<T>>(
     Ok(())
 }
 
-impl<T: Drop, R: Copy> Plain<T, R> {
+impl<T: Weigh + Drop, R: Copy> Plain<T, R> {
     /// How many slots were ever made.
     fn made(&self) -> usize
         ensures { result ≡ length self.now.state.slots }

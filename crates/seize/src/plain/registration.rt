@@ -7,12 +7,13 @@ ghost use Rattle.seize.specs.Effects.{Grew, Said};
 
 use crate::plain::Plain;
 use crate::plain::slot::Slot;
+use crate::reclaim::Weigh;
 use seize_model::Kind;
 use seize_table::Refusal;
 use std::alloc::{AllocError, Global};
 
 // Number `n` has this use.
-fn occupy<T: Drop, R: Copy>(
+fn occupy<T: Weigh + Drop, R: Copy>(
     alloc: Global,
     slots: &mut Vec<Slot<T, R>>,
     n: usize,
@@ -34,7 +35,7 @@ fn occupy<T: Drop, R: Copy>(
     Ok(())
 }
 
-impl<T: Drop, R: Copy> Plain<T, R> {
+impl<T: Weigh + Drop, R: Copy> Plain<T, R> {
     /// The refusal of a call that needs a number in use.
     pub(crate) fn unused(&self, s: usize) -> Option<Refusal>
         ensures { result ≡ calls.unused self.now.state s }

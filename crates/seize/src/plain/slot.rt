@@ -5,6 +5,7 @@ ghost use Rattle.seize_model.specs.Waiting.Attempt.{wait_if_active};
 ghost use Rattle.seize_model.specs.Waiting.Calls as calls;
 
 use crate::plain::retired::Retired;
+use crate::reclaim::Weigh;
 use seize_model::Kind;
 use std::alloc::{AllocError, Global};
 use std::collections::VecDeque;
@@ -12,14 +13,14 @@ use std::marker::Model;
 use std::mem;
 
 #[derive(Drop)]
-pub(crate) struct Slot<T: Drop, R: Copy> {
+pub(crate) struct Slot<T: Weigh + Drop, R: Copy> {
     kind: Kind,
     guards: u64,
     batch: Vec<Retired<T, R>>,
     order: VecDeque<usize>,
 }
 
-impl<T: Drop, R: Copy> Model for Slot<T, R> {
+impl<T: Weigh + Drop, R: Copy> Model for Slot<T, R> {
     ghost use Rattle.seize_model.specs.Waiting.State as state;
 
     ghost Value = { state.Slot T R };
@@ -27,7 +28,7 @@ impl<T: Drop, R: Copy> Model for Slot<T, R> {
     ghost view = { λ s. record { kind = s.kind; guards = s.guards; batch = s.batch.items; order = s.order.items } };
 }
 
-impl<T: Drop, R: Copy> Slot<T, R> {
+impl<T: Weigh + Drop, R: Copy> Slot<T, R> {
     pub(crate) fn new(alloc: Global, kind: Kind, guards: u64) -> Slot<T, R>
         ensures { result ≡ record { kind = kind; guards = guards; batch = []; order = [] } }
     {

@@ -7,8 +7,8 @@ use Rattle.seize_machine.specs.Machine.Next.{Outcome, next}
 use Rattle.seize_machine.specs.Machine.History.{Timed, end_of, answers_of, handed_value, handed}
 use Rattle.seize_machine.specs.Machine.Laws.{Gone}
 use Rattle.seize_machine.specs.declared.machine.event.Answer.{Answer}
-use Rattle.seize_machine.proofs.Laws.Steps.{Step, step_of, some_is}
-use Rattle.seize_machine.proofs.Laws.Histories.{run, from_first}
+use Rattle.seize_machine.proofs.Steps.Relation.{Step, step_of, some_is}
+use Rattle.seize_machine.proofs.Lists.Histories.{run, from_first}
 
 pub gone_is : (size : ℕ) (st : State) (event : Event) (d : State × Answer) → Step size st event d → (d.0).gone ≡ st.gone ++ option_to_list (handed_value d.1)
 gone_is size st event _ (Step.handed s v puts given walk queue e new) = refl

@@ -5,12 +5,12 @@ use Rattle.seize_machine.specs.Machine.State.{no_slot, State, Call, Inactive, Pl
 use Rattle.seize_machine.specs.Machine.Next.{next}
 use Rattle.seize_machine.specs.Machine.History.{Timed, end_of}
 use Rattle.seize_machine.specs.Machine.Laws.{Holders, IsHeld, walk_of, detached_by}
-use Rattle.seize_machine.proofs.Laws.Sums.{one, occ}
-use Rattle.seize_machine.proofs.Laws.Lists.{contains_some, some_part}
-use Rattle.seize_machine.proofs.Laws.Counts.{Counted, of_calls, owns, walks, listed}
-use Rattle.seize_machine.proofs.Laws.Invariants.{Inv, opening_inv}
-use Rattle.seize_machine.proofs.Laws.Histories.{run}
-use Rattle.seize_machine.proofs.Laws.Ends.{end_inv}
+use Rattle.seize_machine.proofs.Counting.Sums.{one, occ}
+use Rattle.seize_machine.proofs.Counting.Occurrences.{contains_some, some_part}
+use Rattle.seize_machine.proofs.Invariants.Counts.{Counted, of_calls, owns, walks, listed}
+use Rattle.seize_machine.proofs.Invariants.Always.{Inv, opening_inv}
+use Rattle.seize_machine.proofs.Lists.Histories.{run}
+use Rattle.seize_machine.proofs.Lists.Ends.{end_inv}
 
 in_walk : (b : ℕ) (call : Option Call) → 1 ≤ walks b call → Contains (walk_of call) b
 in_walk b None h = absurd (omega arith)

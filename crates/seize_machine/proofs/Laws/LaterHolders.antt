@@ -9,14 +9,14 @@ use Rattle.seize_machine.specs.Machine.Next.{Outcome, next, look, is_zero}
 use Rattle.seize_machine.specs.Machine.History.{Timed, Moment, end_of, is_swap_out, HasParted}
 use Rattle.seize_machine.specs.Machine.Laws.{walk_of, added_batch, added_by, Lists, Walks, NoLaterHolders}
 use Rattle.seize_machine.specs.declared.machine.event.Answer.{Answer}
-use Rattle.seize_machine.proofs.Laws.Steps.{Step, step_of, some_is, is_true, eq_true}
-use Rattle.seize_machine.proofs.Laws.Sums.{one, occ}
-use Rattle.seize_machine.proofs.Laws.Lists.{contains_some, some_contained}
-use Rattle.seize_machine.proofs.Laws.Counts.{CountedIn, of_calls, owns, place_owns, walks, place_walks, change, in_range, idle_range, idle_call, in_call_of, held_range, place_quiet, look_walks, look_owns, looked_same}
-use Rattle.seize_machine.proofs.Laws.Kept.{at_set, pushed, starts}
-use Rattle.seize_machine.proofs.Laws.Invariants.{Inv, inv_step, opening_inv}
-use Rattle.seize_machine.proofs.Laws.Histories.{run, moment_of, from_first, none_in, at_first, later}
-use Rattle.seize_machine.proofs.Laws.Ends.{end_keeps}
+use Rattle.seize_machine.proofs.Steps.Relation.{Step, step_of, some_is, is_true, eq_true}
+use Rattle.seize_machine.proofs.Counting.Sums.{one, occ}
+use Rattle.seize_machine.proofs.Counting.Occurrences.{contains_some, some_contained}
+use Rattle.seize_machine.proofs.Invariants.Counts.{CountedIn, of_calls, owns, place_owns, walks, place_walks, change, in_range, idle_range, idle_call, in_call_of, held_range, place_quiet, look_walks, look_owns, looked_same}
+use Rattle.seize_machine.proofs.Invariants.Kept.{at_set, pushed, starts}
+use Rattle.seize_machine.proofs.Invariants.Always.{Inv, inv_step, opening_inv}
+use Rattle.seize_machine.proofs.Lists.Histories.{run, moment_of, from_first, none_in, at_first, later}
+use Rattle.seize_machine.proofs.Lists.Ends.{end_keeps}
 
 -- how often slot s lists b, and how often its call is to walk it
 abbrev lists : ℕ → State → ℕ → ℕ

@@ -9,13 +9,14 @@ use Rattle.seize_machine.specs.Machine.Next.{Outcome, next, can_link}
 use Rattle.seize_machine.specs.Machine.History.{Timed, Moment, retired_value, linked_value, is_link_event, is_swap_out, Found, Retired, Reclaimed, HasParted}
 use Rattle.seize_machine.specs.Machine.Laws.{Protection}
 use Rattle.seize_machine.specs.declared.machine.event.Answer.{Answer}
-use Rattle.seize_machine.proofs.Laws.Steps.{Step, step_of, eq_true, lt_true, and_true, some_is}
-use Rattle.seize_machine.proofs.Laws.Sums.{one, occ}
-use Rattle.seize_machine.proofs.Laws.Once.{in_links, places}
-use Rattle.seize_machine.proofs.Laws.Parts.{parts, kept-le-slots}
-use Rattle.seize_machine.proofs.Laws.Invariants.{Inv, inv_step, opening_inv, gone_grows}
-use Rattle.seize_machine.proofs.Laws.Histories.{run, moment_of, from_first, none_in, at_first, later, sooner, after_this}
-use Rattle.seize_machine.proofs.Laws.Reclaiming.{Story, after, keeps_until, keeps_new, first_gone}
+use Rattle.seize_machine.proofs.Steps.Relation.{Step, step_of, eq_true, lt_true, and_true, some_is}
+use Rattle.seize_machine.proofs.Counting.Sums.{one, occ}
+use Rattle.seize_machine.proofs.Invariants.Once.{in_links, places}
+use Rattle.seize_machine.proofs.Invariants.Parts.{parts, kept-le-slots}
+use Rattle.seize_machine.proofs.Invariants.Always.{Inv, inv_step, opening_inv, gone_grows}
+use Rattle.seize_machine.proofs.Lists.Histories.{run, moment_of, from_first, none_in, at_first, later, sooner, after_this}
+use Rattle.seize_machine.proofs.Laws.AtMostOnce.{first_gone}
+use Rattle.seize_machine.proofs.Laws.After.{Story, after, keeps_until, keeps_new}
 
 -- a slot that may read a link with v is active, and v stands in the links
 abbrev pub Sees : ℕ → ℕ → State → Type 0

@@ -5,17 +5,17 @@ use Rattle.std.proofs.lemmas.List.Sums.{sum_by-cons}
 use Rattle.seize_machine.specs.Machine.State.{no_slot, no_batch, State, Slot, Call, Head, Inactive, Active, slot_at, batch_at, is_active, waiting_at, linked, are_distinct, opening}
 use Rattle.seize_machine.specs.Machine.History.{Timed, end_of, Reclaimed}
 use Rattle.seize_machine.specs.Machine.Laws.{Quiet, bound, IsBatched}
-use Rattle.seize_machine.proofs.Laws.Steps.{and_true}
-use Rattle.seize_machine.proofs.Laws.Sums.{occ}
-use Rattle.seize_machine.proofs.Laws.Lists.{contains_some, some_part, all_zero}
-use Rattle.seize_machine.proofs.Laws.Counts.{of_calls, owns, walks, listed}
-use Rattle.seize_machine.proofs.Laws.Once.{in_batches}
-use Rattle.seize_machine.proofs.Laws.Kept.{given}
-use Rattle.seize_machine.proofs.Laws.Parts.{parts, slot_keeps}
-use Rattle.seize_machine.proofs.Laws.Fits.{Fits}
-use Rattle.seize_machine.proofs.Laws.Invariants.{Inv, opening_inv}
-use Rattle.seize_machine.proofs.Laws.Histories.{run}
-use Rattle.seize_machine.proofs.Laws.Ends.{end_inv, end_fits, opening_fits, if_retired, reclaimed_if}
+use Rattle.seize_machine.proofs.Steps.Relation.{and_true}
+use Rattle.seize_machine.proofs.Counting.Sums.{occ}
+use Rattle.seize_machine.proofs.Counting.Occurrences.{contains_some, some_part, all_zero}
+use Rattle.seize_machine.proofs.Invariants.Counts.{of_calls, owns, walks, listed}
+use Rattle.seize_machine.proofs.Invariants.Once.{in_batches}
+use Rattle.seize_machine.proofs.Invariants.Kept.{given}
+use Rattle.seize_machine.proofs.Invariants.Parts.{parts, slot_keeps}
+use Rattle.seize_machine.proofs.Invariants.Fits.{Fits}
+use Rattle.seize_machine.proofs.Invariants.Always.{Inv, opening_inv}
+use Rattle.seize_machine.proofs.Lists.Histories.{run}
+use Rattle.seize_machine.proofs.Lists.Ends.{end_inv, end_fits, opening_fits, if_retired, reclaimed_if}
 
 abbrev NoCalls : List Slot → Type 0
 NoCalls slots = list_all (λ slot. not (is_some slot.call)) slots ≡ true

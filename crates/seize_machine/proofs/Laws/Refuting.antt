@@ -8,8 +8,8 @@ use Rattle.seize_machine.specs.Machine.State.{State, Slot, no_slot, Inactive, sl
 use Rattle.seize_machine.specs.Machine.History.{Moment, end_of, answers_of, retired_value, handed_value, handed, is_swap_out, Reclaimed, Retired, Found, IsActiveAt, HasParted}
 use Rattle.seize_machine.specs.Machine.Laws.{AtMostOnce, After, Quiet, is_quiet, bound, PutsWithin, IsBatched, Protection, Parts, parts, Gone, Holders, Lists, Walks, added_by, NoLaterHolders, walk_of, detached_by, IsHeld, begins, during, changes_head, is_lost, Tries}
 use Rattle.seize_machine.specs.Machine.Next.{same_list}
-use Rattle.seize_machine.proofs.Laws.Steps.{is_true, some_is, same_list-refl}
-use Rattle.seize_machine.proofs.Laws.Histories.{some_moment, none_in}
+use Rattle.seize_machine.proofs.Steps.Relation.{is_true, some_is, same_list-refl}
+use Rattle.seize_machine.proofs.Lists.Histories.{some_moment, none_in}
 
 -- whether an option has this value
 abbrev pub is_value : ℕ → Option ℕ → Bool

@@ -9,11 +9,11 @@ use Rattle.seize_machine.specs.Machine.Next.{Outcome, next, look, marked_place, 
 use Rattle.seize_machine.specs.Machine.History.{Timed, Moment}
 use Rattle.seize_machine.specs.Machine.Laws.{Tries, begins, returns, during, same_head, is_lost, changes_head}
 use Rattle.seize_machine.specs.declared.machine.event.Answer.{Answer}
-use Rattle.seize_machine.proofs.Laws.Steps.{Step, step_of, eq_true, and_true, some_is, same_list-refl}
-use Rattle.seize_machine.proofs.Laws.Sums.{one}
-use Rattle.seize_machine.proofs.Laws.Counts.{in_range, idle_range, idle_call, get_or_push_other}
-use Rattle.seize_machine.proofs.Laws.Kept.{starts}
-use Rattle.seize_machine.proofs.Laws.Histories.{run, moment_of, from_first}
+use Rattle.seize_machine.proofs.Steps.Relation.{Step, step_of, eq_true, and_true, some_is, same_list-refl}
+use Rattle.seize_machine.proofs.Counting.Sums.{one}
+use Rattle.seize_machine.proofs.Invariants.Counts.{in_range, idle_range, idle_call, get_or_push_other}
+use Rattle.seize_machine.proofs.Invariants.Kept.{starts}
+use Rattle.seize_machine.proofs.Lists.Histories.{run, moment_of, from_first}
 
 -- 1 where a call is about to insert at n and the head there is no longer what the call read
 abbrev place_stale : ℕ → Head → Place → ℕ

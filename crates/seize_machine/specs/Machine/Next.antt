@@ -1,6 +1,7 @@
 -- What each event does: `next`, the one transition function, which is total and computes.
-use Rattle.std.specs.Prelude.{ℕ, ◌+◌, ◌-◌, ◌^◌, ℤ, pos, negsuc, ◌+ℤ◌, ◌-ℤ◌, Bool, true, false, not, ◌&&◌, ◌||◌, ◌==◌, if◌then◌else◌, nat_lt, nat_le, max, List, [], ◌∷◌, ◌++◌, length, slice_set, Option, Some, None, option_to_list, unwrap_or}
+use Rattle.std.specs.Prelude.{ℕ, ◌+◌, ℤ, pos, negsuc, ◌+ℤ◌, ◌-ℤ◌, Bool, true, false, not, ◌&&◌, ◌||◌, ◌==◌, if◌then◌else◌, nat_lt, nat_le, max, List, [], ◌∷◌, ◌++◌, length, slice_set, Option, Some, None, option_to_list, unwrap_or}
 use Rattle.std.specs.List.{list_all, position_or_len, filter}
+use Rattle.seize_table.specs.Place.{all_numbers}
 use Rattle.seize_machine.specs.Machine.State.{State, Slot, Call, Head, Inactive, Active, Place, Append, Mark, Look, Try, Add, Out, Rest, slot_at, head_at, batch_at, link_at, is_active, waiting_at, is_idle, has, are_distinct}
 use Rattle.seize_machine.specs.Machine.Event.{Event, Take, Give, Enter, Begin, Put, ReadHead, Detach, Insert, AddCount, SwapOut, SubCount, Hand, Return, ReadLink, ExchangeLink}
 use Rattle.seize_machine.specs.declared.machine.event.Job.{Job}
@@ -380,7 +381,7 @@ exchange_link scheme st s l exchange =
 -- The table.
 
 abbrev pub next_by : Scheme → Transition
-next_by scheme size st (Take s) = if (s == first_free st.slots) && nat_lt s (2 ^ 64 - 32) then Some (taken st s, Done) else None
+next_by scheme size st (Take s) = if (s == first_free st.slots) && nat_lt s all_numbers then Some (taken st s, Done) else None
 next_by scheme size st (Give s) = if is_outside st s then Some (set_slot st s (record (slot_at st s) { used = false }), Done) else None
 next_by scheme size st (Enter s) = if is_outside st s then Some (scheme.entered st s, Done) else None
 next_by scheme size st (Begin s job) = begin scheme st s job

@@ -1,6 +1,7 @@
 -- How a state of the machine shows a state of waiting sets, where no call is under way.
-use Rattle.std.specs.Prelude.{◌≡◌, ℕ, pos, ◌-◌, ◌^◌, ◌≤◌, true, false, not, if◌then◌else◌, List, [], length, map, Option, Some, None}
+use Rattle.std.specs.Prelude.{◌≡◌, ℕ, pos, ◌≤◌, true, false, not, if◌then◌else◌, List, [], length, map, Option, Some, None}
 use Rattle.std.specs.List.{count_by}
+use Rattle.seize_table.specs.Place.{all_numbers}
 use Rattle.seize_machine.specs.Machine.State as machine
 use Rattle.seize_machine.specs.Machine.State.{Inactive, Active}
 use Rattle.seize_model.specs.Waiting.State as waiting
@@ -36,7 +37,7 @@ pub record ShowsSlot (T R : Type 0) (of : ℕ → T) (slot : waiting.Slot T R) (
 
 -- The two sides of a state. The count of a retired batch is the size of its waiting set.
 pub record Shows (T R : Type 0) (of : ℕ → T) (st : waiting.State T R) (shown : machine.State) : Type 0 where
-  pub numbers : length st.slots ≤ 2 ^ 64 - 32
+  pub numbers : length st.slots ≤ all_numbers
   pub slots : length shown.slots ≡ length st.slots
   pub slot : (s : ℕ) → ShowsSlot T R of (waiting.slot_at st s) (machine.slot_at shown s)
   pub heads : shown.heads ≡ map head_of st.slots

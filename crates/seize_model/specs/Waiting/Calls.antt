@@ -3,6 +3,7 @@ use Rattle.std.specs.Prelude.{ℕ, ◌+◌, ◌-◌, ◌^◌, Bool, true, false,
 use Rattle.std.specs.List.{position_or_len, flat_map, range_with_len}
 use Rattle.seize_model.specs.declared.kind.Kind.{Kind}
 use Rattle.seize_model.specs.declared.kind.Kind.TheVariants.{Free, Registered, Owned}
+use Rattle.seize_table.specs.Place.{all_numbers}
 use Rattle.seize_table.specs.declared.refusal.Refusal.{Refusal}
 use Rattle.seize_table.specs.declared.refusal.Refusal.TheVariants.{NoNumbers, TooManyGuards, NotInUse, NotActive, WrongKind}
 use Rattle.seize_model.specs.Waiting.State.{Slot, State, slot_at, set_slot, is_active}
@@ -66,7 +67,7 @@ with_number_in_use st n kind guards =
 abbrev pub take_number : {T R : Type 0} → State T R → Kind → ℕ → Response ℕ T R
 take_number st kind guards =
     let n = least_unused st.slots in
-    if n == 2 ^ 64 - 32
+    if n == all_numbers
     then (Err NoNumbers, (st, []))
     else (Ok n, (with_number_in_use st n kind guards, []))
 

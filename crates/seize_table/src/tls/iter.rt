@@ -74,13 +74,14 @@ impl<'a, T: Drop> Iter<'a, T> {
 
 impl<'a, T: Drop> Iterator for Iter<'a, T> {
     ghost use Rattle.seize_table.specs.Named.{stands_at, table_of};
+    ghost use Rattle.seize_table.specs.Place.{all_numbers};
 
     type Item = &'a T;
 
     ghost next_gives = { λ old item new. (table_of new ≡ table_of old)
         × WalksOn (stands_at old) item (stands_at new) };
 
-    ghost remaining = { λ it. at_most (18446744073709551584 - stands_at it) };
+    ghost remaining = { λ it. at_most (all_numbers - stands_at it) };
 
     fn next(&mut self) -> Option<&'a T> {
         let (_thread, found) = self.next_seen()?;

@@ -1,7 +1,7 @@
-use Rattle.std.proofs.Common.{◌≡◌}
-use Rattle.seize.specs.Blocks.{owner_of}
+use Rattle.seize.specs.Blocks.{Belongs}
 use Rattle.seize.specs.Collectors.{about}
+use Rattle.seize_rows.specs.Nests.{owners_of}
 use Rattle.seize_rows.proofs.further.chain.Given as goal
 
 abbrev pub invariant-loop-name : goal.invariant-loop-name
-invariant-loop-name g l = owner_of l.block ≡ (about l.collector).name
+invariant-loop-name g l = Belongs owners_of (about l.collector).name l.block

@@ -1,6 +1,6 @@
-use Rattle.std.proofs.Common.{◌≡◌, ℕ, zero, suc, List, ◌∷◌, Option, None, map, option_map, replicate, refl, ap, IfSome}
+use Rattle.std.proofs.Common.{◌≡◌, ℕ, zero, suc, ◌∷◌, Option, None, map, option_map, replicate, refl, ap, IfSome}
 use Rattle.std.proofs.lemmas.List.Elements.{All-same, All-replicate}
-use Rattle.seize.specs.Blocks.{content, owner_of}
+use Rattle.seize.specs.Blocks.{content, Belongs}
 use Rattle.seize.specs.declared.block.owned.Owned.{Owned}
 use Rattle.seize_store.specs.Named.{name_of}
 use Rattle.seize.proofs.Numbering.{numbered-none}
@@ -12,7 +12,7 @@ map-replicate f (suc n) x = ap (λ ys. f x ∷ ys) (map-replicate f n x)
 
 pub invariant_of-result : goal.invariant_of-result
 invariant_of-result g c =
-    let Own : Option (Owned g.row.T.Denot) → Type 0 = λ link. IfSome link (λ owned. owner_of owned ≡ name_of c.new.result) in (
+    let Own : Option (Owned g.row.T.Denot) → Type 0 = λ link. IfSome link (Belongs g.T.Weigh.owners (name_of c.new.result)) in (
       rw (c.new-3.ensures, c.new-2.ensures.items) numbered-none,
       All-same Own c.in_ok-links.links.items (replicate c.args.links None) c.in_ok-links.ensures (All-replicate Own c.args.links None tt),
     )

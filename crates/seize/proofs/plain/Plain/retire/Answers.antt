@@ -2,16 +2,18 @@ use Rattle.std.proofs.Common.{Ok, subst}
 use Rattle.seize_model.specs.Waiting.Attempt as waiting
 use Rattle.seize_model.specs.Waiting.Calls as calls
 use Rattle.seize_model.specs.Waiting.Further.{with_further}
-use Rattle.seize.specs.Effects.{AnsweredIfGrown}
-use Rattle.seize.proofs.FurtherLoops.{answered_settled}
+use Rattle.seize.specs.Effects.{Did}
+use Rattle.seize.proofs.FurtherLoops.{done_settled}
+use Rattle.seize.proofs.Quieting.{if_ok}
 use Rattle.seize.proofs.plain.Plain.retire.Goals as goal
 
 pub returns-clause-done : goal.returns-clause-done
 returns-clause-done g c =
     let st = c.args.self.now.state in let puts = g.R.Reclaim.puts in let weight = g.T.Weigh.weight in let refusal = calls.unused st c.args.s in
-    subst (λ v. AnsweredIfGrown g.W.Watch.told (calls.unless refusal st (Ok tt, with_further puts weight c.args.s (waiting.put st c.args.s v))) (Ok tt)
+    if_ok c.afterwards.result (λ settled.
+    subst (λ v. Did g.W.Watch.told (calls.unless refusal st (Ok tt, with_further puts weight c.args.s (waiting.put st c.args.s v))).1
     c.afterwards.new.self.state (g.W.Watch.seen c.args.watch.now) (g.W.Watch.seen c.afterwards.new.watch)) c.new-value.ensures
-    (answered_settled puts weight g.W.Watch.told refusal tt st c.args.s (waiting.put st c.args.s c.new-value.result)
+    (done_settled puts weight g.W.Watch.told refusal tt st c.args.s (waiting.put st c.args.s c.new-value.result)
     c.put.new.self.state c.afterwards.new.self.state c.new-queue.result.items c.put.new.queue.items
     (g.W.Watch.seen c.args.watch.now) (g.W.Watch.seen c.put.new.watch) (g.W.Watch.seen c.afterwards.new.watch)
-    c.in_default.ensures c.new-queue.ensures.items c.in-Ok.ensures.done c.in-Ok-afterwards.ensures.done)
+    c.requires.used c.new-queue.ensures.items c.in_ok-put.ensures.done settled)) c.afterwards.ensures.done

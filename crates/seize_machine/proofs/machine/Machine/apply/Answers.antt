@@ -1,5 +1,5 @@
 use Rattle.seize_machine.specs.Machine.Code.{event_of}
-use Rattle.seize_machine.proofs.Laws.Reached.{reached_counts, reached_result}
+use Rattle.seize_machine.proofs.Invariants.Reached.{reached_counts, reached_result}
 use Rattle.seize_machine.proofs.machine.Machine.apply.Goals as goal
 
 pub step-requires : goal.step-requires

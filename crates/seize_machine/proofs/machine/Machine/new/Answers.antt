@@ -1,7 +1,7 @@
 use Rattle.std.proofs.Common.{◌∙◌, ap, subst, sym}
 use Rattle.seize_machine.specs.Machine.State.{linked, opening}
 use Rattle.seize_machine.specs.Machine.History.{IsReached}
-use Rattle.seize_machine.proofs.Laws.Reached.{linked-replicate, opening_reached}
+use Rattle.seize_machine.proofs.Invariants.Reached.{linked-replicate, opening_reached}
 use Rattle.seize_machine.proofs.machine.Machine.new.Goals as goal
 
 pub new-requires : goal.new-requires

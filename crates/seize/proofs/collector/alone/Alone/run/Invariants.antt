@@ -6,11 +6,11 @@ use Rattle.seize.proofs.collector.alone.Alone.run.Given as goal
 
 abbrev pub invariant-loop-self : goal.invariant-loop-self
 invariant-loop-self g l = record {
-  made : Made g.R.Reclaim.puts g.T.Weigh.weight g.W.Watch.told (whose l.fn.self)
+  made : Made g.R.Reclaim.puts g.T.Weigh.weight g.W.Watch.told g.T.Weigh.owners (whose l.fn.self)
       l.fn.calls.items l.calls.items l.fn.replies.items l.replies.items
       (at l.fn.self (g.W.Watch.seen l.fn.watch)) (at l.self (g.W.Watch.seen l.watch));
   same : lent l.self ≡ lent l.fn.self;
-  own : AreFrom (whose l.fn.self) l.fn.replies.items → AreFrom (whose l.fn.self) l.replies.items;
+  own : AreFrom g.T.Weigh.owners (whose l.fn.self) l.fn.replies.items → AreFrom g.T.Weigh.owners (whose l.fn.self) l.replies.items;
   room : vec_len l.replies + deque_len l.calls ≤ vec_capacity l.replies;
 }
 

@@ -3,8 +3,8 @@ use Rattle.std.proofs.Common.{◌≡◌, ℕ, zero, suc, ◌<◌, ◌≤◌, Boo
 use Rattle.std.specs.List.{Contains, sum_by, flat_map}
 use Rattle.std.proofs.lemmas.List.Sums.{sum_by-cons}
 use Rattle.seize_machine.specs.Machine.State.{has, are_distinct}
-use Rattle.seize_machine.proofs.Laws.Steps.{is_true}
-use Rattle.seize_machine.proofs.Laws.Sums.{one, occ, occ-append, has_some}
+use Rattle.seize_machine.proofs.Steps.Relation.{is_true}
+use Rattle.seize_machine.proofs.Counting.Sums.{one, occ, occ-append, has_some}
 
 pub contains_some : (v : ℕ) (xs : List ℕ) → 1 ≤ occ v xs → Contains xs v
 contains_some v [] h = absurd (omega arith)

@@ -8,13 +8,13 @@ use Rattle.seize_machine.specs.Machine.Next.{Outcome, next}
 use Rattle.seize_machine.specs.Machine.History.{Timed, Moment, end_of, retired_value, handed_value, Retired, Reclaimed}
 use Rattle.seize_machine.specs.Machine.Laws.{is_put, PutsWithin}
 use Rattle.seize_machine.specs.declared.machine.event.Answer.{Answer}
-use Rattle.seize_machine.proofs.Laws.Steps.{Step, step_of, is_true, lt_true, le_true, and_true, some_is}
-use Rattle.seize_machine.proofs.Laws.Sums.{occ, occ-push}
-use Rattle.seize_machine.proofs.Laws.Parts.{parts, parts_step, is_value}
-use Rattle.seize_machine.proofs.Laws.Fits.{Fits, fits_step}
-use Rattle.seize_machine.proofs.Laws.Invariants.{Inv, inv_step}
-use Rattle.seize_machine.proofs.Laws.Histories.{run, moment_of, from_first, none_in}
-use Rattle.seize_machine.proofs.Laws.Reclaiming.{value_once, value_is}
+use Rattle.seize_machine.proofs.Steps.Relation.{Step, step_of, is_true, lt_true, le_true, and_true, some_is}
+use Rattle.seize_machine.proofs.Counting.Sums.{occ, occ-push}
+use Rattle.seize_machine.proofs.Invariants.Parts.{parts, parts_step, is_value}
+use Rattle.seize_machine.proofs.Invariants.Fits.{Fits, fits_step}
+use Rattle.seize_machine.proofs.Invariants.Always.{Inv, inv_step}
+use Rattle.seize_machine.proofs.Lists.Histories.{run, moment_of, from_first, none_in}
+use Rattle.seize_machine.proofs.Invariants.Parts.{value_once, value_is}
 
 -- what each legal event keeps holds at the end
 pub end_keeps : (P : State → Type 0) → ((size : ℕ) (st : State) (event : Event) (d : State × Answer) → Step size st event d → P st → P d.0)

@@ -8,9 +8,9 @@ use Rattle.seize_machine.specs.Machine.State.{no_slot, no_batch, State, Slot, Ca
 use Rattle.seize_machine.specs.Machine.Event.{Event, SwapOut}
 use Rattle.seize_machine.specs.Machine.Next.{look, marked_place, looked, is_zero}
 use Rattle.seize_machine.specs.declared.machine.event.Answer.{Answer}
-use Rattle.seize_machine.proofs.Laws.Steps.{Step, Stands, is_true, eq_true, lt_true, some_is}
-use Rattle.seize_machine.proofs.Laws.Sums.{one, occ, occ-push, sum_alone, sum_nothing}
-use Rattle.seize_machine.proofs.Laws.Counts.{Counted, CountedIn, of_calls, owns, place_owns, wins, walks, listed, change, in_range, idle_range, idle_call, get_or_push_other, owns-wins, wins_alone, head_range}
+use Rattle.seize_machine.proofs.Steps.Relation.{Step, Stands, is_true, eq_true, lt_true, some_is}
+use Rattle.seize_machine.proofs.Counting.Sums.{one, occ, occ-push, sum_alone, sum_nothing}
+use Rattle.seize_machine.proofs.Invariants.Counts.{Counted, CountedIn, of_calls, owns, place_owns, wins, walks, listed, change, in_range, idle_range, idle_call, get_or_push_other, owns-wins, wins_alone, head_range}
 
 pub record Sound (st : State) : Type 0 where
   pub counts : (b : ℕ) → CountedIn b st

@@ -9,11 +9,11 @@ use Rattle.seize_machine.specs.Machine.State.{no_slot, State, Slot, Head, Inacti
 use Rattle.seize_machine.specs.Machine.Event.{Event}
 use Rattle.seize_machine.specs.Machine.History.{handed_value}
 use Rattle.seize_machine.specs.declared.machine.event.Answer.{Answer}
-use Rattle.seize_machine.proofs.Laws.Steps.{Step, some_is}
-use Rattle.seize_machine.proofs.Laws.Sums.{one, occ, occ-append, occ-push, distinct_once}
-use Rattle.seize_machine.proofs.Laws.Counts.{CountedIn, counted_step, of_calls, owns, wins, walks, in_range}
-use Rattle.seize_machine.proofs.Laws.Once.{Once, once_step, in_links, slot_has}
-use Rattle.seize_machine.proofs.Laws.Kept.{Sound, given}
+use Rattle.seize_machine.proofs.Steps.Relation.{Step, some_is}
+use Rattle.seize_machine.proofs.Counting.Sums.{one, occ, occ-append, occ-push, distinct_once}
+use Rattle.seize_machine.proofs.Invariants.Counts.{CountedIn, counted_step, of_calls, owns, wins, walks, in_range}
+use Rattle.seize_machine.proofs.Invariants.Once.{Once, once_step, in_links, slot_has}
+use Rattle.seize_machine.proofs.Invariants.Kept.{Sound, given}
 
 -- what holds before and after every event
 pub record Inv (st : State) : Type 0 where

@@ -8,9 +8,9 @@ use Rattle.seize_machine.specs.Machine.State.{no_slot, no_batch, State, Slot, Ba
 use Rattle.seize_machine.specs.Machine.Event.{Event}
 use Rattle.seize_machine.specs.Machine.Next.{look, marked_place, looked, begun, retiring, is_none_or_fresh}
 use Rattle.seize_machine.specs.declared.machine.event.Answer.{Answer}
-use Rattle.seize_machine.proofs.Laws.Steps.{Step, Stands, is_true, eq_true, lt_true, and_true, not_true, some_is, swapped}
-use Rattle.seize_machine.proofs.Laws.Sums.{one, occ, occ-append, occ-push, has_none, has_some, occ-filter_other, occ-filter_same, are_fresh-occ}
-use Rattle.seize_machine.proofs.Laws.Counts.{in_range, idle_range, idle_call}
+use Rattle.seize_machine.proofs.Steps.Relation.{Step, Stands, is_true, eq_true, lt_true, and_true, not_true, some_is, swapped}
+use Rattle.seize_machine.proofs.Counting.Sums.{one, occ, occ-append, occ-push, has_none, has_some, occ-filter_other, occ-filter_same, are_fresh-occ}
+use Rattle.seize_machine.proofs.Invariants.Counts.{in_range, idle_range, idle_call}
 
 abbrev pub place_has : ℕ → Place → ℕ
 place_has v (Append w) = one (w == v)

@@ -6,7 +6,7 @@ use Rattle.seize_machine.specs.Machine.Event.{Event, SwapOut}
 use Rattle.seize_machine.specs.Machine.Next.{Outcome, next}
 use Rattle.seize_machine.specs.Machine.History.{Timed, Moment, or_illegal, history, is_legal, are_legal, is_swap_out}
 use Rattle.seize_machine.specs.declared.machine.event.Answer.{Answer}
-use Rattle.seize_machine.proofs.Laws.Steps.{some_is, and_true}
+use Rattle.seize_machine.proofs.Steps.Relation.{some_is, and_true}
 
 -- the moments up to the first illegal event, which are all moments of a legal list
 abbrev pub run : State → List Timed → List Moment

@@ -6,9 +6,9 @@ use Rattle.seize_machine.specs.Machine.Event.{Event}
 use Rattle.seize_machine.specs.Machine.Next.{look, marked_place, looked}
 use Rattle.seize_machine.specs.Machine.Laws.{is_put}
 use Rattle.seize_machine.specs.declared.machine.event.Answer.{Answer}
-use Rattle.seize_machine.proofs.Laws.Steps.{Step, some_is}
-use Rattle.seize_machine.proofs.Laws.Counts.{idle_call}
-use Rattle.seize_machine.proofs.Laws.Kept.{at_set, pushed, starts}
+use Rattle.seize_machine.proofs.Steps.Relation.{Step, some_is}
+use Rattle.seize_machine.proofs.Invariants.Counts.{idle_call}
+use Rattle.seize_machine.proofs.Invariants.Kept.{at_set, pushed, starts}
 
 -- k: the size, at least 1; n: how many slots; l: how long the slot's batch is
 abbrev pub PlaceFits : ℕ → ℕ → ℕ → Place → Type 0

@@ -7,7 +7,7 @@ use Rattle.seize_machine.specs.declared.machine.event.Job.{Job}
 use Rattle.seize_machine.specs.declared.machine.event.Job.TheVariants.{Retire, Flush, Leave, Refresh}
 use Rattle.seize_machine.specs.declared.machine.event.Answer.{Answer}
 use Rattle.seize_machine.specs.declared.machine.event.Answer.TheVariants.{Done, Head as HeadRead, Handed, Link}
-use Rattle.seize_machine.proofs.Laws.Steps.{Step, swapped, beginning, put_is, moved_to, counted_call, is_true, eq_true}
+use Rattle.seize_machine.proofs.Steps.Relation.{Step, swapped, beginning, put_is, moved_to, counted_call, is_true, eq_true}
 
 yes : {A : Type 0} (b : Bool) (x y : A) → b ≡ true → (if b then x else y) ≡ x
 yes true x y e = refl

@@ -5,7 +5,7 @@ use Rattle.std.specs.List.{sum_by, list_all, filter}
 use Rattle.std.proofs.lemmas.List.Sums.{sum_by-cons, get_or-le-sum_by}
 use Rattle.seize_machine.specs.Machine.State.{has, are_distinct}
 use Rattle.seize_machine.specs.Machine.Next.{are_fresh}
-use Rattle.seize_machine.proofs.Laws.Steps.{is_true, eq_true, and_true, not_true}
+use Rattle.seize_machine.proofs.Steps.Relation.{is_true, eq_true, and_true, not_true}
 
 pub occ-append : (v : ℕ) (xs ys : List ℕ) → occ v (xs ++ ys) ≡ occ v xs + occ v ys
 occ-append v [] ys = omega arith

@@ -1,5 +1,5 @@
--- At most once, and after.
-use Rattle.std.proofs.Common.{◌≡◌, ℕ, zero, suc, ◌<◌, ◌≤◌, true, false, nat_lt, List, [], ◌∷◌, length, get_or, Option, Some, None, refl, sym, ◌∙◌, ap, ◌⊎◌, inl, inr, arith}
+-- The law of after: a value is reclaimed only after each slot that was active at its retirement has parted.
+use Rattle.std.proofs.Common.{◌≡◌, ℕ, zero, suc, ◌<◌, ◌≤◌, true, false, nat_lt, List, [], ◌∷◌, length, get_or, Option, Some, refl, sym, ◌∙◌, ap, ◌⊎◌, inl, inr, arith}
 use Rattle.std.specs.List.{slice_get, sum_by}
 use Rattle.std.proofs.lemmas.List.{get_or_past}
 use Rattle.std.proofs.lemmas.List.Sums.{get_or-le-sum_by}
@@ -7,54 +7,16 @@ use Rattle.seize_machine.specs.Machine.State.{no_slot, no_batch, State, head_at,
 use Rattle.seize_machine.specs.Machine.Event.{Event, Put}
 use Rattle.seize_machine.specs.Machine.Next.{next}
 use Rattle.seize_machine.specs.Machine.History.{Timed, Moment, handed_value, retired_value, is_swap_out, Reclaimed, Retired, IsActiveAt, HasParted}
-use Rattle.seize_machine.specs.Machine.Laws.{AtMostOnce, After}
+use Rattle.seize_machine.specs.Machine.Laws.{After}
 use Rattle.seize_machine.specs.declared.machine.event.Answer.{Answer}
-use Rattle.seize_machine.proofs.Laws.Steps.{Step, step_of, is_true, lt_true, some_is}
-use Rattle.seize_machine.proofs.Laws.Sums.{occ, sum_nothing}
-use Rattle.seize_machine.proofs.Laws.Counts.{of_calls}
-use Rattle.seize_machine.proofs.Laws.Once.{in_batches}
-use Rattle.seize_machine.proofs.Laws.Kept.{KeptIn, kept_step, given}
-use Rattle.seize_machine.proofs.Laws.Parts.{parts, parts_step, parts-le-places, is_value, kept_in, slot_keeps}
-use Rattle.seize_machine.proofs.Laws.Invariants.{Inv, inv_step, handed_given, handed_gone, gone_grows, opening_inv, sum_replicate}
-use Rattle.seize_machine.proofs.Laws.Histories.{run, moment_of, none_in, at_first, later, sooner, first_is, moment_here, not_out}
-
--- once gone, never handed again
-stays_gone : (v c : ℕ) (ts : List Timed) (st : State) → Inv st → 1 ≤ occ v st.gone → Reclaimed (run st ts) v c → ⊥
-stays_gone v c [] st i g r = none_in c r.0 r.1
-stays_gone v zero (t ∷ ts) st i g r =
-    let P : Moment → Type 0 = λ m. handed_value m.answer ≡ Some v → ⊥ in
-    at_first P (next t.size st t.event) st t ts r.0 r.1
-    (λ d e h.
-    let step : Step t.size st t.event d = step_of t.size st t.event d e in
-    let j : Inv d.0 = inv_step t.size st t.event d step i in
-    omega (arith, handed_gone v t.size st t.event d step h, (j.once v).once))
-    r.2
-stays_gone v (suc c) (t ∷ ts) st i g r =
-    let w : (d : State × Answer) × (next t.size st t.event ≡ Some d) × (slice_get (run d.0 ts) c ≡ Some r.0) = later _ st t ts c r.0 r.1 in
-    let step : Step t.size st t.event w.0 = step_of t.size st t.event w.0 w.1 in
-    stays_gone v c ts (w.0).0 (inv_step t.size st t.event w.0 step i) (omega (arith, gone_grows v t.size st t.event w.0 step)) (r.0, w.2, r.2)
-
-pub first_gone : (v : ℕ) (t : Timed) (ts : List Timed) (st : State) → Reclaimed (run st (t ∷ ts)) v zero → (d : State × Answer) → next t.size st t.event ≡ Some d → 1 ≤ occ v (d.0).gone
-first_gone v t ts st r d e =
-    let P : Moment → Type 0 = λ m. handed_value m.answer ≡ Some v → 1 ≤ occ v m.after.gone in
-    let m_is : moment_of st t d ≡ r.0 = moment_here st t ts d r.0 e r.1 in
-    let h : handed_value d.1 ≡ Some v = ap (λ m. handed_value m.answer) m_is ∙ r.2 in
-    omega (arith, handed_gone v t.size st t.event d (step_of t.size st t.event d e) h)
-
-pub at_most_once : (ts : List Timed) (st : State) → Inv st → AtMostOnce st (run st ts)
-at_most_once [] st i v c d r q = none_in c r.0 r.1
-at_most_once (t ∷ ts) st i v zero zero r q = refl
-at_most_once (t ∷ ts) st i v zero (suc d) r q =
-    let w : (d : State × Answer) × (next t.size st t.event ≡ Some d) × _ = later _ st t ts d q.0 q.1 in
-    absurd (stays_gone v d ts (w.0).0 (inv_step t.size st t.event w.0 (step_of t.size st t.event w.0 w.1) i) (first_gone v t ts st r w.0 w.1) (q.0, w.2, q.2))
-at_most_once (t ∷ ts) st i v (suc c) zero r q =
-    let w : (d : State × Answer) × (next t.size st t.event ≡ Some d) × _ = later _ st t ts c r.0 r.1 in
-    absurd (stays_gone v c ts (w.0).0 (inv_step t.size st t.event w.0 (step_of t.size st t.event w.0 w.1) i) (first_gone v t ts st q w.0 w.1) (r.0, w.2, r.2))
-at_most_once (t ∷ ts) st i v (suc c) (suc d) r q =
-    let w : (d : State × Answer) × (next t.size st t.event ≡ Some d) × _ = later _ st t ts c r.0 r.1 in
-    let u : (d : State × Answer) × (next t.size st t.event ≡ Some d) × _ = later _ st t ts d q.0 q.1 in
-    let same : w.0 ≡ u.0 = some_is _ _ (sym w.1 ∙ u.1) in
-    ap (λ n. suc n) (at_most_once ts (w.0).0 (inv_step t.size st t.event w.0 (step_of t.size st t.event w.0 w.1) i) v c d (r.0, w.2, r.2) (q.0, rw same u.2, q.2))
+use Rattle.seize_machine.proofs.Steps.Relation.{Step, step_of, is_true, lt_true, some_is}
+use Rattle.seize_machine.proofs.Counting.Sums.{occ, sum_nothing}
+use Rattle.seize_machine.proofs.Invariants.Counts.{of_calls}
+use Rattle.seize_machine.proofs.Invariants.Once.{in_batches}
+use Rattle.seize_machine.proofs.Invariants.Kept.{KeptIn, kept_step, given}
+use Rattle.seize_machine.proofs.Invariants.Parts.{parts, parts_step, parts-le-places, is_value, value_once, value_is, kept_in, slot_keeps}
+use Rattle.seize_machine.proofs.Invariants.Always.{Inv, inv_step, handed_given, opening_inv, sum_replicate}
+use Rattle.seize_machine.proofs.Lists.Histories.{run, moment_of, none_in, at_first, later, sooner, first_is, moment_here, not_out}
 
 -- a slot that keeps v back parts before v is handed
 pub keeps_until : (s v c : ℕ) (ts : List Timed) (st : State) → Inv st → KeptIn s v st → Reclaimed (run st ts) v c → (p : ℕ) × (p < c) × ((m : Moment) × (slice_get (run st ts) p ≡ Some m) × (is_swap_out s m.timed.event ≡ true))
@@ -75,13 +37,6 @@ keeps_until s v (suc c) (t ∷ ts) st i k r = go (later _ st t ts c r.0 r.1) (λ
         let x : (p : ℕ) × (p < c) × ((m : Moment) × (slice_get (run (w.0).0 ts) p ≡ Some m) × (is_swap_out s m.timed.event ≡ true)) = ih (w.0).0 (inv_step t.size st t.event w.0 step i) next_kept (r.0, w.2, r.2) in
         let before : x.0 < c = x.1 in
         (suc x.0, omega arith, ((x.2).0, sooner _ w.0 st t ts x.0 (x.2).0 w.1 (x.2).1, (x.2).2))
-
-pub value_once : (v : ℕ) (o : Option ℕ) → (o ≡ Some v) ⊎ (is_value v o ≡ 0)
-value_once v None = inr refl
-value_once v (Some w) = grind arith
-
-pub value_is : (v : ℕ) (o : Option ℕ) → o ≡ Some v → is_value v o ≡ 1
-value_is v o e = grind arith
 
 given_none : (v : ℕ) (st : State) → parts v st ≡ 0 → of_calls (given v) st.slots ≡ 0
 given_none v st none = sum_nothing (λ slot. given v slot.call) (slot_keeps v) (λ slot h. omega arith) st.slots (omega arith)
@@ -198,9 +153,6 @@ after v (suc c) (t ∷ ts) st i n r = go (later _ st t ts c r.0 r.1) (λ st. aft
     go w ih (inr none) =
         let step : Step t.size st t.event w.0 = step_of t.size st t.event w.0 w.1 in
         story_later v c t ts st w.0 w.1 none (ih (w.0).0 (inv_step t.size st t.event w.0 step i) (omega (arith, parts_step v t.size st t.event w.0 step)) (r.0, w.2, r.2))
-
-pub law_at_most_once : (slots : ℕ) (links : List (Option ℕ)) (ts : List Timed) → are_distinct (linked links) ≡ true → AtMostOnce (opening slots links) (run (opening slots links) ts)
-law_at_most_once slots links ts distinct = at_most_once ts (opening slots links) (opening_inv slots links distinct)
 
 pub none_retired : (v slots : ℕ) (links : List (Option ℕ)) → parts v (opening slots links) ≡ 0
 none_retired v slots links = omega (arith, sum_replicate (slot_keeps v) slots no_slot refl)

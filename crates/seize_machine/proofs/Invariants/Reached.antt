@@ -10,15 +10,15 @@ use Rattle.seize_machine.specs.Machine.Laws.{is_put, PutsWithin}
 use Rattle.seize_machine.specs.Machine.Code.{Sized, event_of, timed, HasDone, Does, WinsFit, AddFits, SubFits, CountFits, CallCountsFit, CountsFit}
 use Rattle.seize_machine.specs.declared.machine.event.Answer.{Answer}
 use Rattle.seize_machine.specs.declared.machine.event.Event.{Event as Written}
-use Rattle.seize_machine.proofs.Laws.Steps.{Stands, is_true, lt_true}
-use Rattle.seize_machine.proofs.Laws.Sums.{one, occ, sum_nothing, sum_alone}
-use Rattle.seize_machine.proofs.Laws.Lists.{some_part}
-use Rattle.seize_machine.proofs.Laws.Counts.{CountedIn, of_calls, owns, wins, place_won, walks, listed, owns-wins, in_call_of, wins_alone, in_range, held_range}
-use Rattle.seize_machine.proofs.Laws.Fits.{Fits, SlotFits, CallFits, PlaceFits}
-use Rattle.seize_machine.proofs.Laws.Invariants.{Inv, opening_inv}
-use Rattle.seize_machine.proofs.Laws.Histories.{run, run_is, from_first}
-use Rattle.seize_machine.proofs.Laws.LegalLists.{no_event, one_more}
-use Rattle.seize_machine.proofs.Laws.Ends.{opening_fits, end_inv, end_fits}
+use Rattle.seize_machine.proofs.Steps.Relation.{Stands, is_true, lt_true}
+use Rattle.seize_machine.proofs.Counting.Sums.{one, occ, sum_nothing, sum_alone}
+use Rattle.seize_machine.proofs.Counting.Occurrences.{some_part}
+use Rattle.seize_machine.proofs.Invariants.Counts.{CountedIn, of_calls, owns, wins, place_won, walks, listed, owns-wins, in_call_of, wins_alone, in_range, held_range}
+use Rattle.seize_machine.proofs.Invariants.Fits.{Fits, SlotFits, CallFits, PlaceFits}
+use Rattle.seize_machine.proofs.Invariants.Always.{Inv, opening_inv}
+use Rattle.seize_machine.proofs.Lists.Histories.{run, run_is, from_first}
+use Rattle.seize_machine.proofs.Lists.LegalLists.{no_event, one_more}
+use Rattle.seize_machine.proofs.Lists.Ends.{opening_fits, end_inv, end_fits}
 
 -- a legal list ends where its moments end
 pub ends_at : (st : State) (r : IsReached st) → end_of (opening r.slots r.links) (run (opening r.slots r.links) r.events) ≡ st

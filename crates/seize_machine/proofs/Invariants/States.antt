@@ -13,20 +13,20 @@ use Rattle.seize_machine.specs.Machine.Frames.{changes_slot, is_number, changes_
 use Rattle.seize_machine.specs.Machine.Code.{AddFits}
 use Rattle.seize_machine.specs.declared.machine.event.Answer.{Answer}
 use Rattle.seize_machine.specs.declared.machine.event.Answer.TheVariants.{Count}
-use Rattle.seize_machine.proofs.Laws.Steps.{Step, Stands, step_of, some_is, is_true, eq_true}
+use Rattle.seize_machine.proofs.Steps.Relation.{Step, Stands, step_of, some_is, is_true, eq_true}
 use Rattle.std.specs.List.{Contains}
-use Rattle.seize_machine.proofs.Laws.Sums.{one, occ, occ-push, sum_nothing}
-use Rattle.seize_machine.proofs.Laws.Lists.{some_contained, distinct_if, some_part}
-use Rattle.seize_machine.proofs.Laws.Counts.{CountedIn, of_calls, owns, place_owns, owns-wins, wins, walks, listed, change, in_range, idle_range, idle_call, in_call_of, held_range}
-use Rattle.seize_machine.proofs.Laws.Kept.{at_set, pushed, starts, unowned_at_zero}
-use Rattle.seize_machine.proofs.Laws.Fits.{Fits}
-use Rattle.seize_machine.proofs.Laws.Frames.{slot_frame, active_frame}
-use Rattle.seize_machine.proofs.Laws.Invariants.{Inv, inv_step}
+use Rattle.seize_machine.proofs.Counting.Sums.{one, occ, occ-push, sum_nothing}
+use Rattle.seize_machine.proofs.Counting.Occurrences.{some_contained, distinct_if, some_part}
+use Rattle.seize_machine.proofs.Invariants.Counts.{CountedIn, of_calls, owns, place_owns, owns-wins, wins, walks, listed, change, in_range, idle_range, idle_call, in_call_of, held_range}
+use Rattle.seize_machine.proofs.Invariants.Kept.{at_set, pushed, starts, unowned_at_zero}
+use Rattle.seize_machine.proofs.Invariants.Fits.{Fits}
+use Rattle.seize_machine.proofs.Steps.Frames.{slot_frame, active_frame}
+use Rattle.seize_machine.proofs.Invariants.Always.{Inv, inv_step}
 use Rattle.seize_machine.proofs.Laws.Holders.{owner_of}
 use Rattle.seize_machine.proofs.Laws.LaterHolders.{walk_is}
-use Rattle.seize_machine.proofs.Laws.Histories.{run, from_first}
-use Rattle.seize_machine.proofs.Laws.LegalLists.{no_event}
-use Rattle.seize_machine.proofs.Laws.Reached.{ends_at, reached_inv, reached_fits, reached_next, owner_wins, adds}
+use Rattle.seize_machine.proofs.Lists.Histories.{run, from_first}
+use Rattle.seize_machine.proofs.Lists.LegalLists.{no_event}
+use Rattle.seize_machine.proofs.Invariants.Reached.{ends_at, reached_inv, reached_fits, reached_next, owner_wins, adds}
 
 -- what holds of each opening and stays so with each legal event holds of each state that is reached
 pub reached_holds : (P : State → Type 0) → ((slots : ℕ) (links : List (Option ℕ)) → are_distinct (linked links) ≡ true → P (opening slots links))

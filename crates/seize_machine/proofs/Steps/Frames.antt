@@ -7,8 +7,8 @@ use Rattle.seize_machine.specs.Machine.Next.{of_call, walking_at}
 use Rattle.seize_machine.specs.Machine.Laws.{added_batch}
 use Rattle.seize_machine.specs.Machine.Frames.{changes_slot, used, changes_used, changes_head_of, changes_link, is_number, changes_batch, changes_value, slots_added, batches_added, begins_retiring}
 use Rattle.seize_machine.specs.declared.machine.event.Answer.{Answer}
-use Rattle.seize_machine.proofs.Laws.Steps.{Step, some_is, is_true}
-use Rattle.seize_machine.proofs.Laws.Kept.{at_set, pushed}
+use Rattle.seize_machine.proofs.Steps.Relation.{Step, some_is, is_true}
+use Rattle.seize_machine.proofs.Invariants.Kept.{at_set, pushed}
 
 differ : (a k : ℕ) → (a == k) ≡ false → k ≡ a → ⊥
 differ a k h e = grind arith

@@ -9,8 +9,8 @@ use Rattle.seize_machine.specs.Machine.State.{no_slot, no_batch, State, Slot, Ba
 use Rattle.seize_machine.specs.Machine.Event.{Event}
 use Rattle.seize_machine.specs.Machine.Next.{next, look, marked_place, looked, is_zero}
 use Rattle.seize_machine.specs.declared.machine.event.Answer.{Answer}
-use Rattle.seize_machine.proofs.Laws.Steps.{Step, Stands, is_true, eq_true, lt_true, some_is}
-use Rattle.seize_machine.proofs.Laws.Sums.{one, occ, sum_alone, sum_nothing}
+use Rattle.seize_machine.proofs.Steps.Relation.{Step, Stands, is_true, eq_true, lt_true, some_is}
+use Rattle.seize_machine.proofs.Counting.Sums.{one, occ, sum_alone, sum_nothing}
 
 abbrev pub place_walks : ℕ → Place → ℕ
 place_walks b (Rest given walk) = occ b walk

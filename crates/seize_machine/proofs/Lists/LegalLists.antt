@@ -9,8 +9,8 @@ use Rattle.seize_machine.specs.Machine.History.{Timed, Moment, or_illegal, done_
 use Rattle.seize_machine.specs.Machine.Laws.{HoldsOfAll}
 use Rattle.seize_machine.specs.Machine.Event.{Event}
 use Rattle.seize_machine.specs.declared.machine.event.Answer.{Answer}
-use Rattle.seize_machine.proofs.Laws.Steps.{Step, step_of, some_is, and_true}
-use Rattle.seize_machine.proofs.Laws.Histories.{run, run_is, moment_of}
+use Rattle.seize_machine.proofs.Steps.Relation.{Step, step_of, some_is, and_true}
+use Rattle.seize_machine.proofs.Lists.Histories.{run, run_is, moment_of}
 
 -- a history that goes on
 pub end_of-append : (ms more : List Moment) (st : State) → end_of st (ms ++ more) ≡ end_of (end_of st ms) more

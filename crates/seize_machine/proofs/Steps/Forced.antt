@@ -7,8 +7,8 @@ use Rattle.seize_machine.specs.Machine.Next.{are_fresh}
 use Rattle.seize_machine.specs.Machine.History.{is_link_event}
 use Rattle.seize_machine.specs.declared.machine.event.Try.TheVariants.{Won, Lost}
 use Rattle.seize_machine.specs.declared.machine.event.Answer.{Answer}
-use Rattle.seize_machine.proofs.Laws.Steps.{Step, Stands, some_is}
-use Rattle.seize_machine.proofs.Laws.Counts.{idle_call}
+use Rattle.seize_machine.proofs.Steps.Relation.{Step, Stands, some_is}
+use Rattle.seize_machine.proofs.Invariants.Counts.{idle_call}
 
 -- the events of slot s that are legal where its call stands so
 abbrev pub Forced : State → ℕ → Place → List ℕ → Event → Type 0

@@ -1,0 +1,3 @@
+-- Counts over lists.
+pub mod Sums
+pub mod Occurrences

@@ -1,0 +1,9 @@
+-- What holds in every state that a legal list reaches.
+pub mod Counts
+pub mod Once
+pub mod Kept
+pub mod Parts
+pub mod Fits
+pub mod Always
+pub mod Reached
+pub mod States
