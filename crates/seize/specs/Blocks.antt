@@ -1,4 +1,4 @@
--- What contracts see of blocks.
+-- What contracts see of blocks. The blocks inside a value are those whose collectors its type names (`Weigh::owners`).
 --     content o, number_of o          the value of the block o, and its number
 --     owner_of o                      the collector that it is of, by its name
 --     block_of u, collector_of u      the block of an unlinked one, and its collector's id

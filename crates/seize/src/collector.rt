@@ -170,6 +170,8 @@ impl<'c, T: Weigh + Drop> Unlinked<'c, T> {
     ghost use Rattle.seize.specs.Collectors.{about};
 
     /// A block that was never linked, to be retired. It is of this collector.
+    ///
+    /// An [`Alone`] borrows the collector for itself, and makes one by [`Alone::unlinked`].
     pub fn from_owned<R: Reclaim<T>>(
         owned: Owned<T>,
         collector: &'c Collector<T, R>,

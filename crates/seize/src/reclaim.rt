@@ -21,7 +21,8 @@ pub trait Weigh {
 
     ghost at_least_one: { (value : Self) → 1 ≤ weight value };
 
-    /// The collectors of the blocks that it holds.
+    /// The collectors of the blocks that it holds. A type that holds blocks of itself says it by a fold over the value, with the word
+    /// `owners_in` of `specs/Blocks`; `proofs/Contents` has the lemmas that its reclaimer and its makers need.
     ghost owners: { Self → List Name } = { λ _. [] };
 }
 

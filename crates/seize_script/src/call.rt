@@ -125,11 +125,11 @@ impl<'c> CallReader<'c> {
             }
             line.expect(b")")?;
         }
-        self.bracketed(name, inside)
+        self.nest(name, inside)
     }
 
     /// A block with the value of this name that has these blocks of the collector in its brackets.
-    fn bracketed(&self, name: Name, inside: Vec<Owned<Value>>) -> Result<Owned<Value>, LineError>
+    fn nest(&self, name: Name, inside: Vec<Owned<Value>>) -> Result<Owned<Value>, LineError>
         requires { All (Belongs owners_of (read_for self.now).name) inside.items }
         ensures { IfOk result (Belongs owners_of (read_for self.now).name) }
     {

@@ -1,5 +1,5 @@
 //! A block in one owner's hands.
-ghost use Rattle.std.specs.Prelude.{◌≡◌};
+ghost use Rattle.std.specs.Prelude.{◌≡◌, ◌≢◌};
 ghost use Rattle.seize_store.specs.Named as store;
 ghost use Rattle.seize.specs.Blocks.{content, number_of, owner_of};
 
@@ -26,6 +26,20 @@ impl<T: Drop> Owned<T> {
         ensures { result ≡ number_of self.now }
     {
         self.block.number()
+    }
+
+    /// Two blocks of one collector that stand at once have different numbers. It gives both back as they were, and does nothing else: its
+    /// contract is the law.
+    pub fn apart(self, other: Owned<T>) -> (Owned<T>, Owned<T>)
+        requires { owner_of self ≡ owner_of other }
+        ensures numbers { number_of self ≢ number_of other }
+        ensures first { (content result.0 ≡ content self) × (number_of result.0 ≡ number_of self) × (owner_of result.0 ≡ owner_of self) }
+        ensures second { (content result.1 ≡ content other) × (number_of result.1 ≡ number_of other) × (owner_of result.1 ≡ owner_of other) }
+    {
+        let Owned { block } = self;
+        let Owned { block: other } = other;
+        let (block, other) = seize_store::apart(block, other);
+        (Owned { block }, Owned { block: other })
     }
 
     /// The value by value, and what shows of which collector it was. The block's place is free again.

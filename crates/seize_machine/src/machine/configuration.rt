@@ -11,12 +11,13 @@ use super::batch::Batch;
 use super::event::{Answer, Event, Exchange, Job, Try};
 use super::head::Head;
 use super::slot::{Place, Slot};
+use seize_table::thread_id::MAX_INDEX;
 use std::alloc::{AllocError, Global};
 use std::collections::VecDeque;
 use std::marker::Model;
 
 /// How many slot numbers there are.
-const NUMBERS: usize = 0xFFFF_FFFF_FFFF_FFE0;
+const NUMBERS: usize = MAX_INDEX + 1;
 
 #[derive(Drop)]
 pub(super) struct Configuration {

@@ -5,7 +5,7 @@ use Rattle.seize_script.specs.declared.value.Value.{Value}
 use Rattle.seize_script.specs.declared.value.Value.TheOpen.{Value-F}
 use Rattle.seize_script.specs.declared.value.Value.TheViews.{roll-Value}
 use Rattle.seize_script.proofs.Owners.{holds_only}
-use Rattle.seize_script.proofs.call.CallReader.bracketed.Goals as goal
+use Rattle.seize_script.proofs.call.CallReader.nest.Goals as goal
 
 pub returns-in-Ok : goal.returns-in-Ok
 returns-in-Ok c =
