@@ -2,6 +2,7 @@
 --     content o, number_of o          the value of the block o, and its number
 --     owner_of o                      the collector that it is of, by its name
 --     block_of u, collector_of u      the block of an unlinked one, and its collector's id
+--     IsSame o p                      the blocks o and p have the same value, number and collector
 --     owners_in owners os             the collectors of the blocks os and of the blocks inside these
 --     HoldsOnly owners n v            each block inside the value v is of the collector n
 --     IsUnmixed owners o              each block inside the block o is of the collector that o is of
@@ -26,6 +27,9 @@ number_of owned = store.number_of owned.block
 
 abbrev pub owner_of : {T : Type 0} → Owned T → Name
 owner_of owned = store.store_of owned.block
+
+abbrev pub IsSame : {T : Type 0} → Owned T → Owned T → Type 0
+IsSame one other = (content one ≡ content other) × (number_of one ≡ number_of other) × (owner_of one ≡ owner_of other)
 
 abbrev pub owners_in : {T : Type 0} → (T → List Name) → List (Owned T) → List Name
 owners_in owners blocks = flat_map (λ owned. owner_of owned ∷ owners (content owned)) blocks

@@ -1,7 +1,7 @@
 //! A block in one owner's hands.
 ghost use Rattle.std.specs.Prelude.{◌≡◌, ◌≢◌};
 ghost use Rattle.seize_store.specs.Named as store;
-ghost use Rattle.seize.specs.Blocks.{content, number_of, owner_of};
+ghost use Rattle.seize.specs.Blocks.{content, number_of, owner_of, IsSame};
 
 use seize_store::Known;
 use std::ops::Deref;
@@ -33,8 +33,7 @@ impl<T: Drop> Owned<T> {
     pub fn apart(self, other: Owned<T>) -> (Owned<T>, Owned<T>)
         requires { owner_of self ≡ owner_of other }
         ensures numbers { number_of self ≢ number_of other }
-        ensures first { (content result.0 ≡ content self) × (number_of result.0 ≡ number_of self) × (owner_of result.0 ≡ owner_of self) }
-        ensures second { (content result.1 ≡ content other) × (number_of result.1 ≡ number_of other) × (owner_of result.1 ≡ owner_of other) }
+        ensures same { IsSame result.0 self × IsSame result.1 other }
     {
         let Owned { block } = self;
         let Owned { block: other } = other;
