@@ -3,6 +3,7 @@ pub mod Alone
 pub mod Blocks
 pub mod Collectors
 pub mod Effects
+pub mod Lends
 pub mod Names
 pub mod NewCollectors
 pub mod Plain

@@ -85,7 +85,7 @@ impl Work {
         match self {
             Work::Make | Work::MakeBare | Work::MakeBox => 1,
             Work::Pipe | Work::PipeBox => 2 * PIPED,
-            Work::Look | Work::Token | Work::LookPlain => LOOKED,
+            Work::Look | Work::Token | Work::LookPlain => PIPED,
         }
     }
 

@@ -4,6 +4,7 @@ pub mod Row
 pub mod Block
 pub mod Chunk
 pub mod Known
+pub mod Lends
 pub mod Named
 pub mod Parts
 pub mod Titled

@@ -1,6 +1,7 @@
 //! A chunk's room in its holder's hands: an empty room, and a block, which is a value in a room. It uses `chunk` for the memory and
 //! `known` for titles; `spot` and `owned` wrap both for who holds them.
 ghost use Rattle.std.specs.Prelude.{◌≡◌, ◌≢◌};
+ghost use Rattle.std.specs.Borrow.{sem};
 ghost use Rattle.seize_store.specs.Block.{out_owns, block_owns, block_shares};
 ghost use Rattle.seize_store.specs.Titled.{place_of};
 
@@ -59,6 +60,7 @@ impl<H, T> Out<H, T> {
 }
 
 impl<H, T> Block<H, T> {
+    ghost use Rattle.seize_store.specs.Lends.{lends_room};
     ghost use Rattle.seize_store.specs.Parts.{block_title, room_at};
 
     /// A block in this room. It takes no memory and no atomic step.
@@ -76,6 +78,14 @@ impl<H, T> Block<H, T> {
         ensures { result.now ≡ self.now.value }
     {
         unsafe { &(*self.at).room }
+    }
+
+    /// The value, to be changed, for as long as the block is borrowed. All else of the block stays.
+    pub(crate) fn get_mut(&mut self) -> &mut T
+        ensures* writes_back { sem 𝓛 (lends_room H.row T.row self.entry result) }
+        ensures value { result.now ≡ self.old.value }
+    {
+        unsafe { &mut (*self.at).room }
     }
 
     pub(crate) fn title(&self) -> &Title

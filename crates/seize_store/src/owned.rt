@@ -1,13 +1,14 @@
 //! The block in its owner's hands, which is what a store gives out. It wraps a block of `block`, and its chunk goes back as a spot of
 //! `spot`.
 ghost use Rattle.std.specs.Prelude.{◌≡◌, ◌≢◌};
+ghost use Rattle.std.specs.Borrow.{sem};
 ghost use Rattle.seize_store.specs.Named.{AreOf, IsSame, count_of, count_with, known_of, number_of, store_of, title_of, value_of};
 ghost use Rattle.seize_store.specs.Parts.{spot_title};
 
 use crate::block::Block;
 use crate::known::Known;
 use crate::spot::{Spot, Spots};
-use std::ops::Deref;
+use std::ops::{Deref, DerefMut};
 
 /// A value in a chunk of a store. It reads as the value, and may end on any thread and after its store.
 ///
@@ -88,6 +89,19 @@ impl<H, T: Drop> Deref for Owned<H, T> {
         ensures { result.now ≡ value_of self.now }
     {
         self.block.get()
+    }
+}
+
+impl<H, T: Drop> DerefMut for Owned<H, T> {
+    ghost use Rattle.seize_store.specs.Lends.{lends_value};
+
+    ghost deref_mut_gives = { λ owned value. value ≡ value_of owned };
+
+    fn deref_mut(&mut self) -> &mut T
+        ensures* writes_back { sem 𝓛 (lends_value H.row T.row self.entry result) }
+        ensures value { result.now ≡ value_of self.old }
+    {
+        self.block.get_mut()
     }
 }
 

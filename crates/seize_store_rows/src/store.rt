@@ -1,5 +1,6 @@
 //! Blocks and their numbers on one thread, and what becomes of their memory.
-ghost use Rattle.seize_store.specs.Named.{AreOf, name_of};
+ghost use Rattle.std.specs.Prelude.{◌≡◌};
+ghost use Rattle.seize_store.specs.Named.{AreOf, name_of, title_of, value_of};
 
 use crate::node::Node;
 use crate::values::{Counted, zero};
@@ -229,6 +230,63 @@ fn spots_are_filled_and_kept(rt: HostRuntime) -> Result<(), Fail> {
     Ok(())
 }
 
+#[test]
+fn a_list_of_spots_is_emptied(rt: HostRuntime) -> Result<(), Fail> {
+    let store = Store::new(rt.alloc());
+    let mut spots = Spots::new(rt.alloc())?;
+    assert_eq!(rt; kept(&store, &mut spots, 40)?, 820);
+    assert_eq!(rt; spots.len(), 40);
+    spots.clear();
+    assert_eq!(rt; spots.len(), 0);
+    // The chunks are in again, so the two rows that were made are enough for as many blocks as they have chunks.
+    let all = many(rt.alloc(), &store, 96)?;
+    assert_eq!(rt; all.iter().map(Owned::number).max(), Some(95));
+    Ok(())
+}
+
+// Puts another value into the block's chunk.
+fn set<T: Drop>(owned: &mut Owned<u64, T>, value: T)
+    ensures value { value_of owned.new ≡ value }
+    ensures title { title_of owned.new ≡ title_of owned.old }
+{
+    **owned = value;
+}
+
+#[test]
+fn a_value_is_changed_in_its_chunk(rt: HostRuntime) -> Result<(), Fail> {
+    let ends = AtomicU64::new(0);
+    let store = Store::new(rt.alloc());
+    let first = added(&store, 1u64)?;
+    let mut second = added(&store, 2)?;
+    *second = 7;
+    let twice = second.saturating_mul(2);
+    set(&mut second, twice);
+    assert_eq!(rt; (first.number(), *first), (0, 1));
+    assert_eq!(rt; (second.number(), second.into_inner()), (1, 14));
+    let store = Store::new(rt.alloc());
+    let mut counted = added(
+        &store,
+        Counted {
+            ends: &ends,
+            name: 1,
+        },
+    )?;
+    counted.name = 7;
+    assert_eq!(rt; ends.load(Ordering::SeqCst), 0);
+    set(
+        &mut counted,
+        Counted {
+            ends: &ends,
+            name: 8,
+        },
+    );
+    assert_eq!(rt; (counted.number(), counted.name), (0, 8));
+    assert_eq!(rt; ends.load(Ordering::SeqCst), 1);
+    drop(counted);
+    assert_eq!(rt; ends.load(Ordering::SeqCst), 2);
+    Ok(())
+}
+
 // A block made and ended. Where that is refused, whether the value came back as it was, and the call made again succeeds.
 fn comes_back<'a>(store: &Store<u64, Counted<'a>>, ends: &'a AtomicU64, name: u64) -> bool {
     match store.add(Counted { ends, name }, &zero) {
@@ -295,11 +353,41 @@ fn spots_send<H, T>(spots: Spots<H, T>) -> Spots<H, T> {
     is_sent(spots)
 }
 
+// The token of a row passes to threads whatever the types are; one that leads to chunks, and a chunk found, as their headers do.
+fn known_sends(known: Known) -> Known {
+    is_sent(known)
+}
+
+fn known_shares(known: &Known) -> &Known {
+    is_shared(known)
+}
+
+fn seen_sends<H: Drop + Send + Sync, T>(seen: Seen<H, T>) -> Seen<H, T> {
+    is_sent(seen)
+}
+
+fn place_sends<'a, H: Sync, T>(place: Place<'a, H, T>) -> Place<'a, H, T> {
+    is_sent(place)
+}
+
+fn place_shares<'b, 'a, H: Sync, T>(place: &'b Place<'a, H, T>) -> &'b Place<'a, H, T> {
+    is_shared(place)
+}
+
 #[test]
 fn stores_and_blocks_pass_to_threads(rt: HostRuntime) -> Result<(), Fail> {
     let store = store_sends(Store::new(rt.alloc()));
     let owned = block_sends(added(store_shares(&store), 7u64)?);
     let spots: Spots<u64, u64> = spots_send(Spots::new(rt.alloc())?);
     assert_eq!(rt; (**block_shares(&owned), spots.len()), (7, 0));
+    let found = store
+        .find(0)
+        .map(|found| (place_sends(found.0), seen_sends(found.1)));
+    assert_eq!(rt;
+        found.map(|found| *place_shares(&found.0).header()),
+        Some(0)
+    );
+    let known = known_sends(owned.into_parts().1);
+    drop(known_shares(&known));
     Ok(())
 }

@@ -41,7 +41,9 @@ fn churn<'a, R: Wait>(
         }
         if name % 10 == 0 {
             let before = hands.lock(rt).replace(owned);
-            drop(before);
+            if before.is_some_and(|owned| owned.name % 10 != 0) {
+                wrong = wrong.saturating_add(1);
+            }
         }
     }
     wrong
@@ -84,6 +86,42 @@ fn four_threads_hold_no_chunk_twice(rt: HostRuntime) {
     drop(store);
     drop(hands);
     assert_eq!(rt; ends.load(Ordering::SeqCst), 4 * EACH);
+}
+
+const STORES: u64 = 500;
+
+// So many blocks of a store.
+fn hundred<'a>(
+    alloc: Global,
+    store: &Store<u64, Counted<'a>>,
+    ends: &'a AtomicU64,
+) -> Option<Vec<Owned<u64, Counted<'a>>>> {
+    let mut all = Vec::with_capacity(alloc, 100).ok()?;
+    for name in 0..100 {
+        all.push(made(store, Counted { ends, name })?).ok()?;
+    }
+    Some(all)
+}
+
+// Stores that end on one thread while another ends their blocks. How many stores had all their blocks.
+fn ended_beside<'a, R: Threads + Sync>(rt: &R, alloc: Global, ends: &'a AtomicU64) -> u64 {
+    let mut whole = 0u64;
+    for _ in 0..STORES {
+        let store = Store::new(alloc);
+        let Some(all) = hundred(alloc, &store, ends) else {
+            return whole;
+        };
+        thread::join(rt, move || drop(store), move || drop(all));
+        whole = whole.saturating_add(1);
+    }
+    whole
+}
+
+#[test]
+fn stores_end_beside_their_blocks(rt: HostRuntime) {
+    let ends = AtomicU64::new(0);
+    assert_eq!(rt; ended_beside(&rt, rt.alloc(), &ends), STORES);
+    assert_eq!(rt; ends.load(Ordering::SeqCst), 100 * STORES);
 }
 
 const ROUND: usize = 1000;

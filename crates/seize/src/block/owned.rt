@@ -1,10 +1,11 @@
 //! A block in one owner's hands.
 ghost use Rattle.std.specs.Prelude.{◌≡◌, ◌≢◌};
+ghost use Rattle.std.specs.Borrow.{sem};
 ghost use Rattle.seize_store.specs.Named as store;
 ghost use Rattle.seize.specs.Blocks.{content, number_of, owner_of, IsSame};
 
 use seize_store::Known;
-use std::ops::Deref;
+use std::ops::{Deref, DerefMut};
 
 /// A block in one owner's hands. It reads as its value, and may be dropped, which ends the value and frees the block's place in its
 /// store. It may outlive its collector.
@@ -61,5 +62,21 @@ impl<T: Drop> Deref for Owned<T> {
 
     fn deref(&self) -> &T {
         &self.block
+    }
+}
+
+/// The value may be changed while its owner has it. Which collector the block is of, and its number, stay.
+impl<T: Drop> DerefMut for Owned<T> {
+    ghost use Rattle.std.specs.Prelude.{◌≡◌};
+    ghost use Rattle.seize.specs.Blocks.{content};
+    ghost use Rattle.seize.specs.Lends.{lends_content};
+
+    ghost deref_mut_gives = { λ owned value. value ≡ content owned };
+
+    fn deref_mut(&mut self) -> &mut T
+        ensures* writes_back { sem 𝓛 (lends_content T.row self.entry result) }
+        ensures value { result.now ≡ content self.old }
+    {
+        &mut self.block
     }
 }

@@ -16,7 +16,7 @@ use Rattle.seize_machine.proofs.Invariants.Once.{in_batches}
 use Rattle.seize_machine.proofs.Invariants.Kept.{KeptIn, kept_step, given}
 use Rattle.seize_machine.proofs.Invariants.Parts.{parts, parts_step, parts-le-places, is_value, value_once, value_is, kept_in, slot_keeps}
 use Rattle.seize_machine.proofs.Invariants.Always.{Inv, inv_step, handed_given, opening_inv, sum_replicate}
-use Rattle.seize_machine.proofs.Lists.Histories.{run, moment_of, none_in, at_first, later, sooner, first_is, moment_here, not_out}
+use Rattle.seize_machine.proofs.Lists.Histories.{run, moment_of, none_in, at_first, later, sooner, first_moment, moment_here, not_out}
 
 -- a slot that keeps v back parts before v is handed
 pub keeps_until : (s v c : ℕ) (ts : List Timed) (st : State) → Inv st → KeptIn s v st → Reclaimed (run st ts) v c → (p : ℕ) × (p < c) × ((m : Moment) × (slice_get (run st ts) p ≡ Some m) × (is_swap_out s m.timed.event ≡ true))
@@ -30,7 +30,7 @@ keeps_until s v (suc c) (t ∷ ts) st i k r = go (later _ st t ts c r.0 r.1) (λ
         → ((st : State) → Inv st → KeptIn s v st → Reclaimed (run st ts) v c → (p : ℕ) × (p < c) × ((m : Moment) × (slice_get (run st ts) p ≡ Some m) × (is_swap_out s m.timed.event ≡ true)))
         → (is_swap_out s t.event ≡ true) ⊎ (is_swap_out s t.event ≡ false)
         → (p : ℕ) × (p < suc c) × ((m : Moment) × (slice_get (run st (t ∷ ts)) p ≡ Some m) × (is_swap_out s m.timed.event ≡ true))
-    go w ih (inl out) = (zero, omega arith, (moment_of st t w.0, first_is st t ts w.0 w.1, out))
+    go w ih (inl out) = (zero, omega arith, (moment_of st t w.0, first_moment st t ts w.0 w.1, out))
     go w ih (inr stays) =
         let step : Step t.size st t.event w.0 = step_of t.size st t.event w.0 w.1 in
         let next_kept : KeptIn s v (w.0).0 = kept_step s v t.size st t.event w.0 step (not_out s t.event stays) i.sound k in
@@ -93,7 +93,7 @@ story_first v c t ts st i n r d e app =
     here = moment_of st t d
 
     here_is : slice_get (run st (t ∷ ts)) zero ≡ Some here
-    here_is = first_is st t ts d e
+    here_is = first_moment st t ts d e
 
     step : Step t.size st t.event d
     step = step_of t.size st t.event d e

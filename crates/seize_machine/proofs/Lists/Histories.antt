@@ -48,11 +48,11 @@ later (Some d) st t ts q m e = (d, refl, e)
 pub sooner : (o : Outcome) (d : State × Answer) (st : State) (t : Timed) (ts : List Timed) (q : ℕ) (m : Moment) → o ≡ Some d → slice_get (run d.0 ts) q ≡ Some m → slice_get (from_first o st t ts) (suc q) ≡ Some m
 sooner o d st t ts q m e h = rw e h
 
-pub first_is : (st : State) (t : Timed) (ts : List Timed) (d : State × Answer) → next t.size st t.event ≡ Some d → slice_get (run st (t ∷ ts)) zero ≡ Some (moment_of st t d)
-first_is st t ts d e = ap (λ o. slice_get (from_first o st t ts) zero) e
+pub first_moment : (st : State) (t : Timed) (ts : List Timed) (d : State × Answer) → next t.size st t.event ≡ Some d → slice_get (run st (t ∷ ts)) zero ≡ Some (moment_of st t d)
+first_moment st t ts d e = ap (λ o. slice_get (from_first o st t ts) zero) e
 
 pub moment_here : (st : State) (t : Timed) (ts : List Timed) (d : State × Answer) (m : Moment) → next t.size st t.event ≡ Some d → slice_get (run st (t ∷ ts)) zero ≡ Some m → moment_of st t d ≡ m
-moment_here st t ts d m e h = some_is _ _ (sym (first_is st t ts d e) ∙ h)
+moment_here st t ts d m e h = some_is _ _ (sym (first_moment st t ts d e) ∙ h)
 
 -- a later moment, where the first event is known
 pub after_this : (st : State) (t : Timed) (ts : List Timed) (d : State × Answer) (q : ℕ) (m : Moment) → next t.size st t.event ≡ Some d → slice_get (run st (t ∷ ts)) (suc q) ≡ Some m → slice_get (run d.0 ts) q ≡ Some m

@@ -1,5 +1,5 @@
 //! Look-ups: from a number to its chunk, in a store that made the number's row. `seen` says what they answer.
-ghost use Rattle.std.specs.Prelude.{◌≡◌, ◌<◌, ◌≤◌, IfSome};
+ghost use Rattle.std.specs.Prelude.{◌≡◌, ◌<◌, ◌≤◌, ◌+◌, ◌^◌, length, IfSome};
 ghost use Rattle.seize_store.specs.Named.{header_of, lies, lies_of, name_of, number_of, place_by, places_by, row_by, row_is, store_by, store_of};
 
 use super::{Place, Seen};
@@ -19,6 +19,12 @@ impl<H: Drop, T> Seen<H, T> {
             known: self.known.again(),
         }
     }
+
+    /// How many chunks a row that is made has: twice as many as the row before it, and 32 the first. It does nothing: its contract is the
+    /// law.
+    pub fn row_length(&self)
+        ensures { length (places_by self.now) ≡ 2 ^ (row_by self.now + 5) }
+    {}
 }
 
 impl<H: Drop, T: Drop> Seen<H, T> {

@@ -27,6 +27,13 @@ impl<H, T> Spots<H, T> {
         self.list.len()
     }
 
+    /// Gives all spots back. The room stays.
+    pub fn clear(&mut self)
+        ensures { is_empty_list self.new }
+    {
+        self.list.clear();
+    }
+
     // One more spot. Where the list is full, half of it goes back first.
     pub(crate) fn put(&mut self, spot: Spot<H, T>)
         requires { AreOf self.old (spot_store spot) }
