@@ -4,25 +4,46 @@ use std::rt::Clock;
 use std::time::{CpuClock, Duration, Instant};
 use std::{fmt, io};
 
-/// A run that is under way.
-pub(crate) struct Run {
+/// When a work began and ended, and how long the process had had the processors at both times.
+#[derive(Clone, Copy)]
+pub(crate) struct Span {
     start: Instant,
-    cpu: Duration,
+    end: Instant,
+    used: Duration,
+    used_at_end: Duration,
 }
 
-impl Drop for Run {
-    fn drop(self) {
-        let Self { start: _, cpu: _ } = self;
-    }
-}
-
-impl Run {
-    pub(crate) fn start<R: Clock + CpuClock>(rt: &R) -> io::Result<Run> {
-        let cpu = rt.process_cpu_time()?;
-        Ok(Run {
-            start: Instant::now(rt)?,
-            cpu,
+impl Span {
+    /// A work that begins now and has not ended.
+    pub(crate) fn begun<R: Clock + CpuClock>(rt: &R) -> io::Result<Span> {
+        let used = rt.process_cpu_time()?;
+        let start = Instant::now(rt)?;
+        Ok(Span {
+            start,
+            end: start,
+            used,
+            used_at_end: used,
         })
+    }
+
+    /// The work ends now.
+    pub(crate) fn ended<R: Clock + CpuClock>(self, rt: &R) -> io::Result<Span> {
+        let end = Instant::now(rt)?;
+        Ok(Span {
+            end,
+            used_at_end: rt.process_cpu_time()?,
+            ..self
+        })
+    }
+
+    /// From the earlier beginning of the two to the later end.
+    pub(crate) fn joined(self, other: Span) -> Span {
+        Span {
+            start: self.start.min(other.start),
+            end: self.end.max(other.end),
+            used: self.used.min(other.used),
+            used_at_end: self.used_at_end.max(other.used_at_end),
+        }
     }
 }
 
@@ -43,16 +64,13 @@ impl Samples {
         })
     }
 
-    /// Ends a run of so many operations. It is undisturbed where the process had the processor for 0.93 of the time or more.
-    pub(crate) fn stop<R: Clock + CpuClock>(
-        &mut self,
-        rt: &R,
-        run: Run,
-        count: u64,
-    ) -> io::Result<()> {
-        let wall = run.start.elapsed(rt)?.as_nanos();
-        let cpu = rt.process_cpu_time()?.saturating_sub(run.cpu).as_nanos();
-        if cpu.saturating_mul(100) >= wall.saturating_mul(93) {
+    /// A run in which each of so many threads did so many operations. It was undisturbed where each had a processor for 0.93 of the time
+    /// or more.
+    pub(crate) fn add(&mut self, span: Span, threads: u64, count: u64) -> Result<(), AllocError> {
+        let wall = span.end.duration_since(span.start).as_nanos();
+        let used = span.used_at_end.saturating_sub(span.used).as_nanos();
+        let whole = wall.saturating_mul(threads as u128);
+        if used.saturating_mul(100) >= whole.saturating_mul(93) {
             self.clean = self.clean.saturating_add(1);
         }
         let picos = wall.saturating_mul(1000) / (count.max(1) as u128);

@@ -1,0 +1,118 @@
+//! Threads that begin a work together, so that starting them is no part of its time.
+ghost use Rattle.std.specs.Prelude.{IfOk};
+
+use crate::clock::{Samples, Span};
+use std::hint::spin_loop;
+use std::rt::Clock;
+use std::sync::atomic::AtomicU64;
+use std::sync::atomic::Ordering::SeqCst;
+use std::thread::Threads;
+use std::time::CpuClock;
+use std::{io, thread};
+
+/// How many runs there are of each work.
+pub(crate) const RUNS: u64 = 75;
+
+/// How often a thread looks whether the others are there: some seconds.
+const LOOKS: u64 = 1_000_000_000;
+
+/// So many threads, of which some have come.
+#[derive(Drop)]
+pub(crate) struct Team {
+    size: u64,
+    come: AtomicU64,
+}
+
+impl Team {
+    pub(crate) fn of(size: u64) -> Team {
+        Team {
+            size,
+            come: AtomicU64::new(0),
+        }
+    }
+
+    /// Comes, waits for the others, and does the work.
+    pub(crate) fn timed<R: Clock + CpuClock, T: Drop, F: FnOnce() -> T>(
+        &self,
+        rt: &R,
+        work: F,
+    ) -> io::Result<(Span, T)>
+        requires { F.pre work }
+        ensures { IfOk result (λ done. F.post work done.1) }
+    {
+        self.wait();
+        let span = Span::begun(rt)?;
+        let done = work();
+        Ok((span.ended(rt)?, done))
+    }
+
+    fn wait(&self) {
+        self.come.fetch_add(1, SeqCst);
+        for _ in 0..LOOKS {
+            if self.come.load(SeqCst) >= self.size {
+                return;
+            }
+            spin_loop();
+        }
+    }
+}
+
+/// Two threads that each do the work, and from when to when they did.
+fn pair<R: Clock + CpuClock + Threads + Sync, F: Fn() -> u64 + Sync>(
+    rt: &R,
+    team: &Team,
+    work: &F,
+) -> io::Result<(Span, u64)>
+    requires { F.IsAlwaysCallable work.now }
+{
+    let (one, two) = thread::join(rt, || team.timed(rt, work), || team.timed(rt, work));
+    let (span, sum) = one?;
+    let (other, more) = two?;
+    Ok((span.joined(other), sum.wrapping_add(more)))
+}
+
+fn one_run<R: Clock + CpuClock + Threads + Sync, F: Fn() -> u64 + Sync>(
+    rt: &R,
+    threads: u64,
+    work: &F,
+) -> io::Result<(Span, u64)>
+    requires { F.IsAlwaysCallable work.now }
+{
+    let team = Team::of(threads);
+    match threads {
+        4 => {
+            let (one, two) = thread::join(
+                rt,
+                || -> io::Result<(Span, u64)>
+                    requires { F.IsAlwaysCallable work.now }
+                { pair(rt, &team, work) },
+                || -> io::Result<(Span, u64)>
+                    requires { F.IsAlwaysCallable work.now }
+                { pair(rt, &team, work) },
+            );
+            let (span, sum) = one?;
+            let (other, more) = two?;
+            Ok((span.joined(other), sum.wrapping_add(more)))
+        }
+        2 => pair(rt, &team, work),
+        _ => team.timed(rt, work),
+    }
+}
+
+/// Runs in which 1, 2 or 4 threads each do the work, which is so many operations.
+pub(crate) fn runs<R: Clock + CpuClock + Threads + Sync, F: Fn() -> u64 + Sync>(
+    rt: &R,
+    threads: u64,
+    count: u64,
+    samples: &mut Samples,
+    work: &F,
+) -> io::Result<()>
+    requires { F.IsAlwaysCallable work.now }
+{
+    for _ in 0..RUNS {
+        let (span, sum) = one_run(rt, threads, work)?;
+        samples.keep(sum);
+        samples.add(span, threads, count)?;
+    }
+    Ok(())
+}
