@@ -150,7 +150,8 @@ impl<T: Weigh + Drop> Owned<T> {
 
     /// A new block with this value, for links and batches of this collector.
     ///
-    /// It lies in the collector's store, and asks for memory only where the store has to grow.
+    /// It lies in the collector's store, and asks for memory only where the store has to grow. Threads that make many blocks at once search
+    /// for their places at one point (`docs/BENCH.md`).
     ///
     /// # Errors
     ///

@@ -67,14 +67,14 @@ impl<T> Watch<T> for () {
     fn gone(&mut self, _value: &T) {}
 }
 
-/// Ends the value and puts nothing. The block's memory is given back.
+/// Ends the value and puts nothing. Its chunk was given back before, for another block.
 pub fn boxed<T: Weigh + Drop>(value: T, _further: &mut Further<T>)
     ensures { _further.new ≡ _further.old }
 {
     drop(value);
 }
 
-/// Ends the value where it is and puts nothing. The memory goes with its block.
+/// The same. The original ends the value where it lies; here a reclaimer has the value itself.
 pub fn in_place<T: Weigh + Drop>(value: T, _further: &mut Further<T>)
     ensures { _further.new ≡ _further.old }
 {

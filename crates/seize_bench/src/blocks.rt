@@ -1,23 +1,27 @@
 //! Works that make and end blocks, and the same with boxes.
-ghost use Rattle.std.specs.Prelude.{◌≡◌, All};
+ghost use Rattle.std.specs.Prelude.{◌≡◌};
 ghost use Rattle.seize_store.specs.Named.{AreOf, name_of};
 
-use crate::clock::{Samples, Span};
-use crate::team::{RUNS, Team, runs};
+use crate::clock::{RUNS, Samples};
+use crate::team::{Team, runs};
 use seize_store::{Owned, Spots, Store};
-use std::alloc::Global;
+use std::alloc::{AllocError, Global};
 use std::rt::Clock;
 use std::thread::Threads;
 use std::time::CpuClock;
 use std::{io, thread};
 
-/// How many blocks a run makes and ends, so that it takes about 1.5 ms.
-const MADE: u64 = 100_000;
+// How many operations a run has, so that it takes 1 to 2 ms.
+const BY_SPOTS: u64 = 1_200_000;
+
+const BARE: u64 = 60_000;
+
+const BOXED: u64 = 150_000;
 
 /// How many blocks go from one thread to another in a run.
 pub(crate) const PIPED: u64 = 30_000;
 
-pub(crate) fn zero() -> u64 {
+fn zero() -> u64 {
     0
 }
 
@@ -28,20 +32,25 @@ pub(crate) fn make<R: Clock + CpuClock + Threads + Sync>(
     samples: &mut Samples,
 ) -> io::Result<()> {
     let store = Store::new(alloc);
-    runs(rt, threads, MADE, samples, &|| through_spots(&store, alloc))
+    runs(
+        rt,
+        threads,
+        BY_SPOTS,
+        samples,
+        &|| through_spots(&store, alloc),
+    )
 }
 
-fn through_spots(store: &Store<u64, u64>, alloc: Global) -> u64 {
-    let Ok(mut spots) = Spots::new(alloc) else {
-        return 0;
-    };
+fn through_spots(store: &Store<u64, u64>, alloc: Global) -> io::Result<u64> {
+    let mut spots = Spots::new(alloc)?;
     let mut sum = 0u64;
-    for value in 0..MADE {
-        if let Ok(owned) = store.add_from(&mut spots, value, &zero) {
-            sum = sum.wrapping_add(owned.empty_into(&mut spots));
-        }
+    for value in 0..BY_SPOTS {
+        let Ok(owned) = store.add_from(&mut spots, value, &zero) else {
+            return Err(AllocError.into());
+        };
+        sum = sum.wrapping_add(owned.empty_into(&mut spots));
     }
-    sum
+    Ok(sum)
 }
 
 pub(crate) fn make_bare<R: Clock + CpuClock + Threads + Sync>(
@@ -51,17 +60,15 @@ pub(crate) fn make_bare<R: Clock + CpuClock + Threads + Sync>(
     samples: &mut Samples,
 ) -> io::Result<()> {
     let store = Store::new(alloc);
-    runs(rt, threads, MADE, samples, &|| through(&store))
+    runs(rt, threads, BARE, samples, &|| through(&store))
 }
 
-fn through(store: &Store<u64, u64>) -> u64 {
+fn through(store: &Store<u64, u64>) -> io::Result<u64> {
     let mut sum = 0u64;
-    for value in 0..MADE {
-        if let Ok(owned) = store.add(value, &zero) {
-            sum = sum.wrapping_add(owned.into_inner());
-        }
+    for value in 0..BARE {
+        sum = sum.wrapping_add(block(store, value)?.into_inner());
     }
-    sum
+    Ok(sum)
 }
 
 pub(crate) fn make_box<R: Clock + CpuClock + Threads + Sync>(
@@ -70,54 +77,36 @@ pub(crate) fn make_box<R: Clock + CpuClock + Threads + Sync>(
     alloc: Global,
     samples: &mut Samples,
 ) -> io::Result<()> {
-    runs(rt, threads, MADE, samples, &|| through_boxes(alloc))
+    runs(rt, threads, BOXED, samples, &|| through_boxes(alloc))
 }
 
-fn through_boxes(alloc: Global) -> u64 {
+fn through_boxes(alloc: Global) -> io::Result<u64> {
     let mut sum = 0u64;
-    for value in 0..MADE {
-        if let Ok(owned) = Box::new(alloc, value) {
-            sum = sum.wrapping_add(Box::into_inner(owned));
-        }
+    for value in 0..BOXED {
+        sum = sum.wrapping_add(Box::into_inner(Box::new(alloc, value)?));
     }
-    sum
+    Ok(sum)
 }
 
-/// What goes to and fro between two threads: values, and room for those of another run.
-#[derive(Drop)]
-struct Hands<T: Drop> {
-    full: Vec<T>,
-    empty: Vec<T>,
-}
-
-impl<T: Drop> Hands<T> {
-    fn new(alloc: Global) -> io::Result<Hands<T>> {
-        Ok(Hands {
-            full: Vec::with_capacity(alloc, PIPED as usize)?,
-            empty: Vec::with_capacity(alloc, PIPED as usize)?,
-        })
+pub(crate) fn block(store: &Store<u64, u64>, value: u64) -> io::Result<Owned<u64, u64>> {
+    match store.add(value, &zero) {
+        Ok(owned) => Ok(owned),
+        Err(_) => Err(AllocError.into()),
     }
 }
 
-/// As many blocks as one run needs, in the room given.
-pub(crate) fn blocks(store: &Store<u64, u64>, room: Vec<Owned<u64, u64>>) -> Vec<Owned<u64, u64>> {
+/// As many values as one run needs, in the room given.
+pub(crate) fn filled<T: Drop, F: Fn(u64) -> io::Result<T>>(
+    room: Vec<T>,
+    make: &F,
+) -> io::Result<Vec<T>>
+    requires { F.IsAlwaysCallable make.now }
+{
     let mut all = room;
     for value in 0..PIPED {
-        if let Ok(owned) = store.add(value, &zero) {
-            let _ = all.push(owned);
-        }
+        all.push(make(value)?)?;
     }
-    all
-}
-
-fn boxes(alloc: Global, room: Vec<Box<u64>>) -> Vec<Box<u64>> {
-    let mut all = room;
-    for value in 0..PIPED {
-        if let Ok(owned) = Box::new(alloc, value) {
-            let _ = all.push(owned);
-        }
-    }
-    all
+    Ok(all)
 }
 
 /// The room, with the values ended.
@@ -127,27 +116,42 @@ fn ended<T: Drop>(all: Vec<T>) -> Vec<T> {
     room
 }
 
+/// Runs in each of which one thread makes values while another ends those of the run before. The room for them goes to and fro.
+fn piped<R: Clock + CpuClock + Threads + Sync, T: Drop + Send, F: Fn(u64) -> io::Result<T> + Sync>(
+    rt: &R,
+    alloc: Global,
+    samples: &mut Samples,
+    make: &F,
+) -> io::Result<()>
+    requires { F.IsAlwaysCallable make.now }
+{
+    let mut full = Vec::with_capacity(alloc, PIPED as usize)?;
+    let mut room = Vec::with_capacity(alloc, PIPED as usize)?;
+    for _ in 0..RUNS {
+        let team = Team::of(2);
+        let (one, two) = thread::join(
+            rt,
+            || -> io::Result<_>
+                requires { F.IsAlwaysCallable make.now }
+            { team.timed(rt, || filled(room, make)) },
+            || team.timed(rt, || ended(full)),
+        );
+        let (span, made) = one?;
+        let (other, emptied) = two?;
+        full = made?;
+        room = emptied;
+        samples.add(span.joined(other), 2, PIPED, full.len() as u64)?;
+    }
+    Ok(())
+}
+
 pub(crate) fn pipe<R: Clock + CpuClock + Threads + Sync>(
     rt: &R,
     alloc: Global,
     samples: &mut Samples,
 ) -> io::Result<()> {
     let store = Store::new(alloc);
-    let mut hands = Hands::new(alloc)?;
-    for _ in 0..RUNS {
-        let team = Team::of(2);
-        let Hands { full, empty } = hands;
-        let (one, two) = thread::join(
-            rt,
-            || team.timed(rt, || blocks(&store, empty)),
-            || team.timed(rt, || ended(full)),
-        );
-        let (span, full) = one?;
-        let (other, empty) = two?;
-        hands = Hands { full, empty };
-        samples.add(span.joined(other), 2, PIPED)?;
-    }
-    Ok(())
+    piped(rt, alloc, samples, &|value| block(&store, value))
 }
 
 pub(crate) fn pipe_box<R: Clock + CpuClock + Threads + Sync>(
@@ -155,19 +159,5 @@ pub(crate) fn pipe_box<R: Clock + CpuClock + Threads + Sync>(
     alloc: Global,
     samples: &mut Samples,
 ) -> io::Result<()> {
-    let mut hands = Hands::new(alloc)?;
-    for _ in 0..RUNS {
-        let team = Team::of(2);
-        let Hands { full, empty } = hands;
-        let (one, two) = thread::join(
-            rt,
-            || team.timed(rt, || boxes(alloc, empty)),
-            || team.timed(rt, || ended(full)),
-        );
-        let (span, full) = one?;
-        let (other, empty) = two?;
-        hands = Hands { full, empty };
-        samples.add(span.joined(other), 2, PIPED)?;
-    }
-    Ok(())
+    piped(rt, alloc, samples, &|value| Ok(Box::new(alloc, value)?))
 }

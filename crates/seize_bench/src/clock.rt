@@ -47,6 +47,9 @@ impl Span {
     }
 }
 
+/// How many runs there are of each work.
+pub(crate) const RUNS: u64 = 75;
+
 /// The times of an operation in runs, in thousandths of a nanosecond, and how many runs were undisturbed.
 #[derive(Drop)]
 pub(crate) struct Samples {
@@ -58,58 +61,71 @@ pub(crate) struct Samples {
 impl Samples {
     pub(crate) fn new(alloc: Global) -> Result<Samples, AllocError> {
         Ok(Samples {
-            picos: Vec::with_capacity(alloc, 75)?,
+            picos: Vec::with_capacity(alloc, RUNS as usize)?,
             clean: 0,
             kept: 0,
         })
     }
 
-    /// A run in which each of so many threads did so many operations. It was undisturbed where each had a processor for 0.93 of the time
-    /// or more.
-    pub(crate) fn add(&mut self, span: Span, threads: u64, count: u64) -> Result<(), AllocError> {
+    /// A run in which each of so many threads did so many operations, and what they computed, so that it can't be left out. The run was
+    /// undisturbed where the threads together had processors for 0.93 of the time or more.
+    pub(crate) fn add(
+        &mut self,
+        span: Span,
+        threads: u64,
+        count: u64,
+        sum: u64,
+    ) -> Result<(), AllocError> {
         let wall = span.end.duration_since(span.start).as_nanos();
         let used = span.used_at_end.saturating_sub(span.used).as_nanos();
         let whole = wall.saturating_mul(threads as u128);
         if used.saturating_mul(100) >= whole.saturating_mul(93) {
             self.clean = self.clean.saturating_add(1);
         }
+        self.kept = self.kept.wrapping_add(sum);
         let picos = wall.saturating_mul(1000) / (count.max(1) as u128);
         self.picos.push(picos.min(u64::MAX as u128) as u64)?;
         Ok(())
     }
 
-    /// Takes what a work computed, so that it can't be left out.
-    pub(crate) fn keep(&mut self, sum: u64) {
-        self.kept = self.kept.wrapping_add(sum);
-    }
-
-    /// Whether what the works computed is what no work computes.
-    pub(crate) fn is_odd(&self) -> bool {
-        self.kept == u64::MAX
-    }
-
-    pub(crate) fn sort(&mut self) {
-        self.picos.sort_unstable();
-    }
-
-    fn at(&self, place: usize) -> u64 {
-        self.picos.get(place).copied().unwrap_or(0)
+    pub(crate) fn report(self) -> Report {
+        let mut picos = self.picos;
+        picos.sort_unstable();
+        Report {
+            median: picos.get(picos.len() / 2).copied().unwrap_or(0),
+            least: picos.first().copied().unwrap_or(0),
+            percent: self.clean.saturating_mul(100) / (picos.len().max(1) as u64),
+            sum: self.kept,
+        }
     }
 }
 
-impl fmt::Display for Samples {
+/// The times of a work in thousandths of a nanosecond, how many of a hundred runs were undisturbed, and what the work computed.
+#[derive(Clone, Copy)]
+pub(crate) struct Report {
+    median: u64,
+    least: u64,
+    percent: u64,
+    sum: u64,
+}
+
+impl Report {
+    /// Whether the works computed what no work computes.
+    pub(crate) fn is_odd(self) -> bool {
+        self.sum == u64::MAX
+    }
+}
+
+impl fmt::Display for Report {
     fn fmt<W: fmt::Write>(&self, f: &mut fmt::Formatter<W>) -> fmt::Result {
-        let median = self.at(self.picos.len() / 2);
-        let least = self.at(0);
-        let percent = self.clean.saturating_mul(100) / (self.picos.len().max(1) as u64);
         write!(
             f,
             "{}.{:03} {}.{:03} 0.{:02}",
-            median / 1000,
-            median % 1000,
-            least / 1000,
-            least % 1000,
-            percent.min(99)
+            self.median / 1000,
+            self.median % 1000,
+            self.least / 1000,
+            self.least % 1000,
+            self.percent.min(99)
         )
     }
 }

@@ -2,7 +2,7 @@
 ghost use Rattle.std.specs.Prelude.{◌≡◌, ◌%◌};
 ghost use Rattle.seize_store.specs.Named.{name_of, row_is, store_by};
 
-use crate::blocks::{PIPED, blocks};
+use crate::blocks::{PIPED, block, filled};
 use crate::clock::Samples;
 use crate::team::runs;
 use seize_store::{Owned, Seen, Store};
@@ -50,7 +50,7 @@ pub(crate) fn look<R: Clock + CpuClock + Threads + Sync>(
     samples: &mut Samples,
 ) -> io::Result<()> {
     let store = Store::new(alloc);
-    let all = blocks(&store, Vec::new(alloc));
+    let all = filled(Vec::new(alloc), &|value| block(&store, value))?;
     let numbers = numbers_of(&all, alloc)?;
     let numbers = numbers.as_slice();
     runs(
@@ -58,7 +58,7 @@ pub(crate) fn look<R: Clock + CpuClock + Threads + Sync>(
         threads,
         PASSES * LOOKED,
         samples,
-        &|| each_found(&store, numbers),
+        &|| Ok(each_found(&store, numbers)),
     )
 }
 
@@ -104,7 +104,7 @@ pub(crate) fn token<R: Clock + CpuClock + Threads + Sync>(
     samples: &mut Samples,
 ) -> io::Result<()> {
     let store = Store::new(alloc);
-    let all = blocks(&store, Vec::new(alloc));
+    let all = filled(Vec::new(alloc), &|value| block(&store, value))?;
     let numbers = numbers_of(&all, alloc)?;
     let numbers = numbers.as_slice();
     runs(
@@ -112,7 +112,7 @@ pub(crate) fn token<R: Clock + CpuClock + Threads + Sync>(
         threads,
         PASSES * LOOKED,
         samples,
-        &|| each_by_token(&store, numbers),
+        &|| Ok(each_by_token(&store, numbers)),
     )
 }
 
@@ -146,7 +146,13 @@ pub(crate) fn look_plain<R: Clock + CpuClock + Threads + Sync>(
         places.push(&**place)?;
     }
     let places = places.as_slice();
-    runs(rt, threads, PASSES * LOOKED, samples, &|| each_read(places))
+    runs(
+        rt,
+        threads,
+        PASSES * LOOKED,
+        samples,
+        &|| Ok(each_read(places)),
+    )
 }
 
 pub(crate) fn look_wide<R: Clock + CpuClock + Threads + Sync>(
@@ -161,5 +167,11 @@ pub(crate) fn look_wide<R: Clock + CpuClock + Threads + Sync>(
         places.push(&place[0])?;
     }
     let places = places.as_slice();
-    runs(rt, threads, PASSES * LOOKED, samples, &|| each_read(places))
+    runs(
+        rt,
+        threads,
+        PASSES * LOOKED,
+        samples,
+        &|| Ok(each_read(places)),
+    )
 }

@@ -8,38 +8,57 @@ mod lookups;
 mod team;
 mod work;
 
-use clock::Samples;
+use clock::Report;
 use std::process::ExitCode;
 use std::{env, io};
 use work::Work;
 
 fn main(rt: HostRuntime) -> ExitCode {
-    let Ok(Some((work, threads))) = asked(&rt) else {
-        return ExitCode::SUCCESS;
-    };
-    match work.measure(&rt, threads, rt.alloc()) {
-        Ok(samples) => told(&rt, work, threads, &samples),
+    match asked(&rt) {
+        Ok(Request::Nothing) => ExitCode::SUCCESS,
+        Ok(Request::Unknown) => {
+            let _ = eprintln!(rt; "usage: seize_bench WORK [1 | 2 | 4]");
+            ExitCode::from(2)
+        }
+        Ok(Request::Work(work, threads)) => match work.measure(&rt, threads, rt.alloc()) {
+            Ok(report) => told(&rt, work, threads, report),
+            Err(_) => ExitCode::FAILURE,
+        },
         Err(_) => ExitCode::FAILURE,
     }
 }
 
-/// The work that the first argument names, and how many threads it is to have: the second argument, or as many as it needs.
-fn asked(rt: &HostRuntime) -> io::Result<Option<(Work, u64)>> {
-    let mut words = env::args(rt)?.skip(1);
-    let Some(work) = words.next().and_then(|word| Work::named(word.as_str())) else {
-        return Ok(None);
-    };
-    let threads = words.next().and_then(|word| word.as_str().parse().ok());
-    Ok(Some((work, work.threads(threads))))
+/// What the arguments ask for.
+#[derive(Clone, Copy)]
+enum Request {
+    Nothing,
+    Unknown,
+    /// A work on so many threads.
+    Work(Work, u64),
 }
 
-fn told(rt: &HostRuntime, work: Work, threads: u64, samples: &Samples) -> ExitCode {
+fn asked(rt: &HostRuntime) -> io::Result<Request> {
+    let mut words = env::args(rt)?.skip(1);
+    let Some(word) = words.next() else {
+        return Ok(Request::Nothing);
+    };
+    let Some(work) = Work::named(word.as_str()) else {
+        return Ok(Request::Unknown);
+    };
+    let threads = match words.next() {
+        None => Some(work.least_threads()),
+        Some(word) => work.threads(word.as_str()),
+    };
+    Ok(threads.map_or(Request::Unknown, |threads| Request::Work(work, threads)))
+}
+
+fn told(rt: &HostRuntime, work: Work, threads: u64, report: Report) -> ExitCode {
     let line = println!(rt;
-        "port {} {threads} {samples} {}",
+        "port {} {threads} {report} {}",
         work.name(),
         work.peak(threads)
     );
-    if line.is_err() || samples.is_odd() {
+    if line.is_err() || report.is_odd() {
         ExitCode::FAILURE
     } else {
         ExitCode::SUCCESS

@@ -1,17 +1,15 @@
 //! Threads that begin a work together, so that starting them is no part of its time.
 ghost use Rattle.std.specs.Prelude.{IfOk};
 
-use crate::clock::{Samples, Span};
+use crate::clock::{RUNS, Samples, Span};
 use std::hint::spin_loop;
+use std::io::ErrorKind;
 use std::rt::Clock;
 use std::sync::atomic::AtomicU64;
 use std::sync::atomic::Ordering::SeqCst;
 use std::thread::Threads;
 use std::time::CpuClock;
 use std::{io, thread};
-
-/// How many runs there are of each work.
-pub(crate) const RUNS: u64 = 75;
 
 /// How often a thread looks whether the others are there: some seconds.
 const LOOKS: u64 = 1_000_000_000;
@@ -40,38 +38,60 @@ impl Team {
         requires { F.pre work }
         ensures { IfOk result (λ done. F.post work done.1) }
     {
-        self.wait();
+        self.wait()?;
         let span = Span::begun(rt)?;
         let done = work();
         Ok((span.ended(rt)?, done))
     }
 
-    fn wait(&self) {
+    fn wait(&self) -> io::Result<()> {
         self.come.fetch_add(1, SeqCst);
         for _ in 0..LOOKS {
             if self.come.load(SeqCst) >= self.size {
-                return;
+                return Ok(());
             }
             spin_loop();
         }
+        Err(ErrorKind::TimedOut.into())
     }
 }
 
-/// Two threads that each do the work, and from when to when they did.
-fn pair<R: Clock + CpuClock + Threads + Sync, F: Fn() -> u64 + Sync>(
+/// What two threads did of one work, one after the other or side by side.
+fn both(one: (Span, u64), two: (Span, u64)) -> (Span, u64) {
+    (one.0.joined(two.0), one.1.wrapping_add(two.1))
+}
+
+fn alone<R: Clock + CpuClock, F: Fn() -> io::Result<u64>>(
     rt: &R,
     team: &Team,
     work: &F,
 ) -> io::Result<(Span, u64)>
     requires { F.IsAlwaysCallable work.now }
 {
-    let (one, two) = thread::join(rt, || team.timed(rt, work), || team.timed(rt, work));
-    let (span, sum) = one?;
-    let (other, more) = two?;
-    Ok((span.joined(other), sum.wrapping_add(more)))
+    let (span, sum) = team.timed(rt, work)?;
+    Ok((span, sum?))
 }
 
-fn one_run<R: Clock + CpuClock + Threads + Sync, F: Fn() -> u64 + Sync>(
+fn pair<R: Clock + CpuClock + Threads + Sync, F: Fn() -> io::Result<u64> + Sync>(
+    rt: &R,
+    team: &Team,
+    work: &F,
+) -> io::Result<(Span, u64)>
+    requires { F.IsAlwaysCallable work.now }
+{
+    let (one, two) = thread::join(
+        rt,
+        || -> io::Result<(Span, u64)>
+            requires { F.IsAlwaysCallable work.now }
+        { alone(rt, team, work) },
+        || -> io::Result<(Span, u64)>
+            requires { F.IsAlwaysCallable work.now }
+        { alone(rt, team, work) },
+    );
+    Ok(both(one?, two?))
+}
+
+fn one_run<R: Clock + CpuClock + Threads + Sync, F: Fn() -> io::Result<u64> + Sync>(
     rt: &R,
     threads: u64,
     work: &F,
@@ -90,17 +110,15 @@ fn one_run<R: Clock + CpuClock + Threads + Sync, F: Fn() -> u64 + Sync>(
                     requires { F.IsAlwaysCallable work.now }
                 { pair(rt, &team, work) },
             );
-            let (span, sum) = one?;
-            let (other, more) = two?;
-            Ok((span.joined(other), sum.wrapping_add(more)))
+            Ok(both(one?, two?))
         }
         2 => pair(rt, &team, work),
-        _ => team.timed(rt, work),
+        _ => alone(rt, &team, work),
     }
 }
 
 /// Runs in which 1, 2 or 4 threads each do the work, which is so many operations.
-pub(crate) fn runs<R: Clock + CpuClock + Threads + Sync, F: Fn() -> u64 + Sync>(
+pub(crate) fn runs<R: Clock + CpuClock + Threads + Sync, F: Fn() -> io::Result<u64> + Sync>(
     rt: &R,
     threads: u64,
     count: u64,
@@ -111,8 +129,7 @@ pub(crate) fn runs<R: Clock + CpuClock + Threads + Sync, F: Fn() -> u64 + Sync>(
 {
     for _ in 0..RUNS {
         let (span, sum) = one_run(rt, threads, work)?;
-        samples.keep(sum);
-        samples.add(span, threads, count)?;
+        samples.add(span, threads, count, sum)?;
     }
     Ok(())
 }

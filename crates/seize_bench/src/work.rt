@@ -1,5 +1,5 @@
 //! The works by their names. `blocks` makes and ends blocks, and `lookups` finds them.
-use crate::clock::Samples;
+use crate::clock::{Report, Samples};
 use crate::{blocks, lookups};
 use std::alloc::Global;
 use std::io;
@@ -60,13 +60,23 @@ impl Work {
         }
     }
 
-    /// How many threads it has, where so many were asked for: 1, 2 or 4, and 2 where one makes and another ends.
-    pub(crate) fn threads(self, asked: Option<u64>) -> u64 {
-        match (self, asked) {
-            (Work::Pipe | Work::PipeBox, _) => 2,
-            (_, Some(2)) => 2,
-            (_, Some(4)) => 4,
+    /// One thread, or two where one makes and another ends.
+    pub(crate) fn least_threads(self) -> u64 {
+        match self {
+            Work::Pipe | Work::PipeBox => 2,
             _ => 1,
+        }
+    }
+
+    /// How many threads it has, where the word asks for a number that it can have.
+    pub(crate) fn threads(self, word: &str) -> Option<u64> {
+        match (self, word) {
+            (Work::Pipe | Work::PipeBox, "2") => Some(2),
+            (Work::Pipe | Work::PipeBox, _) => None,
+            (_, "1") => Some(1),
+            (_, "2") => Some(2),
+            (_, "4") => Some(4),
+            _ => None,
         }
     }
 
@@ -84,7 +94,7 @@ impl Work {
         rt: &R,
         threads: u64,
         alloc: Global,
-    ) -> io::Result<Samples> {
+    ) -> io::Result<Report> {
         let mut samples = Samples::new(alloc)?;
         match self {
             Work::Make => blocks::make(rt, threads, alloc, &mut samples)?,
@@ -97,7 +107,6 @@ impl Work {
             Work::LookPlain => lookups::look_plain(rt, threads, alloc, &mut samples)?,
             Work::LookWide => lookups::look_wide(rt, threads, alloc, &mut samples)?,
         }
-        samples.sort();
-        Ok(samples)
+        Ok(samples.report())
     }
 }

@@ -4,14 +4,15 @@
 --     value_of o, number_of o, title_of o, known_of o      its value, its number, its title, and the token of its row
 --     AreOf spots s   each of the spots is of the store s
 --     is_empty_list spots, count_of spots      there is none;  how many there are
---     count_with n    how many there are when one was put to n: where the list was full, 64 were given back first
+--     titles_of spots, titles_with ts t      their titles, in order;  with one more, where a full list gives its last 64 back first
+--     count_with n    how many there are when one was put to n
 --     IsSame o p      the blocks o and p have the same value, number, store and place
 --     store_by s, row_by s, places_by s     the store and the row of the token s, and where the row's chunks lie
 --     row_is s n      the row is that of the number n
 --     place_by s n    where the chunk of the number n lies
 --     lies_of p, header_of p   where the chunk p lies, and its header
 --     lies o          where the chunk of the block o lies
-use Rattle.std.specs.Prelude.{◌≡◌, ℕ, ◌+◌, ◌==◌, if◌then◌else◌, List, [], All, vec_len}
+use Rattle.std.specs.Prelude.{◌≡◌, ℕ, ◌+◌, ◌==◌, if◌then◌else◌, List, [], ◌∷◌, ◌++◌, All, map, length, take, vec_len}
 use denote.RawPtr.{Ptr}
 use Rattle.seize_table.specs.Place.{IsPlace}
 use Rattle.seize_store.specs.Known.{entry_of, place_in}
@@ -47,6 +48,12 @@ AreOf spots store = All (λ spot. spot.title.known.store ≡ store) spots.list.i
 
 abbrev pub is_empty_list : {H T : Type 0} → Spots H T → Type 0
 is_empty_list spots = spots.list.items ≡ []
+
+abbrev pub titles_of : {H T : Type 0} → Spots H T → List Title
+titles_of spots = map (λ spot. spot.title) spots.list.items
+
+abbrev pub titles_with : List Title → Title → List Title
+titles_with titles title = (if length titles == 128 then take 64 titles else titles) ++ title ∷ []
 
 abbrev pub count_with : ℕ → ℕ
 count_with count = (if count == 128 then 64 else count) + 1

@@ -2,7 +2,7 @@
 //! `spot`.
 ghost use Rattle.std.specs.Prelude.{◌≡◌, ◌≢◌};
 ghost use Rattle.std.specs.Borrow.{sem};
-ghost use Rattle.seize_store.specs.Named.{AreOf, IsSame, count_of, count_with, known_of, number_of, store_of, title_of, value_of};
+ghost use Rattle.seize_store.specs.Named.{AreOf, IsSame, count_of, count_with, known_of, number_of, store_of, title_of, titles_of, titles_with, value_of};
 ghost use Rattle.seize_store.specs.Parts.{spot_title};
 
 use crate::block::Block;
@@ -26,7 +26,7 @@ impl<H, T: Drop> Owned<H, T> {
         self.block.title().number
     }
 
-    /// The value by value. The chunk is in again, by one swap.
+    /// The value by value. The chunk is in again, by one swap; where the store is gone, its memory goes back.
     pub fn into_inner(self) -> T
         ensures { result ≡ value_of self }
     {
@@ -53,6 +53,7 @@ impl<H, T: Drop> Owned<H, T> {
         ensures value { result ≡ value_of self }
         ensures spots { AreOf spots.new (store_of self) }
         ensures count { count_of spots.new ≡ count_with (count_of spots.old) }
+        ensures last { titles_of spots.new ≡ titles_with (titles_of spots.old) (title_of self) }
     {
         let (value, spot) = self.empty();
         spots.put(spot);

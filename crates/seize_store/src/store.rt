@@ -1,10 +1,10 @@
 //! The store: rows of chunks by their numbers. It claims chunks of `row`, and gives them out as spots and blocks; look-ups are in `seen`.
-ghost use Rattle.std.specs.Prelude.{◌≡◌, ◌≢◌, ℕ, ◌+◌, ◌-◌, ◌^◌, ◌<◌, length, List, IfOk, IfErr, IfSome, Some};
+ghost use Rattle.std.specs.Prelude.{◌≡◌, ◌≢◌, ℕ, ◌+◌, ◌-◌, ◌^◌, ◌<◌, ◌⊎◌, length, List, [], ◌∷◌, ◌++◌, IfOk, IfErr, IfSome, Some};
 ghost use Rattle.seize_table.specs.Place.{IsPlace};
 ghost use Rattle.seize_table.specs.Table.{number_at};
 ghost use Rattle.seize_table.specs.declared.refusal.Refusal.TheVariants.{NoMemory};
 ghost use Rattle.seize_store.specs.Known.{name_in, place_in};
-ghost use Rattle.seize_store.specs.Named.{AreOf, count_of, is_empty_list, name_of, store_of, value_of};
+ghost use Rattle.seize_store.specs.Named.{AreOf, count_of, is_empty_list, name_of, store_of, title_of, titles_of, value_of};
 ghost use Rattle.seize_store.specs.Parts.{room_at, spot_store};
 
 use crate::block::Out;
@@ -19,7 +19,10 @@ use seize_table::thread_id::{BUCKETS, Thread};
 use std::alloc::Global;
 use std::array;
 use std::sync::atomic::AtomicUsize;
-use std::sync::atomic::Ordering::Relaxed;
+use std::sync::atomic::Ordering::SeqCst;
+
+/// How many chunks a search may begin before the one that was claimed last. Threads share the hint, so it is seldom written.
+const BEHIND: usize = 8;
 
 /// Blocks by their numbers. Threads share a store by `&`.
 #[derive(Drop)]
@@ -74,8 +77,9 @@ impl<H: Drop, T> Store<H, T> {
         self.rows.identity.apart(&mut other.rows.identity);
     }
 
-    /// A block of the value, from any thread. It asks for memory only where no chunk was found in, and then makes a row, whose chunks
-    /// get their headers from `header`. It looks at each chunk at most twice, and waits for nobody.
+    /// A block of the value, from any thread. It asks for memory only where no chunk was found in, and then makes the first row that is
+    /// missing: row b has 2^(b + 5) chunks, which are written and get their headers from `header` before the call returns. Threads that
+    /// race for a row each make it, and all but one give theirs up. The call looks at each chunk at most twice, and waits for nobody.
     ///
     /// # Errors
     ///
@@ -93,7 +97,7 @@ impl<H: Drop, T> Store<H, T> {
         }
     }
 
-    /// The same with a spot of the list, where it has one: then it takes no atomic step and no memory.
+    /// The same with the last spot of the list, where it has one: then it takes no atomic step and no memory.
     ///
     /// # Errors
     ///
@@ -112,6 +116,7 @@ impl<H: Drop, T> Store<H, T> {
         ensures refused { IfErr result (λ e. (e.0 ≡ NoMemory) × (e.1 ≡ value) × is_empty_list spots.old) }
         ensures spots { AreOf spots.new (name_of self.now) }
         ensures count { count_of spots.new ≡ count_of spots.old - 1 }
+        ensures made { IfOk result (λ o. is_empty_list spots.old ⊎ (titles_of spots.old ≡ titles_of spots.new ++ title_of o ∷ [])) }
     {
         match spots.list.pop() {
             Some(spot) => Ok(spot.fill(value)),
@@ -146,13 +151,21 @@ impl<H: Drop, T> Store<H, T> {
     fn near_hint(&self) -> Option<Spot<H, T>>
         ensures { IfSome result (λ spot. spot_store spot ≡ name_of self.now) }
     {
-        let place = Thread::new(self.hint.load(Relaxed))?;
+        let place = Thread::new(self.hint.load(SeqCst))?;
         let mut note = self.rows.cells[place.bucket].note();
         let row = self.rows.cells[place.bucket].get_as(&mut note)?;
         self.spot_in(place.bucket, place.entry, row, &mut note)
     }
 
-    // A chunk of the row that is in, from an entry on. The next search begins there.
+    // The next search begins at that number, or at most so many before it.
+    fn move_hint(&self, number: usize) {
+        let hint = self.hint.load(SeqCst);
+        if number < hint || number - hint >= BEHIND {
+            self.hint.store(number, SeqCst);
+        }
+    }
+
+    // A chunk of the row that is in, from an entry on.
     fn spot_in(
         &self,
         bucket: usize,
@@ -166,7 +179,7 @@ impl<H: Drop, T> Store<H, T> {
         let (entry, out) = first_in(row, from, Thread::bucket_capacity(bucket))?;
         let known = Known::of(&self.rows, bucket, note);
         let number = number_at_place(bucket, entry);
-        self.hint.store(number, Relaxed);
+        self.move_hint(number);
         let title = Title {
             number,
             alloc: self.alloc,

@@ -8,7 +8,7 @@ use seize_store::Known;
 use std::ops::{Deref, DerefMut};
 
 /// A block in one owner's hands. It reads as its value, and may be dropped, which ends the value and frees the block's place in its
-/// store. It may outlive its collector.
+/// store. It may outlive its collector, and then keeps the memory of all blocks of its row until it ends.
 #[derive(Drop)]
 pub struct Owned<T: Drop> {
     block: seize_store::Owned<(), T>,

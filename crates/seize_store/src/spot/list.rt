@@ -1,7 +1,7 @@
 //! What a list of spots does. The list is that of `spot`; `owned` puts spots into it, and `store` takes them out.
 ghost use Rattle.std.specs.Prelude.{◌≡◌, ◌≤◌, IfOk};
-ghost use Rattle.seize_store.specs.Named.{AreOf, count_of, count_with, is_empty_list};
-ghost use Rattle.seize_store.specs.Parts.{spot_store};
+ghost use Rattle.seize_store.specs.Named.{AreOf, count_of, count_with, is_empty_list, titles_of, titles_with};
+ghost use Rattle.seize_store.specs.Parts.{spot_store, spot_title};
 
 use super::{SPOTS, Spot, Spots};
 use std::alloc::{AllocError, Global};
@@ -27,7 +27,7 @@ impl<H, T> Spots<H, T> {
         self.list.len()
     }
 
-    /// Gives all spots back. The room stays.
+    /// Gives all spots back, each by one swap. The room stays.
     pub fn clear(&mut self)
         ensures { is_empty_list self.new }
     {
@@ -39,6 +39,7 @@ impl<H, T> Spots<H, T> {
         requires { AreOf self.old (spot_store spot) }
         ensures store { AreOf self.new (spot_store spot) }
         ensures count { count_of self.new ≡ count_with (count_of self.old) }
+        ensures last { titles_of self.new ≡ titles_with (titles_of self.old) (spot_title spot) }
     {
         if self.list.len() == SPOTS {
             self.list.truncate(SPOTS / 2);
