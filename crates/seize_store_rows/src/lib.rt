@@ -2,6 +2,8 @@
 //! with tests is proved twice.
 #![tactic(auto)]
 
+#[cfg(test)]
+mod lookups;
 mod node;
 #[cfg(test)]
 mod store;

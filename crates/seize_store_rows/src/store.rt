@@ -3,7 +3,7 @@ ghost use Rattle.std.specs.Prelude.{◌≡◌};
 ghost use Rattle.seize_store.specs.Named.{AreOf, name_of, title_of, value_of};
 
 use crate::node::Node;
-use crate::values::{Counted, zero};
+use crate::values::{Counted, zero, zeroed};
 use seize_store::{Known, Owned, Place, SPOTS, Seen, Spots, Store};
 use seize_table::Refusal;
 use std::alloc::Global;
@@ -78,8 +78,16 @@ fn blocks_that_stand_have_the_numbers_from_0_on(rt: HostRuntime) -> Result<(), F
     Ok(())
 }
 
-fn zeroed() -> AtomicU64 {
-    AtomicU64::new(0)
+#[test]
+fn rows_are_made_one_at_a_time(rt: HostRuntime) -> Result<(), Fail> {
+    let store = Store::new(rt.alloc());
+    let first = many(rt.alloc(), &store, 32)?;
+    assert!(rt; store.seen(31).is_some() && store.seen(32).is_none());
+    let next = added(&store, 32)?;
+    assert!(rt; store.seen(32).is_some() && store.seen(95).is_some());
+    assert!(rt; store.seen(96).is_none());
+    assert_eq!(rt; (first.len(), next.number()), (32, 32));
+    Ok(())
 }
 
 // What the header of the row's last chunk has, by the token that the row's first number gave.
@@ -115,23 +123,29 @@ fn a_number_leads_to_its_own_chunk(rt: HostRuntime) -> Result<(), Fail> {
     Ok(())
 }
 
-fn list(store: &Store<u64, Node>, len: u64) -> Result<Option<Owned<u64, Node>>, Refusal> {
-    let mut list = None;
+fn list<'a>(
+    store: &Store<u64, Node<'a>>,
+    ends: &'a AtomicU64,
+    len: u64,
+) -> Result<Option<Owned<u64, Node<'a>>>, Refusal> {
+    let mut next = None;
     for name in 0..len {
-        list = Some(added(store, Node { name, next: list })?);
+        let counted = Counted { ends, name };
+        next = Some(added(store, Node { counted, next })?);
     }
-    Ok(list)
+    Ok(next)
 }
 
 #[test]
 fn a_list_of_100_000_is_taken_apart_from_its_front(rt: HostRuntime) -> Result<(), Fail> {
+    let ends = AtomicU64::new(0);
     let store = Store::new(rt.alloc());
-    let mut rest = list(&store, 100_000)?;
+    let mut rest = list(&store, &ends, 100_000)?;
     let mut names = 0u64;
     for _ in 0..100_000u64 {
         let first = rest.expect(&rt, "a list of this length");
-        let Node { name, next } = first.into_inner();
-        names = names.saturating_add(name);
+        let Node { counted, next } = first.into_inner();
+        names = names.saturating_add(counted.name);
         rest = next;
     }
     assert!(rt; rest.is_none());
@@ -140,11 +154,47 @@ fn a_list_of_100_000_is_taken_apart_from_its_front(rt: HostRuntime) -> Result<()
 }
 
 #[test]
-fn a_list_outlives_its_store(rt: HostRuntime) -> Result<(), Fail> {
+fn a_list_dropped_whole_ends_all_its_nodes(rt: HostRuntime) -> Result<(), Fail> {
+    let ends = AtomicU64::new(0);
     let store = Store::new(rt.alloc());
-    let list = list(&store, 100)?;
+    let list = list(&store, &ends, 100)?;
+    assert_eq!(rt; ends.load(Ordering::SeqCst), 0);
+    drop(list);
+    assert_eq!(rt; ends.load(Ordering::SeqCst), 100);
+    Ok(())
+}
+
+#[test]
+fn a_list_outlives_its_store(rt: HostRuntime) -> Result<(), Fail> {
+    let ends = AtomicU64::new(0);
+    let store = Store::new(rt.alloc());
+    let list = list(&store, &ends, 100)?;
     drop(store);
-    assert!(rt; list.is_some_and(|first| first.name == 99));
+    assert_eq!(rt; ends.load(Ordering::SeqCst), 0);
+    assert!(rt; list.is_some_and(|first| first.counted.name == 99));
+    assert_eq!(rt; ends.load(Ordering::SeqCst), 100);
+    Ok(())
+}
+
+fn counts(made: &AtomicU64, ends: &AtomicU64) -> (u64, u64) {
+    (made.load(Ordering::SeqCst), ends.load(Ordering::SeqCst))
+}
+
+#[test]
+fn each_header_ends_once_and_with_its_store(rt: HostRuntime) -> Result<(), Fail> {
+    let (made, ends) = (AtomicU64::new(0), AtomicU64::new(0));
+    let header = || Counted {
+        ends: &ends,
+        name: made.fetch_add(1, Ordering::SeqCst),
+    };
+    let store = Store::new(rt.alloc());
+    let owned = told(store.add(7u64, &header))?;
+    assert_eq!(rt; counts(&made, &ends), (32, 0));
+    // A block that is out keeps the memory of its chunk, and not the header.
+    drop(store);
+    assert_eq!(rt; counts(&made, &ends), (32, 32));
+    assert_eq!(rt; owned.into_inner(), 7);
+    assert_eq!(rt; counts(&made, &ends), (32, 32));
     Ok(())
 }
 
@@ -241,6 +291,44 @@ fn a_list_of_spots_is_emptied(rt: HostRuntime) -> Result<(), Fail> {
     // The chunks are in again, so the two rows that were made are enough for as many blocks as they have chunks.
     let all = many(rt.alloc(), &store, 96)?;
     assert_eq!(rt; all.iter().map(Owned::number).max(), Some(95));
+    Ok(())
+}
+
+#[test]
+fn a_full_list_gives_64_chunks_back(rt: HostRuntime) -> Result<(), Fail> {
+    let store = Store::new(rt.alloc());
+    let mut spots = Spots::new(rt.alloc())?;
+    // With the 129 for the list, all 224 chunks of three rows are out, so each that is in afterwards was given back.
+    let standing = many(rt.alloc(), &store, 95)?;
+    assert_eq!(rt; kept(&store, &mut spots, 129)?, 8385);
+    assert_eq!(rt; (standing.len(), spots.len()), (95, 65));
+    let again = many(rt.alloc(), &store, 64)?;
+    assert!(rt; again.iter().all(|owned| owned.number() < 224));
+    // All are out once more, so the next block has a new number.
+    assert_eq!(rt; added(&store, 0)?.number(), 224);
+    Ok(())
+}
+
+#[test]
+fn the_chunks_of_a_list_that_ends_are_in_again(rt: HostRuntime) -> Result<(), Fail> {
+    let store = Store::new(rt.alloc());
+    let mut spots = Spots::new(rt.alloc())?;
+    assert_eq!(rt; kept(&store, &mut spots, 96)?, 4656);
+    drop(spots);
+    // No two that stand have one number, so these are the numbers from 0 to 95 again.
+    let again = many(rt.alloc(), &store, 96)?;
+    assert_eq!(rt; again.iter().map(Owned::number).max(), Some(95));
+    Ok(())
+}
+
+#[test]
+fn a_list_of_spots_outlives_its_store(rt: HostRuntime) -> Result<(), Fail> {
+    let store = Store::new(rt.alloc());
+    let mut spots = Spots::new(rt.alloc())?;
+    assert_eq!(rt; kept(&store, &mut spots, 40)?, 820);
+    drop(store);
+    assert_eq!(rt; spots.len(), 40);
+    drop(spots);
     Ok(())
 }
 

@@ -5,12 +5,27 @@ use std::alloc::Global;
 use std::sync::atomic::{AtomicU64, Ordering};
 use std::sync::{Mutex, Wait};
 use std::test::*;
-use std::thread;
 use std::thread::Threads;
+use std::{mem, thread};
 
 const EACH: u64 = 50_000;
 
-type Hands<'a> = Mutex<Option<Owned<u64, Counted<'a>>>>;
+// Where threads hand blocks over. What comes out is counted, and its names are summed.
+#[derive(Drop)]
+struct Hands<'a> {
+    last: Mutex<Option<Owned<u64, Counted<'a>>>>,
+    count: AtomicU64,
+    names: AtomicU64,
+}
+
+// Leaves this block, or none, and ends the one that was left before.
+fn hand_over<'a, R: Wait>(rt: &R, hands: &Hands<'a>, next: Option<Owned<u64, Counted<'a>>>) {
+    let before = mem::replace(&mut *hands.last.lock(rt), next);
+    if let Some(owned) = before {
+        hands.count.fetch_add(1, Ordering::SeqCst);
+        hands.names.fetch_add(owned.name, Ordering::SeqCst);
+    }
+}
 
 // A block of the value. Where its memory is refused, the call is made again with the value that came back.
 fn made<'a>(
@@ -40,10 +55,7 @@ fn churn<'a, R: Wait>(
             wrong = wrong.saturating_add(1);
         }
         if name % 10 == 0 {
-            let before = hands.lock(rt).replace(owned);
-            if before.is_some_and(|owned| owned.name % 10 != 0) {
-                wrong = wrong.saturating_add(1);
-            }
+            hand_over(rt, hands, Some(owned));
         }
     }
     wrong
@@ -81,11 +93,18 @@ fn four<'a, R: Threads + Wait + Sync>(
 fn four_threads_hold_no_chunk_twice(rt: HostRuntime) {
     let ends = AtomicU64::new(0);
     let store = Store::new(rt.alloc());
-    let hands = Mutex::new(None);
+    let hands = Hands {
+        last: Mutex::new(None),
+        count: AtomicU64::new(0),
+        names: AtomicU64::new(0),
+    };
     assert_eq!(rt; four(&rt, &store, &ends, &hands), 0);
     drop(store);
-    drop(hands);
+    hand_over(&rt, &hands, None);
     assert_eq!(rt; ends.load(Ordering::SeqCst), 4 * EACH);
+    // 5,000 of each thread: 0, 10, .. 49,990 from its first name on.
+    assert_eq!(rt; hands.count.load(Ordering::SeqCst), 20_000);
+    assert_eq!(rt; hands.names.load(Ordering::SeqCst), 30_499_900_000);
 }
 
 const STORES: u64 = 500;
@@ -165,7 +184,7 @@ fn rounds<R: Threads + Sync>(rt: &R, alloc: Global, store: &Store<u64, u64>) -> 
 fn a_store_stops_growing(rt: HostRuntime) {
     let store = Store::new(rt.alloc());
     let (early, late) = rounds(&rt, rt.alloc(), &store);
-    // A thousand blocks stand at once, so their numbers go to 999 at least. At most 2,000 stand, and the rows that have the numbers below
-    // 4,064 are enough for them at the end as at a tenth.
-    assert!(rt; early >= 999 && late < 4064, "{early} and {late}");
+    // A thousand blocks stand at once, so their numbers go to 999 at least. At most 2,000 stand, and one thread alone claims, so a chunk
+    // that is in stays in until that thread comes to it: the six rows that have the numbers below 2,016 are enough.
+    assert!(rt; early >= 999 && late < 2016, "{early} and {late}");
 }

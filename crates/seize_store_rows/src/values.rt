@@ -1,4 +1,4 @@
-//! Values that count their ends.
+//! Values that count their ends, and headers.
 use std::sync::atomic::{AtomicU64, Ordering};
 
 /// A value with a name of its own, which counts its end.
@@ -17,4 +17,9 @@ impl Drop for Counted<'_> {
 /// The header of a chunk that no test looks at.
 pub(crate) fn zero() -> u64 {
     0
+}
+
+/// The header of a chunk in which a test counts.
+pub(crate) fn zeroed() -> AtomicU64 {
+    AtomicU64::new(0)
 }
