@@ -1,6 +1,7 @@
 //! Blocks from several threads.
 use crate::values::{Counted, zero};
 use seize_store::{Owned, Store};
+use seize_table::Refusal;
 use std::alloc::Global;
 use std::sync::atomic::{AtomicU64, Ordering};
 use std::sync::{Mutex, Wait};
@@ -122,25 +123,26 @@ fn hundred<'a>(
     Some(all)
 }
 
-// Stores that end on one thread while another ends their blocks. How many stores had all their blocks.
-fn ended_beside<'a, R: Threads + Sync>(rt: &R, alloc: Global, ends: &'a AtomicU64) -> u64 {
-    let mut whole = 0u64;
+// Stores that end on one thread while another ends their blocks.
+fn ended_beside<'a, R: Threads + Sync>(
+    rt: &R,
+    alloc: Global,
+    ends: &'a AtomicU64,
+) -> Result<(), Refusal> {
     for _ in 0..STORES {
         let store = Store::new(alloc);
-        let Some(all) = hundred(alloc, &store, ends) else {
-            return whole;
-        };
+        let all = hundred(alloc, &store, ends).ok_or(Refusal::NoMemory)?;
         thread::join(rt, move || drop(store), move || drop(all));
-        whole = whole.saturating_add(1);
     }
-    whole
+    Ok(())
 }
 
 #[test]
-fn stores_end_beside_their_blocks(rt: HostRuntime) {
+fn stores_end_beside_their_blocks(rt: HostRuntime) -> Result<(), Fail> {
     let ends = AtomicU64::new(0);
-    assert_eq!(rt; ended_beside(&rt, rt.alloc(), &ends), STORES);
+    ended_beside(&rt, rt.alloc(), &ends)?;
     assert_eq!(rt; ends.load(Ordering::SeqCst), 100 * STORES);
+    Ok(())
 }
 
 const ROUND: usize = 1000;
