@@ -1,0 +1,80 @@
+-- The book, with one entry more.
+use Rattle.std.proofs.Common.{◌≡◌, ℕ, Bool, true, false, cond, ◌==◌, List, [], ◌∷◌, ◌++◌, filter, refl, sym, ◌∙◌, ap, subst, append_assoc, append-nil}
+use mathlib.Core.List.{IsPrefix, append_cancel_left, cons≢nil}
+use Rattle.std.proofs.lemmas.List.{map-append}
+use Rattle.std.proofs.lemmas.List.Elements.{filter-append}
+use Rattle.seize_machine.specs.Machine.State.{State}
+use Rattle.seize_machine.specs.Machine.Next.{next}
+use Rattle.seize_machine.specs.Machine.History.{Timed, done_by, or_illegal, Legal, answers_of}
+use Rattle.seize_machine.specs.declared.machine.event.Answer.{Answer}
+use Rattle.seize_machine.proofs.Facts.{one_more, taken_apart}
+use Rattle.seize_words.specs.Entry.{Entry, timed, events_of}
+use Rattle.seize_words.specs.Book.{moments, after, IsLegalList, Does, answered, mine}
+
+events_push : (log : List Entry) (e : Entry) → events_of (log ++ e ∷ []) ≡ events_of log ++ timed e ∷ []
+events_push log e = map-append timed log (e ∷ [])
+
+pub as_legal : (st : State) (log : List Entry) → IsLegalList st log → Legal next st (events_of log) (answers_of (moments st log)) (after st log)
+as_legal st log l = record { legal = l; answers_are = refl; end_is = refl }
+
+longer : (st : State) (log : List Entry) (e : Entry) (d : State × Answer) → IsLegalList st log → Does st log e d
+    → Legal next st (events_of (log ++ e ∷ [])) (answers_of (moments st log) ++ d.1 ∷ []) d.0
+longer st log e d l h =
+    subst (λ (ts : List Timed). Legal next st ts (answers_of (moments st log) ++ d.1 ∷ []) d.0) (sym (events_push log e))
+    (one_more st (after st log) d.0 (events_of log) (answers_of (moments st log)) (timed e) d.1 (as_legal st log l) h)
+
+pub legal_push : (st : State) (log : List Entry) (e : Entry) (d : State × Answer) → IsLegalList st log → Does st log e d → IsLegalList st (log ++ e ∷ [])
+legal_push st log e d l h = (longer st log e d l h).legal
+
+pub after_push : (st : State) (log : List Entry) (e : Entry) (d : State × Answer) → IsLegalList st log → Does st log e d → after st (log ++ e ∷ []) ≡ d.0
+after_push st log e d l h = (longer st log e d l h).end_is
+
+-- a legal list is legal without its last event
+pub legal_front : (st : State) (log : List Entry) (e : Entry) → IsLegalList st (log ++ e ∷ []) → IsLegalList st log
+legal_front st log e l =
+    (taken_apart st (after st (log ++ e ∷ [])) (events_of log) (timed e ∷ []) (answers_of (moments st (log ++ e ∷ [])))
+    (subst (λ (ts : List Timed). Legal next st ts (answers_of (moments st (log ++ e ∷ []))) (after st (log ++ e ∷ []))) (events_push log e) (as_legal st (log ++ e ∷ []) l))).1.legal
+
+answered_any : (st : State) (log : List Entry) (e : Entry) → answered st (log ++ e ∷ []) ≡ answered st log ++ (e, (done_by next (after st log) (timed e)).1) ∷ []
+answered_any st [] e = refl
+answered_any st (x ∷ log) e = ap (λ (more : List (Entry × Answer)). (x, (done_by next st (timed x)).1) ∷ more) (answered_any (done_by next st (timed x)).0 log e)
+
+pub answered_push : (st : State) (log : List Entry) (e : Entry) (d : State × Answer) → Does st log e d → answered st (log ++ e ∷ []) ≡ answered st log ++ (e, d.1) ∷ []
+answered_push st log e d h = answered_any st log e ∙ ap (λ o. answered st log ++ (e, (or_illegal (after st log) o).1) ∷ []) h
+
+filter_out : {X : Type 0} (test : X → Bool) (xs : List X) (x : X) → test x ≡ false → filter test (xs ++ x ∷ []) ≡ filter test xs
+filter_out test xs x h = filter-append test xs (x ∷ []) ∙ ap (λ (b : Bool). filter test xs ++ cond b (x ∷ []) []) h ∙ append-nil (filter test xs)
+
+filter_in : {X : Type 0} (test : X → Bool) (xs : List X) (x : X) → test x ≡ true → filter test (xs ++ x ∷ []) ≡ filter test xs ++ x ∷ []
+filter_in test xs x h = filter-append test xs (x ∷ []) ∙ ap (λ (b : Bool). filter test xs ++ cond b (x ∷ []) []) h
+
+-- an event that does not pass the test, and one that does
+pub selected_out : (test : Entry × Answer → Bool) (st : State) (log : List Entry) (e : Entry) (d : State × Answer) → Does st log e d → test (e, d.1) ≡ false
+    → filter test (answered st (log ++ e ∷ [])) ≡ filter test (answered st log)
+selected_out test st log e d h out = ap (filter test) (answered_push st log e d h) ∙ filter_out test (answered st log) (e, d.1) out
+
+pub selected_in : (test : Entry × Answer → Bool) (st : State) (log : List Entry) (e : Entry) (d : State × Answer) → Does st log e d → test (e, d.1) ≡ true
+    → filter test (answered st (log ++ e ∷ [])) ≡ filter test (answered st log) ++ (e, d.1) ∷ []
+selected_in test st log e d h is = ap (filter test) (answered_push st log e d h) ∙ filter_in test (answered st log) (e, d.1) is
+
+-- a list that goes on
+answered_append : (st : State) (a b : List Entry) → answered st (a ++ b) ≡ answered st a ++ answered (after st a) b
+answered_append st [] b = refl
+answered_append st (x ∷ a) b = ap (λ (more : List (Entry × Answer)). (x, (done_by next st (timed x)).1) ∷ more) (answered_append (done_by next st (timed x)).0 a b)
+
+mine_append : (st : State) (p : ℕ) (a b : List Entry) → mine st p (a ++ b) ≡ mine st p a ++ mine (after st a) p b
+mine_append st p a b = ap (filter (λ t. t.0.pass == p)) (answered_append st a b) ∙ filter-append (λ t. t.0.pass == p) (answered st a) (answered (after st a) b)
+
+no_front : {X : Type 0} (xs ys : List X) → xs ++ ys ≡ [] → xs ≡ []
+no_front [] ys e = refl
+no_front (x ∷ xs) ys e = absurd (cons≢nil e)
+
+-- where nothing was made with a pass between the shortest and the longest of three beginnings, nothing was up to the one between
+pub between : (st : State) (p : ℕ) (a b c : List Entry) → IsPrefix a b → IsPrefix b c → mine st p a ≡ mine st p c → mine st p b ≡ mine st p a
+between st p a b c h k e =
+    let x = mine (after st a) p h.0 in let y = mine (after st b) p k.0 in
+    let more : mine st p b ≡ mine st p a ++ x = ap (mine st p) (sym h.1) ∙ mine_append st p a h.0 in
+    let all : mine st p c ≡ mine st p a ++ (x ++ y) =
+    ap (mine st p) (sym k.1) ∙ mine_append st p b k.0 ∙ ap (λ (l : List (Entry × Answer)). l ++ y) more ∙ append_assoc (mine st p a) x y in
+    let none : x ≡ [] = no_front x y (append_cancel_left (mine st p a) (x ++ y) [] (sym all ∙ sym e ∙ sym (append-nil (mine st p a)))) in
+    more ∙ ap (λ (l : List (Entry × Answer)). mine st p a ++ l) none ∙ append-nil (mine st p a)

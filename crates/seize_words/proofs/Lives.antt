@@ -1,0 +1,221 @@
+-- The activations in which a value was found are over when it goes to its reclaimer. Assumes `Logic`.
+use Rattle.std.proofs.Common.{◌≡◌, ℕ, zero, suc, ◌<◌, ◌≤◌, Bool, true, false, ◌==◌, if◌then◌else◌, List, [], ◌∷◌, ◌++◌, length, take, slice_get, get_or, set, Option, Some, refl, sym, ◌∙◌, ap, subst, ◌⊎◌, inl, inr, arith, append_assoc, append-nil}
+use Rattle.std.proofs.lemmas.List.{get_or-set_other, get_or-set_same, get_or_past}
+use Rattle.std.proofs.lemmas.Bool.{cases_lt}
+use native.Mathlib.Decide.{ℕ_discrete}
+use seplogic.Ra.Ura.{Ura}
+use base.Logic.{SProp, ent, sep, upd, upd_i}
+use base.Fml.{Fml, ftrue, fdead}
+use types.Logic.{Logic, sem}
+use types.Kit.{‵, raw, ◌⊛◌, ◌$◌, ◌∵◌, !, qed, move, split, fjoin, frame, suffices, done, use1, use2, rewrite}
+use denote.Steps.{nothing}
+use Rattle.seize_machine.specs.Machine.State.{State, Head, Inactive, Active, head_at, is_active}
+use Rattle.seize_machine.specs.Machine.Event.{Event, SwapOut}
+use Rattle.seize_machine.specs.Machine.Next.{next, can_link}
+use Rattle.seize_machine.specs.Machine.History.{Moment, done_by, or_illegal, is_legal, linked_value, is_link_event, is_swap_out, Found}
+use Rattle.seize_machine.specs.Machine.Frames.{changes_head_of}
+use Rattle.seize_machine.specs.declared.machine.event.Answer.{Answer}
+use Rattle.seize_machine.proofs.Facts.{Step, step_of, head_frame, is_true, eq_true, and_true, some_is}
+use Rattle.seize_words.specs.Entry.{Entry, timed}
+use Rattle.seize_words.specs.Book.{moments, after, IsLegalList}
+use Rattle.seize_words.specs.Laws.{AllParted, starts, life_from, life, lives_after, ended_by, ended_from, ended, none_alive, Reader}
+use Rattle.seize_words.specs.Fair.{EndsNone}
+use Rattle.seize_words.specs.Tokens.{over}
+use Rattle.seize_words.proofs.Handed.{entry_of}
+
+-- the first event of a legal list
+legal_first : (st : State) (e : Entry) (log : List Entry) → IsLegalList st (e ∷ log)
+    → (d : State × Answer) × (next e.size st e.event ≡ Some d) × (done_by next st (timed e) ≡ d) × IsLegalList d.0 log
+legal_first st e log l = go (next e.size st e.event) refl
+  where
+    go : (o : Option (State × Answer)) → next e.size st e.event ≡ o → (d : State × Answer) × (next e.size st e.event ≡ Some d) × (done_by next st (timed e) ≡ d) × IsLegalList d.0 log
+    go Option.None n = let none : is_legal (done_by next st (timed e)).1 ≡ false = ap (λ o. is_legal (or_illegal st o).1) n in absurd (let x : true ≡ false = sym (and_true _ _ l).0 ∙ none in cc)
+    go (Some d) n = let is : done_by next st (timed e) ≡ d = ap (or_illegal st) n in (d, n, is, subst (λ (x : State × Answer). IsLegalList x.0 log) is (and_true _ _ l).1)
+
+not_same : (a k : ℕ) → (a == k) ≡ false → ¬ (k ≡ a)
+not_same a k h e = grind arith
+
+-- a head that was active, where something else is put that is active
+still_active : (heads : List Head) (m t : ℕ) (waiting : List ℕ) → is_active (get_or heads t Inactive) ≡ true → is_active (get_or (set heads m (Active waiting)) t Inactive) ≡ true
+still_active heads m t waiting a = go (ℕ_discrete t m)
+  where
+    within : (t < length heads) ⊎ (length heads ≤ t) → t < length heads
+    within (inl l) = l
+    within (inr le) = absurd (let x : true ≡ false = sym a ∙ ap is_active (get_or_past heads t Inactive le) in cc)
+
+    go : Dec (t ≡ m) → is_active (get_or (set heads m (Active waiting)) t Inactive) ≡ true
+    go (yes e) =
+        subst (λ (z : ℕ). is_active (get_or (set heads z (Active waiting)) t Inactive) ≡ true) e
+        (ap is_active (get_or-set_same heads t (Active waiting) Inactive (within (cases_lt t (length heads)))))
+    go (no n) = ap is_active (get_or-set_other heads m t (Active waiting) Inactive n) ∙ a
+
+-- an active slot stays active, and begins no activation, until it leaves or refreshes
+active_on : (t size : ℕ) (st : State) (event : Event) (d : State × Answer) → Step size st event d → is_active (head_at st t) ≡ true → is_swap_out t event ≡ false
+    → (is_active (head_at d.0 t) ≡ true) × (starts t event ≡ false)
+active_on t size st event d step a out = go (is_true (changes_head_of t event))
+  where
+    starts_none : (event : Event) → changes_head_of t event ≡ false → starts t event ≡ false
+    starts_none (Event.Enter s) n = n
+    starts_none (Event.SwapOut s) n = n
+    starts_none _ n = refl
+
+    changed : (event : Event) (d : State × Answer) → Step size st event d → is_swap_out t event ≡ false → changes_head_of t event ≡ true → (is_active (head_at d.0 t) ≡ true) × (starts t event ≡ false)
+    changed event _ (Step.entered s e off) out c = absurd (let x : true ≡ false = sym a ∙ (sym (ap (λ (z : ℕ). is_active (head_at st z)) (eq_true s t c)) ∙ off) in cc)
+    changed event _ (Step.inserted s m b won later saw queue waiting e head_is) out c = (still_active st.heads m t (b ∷ waiting) a, refl)
+    changed event _ (Step.swapped_out s stays queue e) out c = absurd (let x : true ≡ false = sym c ∙ out in cc)
+    changed event _ _ out c = absurd (cc)
+
+    go : (changes_head_of t event ≡ true) ⊎ (changes_head_of t event ≡ false) → (is_active (head_at d.0 t) ≡ true) × (starts t event ≡ false)
+    go (inl c) = changed event d step out c
+    go (inr n) = (ap is_active (head_frame t size st event d step n) ∙ a, starts_none event n)
+
+-- the first SwapOut of an active slot ends its activation
+record Ends (a t i : ℕ) (log : List Entry) (life : ℕ) : Type 0 where
+  pub at : ℕ
+  pub from : i ≤ at
+  pub entry : Entry
+  pub there : slice_get log at ≡ Some entry
+  pub out : is_swap_out t entry.event ≡ true
+  pub alive : life_from a t (take at log) ≡ life
+
+one_on : (a t i : ℕ) (x : Entry) (log : List Entry) (life : ℕ) → Ends (if starts t x.event then x.life else a) t i log life → Ends a t (suc i) (x ∷ log) life
+one_on a t i x log life w = let le : i ≤ w.at = w.from in record { at = suc w.at; from = omega arith; entry = w.entry; there = w.there; out = w.out; alive = w.alive }
+
+ends_first : (st : State) (log : List Entry) (a t p : ℕ) (f : Entry) → IsLegalList st log → is_active (head_at st t) ≡ true → slice_get log p ≡ Some f → is_swap_out t f.event ≡ true → Ends a t zero log a
+ends_first st [] a t p f l on h out = absurd (cc)
+ends_first st (x ∷ log) a t p f l on h out = go (is_true (is_swap_out t x.event)) p h (λ st'. ends_first st' log a t)
+  where
+    later : Ends a t zero log a → starts t x.event ≡ false → Ends a t zero (x ∷ log) a
+    later w n = record { at = suc w.at; from = omega arith; entry = w.entry; there = w.there; out = w.out; alive = ap (λ (b : Bool). life_from (if b then x.life else a) t (take w.at log)) n ∙ w.alive }
+
+    go : (is_swap_out t x.event ≡ true) ⊎ (is_swap_out t x.event ≡ false) → (p : ℕ) → slice_get (x ∷ log) p ≡ Some f
+        → ((st' : State) (p : ℕ) (f : Entry) → IsLegalList st' log → is_active (head_at st' t) ≡ true → slice_get log p ≡ Some f → is_swap_out t f.event ≡ true → Ends a t zero log a)
+        → Ends a t zero (x ∷ log) a
+    go (inl y) p h ih = record { at = zero; from = omega arith; entry = x; there = refl; out = y; alive = refl }
+    go (inr n) zero h ih = absurd (let same : is_swap_out t x.event ≡ true = ap (λ (e : Entry). is_swap_out t e.event) (some_is _ _ h) ∙ out in let y : true ≡ false = sym same ∙ n in cc)
+    go (inr n) (suc p) h ih =
+        let w = legal_first st x log l in let next_on = active_on t x.size st x.event w.0 (step_of _ _ _ _ w.1) on n in
+        later (ih w.0.0 p f w.3 next_on.0 h out) next_on.1
+
+ends_after : (st : State) (log : List Entry) (a t i p : ℕ) (f : Entry) → IsLegalList st log → is_active (head_at (after st (take i log)) t) ≡ true → i ≤ p → slice_get log p ≡ Some f → is_swap_out t f.event ≡ true
+    → Ends a t i log (life_from a t (take i log))
+ends_after st log a t zero p f l on le h out = ends_first st log a t p f l on h out
+ends_after st [] a t (suc i) p f l on le h out = absurd (cc)
+ends_after st (x ∷ log) a t (suc i) zero f l on le h out = absurd (omega arith)
+ends_after st (x ∷ log) a t (suc i) (suc p) f l on le h out =
+    one_on a t i x log _ (ends_after (done_by next st (timed x)).0 log (if starts t x.event then x.life else a) t i p f (and_true _ _ l).1 on (omega arith) h out)
+
+-- what a SwapOut ends is among what has ended
+abbrev pub In : List ℕ → ℕ → Type 0
+In [] b = ⊥
+In (x ∷ xs) b = (x ≡ b) ⊎ In xs b
+
+in_right : (xs ys : List ℕ) (b : ℕ) → In ys b → In (xs ++ ys) b
+in_right [] ys b h = h
+in_right (x ∷ xs) ys b h = inr (in_right xs ys b h)
+
+is_ended : (lives : ℕ → ℕ) (log : List Entry) (t q : ℕ) (g : Entry) → slice_get log q ≡ Some g → is_swap_out t g.event ≡ true → In (ended_from lives log) (life_from (lives t) t (take q log))
+is_ended lives [] t q g h out = absurd (cc)
+is_ended lives (x ∷ log) t zero g h out = go x.event (ap (λ (e : Entry). is_swap_out t e.event) (some_is _ _ h) ∙ out)
+  where
+    go : (event : Event) → is_swap_out t event ≡ true → In (ended_by lives event ++ ended_from (lives_after lives x) log) (lives t)
+    go (Event.SwapOut s) o = inl (ap lives (eq_true s t o))
+    go _ o = absurd (cc)
+is_ended lives (x ∷ log) t (suc q) g h out = in_right (ended_by lives x.event) (ended_from (lives_after lives x) log) _ (is_ended (lives_after lives x) log t q g h out)
+
+-- a slot that found something in a link was active
+was_active : (st : State) (t : ℕ) (e : Entry) (v : ℕ) → is_link_event t e.event ≡ true → linked_value (done_by next st (timed e)).1 ≡ Some v → is_active (head_at st t) ≡ true
+was_active st t e v own h = go (next e.size st e.event) refl h
+  where
+    link : (s l : ℕ) → can_link st s l ≡ true → (s == t) ≡ true → is_active (head_at st t) ≡ true
+    link s l c o = ap (λ (z : ℕ). is_active (head_at st z)) (sym (eq_true s t o)) ∙ (and_true _ _ c).0
+
+    by_step : (event : Event) (d : State × Answer) → Step e.size st event d → is_link_event t event ≡ true → is_active (head_at st t) ≡ true
+    by_step event _ (Step.read s l c) o = link s l c o
+    by_step event _ (Step.exchanged s l exchange new c fresh exact) o = link s l c o
+    by_step event _ (Step.compared s l exchange c exact) o = link s l c o
+    by_step event _ _ o = absurd (cc)
+
+    go : (o : Option (State × Answer)) → next e.size st e.event ≡ o → linked_value (or_illegal st o).1 ≡ Some v → is_active (head_at st t) ≡ true
+    go Option.None n h = absurd (cc)
+    go (Some d) n h = by_step e.event d (step_of e.size st e.event d n) own
+
+-- the activation of whoever found v has ended
+pub reader_ended : (st : State) (log : List Entry) (v a : ℕ) → IsLegalList st log → AllParted st log v → Reader st log v a → In (ended log) a
+reader_ended st log v a l parted r =
+    let i : ℕ = r.0 in let t : ℕ = r.1 in let f : Found (moments st log) t v i = r.2 in
+    let w = parted t i f in let p : ℕ = w.0 in let before : i < p = w.1 in
+    let found = entry_of st log i f.0 f.1 in let out = entry_of st log p (w.3).0 (w.3).1 in
+    let active : is_active (head_at (after st (take i log)) t) ≡ true =
+    was_active (after st (take i log)) t found.0 v (ap (λ (m : Moment). is_link_event t m.timed.event) (sym found.2) ∙ f.2) (ap (λ (m : Moment). linked_value m.answer) (sym found.2) ∙ f.3) in
+    let x = ends_after st log 0 t i p out.0 l active (omega arith) out.1 (ap (λ (m : Moment). is_swap_out t m.timed.event) (sym out.2) ∙ (w.3).2) in
+    subst (In (ended log)) (x.alive ∙ sym r.3) (is_ended none_alive log t x.at x.entry x.there x.out)
+
+-- what an event adds to what has ended
+lives_by : (ℕ → ℕ) → List Entry → ℕ → ℕ
+lives_by lives [] = lives
+lives_by lives (e ∷ log) = lives_by (lives_after lives e) log
+
+ended_push : (lives : ℕ → ℕ) (log : List Entry) (e : Entry) → ended_from lives (log ++ e ∷ []) ≡ ended_from lives log ++ ended_by (lives_by lives log) e.event
+unfolding lives_by
+ended_push lives [] e = append-nil (ended_by lives e.event)
+ended_push lives (x ∷ log) e =
+    ap (λ (l : List ℕ). ended_by lives x.event ++ l) (ended_push (lives_after lives x) log e)
+    ∙ sym (append_assoc (ended_by lives x.event) (ended_from (lives_after lives x) log) (ended_by (lives_by (lives_after lives x) log) e.event))
+
+lives_are : (lives : ℕ → ℕ) (log : List Entry) (t : ℕ) → lives_by lives log t ≡ life_from (lives t) t log
+unfolding lives_by
+lives_are lives [] t = refl
+lives_are lives (e ∷ log) t = lives_are (lives_after lives e) log t
+
+-- an event that ends no activation
+same_ended : (log : List Entry) (e : Entry) → EndsNone e.event → ended (log ++ e ∷ []) ≡ ended log
+same_ended log e none = ended_push none_alive log e ∙ ap (λ (l : List ℕ). ended log ++ l) (none (lives_by none_alive log)) ∙ append-nil (ended log)
+
+out_ended : (log : List Entry) (e : Entry) (s : ℕ) → e.event ≡ SwapOut s → ended (log ++ e ∷ []) ≡ ended log ++ life s log ∷ []
+out_ended log e s is =
+    ended_push none_alive log e ∙ ap (λ (x : Event). ended log ++ ended_by (lives_by none_alive log) x) is ∙ ap (λ (x : ℕ). ended log ++ x ∷ []) (lives_are none_alive log s)
+
+-- As resources.
+module _ {M : Type 1} {𝓤 : Ura M} (𝓛 : Logic 𝓤) where
+  abbrev Pr : Type 2
+  Pr = SProp 𝓤
+
+  abbrev ◌⊢◌ : Pr → Pr → Type 1
+  P ⊢ Q = ent 𝓤 P Q
+
+  abbrev ◌∗◌ : Pr → Pr → Pr
+  P ∗ Q = sep 𝓤 P Q
+
+  abbrev ⟦◌⟧ : Fml → Pr
+  ⟦ P ⟧ = sem 𝓛 P
+
+  infix 26 ◌⊢◌
+  infixr 35 ◌∗◌
+  over_one : (xs : List ℕ) (b : ℕ) → In xs b → ⟦ over xs ⟧ ⊢ ⟦ over xs ⟧ ∗ ⟦ fdead (b ∷ []) ⟧
+  over_one [] b h = absurd h
+  over_one (x ∷ xs) b (inl e) = qed 𝓛 (‵ (fdead (x ∷ [])) ∷ ‵ (over xs) ∷ []) ∵ use1 𝓛 (‵ (fdead (x ∷ [])) ⊛ ‵ (fdead (x ∷ []))) (𝓛.lfts.dead_dup (x ∷ [])) $ split ! $
+      rewrite ! 1 (λ (z : ℕ). ‵ (fdead (z ∷ []))) e refl $ move ! (0 ∷ 2 ∷ []) $ fjoin ! $ done !
+  over_one (x ∷ xs) b (inr h) = qed 𝓛 (‵ (fdead (x ∷ [])) ∷ ‵ (over xs) ∷ []) ∵ move ! (1 ∷ []) $ use1 𝓛 (‵ (over xs) ⊛ ‵ (fdead (b ∷ []))) (over_one xs b h) $ split ! $ move ! (2 ∷ 0 ∷ []) $ fjoin ! $ done !
+
+  abbrev pub AllReaders : State → List Entry → ℕ → List ℕ → Type 0
+  AllReaders st log v [] = Unit {0}
+  AllReaders st log v (b ∷ bs) = Reader st log v b × AllReaders st log v bs
+
+  -- when v is handed, the activations of all who found it are over
+  pub readers_over : (st : State) (log : List Entry) (v : ℕ) (bs : List ℕ) → IsLegalList st log → AllParted st log v → AllReaders st log v bs → ⟦ over (ended log) ⟧ ⊢ ⟦ over (ended log) ⟧ ∗ ⟦ over bs ⟧
+  readers_over st log v [] l parted rs = qed 𝓛 (‵ (over (ended log)) ∷ []) ∵ frame ! $ nothing ! $ done !
+  readers_over st log v (b ∷ bs) l parted rs = qed 𝓛 (‵ (over (ended log)) ∷ []) ∵ use1 𝓛 (‵ (over (ended log)) ⊛ ‵ (fdead (b ∷ []))) (over_one (ended log) b (reader_ended st log v b l parted rs.0)) $ split ! $
+      use1 𝓛 (‵ (over (ended log)) ⊛ ‵ (over bs)) (readers_over st log v bs l parted rs.1) $ split ! $ frame ! $ move ! (1 ∷ 0 ∷ []) $ fjoin ! $ done !
+
+  pub stays : (log : List Entry) (e : Entry) (X : Pr) → EndsNone e.event → ⟦ over (ended log) ⟧ ∗ X ⊢ upd 𝓤 (⟦ over (ended (log ++ e ∷ [])) ⟧ ∗ X)
+  stays log e X none = let Z : Pr = ⟦ over (ended (log ++ e ∷ [])) ⟧ ∗ X in qed 𝓛 (‵ (over (ended log)) ∷ raw X ∷ []) ∵ rewrite ! 0 (λ (l : List ℕ). ‵ (over l)) (sym (same_ended log e none)) refl $ suffices ! _ (upd_i 𝓤 Z) $ done !
+
+  over_more : (xs : List ℕ) (b : ℕ) → ⟦ over xs ⟧ ∗ ⟦ fdead (b ∷ []) ⟧ ⊢ ⟦ over (xs ++ b ∷ []) ⟧
+  over_more [] b = qed 𝓛 (‵ ftrue ∷ ‵ (fdead (b ∷ [])) ∷ []) ∵ move ! (1 ∷ 0 ∷ []) $ fjoin ! $ done !
+  over_more (x ∷ xs) b = qed 𝓛 ((‵ (fdead (x ∷ [])) ⊛ ‵ (over xs)) ∷ ‵ (fdead (b ∷ [])) ∷ []) ∵ split ! $ move ! (1 ∷ 2 ∷ []) $ use2 𝓛 (‵ (over (xs ++ b ∷ []))) (over_more xs b) $ move ! (1 ∷ 0 ∷ []) $ fjoin ! $ done !
+
+  -- who leaves or refreshes has ended its activation before, and says so in the step
+  pub leaves : (log : List Entry) (e : Entry) (s : ℕ) → e.event ≡ SwapOut s → ⟦ over (ended log) ⟧ ∗ ⟦ fdead (life s log ∷ []) ⟧ ⊢ ⟦ over (ended (log ++ e ∷ [])) ⟧
+  leaves log e s is = qed 𝓛 (‵ (over (ended log)) ∷ ‵ (fdead (life s log ∷ [])) ∷ []) ∵ use2 𝓛 (‵ (over (ended log ++ life s log ∷ []))) (over_more (ended log) (life s log)) $
+      rewrite ! 0 (λ (l : List ℕ). ‵ (over l)) (sym (out_ended log e s is)) refl $ done !

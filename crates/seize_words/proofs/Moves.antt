@@ -1,0 +1,38 @@
+-- What a slot's key knows after an event that its holder added.
+use Rattle.std.proofs.Common.{◌≡◌, ℕ, List, [], ◌∷◌, ◌++◌, sym, ap, ◌∙◌}
+use Rattle.seize_machine.specs.Machine.State.{State, slot_at, head_at, is_active}
+use Rattle.seize_machine.specs.Machine.Next.{next}
+use Rattle.seize_machine.specs.declared.machine.event.Answer.{Answer}
+use Rattle.seize_words.specs.Entry.{Entry}
+use Rattle.seize_words.specs.Book.{after, IsLegalList, Does, TheSlot, Kept}
+use Rattle.seize_words.specs.Slots.{Moves, number_of, own_list}
+use Rattle.seize_words.specs.Tokens.{Name, start}
+use Rattle.seize_words.specs.declared.book.slot_key.SlotKey.{SlotKey}
+use Rattle.seize_words.proofs.Lists.{after_push}
+
+-- what a key knows, of the state that its list ends with
+now : {X : Type 0} (key key' : SlotKey) (n : Name) (e : Entry) (later : State) (log : List Entry) → key'.keys.name ≡ n → own_list key' ≡ log ++ e ∷ [] → after (start n) (log ++ e ∷ []) ≡ later
+    → number_of key' ≡ number_of key → (f : State → ℕ → X) → f (after (start key'.keys.name) (own_list key')) (number_of key') ≡ f later (number_of key)
+now key key' n e later log name own push number f =
+    ap (λ (m : Name). f (after (start m) (own_list key')) (number_of key')) name
+    ∙ ap (λ (l : List Entry). f (after (start n) l) (number_of key')) own
+    ∙ ap (λ (st : State). f st (number_of key')) push
+    ∙ ap (λ (j : ℕ). f later j) number
+
+in_book : {X : Type 0} {m n : Name} → m ≡ n → (log : List Entry) (f : State → X) → f (after (start m) log) ≡ f (after (start n) log)
+in_book e log f = ap (λ (z : Name). f (after (start z) log)) e
+
+-- where the slot had made no event since its key's list, and the key's list now ends with this one
+pub moves : (key key' : SlotKey) (n : Name) (e : Entry) (log : List Entry) (d : State × Answer) → key.keys.name ≡ n → key'.keys.name ≡ n → e.size ≡ n.size → IsLegalList (start n) log → Does (start n) log e d
+    → Kept (start n) TheSlot (number_of key) (own_list key) log → number_of key' ≡ number_of key → own_list key' ≡ log ++ e ∷ [] → Moves key key' log e.event
+moves key key' n e log d name name' size legal does kept number own =
+    let k = number_of key in let same = kept.1 in let push = after_push (start n) log e d legal does in
+    record {
+      later = d.0;
+      answer = d.1;
+      was = in_book name log (λ s. slot_at s k) ∙ sym same.1 ∙ sym (in_book name (own_list key) (λ s. slot_at s k));
+      was_active = in_book name log (λ s. is_active (head_at s k)) ∙ sym same.2 ∙ sym (in_book name (own_list key) (λ s. is_active (head_at s k)));
+      legal = ap (λ (m : Name). next m.size (after (start m) log) e.event) name ∙ ap (λ (s : ℕ). next s (after (start n) log) e.event) (sym size) ∙ does;
+      is = now key key' n e d.0 log name' own push number (λ s j. slot_at s j);
+      is_now_active = now key key' n e d.0 log name' own push number (λ s j. is_active (head_at s j));
+    }

@@ -1,0 +1,149 @@
+-- **The step of the book**: whoever has a pass, and the keys of all that an event touches, appends the event, whatever the list is by
+-- then. An event with no step of the code is an instance (`Notes`), and so is one inside an atomic step. Assumes `Logic`.
+use Rattle.std.proofs.Common.{◌≡◌, ℕ, true, ◌==◌, List, [], ◌∷◌, ◌++◌, refl, sym, ◌∙◌, ap, append-nil, arith}
+use mathlib.Core.List.{IsPrefix}
+use seplogic.Ra.Ura.{Ura}
+use base.Logic.{SProp, ent, sep, ex, guard, upd, upd_i}
+use base.Fml.{Fml, ftrue}
+use types.Logic.{Logic, sem}
+use types.Kit.{‵, raw, ◌⊛◌, some, given, ◌$◌, ◌∵◌, !, qed, move, drop, split, split3, join, fsplit, fjoin, fpick, fpack, pick, learn, show, check, suffices, settle, done, use2, use3}
+use denote.Steps.{nothing}
+use Rattle.seize_machine.specs.Machine.State.{State, linked, are_distinct}
+use Rattle.seize_words.specs.Ledger.{Held, reached, WithKinds, renewed, born, Known}
+use Rattle.seize_words.specs.Entry.{Entry, entry_coded}
+use Rattle.seize_words.specs.Book.{after, mine, rules, kinds}
+use Rattle.seize_words.specs.Fair.{Before, Fair, pass_key}
+use Rattle.seize_words.specs.Laws.{ended}
+use Rattle.seize_words.specs.Tokens.{Name, rows, start, keys_own, over, beside, inside, IsSole, gate_keeps, gate_gives, pass_at, pass_holds, Noted}
+use Rattle.seize_words.proofs.Append.{appends, Appended}
+use Rattle.seize_words.proofs.Goes.{goes, kept_now, births_of, births_below}
+use Rattle.seize_words.proofs.Gates.{agrees, follows}
+use Rattle.seize_words.proofs.Lists.{legal_push, selected_in}
+
+module _ {M : Type 1} {𝓤 : Ura M} (𝓛 : Logic 𝓤) (n : Name) where
+  abbrev Pr : Type 2
+  Pr = SProp 𝓤
+
+  abbrev ◌⊢◌ : Pr → Pr → Type 1
+  P ⊢ Q = ent 𝓤 P Q
+
+  abbrev ◌∗◌ : Pr → Pr → Pr
+  P ∗ Q = sep 𝓤 P Q
+
+  abbrev ⟦◌⟧ : Fml → Pr
+  ⟦ P ⟧ = sem 𝓛 P
+
+  infix 26 ◌⊢◌
+  infixr 35 ◌∗◌
+  abbrev J : Fml
+  J = inside n
+
+  abbrev st : State
+  st = start n
+
+  abbrev had : List Entry → Fml
+  had log = reached entry_coded n.log log
+
+  abbrev pub keys : List (Held Entry) → Fml
+  keys held = keys_own n held
+
+  -- the event is fair with the pass and these keys
+  abbrev pub MayMake : ℕ → List Entry → List (Held Entry) → (List Entry → Entry) → (List Entry → Type 0) → Type 0
+  MayMake p seen held ev Told = (own log : List Entry) → Before n p seen held log → Told log → Fair st (pass_key p own ∷ held) log (ev log) × ((ev log).pass ≡ p)
+
+  -- what its maker brings tells more of the list, beside what has ended; and it is traded
+  abbrev pub Tells : ℕ → List Entry → List (Held Entry) → (List Entry → Type 0) → Pr → Type 1
+  Tells p seen held Told X = (log : List Entry) → Before n p seen held log → ⟦ over (ended log) ⟧ ∗ X ⊢ guard 𝓤 (Told log) (⟦ over (ended log) ⟧ ∗ X)
+
+  abbrev pub Trades : ℕ → List Entry → List (Held Entry) → (List Entry → Entry) → (List Entry → Type 0) → Pr → (List Entry → Pr) → Type 1
+  Trades p seen held ev Told X Y = (log : List Entry) → Before n p seen held log → Told log
+      → ⟦ over (ended log) ⟧ ∗ X ⊢ upd 𝓤 (⟦ over (ended (log ++ ev log ∷ [])) ⟧ ∗ Y log)
+
+  -- what is had afterwards, where the list was `log` before
+  abbrev pub keys_after : List (Held Entry) → (List Entry → Entry) → List Entry → Fml
+  keys_after held ev log = keys (renewed held (log ++ ev log ∷ []) ++ born (births_of st ev log) (log ++ ev log ∷ []))
+
+  abbrev pub Made : ℕ → List Entry → List (Held Entry) → (List Entry → Entry) → (List Entry → Type 0) → List Entry → Type 0
+  Made p seen held ev Told log = (noted : Noted n p seen (log ++ ev log ∷ []) (ev log)) × (noted.before ≡ log) × Before n p seen held log × Told log
+
+  abbrev After : ℕ → List Entry → List (Held Entry) → (List Entry → Entry) → (List Entry → Type 0) → (List Entry → Pr) → List Entry → Pr
+  After p seen held ev Told Y log = guard 𝓤 (Made p seen held ev Told log) (⟦ J ⟧ ∗ ⟦ pass_holds n p (log ++ ev log ∷ []) ⟧ ∗ ⟦ keys_after held ev log ⟧ ∗ Y log)
+
+  abbrev pub IsDistinct : Type 0
+  IsDistinct = are_distinct (linked n.links) ≡ true
+
+  made_now : IsDistinct → (p : ℕ) (seen : List Entry) (held : List (Held Entry)) (ev : List Entry → Entry) (log own : List Entry) → Before n p seen held log → Fair st (pass_key p own ∷ held) log (ev log) × ((ev log).pass ≡ p)
+      → Noted n p seen (log ++ ev log ∷ []) (ev log)
+  made_now distinct p seen held ev log own before f =
+      let fair : Fair st (pass_key p own ∷ held) log (ev log) = f.0 in
+      record {
+        before = log;
+        appended = refl;
+        legal = legal_push st log (ev log) fair.done before.legal fair.legal;
+        grows = before.grows;
+        answer = fair.done.1;
+        made = selected_in (λ a. a.0.pass == p) st log (ev log) fair.done fair.legal (is p (ev log).pass f.1) ∙ ap (λ l. l ++ (ev log, fair.done.1) ∷ []) before.none_made;
+        alone = before.alone;
+        distinct = distinct;
+      }
+    where
+      is : (p q : ℕ) → q ≡ p → (q == p) ≡ true
+      is p q e = grind arith
+
+  module _ (p : ℕ) (seen : List Entry) (held : List (Held Entry)) (ev : List Entry → Entry) (Told : List Entry → Type 0) (X : Pr) (Y : List Entry → Pr) where
+    module _ (own : List Entry) (past : IsPrefix own seen × (mine st p own ≡ mine st p seen)) where
+      abbrev all : List (Held Entry)
+      all = pass_key p own ∷ held
+
+      abbrev ToldAll : List Entry → Type 0
+      ToldAll log = (IsSole n.gate → log ≡ seen) × Told log
+
+      abbrev keeps : List Entry → Fml
+      keeps log = gate_keeps n.gate log
+
+      abbrev gives : List Entry → Fml
+      gives log = gate_gives n.gate log
+
+      abbrev now : List Entry → List Entry
+      now log = log ++ ev log ∷ []
+
+      before : (log : List Entry) → Known (rules st) all seen log → (IsSole n.gate → log ≡ seen) → Before n p seen held log
+      before log known alone = record { legal = known.0; grows = known.1; none_made = sym known.2.0.1 ∙ past.1; kept = known.2.1; alone = alone }
+
+      tells_all : Tells p seen held Told X → (log : List Entry) → Known (rules st) all seen log → ⟦ beside n log ⟧ ∗ (⟦ gives seen ⟧ ∗ X) ⊢ guard 𝓤 (ToldAll log) (⟦ beside n log ⟧ ∗ (⟦ gives seen ⟧ ∗ X))
+      tells_all tells log known = qed 𝓛 (‵ (beside n log) ∷ (‵ (gives seen) ⊛ raw X) ∷ []) ∵ fsplit ! $ move ! (2 ∷ []) $ split ! $
+          -- [the pass's copy; X; what has ended; the book's copy]
+          move ! (3 ∷ 0 ∷ []) $ use2 𝓛 (given (IsSole n.gate → log ≡ seen) (‵ (keeps log) ⊛ ‵ (gives seen))) (agrees 𝓛 n.gate log seen) $ learn ! (λ alone. split ! $
+          -- [the book's copy; the pass's; X; what has ended]
+          move ! (3 ∷ 2 ∷ []) $ use2 𝓛 (given (Told log) (‵ (over (ended log)) ⊛ raw X)) (tells log (before log known alone)) $ learn ! (λ told. split ! $
+          check ! (alone, told) $ move ! (0 ∷ 2 ∷ []) $ fjoin ! $ move ! (2 ∷ 1 ∷ []) $ join ! $ move ! (1 ∷ []) $ done !))
+
+      trades_all : Trades p seen held ev Told X Y → (log : List Entry) → Known (rules st) all seen log → ToldAll log → ⟦ beside n log ⟧ ∗ (⟦ gives seen ⟧ ∗ X) ⊢ upd 𝓤 (⟦ beside n (now log) ⟧ ∗ (⟦ gives (now log) ⟧ ∗ Y log))
+      trades_all trades log known told = let Z : Pr = ⟦ beside n (now log) ⟧ ∗ (⟦ gives (now log) ⟧ ∗ Y log) in
+          qed 𝓛 (‵ (beside n log) ∷ (‵ (gives seen) ⊛ raw X) ∷ []) ∵ fsplit ! $ move ! (2 ∷ []) $ split ! $ move ! (3 ∷ 0 ∷ []) $
+          use2 𝓛 (raw (upd 𝓤 (⟦ keeps (now log) ⟧ ∗ ⟦ gives (now log) ⟧))) (follows 𝓛 n.gate log seen (now log) (ev log ∷ [], refl) told.0) $ settle 𝓛 Z (‵ (keeps (now log)) ⊛ ‵ (gives (now log))) $ split ! $
+          move ! (3 ∷ 2 ∷ []) $ use2 𝓛 (raw (upd 𝓤 (⟦ over (ended (now log)) ⟧ ∗ Y log))) (trades log (before log known told.0) told.1) $ settle 𝓛 Z (‵ (over (ended (now log))) ⊛ raw (Y log)) $ split ! $
+          suffices ! _ (upd_i 𝓤 Z) $ move ! (0 ∷ 2 ∷ []) $ fjoin ! $ move ! (2 ∷ 1 ∷ []) $ join ! $ move ! (1 ∷ []) $ done !
+
+    pub by_pass : IsDistinct → WithKinds kinds held → MayMake p seen held ev Told → Tells p seen held Told X → Trades p seen held ev Told X Y
+        → ⟦ J ⟧ ∗ ⟦ pass_holds n p seen ⟧ ∗ ⟦ keys held ⟧ ∗ X ⊢ upd 𝓤 (ex 𝓤 (After p seen held ev Told Y))
+    unfolding made_now
+    by_pass distinct within may tells trades = let Z : Pr = ex 𝓤 (After p seen held ev Told Y) in qed 𝓛 (‵ J ∷ ‵ (pass_holds n p seen) ∷ ‵ (keys held) ∷ raw X ∷ []) ∵
+        move ! (1 ∷ []) $ fpick ! (λ own. fsplit ! $ move ! (1 ∷ []) $ fsplit ! $ move ! (1 ∷ []) $ fsplit ! $ move ! (1 ∷ []) $ fpick ! (λ past. drop ! $
+        -- [its copy of the list; what it has seen; its key; J; the keys; X]
+        move ! (2 ∷ 4 ∷ []) $ fjoin ! $ move ! (1 ∷ 4 ∷ []) $ join ! $ move ! (2 ∷ 0 ∷ []) $ join ! $ move ! (2 ∷ 1 ∷ 0 ∷ []) $
+        use3 𝓛 (raw (upd 𝓤 (ex 𝓤 (Appended entry_coded (rules st) (beside n) n.log (rows n) 𝓛 (all own past) seen ev (births_of st ev) (ToldAll own past) (λ log. ⟦ gives own past (now own past log) ⟧ ∗ Y log)))))
+        (appends entry_coded (rules st) (beside n) n.log (rows n) 𝓛 (all own past) seen ev (births_of st ev) (ToldAll own past) (⟦ gives own past seen ⟧ ∗ X) (λ log. ⟦ gives own past (now own past log) ⟧ ∗ Y log)
+        (omega arith, within) (λ log. births_below (after st log) (ev log).event) (kept_now st)
+        (goes st (all own past) seen ev (ToldAll own past) (λ log known told. (may own log (before own past log known told.0) told.1).0)) (tells_all own past tells) (trades_all own past trades)) $
+        settle 𝓛 Z (some (λ (log : List Entry). given (Known (rules st) (all own past) seen log × ToldAll own past log)
+        (‵ J ⊛ ‵ (keys (renewed (all own past) (now own past log) ++ born (births_of st ev log) (now own past log))) ⊛ ‵ (had (now own past log)) ⊛ (‵ (gives own past (now own past log)) ⊛ raw (Y log))))) $
+        suffices ! _ (upd_i 𝓤 Z) $ pick ! (λ log. learn ! (λ known. let log' : List Entry = now own past log in let b = before own past log known.0 known.1.0 in
+        split ! $ move ! (1 ∷ []) $ split3 ! $
+        -- [the keys; what was reached; its copy and Y; J]
+        move ! (2 ∷ []) $ split ! $ move ! (2 ∷ []) $ fsplit ! $
+        -- [the pass's key; the keys; its copy; Y; what was reached; J]
+        nothing ! $ fpack ! (IsPrefix log' log' × (mine st p log' ≡ mine st p log')) (λ _. ftrue) (([], append-nil log'), refl) $
+        move ! (3 ∷ 0 ∷ []) $ fjoin ! $ move ! (4 ∷ 0 ∷ []) $ fjoin ! $ move ! (1 ∷ 0 ∷ []) $ fjoin ! $ fpack ! (List Entry) (pass_at n p log') log' $
+        -- [the pass; the keys; Y; J]
+        show ! (After p seen held ev Told Y) log $ check ! (made_now distinct p seen held ev log own b (may own log b known.1.1), refl, b, known.1.1) $ move ! (3 ∷ 0 ∷ 1 ∷ []) $ done !))))

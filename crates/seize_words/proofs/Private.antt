@@ -1,0 +1,117 @@
+-- Events that change nothing but a slot's own record: its key is enough.
+use Rattle.std.proofs.Common.{◌≡◌, ℕ, zero, suc, ◌<◌, true, false, ◌==◌, List, [], ◌∷◌, ◌++◌, Option, Some, is_some, refl, sym, ◌∙◌, ap, subst, ⊎_elim, arith}
+use Rattle.std.specs.Prelude.{take, drop}
+use Rattle.seize_machine.specs.Machine.State.{State, slot_at, head_at, is_active}
+use Rattle.seize_machine.specs.Machine.Event.{Event, slot_of}
+use Rattle.seize_machine.specs.Machine.Next.{next}
+use Rattle.seize_machine.specs.Machine.Frames.{changes_slot}
+use Rattle.seize_machine.specs.declared.machine.event.Answer.{Answer}
+use Rattle.seize_machine.proofs.Facts.{is_true, eq_true}
+use Rattle.seize_words.specs.Ledger.{Held, AllKept, renewed, born}
+use Rattle.seize_words.specs.Entry.{Entry}
+use Rattle.seize_words.specs.Book.{after, TheSlot, Kept, rules, slots}
+use Rattle.seize_words.specs.Fair.{Before, Covers, Fair, EndsNone, MayAdd, pass_key}
+use Rattle.seize_words.specs.Private.{IsOwn, IsOpen, is_one, key_of, own_of}
+use Rattle.seize_words.specs.Tokens.{Name, start}
+
+-- the one key there is
+abbrev pub only : ℕ → List (Held Entry) → List (Held Entry)
+only r held = record { kind = r; key = key_of held; own = own_of held } ∷ []
+
+pub only_is : (r : ℕ) (held : List (Held Entry)) → is_one r held ≡ true → held ≡ only r held
+only_is r [] h = absurd (cc)
+only_is r (x ∷ y ∷ held) h = absurd (cc)
+only_is r (x ∷ []) h = ap (λ (k : ℕ). record { kind = k; key = x.key; own = x.own } ∷ []) (eq_true x.kind r h)
+
+-- the key after an event that it made
+pub one_after : (r : ℕ) (held : List (Held Entry)) (births : List (ℕ × ℕ)) (seen : List Entry) → is_one r held ≡ true
+    → (key_of (renewed held seen ++ born births seen) ≡ key_of held) × (own_of (renewed held seen ++ born births seen) ≡ seen)
+one_after r [] births seen h = absurd (cc)
+one_after r (x ∷ y ∷ held) births seen h = absurd (cc)
+one_after r (x ∷ []) births seen h = (refl, refl)
+
+-- the key and those that the event made
+pub one_and_born : (r : ℕ) (held : List (Held Entry)) (births : List (ℕ × ℕ)) (seen : List Entry) → is_one r held ≡ true
+    → (key_of (take 1 (renewed held seen ++ born births seen)) ≡ key_of held) × (own_of (take 1 (renewed held seen ++ born births seen)) ≡ seen) × (drop 1 (renewed held seen ++ born births seen) ≡ born births seen)
+one_and_born r [] births seen h = absurd (cc)
+one_and_born r (x ∷ y ∷ held) births seen h = absurd (cc)
+one_and_born r (x ∷ []) births seen h = (refl, refl, refl)
+
+pub still_one : (r : ℕ) (held : List (Held Entry)) (seen : List Entry) → is_one r held ≡ true → is_one r (renewed held seen ++ born [] seen) ≡ true
+still_one r [] seen h = absurd (cc)
+still_one r (x ∷ y ∷ held) seen h = absurd (cc)
+still_one r (x ∷ []) seen h = h
+
+-- what it knew just before
+pub one_kept : (st : State) (held : List (Held Entry)) (log : List Entry) → is_one slots held ≡ true → AllKept (rules st) held log → Kept st TheSlot (key_of held) (own_of held) log
+one_kept st held log h kept = (subst (λ (hs : List (Held Entry)). AllKept (rules st) hs log) (only_is slots held h) kept).0
+
+pub differ : (a k : ℕ) → ¬ (k ≡ a) → (a == k) ≡ false
+differ a k n = ⊎_elim (λ e. absurd (n (sym (eq_true a k e)))) (λ e. e) (is_true (a == k))
+
+-- an event of another slot
+pub of_other : (event : Event) (k : ℕ) → (slot_of event == k) ≡ false → changes_slot k event ≡ false
+of_other (Event.ReadLink s l) k h = refl
+of_other (Event.ExchangeLink s l exchange) k h = refl
+of_other _ k h = h
+
+covers : (st : State) (log : List Entry) (e : Entry) (p s : ℕ) (mine own : List Entry) → e.pass ≡ p → IsOwn s e.event
+    → Covers st (pass_key p mine ∷ record { kind = slots; key = s; own = own } ∷ []) log e
+covers st log e p s mine own pe private zero k b there = differ e.pass k (λ i. b.0 (refl, i ∙ pe))
+covers st log e p s mine own pe private (suc zero) k b there = private.1
+covers st log e p s mine own pe private (suc (suc zero)) k b there = of_other e.event k (differ (slot_of e.event) k (λ i. b.1.0 (refl, i ∙ private.0)))
+covers st log e p s mine own pe private (suc (suc (suc zero))) k b there = (private.2 k).0
+covers st log e p s mine own pe private (suc (suc (suc (suc zero)))) k b there = (private.2 k).1
+covers st log e p s mine own pe private (suc (suc (suc (suc (suc zero))))) k b there = (private.3 (after st log) k).0
+covers st log e p s mine own pe private (suc (suc (suc (suc (suc (suc zero)))))) k b there = (private.3 (after st log) k).1
+covers st log e p s mine own pe private (suc (suc (suc (suc (suc (suc (suc r))))))) k b there = refl
+
+ends_none : (s : ℕ) (event : Event) → IsOwn s event → EndsNone event
+ends_none s (Event.SwapOut t) private lives = absurd (let x : (t == t) ≡ false = (private.2 t).0 in grind arith)
+ends_none s _ private lives = refl
+
+does : (size : ℕ) (st : State) (event : Event) → is_some (next size st event) ≡ true → (d : State × Answer) × (next size st event ≡ Some d)
+does size st event h = go (next size st event) refl h
+  where
+    go : (o : Option (State × Answer)) → next size st event ≡ o → is_some o ≡ true → (d : State × Answer) × (next size st event ≡ Some d)
+    go Option.None e n = absurd (cc)
+    go (Some d) e n = (d, e)
+
+pub may_add : (n : Name) (p : ℕ) (seen : List Entry) (held : List (Held Entry)) (e : Entry) → is_one slots held ≡ true → e.pass ≡ p → IsOwn (key_of held) e.event
+    → IsOpen (slot_at (after (start n) (own_of held)) (key_of held)) (is_active (head_at (after (start n) (own_of held)) (key_of held))) (key_of held) e.size e.event
+    → MayAdd n p seen held e
+may_add n p seen held e one pe private open_ = subst (λ (hs : List (Held Entry)). MayAdd n p seen hs e) (sym (only_is slots held one)) ((omega arith, tt), ends_none (key_of held) e.event private, fair)
+  where
+    fair : (own log : List Entry) → Before n p seen (only slots held) log → Fair (start n) (pass_key p own ∷ only slots held) log e
+    fair mine log before =
+        let k = before.kept.0.1 in let d = does e.size (after (start n) log) e.event (open_ (after (start n) log) (sym k.1) (sym k.2)) in
+        record {
+          done = d.0;
+          legal = d.1;
+          covers = covers (start n) log e p (key_of held) mine (own_of held) pe private;
+          names = λ many was there. (subst (λ (z : ℕ). z < many 0) (sym pe) there.0, λ v le. (private.3 (after (start n) log) v).1);
+        }
+
+-- Two keys, the first a slot's.
+
+abbrev pub both_after : List (Held Entry) → List (Held Entry) → List Entry → List (Held Entry)
+both_after a b seen = renewed (a ++ b) seen ++ born [] seen
+
+pub record TwoAfter (a b : List (Held Entry)) (r : ℕ) (seen : List Entry) : Type 0 where
+  pub first_key : key_of (take 1 (both_after a b seen)) ≡ key_of a
+  pub first_own : own_of (take 1 (both_after a b seen)) ≡ seen
+  pub first_one : is_one slots (take 1 (both_after a b seen)) ≡ true
+  pub second_key : key_of (drop 1 (both_after a b seen)) ≡ key_of b
+  pub second_own : own_of (drop 1 (both_after a b seen)) ≡ seen
+  pub second_kind : (q : ℕ) → is_one q b ≡ true → is_one q (drop 1 (both_after a b seen)) ≡ true
+
+pub two_after : (a b : List (Held Entry)) (r : ℕ) (seen : List Entry) → is_one slots a ≡ true → is_one r b ≡ true → TwoAfter a b r seen
+two_after [] b r seen h k = absurd (cc)
+two_after (x ∷ y ∷ a) b r seen h k = absurd (cc)
+two_after (x ∷ []) [] r seen h k = absurd (cc)
+two_after (x ∷ []) (y ∷ z ∷ b) r seen h k = absurd (cc)
+two_after (x ∷ []) (y ∷ []) r seen h k =
+    record { first_key = refl; first_own = refl; first_one = h; second_key = refl; second_own = refl; second_kind = λ q is. is }
+
+pub two_kept : (st : State) (a b : List (Held Entry)) (log : List Entry) → is_one slots a ≡ true → AllKept (rules st) (a ++ b) log → Kept st TheSlot (key_of a) (own_of a) log
+two_kept st a b log h kept = (subst (λ (hs : List (Held Entry)). AllKept (rules st) (hs ++ b) log) (only_is slots a h) kept).0

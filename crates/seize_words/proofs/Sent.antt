@@ -1,0 +1,48 @@
+-- What the tokens own may go to another thread.
+use Rattle.std.proofs.Common.{ℕ, suc, List, [], ◌∷◌}
+use base.Growing.{latest, at_least}
+use base.Shift.{Keyless}
+use types.Keyed.{entry_keyless, entries_keyless}
+use Rattle.seize_words.specs.Ledger.{Held, halved, roster, rosters, first, rest}
+use Rattle.seize_words.specs.Entry.{Entry, entry_coded}
+use Rattle.seize_words.specs.Laws.{ended}
+use Rattle.seize_words.specs.Tokens.{Name, rows, inside, over, Gate, many, sole, gate_keeps, gate_gives, keys_own, pass_owns}
+use Rattle.seize_words.specs.Begin.{book_owns}
+
+roster_keyless : (δ k : ℕ) (owns : List (List Entry)) → Keyless (roster entry_coded δ k owns)
+roster_keyless δ k [] = entries_keyless (halved entry_coded) δ k _
+roster_keyless δ k (o ∷ owns) = (entry_keyless (halved entry_coded) δ k _, roster_keyless δ (suc k) owns)
+
+rosters_keyless : (δs : List ℕ) (rows : List (List (List Entry))) → Keyless (rosters entry_coded δs rows)
+rosters_keyless [] rows = tt
+rosters_keyless (δ ∷ δs) rows = (roster_keyless δ 0 (first rows), rosters_keyless δs (rest rows))
+
+over_keyless : (lives : List ℕ) → Keyless (over lives)
+over_keyless [] = tt
+over_keyless (a ∷ lives) = (tt, over_keyless lives)
+
+keeps_keyless : (g : Gate) (log : List Entry) → Keyless (gate_keeps g log)
+unfolding latest
+keeps_keyless many log = tt
+keeps_keyless (sole η) log = tt
+
+gives_keyless : (g : Gate) (seen : List Entry) → Keyless (gate_gives g seen)
+unfolding latest
+gives_keyless many seen = tt
+gives_keyless (sole η) seen = tt
+
+inside_keyless : (n : Name) → Keyless (inside n)
+unfolding latest
+inside_keyless n = λ s. (rosters_keyless (rows n) s.0, (tt, ((over_keyless (ended s.1), keeps_keyless n.gate s.1), (λ _. tt))))
+
+pub book_keyless : (n : Name) → Keyless (book_owns n)
+unfolding at_least
+book_keyless n = ((inside_keyless n, λ _. tt), tt)
+
+pub pass_keyless : (n : Name) (p : ℕ) (seen : List Entry) → Keyless (pass_owns n p seen)
+unfolding at_least
+pass_keyless n p seen = ((inside_keyless n, λ _. tt), λ own. (entry_keyless (halved entry_coded) _ p _, (tt, (gives_keyless n.gate seen, λ _. tt))))
+
+pub keys_keyless : (n : Name) (held : List (Held Entry)) → Keyless (keys_own n held)
+keys_keyless n [] = tt
+keys_keyless n (h ∷ held) = (entry_keyless (halved entry_coded) _ h.key _, keys_keyless n held)

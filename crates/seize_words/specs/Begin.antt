@@ -1,0 +1,29 @@
+-- How a book begins.
+--     BeganWith n links size   its opening has no slot and so many links, which are empty; the batch size at each event is this
+--     first_keys many          with so many links, the keys that there are then but for passes: the numbers' and one of each link
+--     book_owns n              what the token of a book owns
+use Rattle.std.specs.Prelude.{◌≡◌, ℕ, zero, suc, List, [], ◌∷◌, replicate, None}
+use base.Fml.{Fml, fsep}
+use Rattle.seize_words.specs.Ledger.{Held, reached}
+use Rattle.seize_words.specs.Entry.{Entry, entry_coded}
+use Rattle.seize_words.specs.Book.{numbers, links}
+use Rattle.seize_words.specs.Tokens.{Name, knows}
+
+abbrev pub BeganWith : Name → ℕ → ℕ → Type 0
+BeganWith n links size = (n.slots ≡ 0) × (n.links ≡ replicate links None) × (n.size ≡ size)
+
+-- nothing was ever added by its holder
+abbrev pub unused : ℕ → ℕ → Held Entry
+unused kind key = record { kind = kind; key = key; own = [] }
+
+-- those of so many links, from this one on
+abbrev pub first_links : ℕ → ℕ → List (Held Entry)
+first_links l zero = []
+first_links l (suc many) = unused links l ∷ first_links (suc l) many
+
+abbrev pub first_keys : ℕ → List (Held Entry)
+first_keys many = unused numbers 0 ∷ first_links 0 many
+
+-- It lasts for good, and may be had twice. New passes and keys ask for a beginning of the list, and the empty one does.
+abbrev pub book_owns : Name → Fml
+book_owns n = fsep (knows n) (reached entry_coded n.log [])

@@ -1,0 +1,149 @@
+-- The book: the list of the machine's events that threads share, from an opening on, and what the holder of a key knows of it.
+--     after st log        the machine after the list, which began at st
+--     IsLegalList st log  each event is legal, after those before it
+--     Does st log e d     after the list, the event is legal and does this
+--     answered st log     the entries with their answers, in order
+--     mine st p log       those made with pass p;  by_slot st s log   those of slot s, but for its events on links
+--     Same st kind k a b  lists a and b say the same of key k
+--     touches st e kind k the event may change what the list says of it
+--     rules st            the rules of the list
+use Rattle.std.specs.Prelude.{◌≡◌, ℕ, zero, suc, ◌≤◌, Bool, true, false, ◌==◌, List, [], ◌∷◌, length, Some, if◌then◌else◌}
+use Rattle.std.specs.List.{filter}
+use mathlib.Core.List.{IsPrefix}
+use Rattle.seize_machine.specs.Machine.State.{State, slot_at, head_at, link_at, batch_at, is_active, has}
+use Rattle.seize_machine.specs.Machine.Event.{Event, Take, Detach}
+use Rattle.seize_machine.specs.Machine.Next.{next}
+use Rattle.seize_machine.specs.Machine.History.{Moment, done_by, history, end_of, are_legal}
+use Rattle.seize_machine.specs.Machine.Frames.{changes_slot, used, changes_used, changes_head_of, changes_link, changes_batch, changes_value}
+use Rattle.seize_machine.specs.declared.machine.event.Answer.{Answer}
+use Rattle.seize_words.specs.Ledger.{Rules}
+use Rattle.seize_words.specs.Entry.{Entry, timed, events_of}
+
+abbrev pub moments : State → List Entry → List Moment
+moments st log = history next st (events_of log)
+
+abbrev pub after : State → List Entry → State
+after st log = end_of st (moments st log)
+
+abbrev pub IsLegalList : State → List Entry → Type 0
+IsLegalList st log = are_legal (moments st log) ≡ true
+
+-- what a legal event does after the list
+abbrev pub Does : State → List Entry → Entry → State × Answer → Type 0
+Does st log e d = next e.size (after st log) e.event ≡ Some d
+
+abbrev pub answered : State → List Entry → List (Entry × Answer)
+answered st [] = []
+answered st (e ∷ log) = let done = done_by next st (timed e) in (e, done.1) ∷ answered done.0 log
+
+abbrev pub mine : State → ℕ → List Entry → List (Entry × Answer)
+mine st p log = filter (λ a. a.0.pass == p) (answered st log)
+
+abbrev pub by_slot : State → ℕ → List Entry → List (Entry × Answer)
+by_slot st s log = filter (λ a. changes_slot s a.0.event) (answered st log)
+
+-- The kinds of keys. There is one key of the numbers; of the others, one for each pass, slot made, head, link, retired batch and
+-- value that may be named.
+pub data Kind : Type 0 where
+  ThePass : Kind
+  TheNumbers : Kind
+  TheSlot : Kind
+  TheHead : Kind
+  TheLink : Kind
+  TheBatch : Kind
+  TheValue : Kind
+  Nothing : Kind
+
+abbrev pub passes : ℕ
+passes = 0
+
+abbrev pub numbers : ℕ
+numbers = 1
+
+abbrev pub slots : ℕ
+slots = 2
+
+abbrev pub heads : ℕ
+heads = 3
+
+abbrev pub links : ℕ
+links = 4
+
+abbrev pub batches : ℕ
+batches = 5
+
+abbrev pub values : ℕ
+values = 6
+
+abbrev pub kinds : ℕ
+kinds = 7
+
+abbrev pub kind_of : ℕ → Kind
+kind_of zero = ThePass
+kind_of (suc zero) = TheNumbers
+kind_of (suc (suc zero)) = TheSlot
+kind_of (suc (suc (suc zero))) = TheHead
+kind_of (suc (suc (suc (suc zero)))) = TheLink
+kind_of (suc (suc (suc (suc (suc zero))))) = TheBatch
+kind_of (suc (suc (suc (suc (suc (suc zero)))))) = TheValue
+kind_of _ = Nothing
+
+-- what the list says of a key: of a pass what was made with it, of a value whether it was ever named and whether it is between a link
+-- and its retirement
+abbrev pub Same : State → Kind → ℕ → List Entry → List Entry → Type 0
+Same st ThePass p a b = mine st p a ≡ mine st p b
+Same st TheNumbers k a b = used (after st a) ≡ used (after st b)
+Same st TheSlot s a b =
+    (by_slot st s a ≡ by_slot st s b)
+    × (slot_at (after st a) s ≡ slot_at (after st b) s)
+    × (is_active (head_at (after st a) s) ≡ is_active (head_at (after st b) s))
+Same st TheHead m a b = head_at (after st a) m ≡ head_at (after st b) m
+Same st TheLink l a b = link_at (after st a) l ≡ link_at (after st b) l
+Same st TheBatch k a b = batch_at (after st a) k ≡ batch_at (after st b) k
+Same st TheValue v a b = (has v (after st a).named ≡ has v (after st b).named) × (has v (after st a).loose ≡ has v (after st b).loose)
+Same st Nothing k a b = Unit {0}
+
+-- what the holder of a key knows, who last appended when the list was `own`
+abbrev pub Kept : State → Kind → ℕ → List Entry → List Entry → Type 0
+Kept st kind k own log = IsPrefix own log × Same st kind k own log
+
+abbrev pub touches : State → Entry → Kind → ℕ → Bool
+touches st e ThePass p = e.pass == p
+touches st e TheNumbers k = changes_used e.event
+touches st e TheSlot s = changes_slot s e.event
+touches st e TheHead m = changes_head_of m e.event
+touches st e TheLink l = changes_link l e.event
+touches st e TheBatch k = changes_batch st k e.event
+touches st e TheValue v = changes_value st v e.event
+touches st e Nothing k = false
+
+-- how many keys of a kind there are: of passes more than made an event, of values more than were named
+abbrev pub Sized : State → Kind → ℕ → List Entry → Type 0
+Sized st ThePass n log = (p : ℕ) → n ≤ p → mine st p log ≡ []
+Sized st TheNumbers n log = n ≡ 1
+Sized st TheSlot n log = n ≡ length (after st log).slots
+Sized st TheHead n log = n ≡ length (after st log).slots
+Sized st TheLink n log = n ≡ length (after st log).links
+Sized st TheBatch n log = n ≡ length (after st log).batches
+Sized st TheValue n log = (v : ℕ) → n ≤ v → has v (after st log).named ≡ false
+Sized st Nothing n log = Unit {0}
+
+abbrev pub rules : State → Rules Entry
+rules st = record {
+  Legal = λ log. IsLegalList st log;
+  Kept = λ r. Kept st (kind_of r);
+  Sized = λ r. Sized st (kind_of r);
+}
+
+-- The keys that an event makes, by kind and number: a new slot's and its head's, and a detached batch's.
+
+abbrev pub of_new_slot : State → List (ℕ × ℕ)
+of_new_slot st = (slots, length st.slots) ∷ (heads, length st.slots) ∷ []
+
+abbrev pub of_new_batch : State → List (ℕ × ℕ)
+of_new_batch st = (batches, length st.batches) ∷ []
+
+abbrev pub births : State → Event → List (ℕ × ℕ)
+births st (Take s) = if s == length st.slots then of_new_slot st else []
+births st (Detach s) = of_new_batch st
+births st _ = []

@@ -1,0 +1,73 @@
+-- One event in the list that threads share, and a code for it.
+use Rattle.std.specs.Prelude.{◌≡◌, ℕ, List, ◌⊎◌, map}
+use Rattle.std.specs.Coded.{Coded, code_by, coded_ℕ, coded_list, coded×, coded⊎}
+use mathlib.Core.Path.{refl}
+use mathlib.Core.Logic.{inl, inr}
+use Rattle.seize_machine.specs.Machine.Event.{Event, Take, Give, Enter, Begin, Put, ReadHead, Detach, Insert, AddCount, SwapOut, SubCount, Hand, Return, ReadLink, ExchangeLink}
+use Rattle.seize_machine.specs.Machine.Code.{event_of}
+use Rattle.seize_machine.specs.Machine.History.{Timed}
+use Rattle.seize_machine.specs.declared.machine.event.Event.{Event as Written}
+use Rattle.seize_machine.specs.declared.machine.event.Event.TheVariants.{Take as WTake, Give as WGive, Enter as WEnter, Begin as WBegin, Put as WPut, ReadHead as WReadHead, Detach as WDetach, Insert as WInsert, AddCount as WAddCount, SwapOut as WSwapOut, SubCount as WSubCount, Return as WReturn, ReadLink as WReadLink, ExchangeLink as WExchangeLink}
+use Rattle.seize_machine.specs.contracts.machine.event.Event.{the_row}
+
+-- an event with the size at it, the pass that it was made with, and, where it begins an activation, the lifetime of that
+pub record Entry : Type 0 where
+  pub pass : ℕ
+  pub size : ℕ
+  pub event : Event
+  pub life : ℕ
+
+abbrev pub timed : Entry → Timed
+timed e = record { size = e.size; event = e.event }
+
+abbrev pub events_of : List Entry → List Timed
+events_of log = map timed log
+
+-- The code: that of the event as programs write it, but for a Hand, whose list programs have elsewhere.
+
+abbrev pub written : Event → Written ⊎ (ℕ × List ℕ)
+written (Take s) = inl (WTake s)
+written (Give s) = inl (WGive s)
+written (Enter s) = inl (WEnter s)
+written (Begin s job) = inl (WBegin s job)
+written (Put s) = inl (WPut s)
+written (ReadHead s n) = inl (WReadHead s n)
+written (Detach s) = inl (WDetach s)
+written (Insert s m ends) = inl (WInsert s m ends)
+written (AddCount s) = inl (WAddCount s)
+written (SwapOut s) = inl (WSwapOut s)
+written (SubCount s) = inl (WSubCount s)
+written (Hand s puts) = inr (s, puts)
+written (Return s) = inl (WReturn s)
+written (ReadLink s l) = inl (WReadLink s l)
+written (ExchangeLink s l exchange) = inl (WExchangeLink s l exchange)
+
+abbrev pub read_back : Written ⊎ (ℕ × List ℕ) → Event
+read_back (inl event) = event_of event
+read_back (inr hand) = Hand hand.0 hand.1
+
+pub back : (event : Event) → read_back (written event) ≡ event
+back (Take s) = refl
+back (Give s) = refl
+back (Enter s) = refl
+back (Begin s job) = refl
+back (Put s) = refl
+back (ReadHead s n) = refl
+back (Detach s) = refl
+back (Insert s m ends) = refl
+back (AddCount s) = refl
+back (SwapOut s) = refl
+back (SubCount s) = refl
+back (Hand s puts) = refl
+back (Return s) = refl
+back (ReadLink s l) = refl
+back (ExchangeLink s l exchange) = refl
+
+abbrev pub event_coded : Coded Event
+event_coded = code_by (Written ⊎ (ℕ × List ℕ)) (coded⊎ the_row.coded (coded× coded_ℕ (coded_list coded_ℕ))) written read_back back
+
+abbrev pub entry_coded : Coded Entry
+entry_coded = code_by (ℕ × (ℕ × (ℕ × Event))) (coded× coded_ℕ (coded× coded_ℕ (coded× coded_ℕ event_coded)))
+    (λ e. (e.pass, (e.size, (e.life, e.event))))
+    (λ t. record { pass = t.0; size = t.1.0; event = t.1.1.1; life = t.1.1.0 })
+    (λ _. refl)

@@ -1,0 +1,55 @@
+-- What an event has to be, so that the holder of a pass and of some keys may add it.
+--     Before n p seen held log   what is known of the list just before the event
+--     Fair st held log e         the event is legal then; the keys that it touches are held, and it names no others
+--     MayAdd n p seen held e     it is fair whatever the list is by then, and it ends no activation
+--     Added n p seen seen' held held' e     it was added: see Noted; the keys know of it, and its own keys were made
+use Rattle.std.specs.Prelude.{◌≡◌, ℕ, ◌<◌, ◌≤◌, false, List, [], ◌∷◌, ◌++◌}
+use mathlib.Core.List.{IsPrefix}
+use Rattle.seize_machine.specs.Machine.State.{State}
+use Rattle.seize_machine.specs.Machine.Event.{Event}
+use Rattle.seize_machine.specs.Machine.Frames.{changes_value}
+use Rattle.seize_machine.specs.declared.machine.event.Answer.{Answer}
+use Rattle.seize_words.specs.Ledger.{Held, Beside, IsThere, AllThere, AllKept, WithKinds, renewed, born}
+use Rattle.seize_words.specs.Entry.{Entry}
+use Rattle.seize_words.specs.Book.{after, IsLegalList, Does, mine, kind_of, touches, Sized, rules, births, passes, values, kinds}
+use Rattle.seize_words.specs.Laws.{ended_by}
+use Rattle.seize_words.specs.Tokens.{Name, start, IsSole, Noted}
+
+abbrev pub pass_key : ℕ → List Entry → Held Entry
+pass_key p own = record { kind = passes; key = p; own = own }
+
+pub record Before (n : Name) (p : ℕ) (seen : List Entry) (held : List (Held Entry)) (log : List Entry) : Type 0 where
+  pub legal : IsLegalList (start n) log
+  pub grows : IsPrefix seen log
+  pub none_made : mine (start n) p log ≡ mine (start n) p seen
+  pub kept : AllKept (rules (start n)) held log
+  pub alone : IsSole n.gate → log ≡ seen
+
+abbrev pub Covers : State → List (Held Entry) → List Entry → Entry → Type 0
+Covers st held log e = (r k : ℕ) → Beside held r k → IsThere (rules st) r k log → touches (after st log) e (kind_of r) k ≡ false
+
+-- the event is made with a pass whose key is there, and of values it names none but those whose keys are
+abbrev pub NamesHeld : State → List (Held Entry) → List Entry → Entry → Type 0
+NamesHeld st held log e = (many : ℕ → ℕ) → ((r : ℕ) → Sized st (kind_of r) (many r) log) → AllThere many held
+    → (e.pass < many passes) × ((v : ℕ) → many values ≤ v → changes_value (after st log) v e.event ≡ false)
+
+pub record Fair (st : State) (held : List (Held Entry)) (log : List Entry) (e : Entry) : Type 0 where
+  pub done : State × Answer
+  pub legal : Does st log e done
+  pub covers : Covers st held log e
+  pub names : NamesHeld st held log e
+
+abbrev pub EndsNone : Event → Type 0
+EndsNone event = (lives : ℕ → ℕ) → ended_by lives event ≡ []
+
+abbrev pub MayAdd : Name → ℕ → List Entry → List (Held Entry) → Entry → Type 0
+MayAdd n p seen held e =
+    WithKinds kinds held × EndsNone e.event
+    × ((own log : List Entry) → Before n p seen held log → Fair (start n) (pass_key p own ∷ held) log e)
+
+pub record Added (n : Name) (p : ℕ) (seen seen' : List Entry) (held held' : List (Held Entry)) (e : Entry) : Type 0 where
+  pub noted : Noted n p seen seen' e
+  pub before : Before n p seen held noted.before
+  pub done : State × Answer
+  pub does : Does (start n) noted.before e done
+  pub keys : held' ≡ renewed held seen' ++ born (births (after (start n) noted.before) e.event) seen'

@@ -1,0 +1,53 @@
+-- What the machine's laws say of the book where a value goes to its reclaimer, and lifetimes: each activation of a slot has one, and
+-- it is over when the slot leaves or refreshes.
+--     NotHanded st log v   no event of the list handed v to its reclaimer
+--     Reader st log v a    a is the lifetime of an activation in which a slot found v in a link
+--     ended log            the lifetimes of the activations that the list ended, in order
+--     life s log           the lifetime of the last activation of slot s that the list began
+use Rattle.std.specs.Prelude.{◌≡◌, ℕ, ◌==◌, Bool, false, List, [], ◌∷◌, ◌++◌, take, length, if◌then◌else◌}
+use Rattle.seize_machine.specs.Machine.State.{State}
+use Rattle.seize_machine.specs.Machine.Event.{Event, Enter, SwapOut}
+use Rattle.seize_machine.specs.Machine.History.{Found, Reclaimed, HasParted}
+use Rattle.seize_words.specs.Entry.{Entry}
+use Rattle.seize_words.specs.Book.{moments}
+
+abbrev pub NotHanded : State → List Entry → ℕ → Type 0
+NotHanded st log v = (c : ℕ) → ¬ (Reclaimed (moments st log) v c)
+
+-- each slot that found v in a link has left or refreshed since
+abbrev pub AllParted : State → List Entry → ℕ → Type 0
+AllParted st log v = (s i : ℕ) → Found (moments st log) s v i → HasParted (moments st log) s i (length log)
+
+-- whether the event begins an activation of slot s
+abbrev pub starts : ℕ → Event → Bool
+starts s (Enter t) = t == s
+starts s (SwapOut t) = t == s
+starts s _ = false
+
+abbrev pub life_from : ℕ → ℕ → List Entry → ℕ
+life_from a s [] = a
+life_from a s (e ∷ log) = life_from (if starts s e.event then e.life else a) s log
+
+abbrev pub life : ℕ → List Entry → ℕ
+life s log = life_from 0 s log
+
+abbrev pub lives_after : (ℕ → ℕ) → Entry → ℕ → ℕ
+lives_after lives e s = if starts s e.event then e.life else lives s
+
+abbrev pub ended_by : (ℕ → ℕ) → Event → List ℕ
+ended_by lives (SwapOut s) = lives s ∷ []
+ended_by lives _ = []
+
+abbrev pub ended_from : (ℕ → ℕ) → List Entry → List ℕ
+ended_from lives [] = []
+ended_from lives (e ∷ log) = ended_by lives e.event ++ ended_from (lives_after lives e) log
+
+-- at an opening no slot is active
+abbrev pub none_alive : ℕ → ℕ
+none_alive s = 0
+
+abbrev pub ended : List Entry → List ℕ
+ended log = ended_from none_alive log
+
+abbrev pub Reader : State → List Entry → ℕ → ℕ → Type 0
+Reader st log v a = (i : ℕ) × (s : ℕ) × Found (moments st log) s v i × (a ≡ life s (take i log))

@@ -1,0 +1,14 @@
+pub mod Ledger
+pub mod Entry
+pub mod Book
+pub mod Laws
+pub mod Tokens
+pub mod Begin
+pub mod Fair
+pub mod Private
+pub mod Passes
+pub mod Adding
+pub mod Slots
+pub mod Others
+pub mod Batches
+pub mod Books

@@ -1,0 +1,52 @@
+-- The words in which contracts speak of the keys that a slot's holder needs beside its own.
+--     is_named value, is_loose value    whether the value was ever named, and whether it came out of a link and no call began to retire it,
+--                                       as its key knows
+--     book_of value                     its book
+--     MayRetire value                   it was never named, or it is loose
+--     IsOfBook keys pass                they are of one book
+--     Follows keys pass' keys'          it is the same key, and knows all that the pass has seen
+use Rattle.std.specs.Prelude.{◌≡◌, ℕ, Bool, true, false, [], ◌++◌, ◌⊎◌}
+use Rattle.seize_machine.specs.Machine.State.{State, has}
+use Rattle.seize_words.specs.Book.{after, births}
+use Rattle.seize_words.specs.Private.{is_one, key_of, own_of}
+use Rattle.seize_machine.specs.Machine.Event.{Event}
+use Rattle.seize_words.specs.Adding.{private}
+use Rattle.seize_words.specs.Fair.{MayAdd}
+use Rattle.seize_words.specs.Tokens.{Name, start}
+use Rattle.seize_words.specs.declared.book.keys.Keys.{Keys}
+use Rattle.seize_words.specs.declared.book.pass.Pass.{Pass}
+use Rattle.seize_words.specs.declared.book.slot_key.SlotKey.{SlotKey}
+use Rattle.seize_words.specs.declared.book.value_key.ValueKey.{ValueKey}
+
+abbrev pub state_of : Keys → State
+state_of keys = after (start keys.name) (own_of keys.held)
+
+abbrev pub value_of : ValueKey → ℕ
+value_of value = key_of value.keys.held
+
+abbrev pub book_of : ValueKey → Name
+book_of value = value.keys.name
+
+abbrev pub is_named : ValueKey → Bool
+is_named value = has (value_of value) (state_of value.keys).named
+
+abbrev pub is_loose : ValueKey → Bool
+is_loose value = has (value_of value) (state_of value.keys).loose
+
+abbrev pub MayRetire : ValueKey → Type 0
+MayRetire value = (is_named value ≡ false) ⊎ (is_loose value ≡ true)
+
+abbrev pub IsOfBook : Keys → Pass → Type 0
+IsOfBook keys pass = keys.name ≡ pass.name
+
+-- there is one other key, the event makes none, and it may be added with both
+abbrev pub IsWith : SlotKey → Keys → Pass → Event → Type 0
+IsWith key other pass event =
+    ((r : ℕ) × (is_one r other.held ≡ true)) × ((st : State) → births st event ≡ [])
+    × MayAdd pass.name pass.id pass.seen (key.keys.held ++ other.held) (private pass event)
+
+abbrev pub SameKind : Keys → Keys → Type 0
+SameKind keys keys' = (r : ℕ) → is_one r keys.held ≡ true → is_one r keys'.held ≡ true
+
+abbrev pub Follows : Keys → Pass → Keys → Type 0
+Follows keys pass' keys' = (keys'.name ≡ keys.name) × (key_of keys'.held ≡ key_of keys.held) × (own_of keys'.held ≡ pass'.seen)

@@ -1,0 +1,30 @@
+-- The words in which the contracts of passes speak.
+--     IsSame pass pass'      it is the same pass of the same book
+--     mine_of pass           what was made with it, with the answers
+--     MadeNone pass pass'    nothing was made with it
+--     Meets pass other pass' other'    both have seen the longer of what they had, and nothing was made with either
+--     Longer a b c           c is the longer of two lists of which one is a beginning of the other
+use Rattle.std.specs.Prelude.{◌≡◌, List, ◌⊎◌}
+use mathlib.Core.List.{IsPrefix}
+use Rattle.seize_machine.specs.declared.machine.event.Answer.{Answer}
+use Rattle.seize_words.specs.Entry.{Entry}
+use Rattle.seize_words.specs.Book.{mine}
+use Rattle.seize_words.specs.Tokens.{start}
+use Rattle.seize_words.specs.declared.book.pass.Pass.{Pass}
+
+abbrev pub IsSame : Pass → Pass → Type 0
+IsSame pass pass' = (pass'.name ≡ pass.name) × (pass'.id ≡ pass.id)
+
+abbrev pub mine_of : Pass → List (Entry × Answer)
+mine_of pass = mine (start pass.name) pass.id pass.seen
+
+abbrev pub MadeNone : Pass → Pass → Type 0
+MadeNone pass pass' = mine_of pass' ≡ mine_of pass
+
+abbrev pub Longer : List Entry → List Entry → List Entry → Type 0
+Longer a b c = (IsPrefix a b × (c ≡ b)) ⊎ (IsPrefix b a × (c ≡ a))
+
+abbrev pub Meets : Pass → Pass → Pass → Pass → Type 0
+Meets pass other pass' other' =
+    IsSame pass pass' × IsSame other other' × MadeNone pass pass' × MadeNone other other'
+    × (other'.seen ≡ pass'.seen) × Longer pass.seen other.seen pass'.seen

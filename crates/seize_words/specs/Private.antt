@@ -1,0 +1,58 @@
+-- Events that no step of the code makes: where a slot's call stands, and which of them its holder may make.
+--     IsOwn s event          the event is of slot s, and changes nothing that is there but the slot's own record
+--     IsPrivate s event      and it makes no keys
+--     IsOpen slot active s size event    it is legal wherever the slot is as its key says
+--     puts_next slot         the value that the slot's call is about to put
+--     IsOver slot            the slot's call has nothing more to do
+--     is_one r held          there is one key, of kind r;  key_of held, own_of held    its number and list
+use Rattle.std.specs.Prelude.{◌≡◌, ℕ, true, false, Bool, ◌==◌, List, [], ◌∷◌, Option, Some, None, is_some}
+use Rattle.seize_machine.specs.Machine.State.{State, Slot, Call, Place, Append, Rest, slot_at, head_at, is_active}
+use Rattle.seize_machine.specs.Machine.Event.{Event, slot_of}
+use Rattle.seize_machine.specs.Machine.Next.{next}
+use Rattle.seize_machine.specs.Machine.Frames.{changes_used, changes_head_of, changes_link, changes_batch, changes_value}
+use Rattle.seize_words.specs.Ledger.{Held}
+use Rattle.seize_words.specs.Entry.{Entry}
+use Rattle.seize_words.specs.Book.{births}
+
+abbrev pub IsOwn : ℕ → Event → Type 0
+IsOwn s event =
+    (slot_of event ≡ s)
+    × (changes_used event ≡ false)
+    × ((k : ℕ) → (changes_head_of k event ≡ false) × (changes_link k event ≡ false))
+    × ((st : State) (k : ℕ) → (changes_batch st k event ≡ false) × (changes_value st k event ≡ false))
+
+abbrev pub IsPrivate : ℕ → Event → Type 0
+IsPrivate s event = IsOwn s event × ((st : State) → births st event ≡ [])
+
+abbrev pub IsOpen : Slot → Bool → ℕ → ℕ → Event → Type 0
+IsOpen slot active s size event =
+    (st : State) → slot_at st s ≡ slot → is_active (head_at st s) ≡ active → is_some (next size st event) ≡ true
+
+-- there is one key, of this kind
+abbrev pub is_one : ℕ → List (Held Entry) → Bool
+is_one r (h ∷ []) = h.kind == r
+is_one r _ = false
+
+-- the number of the first key, and the list at its holder's last event
+abbrev pub key_of : List (Held Entry) → ℕ
+key_of [] = 0
+key_of (h ∷ held) = h.key
+
+abbrev pub own_of : List (Held Entry) → List Entry
+own_of [] = []
+own_of (h ∷ held) = h.own
+
+abbrev pub next_at : Place → List ℕ → Option ℕ
+next_at (Append v) queue = Some v
+next_at (Rest [] []) (v ∷ queue) = Some v
+next_at place queue = None
+
+abbrev pub next_of_call : Option Call → Option ℕ
+next_of_call None = None
+next_of_call (Some call) = next_at call.place call.queue
+
+abbrev pub puts_next : Slot → Option ℕ
+puts_next slot = next_of_call slot.call
+
+abbrev pub IsOver : Slot → Type 0
+IsOver slot = slot.call ≡ Some (record { place = Rest [] []; queue = [] })

@@ -1,0 +1,76 @@
+-- The words in which the contracts of slots' keys speak.
+--     IsOf key pass        they are of one book
+--     number_of key        the slot
+--     own_list key         the list at the slot's last event
+--     slot_of key, active_of key     the slot's record as its key knows it, and whether it is active
+--     Moves key key' log event     after this list, the event took the slot from where its key knew it to where it knows it now
+--     Notes key pass key' pass' event     the slot's holder added this one event with the pass: see Noted and Moves
+--     hands_next slot      the value that the slot's call is about to hand to its reclaimer
+--     HandsOnce key pass' v    it was handed now, for the first time, and all who found it have left or refreshed since
+use Rattle.std.specs.Prelude.{◌≡◌, ℕ, Bool, List, [], ◌∷◌, ◌++◌, Option, Some}
+use Rattle.seize_machine.specs.Machine.State.{State, Slot, slot_at, head_at, is_active}
+use Rattle.seize_machine.specs.Machine.Event.{Event}
+use Rattle.seize_machine.specs.Machine.Next.{next, of_call, handing_at}
+use Rattle.seize_machine.specs.declared.machine.event.Answer.{Answer}
+use Rattle.seize_words.specs.Entry.{Entry}
+use Rattle.seize_words.specs.Book.{after}
+use Rattle.seize_words.specs.Laws.{NotHanded, AllParted}
+use Rattle.seize_words.specs.Tokens.{Noted, start}
+use Rattle.seize_words.specs.Private.{key_of, own_of}
+use Rattle.seize_words.specs.Passes.{IsSame}
+use Rattle.seize_words.specs.Adding.{private}
+use Rattle.seize_words.specs.declared.book.pass.Pass.{Pass}
+use Rattle.seize_words.specs.declared.book.slot_key.SlotKey.{SlotKey}
+
+abbrev pub IsOf : SlotKey → Pass → Type 0
+IsOf key pass = key.keys.name ≡ pass.name
+
+abbrev pub number_of : SlotKey → ℕ
+number_of key = key_of key.keys.held
+
+abbrev pub own_list : SlotKey → List Entry
+own_list key = own_of key.keys.held
+
+abbrev pub size_of : SlotKey → ℕ
+size_of key = key.keys.name.size
+
+abbrev pub start_of : SlotKey → State
+start_of key = start key.keys.name
+
+abbrev pub slot_of : SlotKey → Slot
+slot_of key = slot_at (after (start_of key) (own_list key)) (number_of key)
+
+abbrev pub active_of : SlotKey → Bool
+active_of key = is_active (head_at (after (start_of key) (own_list key)) (number_of key))
+
+-- the key of the slot after its event, which all that the pass has seen ends with
+abbrev pub IsAfter : SlotKey → Pass → SlotKey → Type 0
+IsAfter key pass' key' = (key'.keys.name ≡ key.keys.name) × (number_of key' ≡ number_of key) × (own_list key' ≡ pass'.seen)
+
+-- After this list, the event took the slot from where its key knew it to where it knows it now.
+pub record Moves (key key' : SlotKey) (log : List Entry) (event : Event) : Type 0 where
+  pub later : State
+  pub answer : Answer
+  pub was : slot_at (after (start_of key) log) (number_of key) ≡ slot_of key
+  pub was_active : is_active (head_at (after (start_of key) log) (number_of key)) ≡ active_of key
+  pub legal : next (size_of key) (after (start_of key) log) event ≡ Some (later, answer)
+  pub is : slot_of key' ≡ slot_at later (number_of key)
+  pub is_now_active : active_of key' ≡ is_active (head_at later (number_of key))
+
+abbrev pub Notes : SlotKey → Pass → SlotKey → Pass → Event → Type 0
+Notes key pass key' pass' event =
+    IsSame pass pass' × IsAfter key pass' key'
+    × ((noted : Noted pass.name pass.id pass.seen pass'.seen (private pass event)) × Moves key key' noted.before event)
+
+-- the value that the slot's call is about to hand to its reclaimer
+abbrev pub hands_next : Slot → Option ℕ
+hands_next slot = of_call handing_at slot.call
+
+-- All that the pass has seen ends with an event that handed v. It was not handed before, and each slot that found it in a link has left or
+-- refreshed since.
+pub record HandsOnce (key : SlotKey) (pass' : Pass) (v : ℕ) : Type 0 where
+  pub before : List Entry
+  pub last : Entry
+  pub ends : pass'.seen ≡ before ++ last ∷ []
+  pub not_handed : NotHanded (start_of key) before v
+  pub all_parted : AllParted (start_of key) before v

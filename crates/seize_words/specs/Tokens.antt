@@ -1,0 +1,153 @@
+-- What the tokens of a book own. None of them has bytes.
+--     Name          a book: the number of its invariant, its names, who may append, and the opening of its list
+--     inside        what stands in its invariant;  knows   that there is this invariant, for good
+--     pass_owns     a pass: its key, a beginning of the list that it has seen, and at a closed gate the list itself
+--     keys_own      keys, in a given order
+--     Noted         one event was appended with a pass
+use Rattle.std.specs.Prelude.{◌≡◌, ℕ, true, List, [], ◌∷◌, ◌++◌, Option, slice_index_or}
+use Rattle.std.specs.Coded.{Coded, code_by, coded_ℕ, coded×, coded_list, coded_option}
+use mathlib.Core.Path.{refl}
+use mathlib.Core.List.{IsPrefix}
+use base.Share.{quarter, three_quarters}
+use base.Growing.{latest}
+use base.Fml.{Fml, ftrue, fsep, fex, fdead, fnamed}
+use Rattle.seize_machine.specs.Machine.State.{State, opening, linked, are_distinct}
+use Rattle.seize_machine.specs.declared.machine.event.Answer.{Answer}
+use Rattle.seize_words.specs.Ledger.{Held, fact, logs, right, rights, reached, contents}
+use Rattle.seize_words.specs.Entry.{Entry, entry_coded}
+use Rattle.seize_words.specs.Book.{IsLegalList, mine, passes, rules}
+use Rattle.seize_words.specs.Laws.{ended}
+
+-- Who may append: whoever has a pass; or one pass alone, whose copy of the list has this name.
+pub data Gate : Type 0 where
+  many : Gate
+  sole : ℕ → Gate
+
+abbrev pub IsSole : Gate → Type 0
+IsSole many = ⊥
+IsSole (sole η) = Unit {0}
+
+abbrev pub gate_code : Gate → Option ℕ
+gate_code many = Option.None
+gate_code (sole η) = Option.Some η
+
+abbrev pub gate_of : Option ℕ → Gate
+gate_of Option.None = many
+gate_of (Option.Some η) = sole η
+
+pub gate_back : (g : Gate) → gate_of (gate_code g) ≡ g
+gate_back many = refl
+gate_back (sole η) = refl
+
+abbrev pub gate_coded : Coded Gate
+gate_coded = code_by (Option ℕ) (coded_option coded_ℕ) gate_code gate_of gate_back
+
+pub record Name : Type 0 where
+  pub number : ℕ
+  pub log : ℕ
+  -- the names of the keys, by kind
+  pub pass_keys : ℕ
+  pub number_keys : ℕ
+  pub slot_keys : ℕ
+  pub head_keys : ℕ
+  pub link_keys : ℕ
+  pub batch_keys : ℕ
+  pub value_keys : ℕ
+  pub gate : Gate
+  -- the batch size at each event that is added
+  pub size : ℕ
+  -- the opening
+  pub slots : ℕ
+  pub links : List (Option ℕ)
+
+abbrev nth : List ℕ → ℕ → ℕ
+nth xs i = slice_index_or xs i 0
+
+abbrev pub rows : Name → List ℕ
+rows n = n.pass_keys ∷ n.number_keys ∷ n.slot_keys ∷ n.head_keys ∷ n.link_keys ∷ n.batch_keys ∷ n.value_keys ∷ []
+
+abbrev pub name_coded : Coded Name
+name_coded =
+    code_by (List ℕ × (Gate × List (Option ℕ))) (coded× (coded_list coded_ℕ) (coded× gate_coded (coded_list (coded_option coded_ℕ))))
+    (λ n. (n.number ∷ n.log ∷ n.slots ∷ n.size ∷ rows n, (n.gate, n.links)))
+    (λ t. record {
+      number = nth t.0 0;
+      log = nth t.0 1;
+      slots = nth t.0 2;
+      size = nth t.0 3;
+      pass_keys = nth t.0 4;
+      number_keys = nth t.0 5;
+      slot_keys = nth t.0 6;
+      head_keys = nth t.0 7;
+      link_keys = nth t.0 8;
+      batch_keys = nth t.0 9;
+      value_keys = nth t.0 10;
+      gate = t.1.0;
+      links = t.1.1;
+    })
+    (λ _. refl)
+
+abbrev pub start : Name → State
+start n = opening n.slots n.links
+
+-- these lifetimes are over
+abbrev pub over : List ℕ → Fml
+over [] = ftrue
+over (a ∷ lives) = fsep (fdead (a ∷ [])) (over lives)
+
+-- where one pass is alone: the book's share of its copy of the list, and the pass's
+abbrev pub gate_keeps : Gate → List Entry → Fml
+gate_keeps many log = ftrue
+gate_keeps (sole η) log = latest (logs entry_coded) quarter η log
+
+abbrev pub gate_gives : Gate → List Entry → Fml
+gate_gives many seen = ftrue
+gate_gives (sole η) seen = latest (logs entry_coded) three_quarters η seen
+
+-- what the invariant holds beside the list and the keys: the links of the opening are distinct, each activation that has ended is
+-- over, and the gate
+abbrev pub beside : Name → List Entry → Fml
+beside n log = fsep (over (ended log)) (gate_keeps n.gate log)
+
+abbrev pub inside : Name → Fml
+inside n = contents entry_coded (rules (start n)) (beside n) n.log (rows n)
+
+-- it lasts for good, and may be had twice
+abbrev pub knows : Name → Fml
+knows n = fsep (fnamed n.number (inside n)) (fact (are_distinct (linked n.links) ≡ true))
+
+abbrev pub key : Name → ℕ → ℕ → List Entry → Fml
+key n r k own = right entry_coded (rows n) r k own
+
+-- what was last made with the pass, when the list was `own`, and nothing since then
+abbrev pub pass_at : Name → ℕ → List Entry → List Entry → Fml
+pass_at n p seen own =
+    fsep (key n passes p own)
+    (fsep (reached entry_coded n.log seen)
+    (fsep (gate_gives n.gate seen) (fact (IsPrefix own seen × (mine (start n) p own ≡ mine (start n) p seen)))))
+
+abbrev pub pass_holds : Name → ℕ → List Entry → Fml
+pass_holds n p seen = fex (List Entry) (pass_at n p seen)
+
+abbrev pub pass_owns : Name → ℕ → List Entry → Fml
+pass_owns n p seen = fsep (knows n) (pass_holds n p seen)
+
+abbrev pub keys_own : Name → List (Held Entry) → Fml
+keys_own n held = rights entry_coded (rows n) held
+
+abbrev pub held_coded : Coded (Held Entry)
+held_coded =
+    code_by (ℕ × (ℕ × List Entry)) (coded× coded_ℕ (coded× coded_ℕ (coded_list entry_coded))) (λ h. (h.kind, (h.key, h.own)))
+    (λ t. record { kind = t.0; key = t.1.0; own = t.1.1 }) (λ _. refl)
+
+-- Event e was appended with pass p. Nothing had been made with the pass since it had seen its beginning, and where it is alone nothing at
+-- all had been appended.
+pub record Noted (n : Name) (p : ℕ) (seen seen' : List Entry) (e : Entry) : Type 0 where
+  pub before : List Entry
+  pub appended : seen' ≡ before ++ e ∷ []
+  pub legal : IsLegalList (start n) seen'
+  pub grows : IsPrefix seen before
+  pub answer : Answer
+  pub made : mine (start n) p seen' ≡ mine (start n) p seen ++ (e, answer) ∷ []
+  pub alone : IsSole n.gate → before ≡ seen
+  pub distinct : are_distinct (linked n.links) ≡ true

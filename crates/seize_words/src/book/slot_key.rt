@@ -1,0 +1,143 @@
+//! The key of a slot, and the events that its holder makes of the slot itself. It is `Keys` with one key; they are added with a pass.
+ghost use Rattle.std.specs.Prelude.{◌≡◌, [], true, false, IfSome, is_some};
+ghost use Rattle.seize_machine.specs.Machine.State.{is_idle};
+ghost use Rattle.seize_machine.specs.Machine.Event.{Begin, Detach, Give, Hand, Put, Return};
+ghost use Rattle.seize_machine.specs.declared.machine.event.Job.TheVariants.{Flush, Leave, Refresh, Retire};
+ghost use Rattle.seize_words.specs.Private.{IsOver, is_one, puts_next};
+ghost use Rattle.seize_words.specs.Book.{slots};
+
+use crate::book::batch_key::BatchKey;
+use crate::book::keys::{Keys, Picks};
+use crate::book::numbers_key::NumbersKey;
+use crate::book::pass::Pass;
+use crate::book::value_key::ValueKey;
+use std::marker::Brand;
+
+/// The right to the events of one slot, but for those on links, which whoever has a guard of the slot may make. It knows the slot's
+/// record, and whether the slot is active, whatever others add.
+#[derive(Drop)]
+pub struct SlotKey {
+    pub(crate) keys: Keys,
+    ghost one: { is_one slots keys.held ≡ true },
+}
+
+impl SlotKey {
+    ghost use Rattle.seize_words.specs.Batches.{CanDetach, Detaches};
+    ghost use Rattle.seize_words.specs.Others.{Follows, IsOfBook, IsWith, MayRetire, SameKind, value_of};
+    ghost use Rattle.seize_words.specs.Private.{IsOpen, IsPrivate};
+    ghost use Rattle.seize_words.specs.Slots.{HandsOnce, Notes, IsOf, active_of, hands_next, number_of, size_of, slot_of};
+
+    // Any event that changes nothing but the slot's own record.
+    fn note<P: Picks>(&mut self, pass: &mut Pass)
+        requires book { IsOf self.old pass.old }
+        requires private { IsPrivate (number_of self.old) P.event }
+        requires open { IsOpen (slot_of self.old) (active_of self.old) (number_of self.old) (size_of self.old) P.event }
+        ensures noted { Notes self.old pass.old self.new pass.new P.event }
+    {
+        self.keys.note::<P>(pass);
+    }
+
+    // An event that changes what one other key knows too.
+    fn note_with<P: Picks>(&mut self, other: &mut Keys, pass: &mut Pass)
+        requires book { IsOf self.old pass.old × IsOfBook other.old pass.old }
+        requires may { IsWith self.old other.old pass.old P.event }
+        ensures noted { Notes self.old pass.old self.new pass.new P.event }
+        ensures other { Follows other.old pass.new other.new × SameKind other.old other.new }
+    {
+        let both = &mut self.keys;
+        both.join(other);
+        both.note::<P>(pass);
+        both.part(other);
+    }
+
+    /// The event `Begin` of the retirement of a value.
+    pub fn begin_retire(&mut self, value: &mut ValueKey, pass: &mut Pass)
+        requires book { IsOf self.old pass.old × IsOfBook value.old.keys pass.old }
+        requires idle { is_idle (slot_of self.old) ≡ true }
+        requires value { MayRetire value.old }
+        ensures noted { Notes self.old pass.old self.new pass.new (Begin (number_of self.old) (Retire (value_of value.old))) }
+        ensures value { Follows value.old.keys pass.new value.new.keys }
+    {
+        self.note_with::<Brand>(&mut value.keys, pass);
+    }
+
+    /// The event `Give`: the slot's number goes back.
+    pub fn give(&mut self, numbers: &mut NumbersKey, pass: &mut Pass)
+        requires book { IsOf self.old pass.old × IsOfBook numbers.old.keys pass.old }
+        requires idle { (is_idle (slot_of self.old) ≡ true) × (active_of self.old ≡ false) }
+        ensures noted { Notes self.old pass.old self.new pass.new (Give (number_of self.old)) }
+        ensures numbers { Follows numbers.old.keys pass.new numbers.new.keys }
+    {
+        self.note_with::<Brand>(&mut numbers.keys, pass);
+    }
+
+    /// The event `Begin` of a flush.
+    pub fn begin_flush(&mut self, pass: &mut Pass)
+        requires book { IsOf self.old pass.old }
+        requires idle { (is_idle (slot_of self.old) ≡ true) × (active_of self.old ≡ true) }
+        ensures noted { Notes self.old pass.old self.new pass.new (Begin (number_of self.old) Flush) }
+    {
+        self.note::<Brand>(pass);
+    }
+
+    /// The event `Begin` of a leave.
+    pub fn begin_leave(&mut self, pass: &mut Pass)
+        requires book { IsOf self.old pass.old }
+        requires idle { (is_idle (slot_of self.old) ≡ true) × (active_of self.old ≡ true) }
+        ensures noted { Notes self.old pass.old self.new pass.new (Begin (number_of self.old) Leave) }
+    {
+        self.note::<Brand>(pass);
+    }
+
+    /// The event `Begin` of a refresh.
+    pub fn begin_refresh(&mut self, pass: &mut Pass)
+        requires book { IsOf self.old pass.old }
+        requires idle { (is_idle (slot_of self.old) ≡ true) × (active_of self.old ≡ true) }
+        ensures noted { Notes self.old pass.old self.new pass.new (Begin (number_of self.old) Refresh) }
+    {
+        self.note::<Brand>(pass);
+    }
+
+    /// The event `Put`: the value that the slot's call is about to retire is appended to its batch.
+    pub fn put(&mut self, pass: &mut Pass)
+        requires book { IsOf self.old pass.old }
+        requires next { is_some (puts_next (slot_of self.old)) ≡ true }
+        ensures noted { Notes self.old pass.old self.new pass.new (Put (number_of self.old)) }
+    {
+        self.note::<Brand>(pass);
+    }
+
+    /// The event `Detach`: the slot's batch becomes a retired batch, and this is its key.
+    pub fn detach(&mut self, pass: &mut Pass) -> BatchKey
+        requires book { IsOf self.old pass.old }
+        requires next { CanDetach self.old }
+        ensures noted { Notes self.old pass.old self.new pass.new (Detach (number_of self.old)) }
+        ensures batch { Detaches self.old result pass.new }
+    {
+        let mut fresh = self.keys.none();
+        self.keys.note::<Brand>(pass);
+        self.keys.part(&mut fresh);
+        BatchKey { keys: fresh }
+    }
+
+    /// The event `Hand` of a value whose reclaimer puts none: the value that the slot's call is about to hand to its reclaimer goes there.
+    ///
+    /// It goes there for the first time, and each slot that found it in a link has left or refreshed since.
+    pub fn hand(&mut self, pass: &mut Pass)
+        requires book { IsOf self.old pass.old }
+        requires next { is_some (hands_next (slot_of self.old)) ≡ true }
+        ensures noted { Notes self.old pass.old self.new pass.new (Hand (number_of self.old) []) }
+        ensures once { IfSome (hands_next (slot_of self.old)) (HandsOnce self.old pass.new) }
+    {
+        self.note::<Brand>(pass);
+    }
+
+    /// The event `Return`: the slot's call is over.
+    pub fn finish(&mut self, pass: &mut Pass)
+        requires book { IsOf self.old pass.old }
+        requires over { IsOver (slot_of self.old) }
+        ensures noted { Notes self.old pass.old self.new pass.new (Return (number_of self.old)) }
+    {
+        self.note::<Brand>(pass);
+    }
+}

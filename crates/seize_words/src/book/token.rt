@@ -1,0 +1,100 @@
+//! Books: how one begins, and the passes and keys that are made of it later. It uses the passes and keys beside it.
+ghost use Rattle.std.specs.Prelude.{◌≡◌, false};
+ghost use Rattle.seize_words.specs.Begin.{book_owns};
+ghost use Rattle.seize_words.specs.Tokens.{Name, many, name_coded};
+
+use crate::book::keys::Keys;
+use crate::book::pass::Pass;
+use crate::book::value_key::ValueKey;
+use std::marker::{Model, PhantomData};
+
+/// What shows that there is a book. It may be copied.
+pub struct Book {
+    marker: PhantomData<()>,
+    /// The book.
+    pub ghost name: { Name } by { name_coded },
+}
+
+impl Model for Book {
+    ghost also_owns = { λ b. book_owns b.name };
+}
+
+impl Book {
+    ghost use Rattle.seize_words.specs.Books.{IsNew, IsNewValue, Opens, OpensAlone};
+    ghost use Rattle.seize_words.specs.Others.{book_of, is_named};
+
+    /// A new book, of which any number of passes may be made, and its keys: that of the numbers and those of the links, in this order.
+    /// It has no slot yet.
+    pub fn open(links: usize, size: usize) -> (Book, Keys)
+        ensures { Opens result.0 result.1 links size }
+    {
+        let book = Book {
+            marker: PhantomData,
+        };
+        let keys = Keys {
+            marker: PhantomData,
+        };
+        (book, keys)
+    }
+
+    /// A new book as `open` makes one, but that its one pass is alone: only who has it appends, and it has seen all there is.
+    pub fn open_alone(links: usize, size: usize) -> (Book, Pass, Keys)
+        ensures { OpensAlone result.0 result.1 result.2 links size }
+    {
+        let book = Book {
+            marker: PhantomData,
+        };
+        let pass = Pass {
+            marker: PhantomData,
+        };
+        let keys = Keys {
+            marker: PhantomData,
+        };
+        (book, pass, keys)
+    }
+
+    /// A copy of it.
+    pub fn again(&mut self) -> Book
+        ensures { (result.name ≡ self.old.name) × (self.new.name ≡ self.old.name) }
+    {
+        Book {
+            marker: PhantomData,
+        }
+    }
+
+    /// A new pass.
+    pub fn pass(&mut self) -> Pass
+        requires { self.old.name.gate ≡ many }
+        ensures { IsNew result × (result.name ≡ self.old.name) × (self.new.name ≡ self.old.name) }
+    {
+        Pass {
+            marker: PhantomData,
+        }
+    }
+
+    /// The key of a value that was never named, as for a block just made.
+    pub fn value(&mut self) -> ValueKey
+        ensures { (is_named result ≡ false) × (book_of result ≡ self.old.name) × (self.new.name ≡ self.old.name) }
+    {
+        ValueKey {
+            keys: self.value_keys(),
+        }
+    }
+
+    // The same as `Keys`.
+    fn value_keys(&mut self) -> Keys
+        ensures { IsNewValue result × (result.name ≡ self.old.name) × (self.new.name ≡ self.old.name) }
+    {
+        Keys {
+            marker: PhantomData,
+        }
+    }
+}
+
+impl Drop for Book {
+    fn drop(self) {
+        let Self { marker: _ } = self;
+    }
+}
+
+unsafe impl Send for Book {}

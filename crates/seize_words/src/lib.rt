@@ -1,0 +1,6 @@
+//! The list of the machine's events that threads share, and what their holders know of it.
+//!
+//! `book` is the list with its keys and passes, which have no bytes.
+#![tactic(auto)]
+
+pub mod book;

@@ -1,0 +1,6 @@
+//! Whole calls of a slot on the book, made of its private events. They show that the contracts of the events suffice for a caller.
+#![tactic(auto)]
+
+pub mod calls;
+#[cfg(test)]
+mod tests;

@@ -1,0 +1,24 @@
+//! Books, passes and keys in hand.
+use seize_words::book::{BatchKey, Book, Keys, NumbersKey, Pass, SlotKey, ValueKey};
+use std::mem::size_of;
+use std::test::*;
+use std::thread;
+
+// Two threads meet with a third in turn; nothing waits, since nothing is there when the program runs.
+#[test]
+fn passes_go_to_threads_and_meet(rt: HostRuntime) {
+    let (mut book, keys) = Book::open(2, 32);
+    let mut copy = book.again();
+    let (mut one, mut two) = (book.pass(), copy.pass());
+    one.meet(&mut two);
+    let (one, two) = thread::join(&rt, move || one, move || two);
+    let (mut one, mut two) = (one, two);
+    two.meet(&mut one);
+    drop((keys, one, two));
+}
+
+#[test]
+fn tokens_have_no_bytes(rt: HostRuntime) {
+    assert_eq!(rt; size_of::<Book>() + size_of::<Pass>() + size_of::<Keys>(), 0);
+    assert_eq!(rt; size_of::<SlotKey>() + size_of::<ValueKey>() + size_of::<BatchKey>() + size_of::<NumbersKey>(), 0);
+}
