@@ -21,6 +21,11 @@ grew pass pass' event same noted =
     ap (λ (n : Name). mine (start n) pass'.id pass'.seen) same.0 ∙ ap (λ (p : ℕ). mine (start pass.name) p pass'.seen) same.1 ∙ noted.made
 
 -- the slot's record after an event, where this is what the machine makes of the event
-pub moved : (key key' : SlotKey) (log : List Entry) (event : Event) (moves : Moves key key' log event) (d : State × Answer) → next (size_of key) (after (start_of key) log) event ≡ Some d
-    → slot_of key' ≡ slot_at d.0 (number_of key)
-moved key key' log event moves d is = moves.is ∙ ap (λ (x : State × Answer). slot_at x.0 (number_of key)) (some_is _ _ (sym moves.legal ∙ is))
+pub moved : (key key' : SlotKey) (log : List Entry) (event : Event) (later : State) (answer : Answer) → Moves key key' log event later answer
+    → (d : State × Answer) → next (size_of key) (after (start_of key) log) event ≡ Some d → slot_of key' ≡ slot_at d.0 (number_of key)
+moved key key' log event later answer moves d is = moves.is ∙ ap (λ (x : State × Answer). slot_at x.0 (number_of key)) (some_is _ _ (sym moves.legal ∙ is))
+
+-- and its answer
+pub answered : (key key' : SlotKey) (log : List Entry) (event : Event) (later : State) (answer : Answer) → Moves key key' log event later answer
+    → (d : State × Answer) → next (size_of key) (after (start_of key) log) event ≡ Some d → answer ≡ d.1
+answered key key' log event later answer moves d is = ap (λ (x : State × Answer). x.1) (some_is _ _ (sym moves.legal ∙ is))

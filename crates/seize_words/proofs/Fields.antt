@@ -1,6 +1,5 @@
 -- The machine values of the tokens, and how a walk ends. Assumes `Logic`.
-use Rattle.seize_words.proofs.Kit.{◌≡◌, List, [], ◌∷◌, ◌++◌, refl, ap, ◌∙◌, Val, vstruct, vcons, vnil, of_list, Ura, ent, sep, emp, Logic, sem, ‵, raw, ◌$◌, ◌∵◌, !, qed, by, move, use0, RattleType, makes_shadow, walk_of, leaves, Stays}
-use denote.Laws.{Is}
+use Rattle.seize_words.proofs.Kit.{[], ◌∷◌, refl, Val, vstruct, vcons, vnil, Ura, ent, sep, emp, Logic, sem, ‵, raw, ◌$◌, ◌∵◌, !, qed, by, move, use0, RattleType, makes_shadow, walk_of, leaves, Stays}
 use denote.Signature.{type_at}
 use denote.Builtin.{unit}
 use denote.Struct.Struct.{Struct}
@@ -14,9 +13,6 @@ token = vstruct (vcons (vstruct vnil) vnil)
 
 abbrev pub Token : RattleType
 Token = Struct record { name = []; args = []; types = []; fields = marker.the_row unit ∷ [] }
-
-pub token_told : (vs : List Val) → Is Token (record {}, tt) vs → vs ≡ token ∷ []
-token_told vs is = is.1.0 ∙ ap (λ (ws : List Val). vstruct (of_list (ws ++ [])) ∷ []) is.1.1.0.1.0
 
 pub token_made : {M : Type 1} {𝓤 : Ura M} (𝓛 : Logic 𝓤) → ent 𝓤 (emp 𝓤) (sem 𝓛 (Token.own_val (record {}, tt) (token ∷ [])))
 token_made 𝓛 = makes_shadow 𝓛 (Token.own_val (record {}, tt) (token ∷ [])) (λ vss. (tt, ((λ uss. (tt, tt)), tt))) ((vstruct vnil ∷ [], tt), (refl, ((tt, (refl, tt)), tt)))

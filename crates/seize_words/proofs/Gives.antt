@@ -39,7 +39,7 @@ unfolding gives
 may_give n p size seen a b one one' zero_is idle off =
     subst (λ (hs : List (Held Entry)). MayAdd n p seen (hs ++ b) (gives p size (key_of a))) (sym (only_is slots a one))
     (subst (λ (hs : List (Held Entry)). MayAdd n p seen (only slots a ++ hs) (gives p size (key_of a))) (sym (only_is numbers b one'))
-    ((omega arith, (omega arith, tt)), (λ lives. refl), fair))
+    ((omega arith, (omega arith, tt)), (λ lives. refl), (λ s. refl), fair))
   where
     fair : (mine log : List Entry) → Before n p seen (only slots a ++ only numbers b) log → Fair (start n) (pass_key p mine ∷ (only slots a ++ only numbers b)) log (gives p size (key_of a))
     fair mine log before =

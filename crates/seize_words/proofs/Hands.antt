@@ -3,7 +3,7 @@ use Rattle.std.proofs.Common.{◌≡◌, ℕ, List, [], ◌∷◌, ◌++◌, Opt
 use Rattle.seize_machine.specs.Machine.State.{State, slot_at, linked, are_distinct}
 use Rattle.seize_machine.specs.Machine.Event.{Hand}
 use Rattle.seize_machine.specs.Machine.Next.{next, scheme, hand, of_call, handing_at}
-use Rattle.seize_machine.specs.Machine.History.{handed_value}
+use Rattle.seize_machine.specs.Machine.History.{handed_value, or_illegal}
 use Rattle.seize_machine.specs.declared.machine.event.Answer.{Answer}
 use Rattle.seize_machine.proofs.Facts.{some_is}
 use Rattle.seize_words.specs.Entry.{Entry}
@@ -25,7 +25,7 @@ hands_once key key' pass pass' v name is notes =
     let noted = notes.2.0 in let moves = notes.2.1 in let n : Name = key.keys.name in let e : Entry = private pass (Hand (number_of key) []) in let log = noted.before in
     let legal : IsLegalList (start n) (log ++ e ∷ []) = subst (λ (l : List Entry). IsLegalList (start n) l) noted.appended (subst (λ (m : Name). IsLegalList (start m) pass'.seen) (sym name) noted.legal) in
     let front : IsLegalList (start n) log = legal_front (start n) log e legal in
-    let d : State × Answer = (moves.later, moves.answer) in
+    let d : State × Answer = (noted.later, noted.answer) in
     let does : Does (start n) log e d = ap (λ (m : Name). next m.size (after (start n) log) (Hand (number_of key) [])) (sym name) ∙ moves.legal in
     let distinct : are_distinct (linked n.links) ≡ Rattle.std.proofs.Common.true = ap (λ (m : Name). are_distinct (linked m.links)) name ∙ noted.distinct in
     let hands = hands_it n.size (after (start n) log) (number_of key) v d (ap (λ slot. of_call handing_at slot.call) moves.was ∙ is) moves.legal in
@@ -33,6 +33,7 @@ hands_once key key' pass pass' v name is notes =
       before = log;
       last = e;
       ends = noted.appended;
+      hands = ap (λ o. handed_value (or_illegal (after (start n) log) o).1) does ∙ hands;
       not_handed = not_handed n.slots n.links distinct log e d v front does hands;
       all_parted = all_parted n.slots n.links distinct log e d v front does hands;
     }

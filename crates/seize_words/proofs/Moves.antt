@@ -24,12 +24,10 @@ in_book e log f = ap (λ (z : Name). f (after (start z) log)) e
 
 -- where the slot had made no event since its key's list, and the key's list now ends with this one
 pub moves : (key key' : SlotKey) (n : Name) (e : Entry) (log : List Entry) (d : State × Answer) → key.keys.name ≡ n → key'.keys.name ≡ n → e.size ≡ n.size → IsLegalList (start n) log → Does (start n) log e d
-    → Kept (start n) TheSlot (number_of key) (own_list key) log → number_of key' ≡ number_of key → own_list key' ≡ log ++ e ∷ [] → Moves key key' log e.event
+    → Kept (start n) TheSlot (number_of key) (own_list key) log → number_of key' ≡ number_of key → own_list key' ≡ log ++ e ∷ [] → Moves key key' log e.event d.0 d.1
 moves key key' n e log d name name' size legal does kept number own =
     let k = number_of key in let same = kept.1 in let push = after_push (start n) log e d legal does in
     record {
-      later = d.0;
-      answer = d.1;
       was = in_book name log (λ s. slot_at s k) ∙ sym same.1 ∙ sym (in_book name (own_list key) (λ s. slot_at s k));
       was_active = in_book name log (λ s. is_active (head_at s k)) ∙ sym same.2 ∙ sym (in_book name (own_list key) (λ s. is_active (head_at s k)));
       legal = ap (λ (m : Name). next m.size (after (start m) log) e.event) name ∙ ap (λ (s : ℕ). next s (after (start n) log) e.event) (sym size) ∙ does;

@@ -18,7 +18,7 @@ use Rattle.seize_words.specs.Tokens.{Name, rows, start, keys_own, over, beside, 
 use Rattle.seize_words.proofs.Append.{appends, Appended}
 use Rattle.seize_words.proofs.Goes.{goes, kept_now, births_of, births_below}
 use Rattle.seize_words.proofs.Gates.{agrees, follows}
-use Rattle.seize_words.proofs.Lists.{legal_push, selected_in}
+use Rattle.seize_words.proofs.Lists.{after_push, legal_push, selected_in}
 
 module _ {M : Type 1} {𝓤 : Ura M} (𝓛 : Logic 𝓤) (n : Name) where
   abbrev Pr : Type 2
@@ -81,7 +81,10 @@ module _ {M : Type 1} {𝓤 : Ura M} (𝓛 : Logic 𝓤) (n : Name) where
         appended = refl;
         legal = legal_push st log (ev log) fair.done before.legal fair.legal;
         grows = before.grows;
+        later = fair.done.0;
         answer = fair.done.1;
+        does = fair.legal;
+        leads = after_push st log (ev log) fair.done before.legal fair.legal;
         made = selected_in (λ a. a.0.pass == p) st log (ev log) fair.done fair.legal (is p (ev log).pass f.1) ∙ ap (λ l. l ++ (ev log, fair.done.1) ∷ []) before.none_made;
         alone = before.alone;
         distinct = distinct;

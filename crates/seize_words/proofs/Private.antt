@@ -10,7 +10,7 @@ use Rattle.seize_machine.proofs.Facts.{is_true, eq_true}
 use Rattle.seize_words.specs.Ledger.{Held, AllKept, renewed, born}
 use Rattle.seize_words.specs.Entry.{Entry}
 use Rattle.seize_words.specs.Book.{after, TheSlot, Kept, rules, slots}
-use Rattle.seize_words.specs.Fair.{Before, Covers, Fair, EndsNone, MayAdd, pass_key}
+use Rattle.seize_words.specs.Fair.{Before, Covers, Fair, EndsNone, StartsNone, MayAdd, pass_key}
 use Rattle.seize_words.specs.Private.{IsOwn, IsOpen, is_one, key_of, own_of}
 use Rattle.seize_words.specs.Tokens.{Name, start}
 
@@ -36,11 +36,6 @@ pub one_and_born : (r : ℕ) (held : List (Held Entry)) (births : List (ℕ × �
 one_and_born r [] births seen h = absurd (cc)
 one_and_born r (x ∷ y ∷ held) births seen h = absurd (cc)
 one_and_born r (x ∷ []) births seen h = (refl, refl, refl)
-
-pub still_one : (r : ℕ) (held : List (Held Entry)) (seen : List Entry) → is_one r held ≡ true → is_one r (renewed held seen ++ born [] seen) ≡ true
-still_one r [] seen h = absurd (cc)
-still_one r (x ∷ y ∷ held) seen h = absurd (cc)
-still_one r (x ∷ []) seen h = h
 
 -- what it knew just before
 pub one_kept : (st : State) (held : List (Held Entry)) (log : List Entry) → is_one slots held ≡ true → AllKept (rules st) held log → Kept st TheSlot (key_of held) (own_of held) log
@@ -70,6 +65,11 @@ ends_none : (s : ℕ) (event : Event) → IsOwn s event → EndsNone event
 ends_none s (Event.SwapOut t) private lives = absurd (let x : (t == t) ≡ false = (private.2 t).0 in grind arith)
 ends_none s _ private lives = refl
 
+starts_none : (s : ℕ) (event : Event) → IsOwn s event → StartsNone event
+starts_none s (Event.Enter t) private k = absurd (let x : (t == t) ≡ false = (private.2 t).0 in grind arith)
+starts_none s (Event.SwapOut t) private k = absurd (let x : (t == t) ≡ false = (private.2 t).0 in grind arith)
+starts_none s _ private k = refl
+
 does : (size : ℕ) (st : State) (event : Event) → is_some (next size st event) ≡ true → (d : State × Answer) × (next size st event ≡ Some d)
 does size st event h = go (next size st event) refl h
   where
@@ -80,7 +80,7 @@ does size st event h = go (next size st event) refl h
 pub may_add : (n : Name) (p : ℕ) (seen : List Entry) (held : List (Held Entry)) (e : Entry) → is_one slots held ≡ true → e.pass ≡ p → IsOwn (key_of held) e.event
     → IsOpen (slot_at (after (start n) (own_of held)) (key_of held)) (is_active (head_at (after (start n) (own_of held)) (key_of held))) (key_of held) e.size e.event
     → MayAdd n p seen held e
-may_add n p seen held e one pe private open_ = subst (λ (hs : List (Held Entry)). MayAdd n p seen hs e) (sym (only_is slots held one)) ((omega arith, tt), ends_none (key_of held) e.event private, fair)
+may_add n p seen held e one pe private open_ = subst (λ (hs : List (Held Entry)). MayAdd n p seen hs e) (sym (only_is slots held one)) ((omega arith, tt), ends_none (key_of held) e.event private, starts_none (key_of held) e.event private, fair)
   where
     fair : (own log : List Entry) → Before n p seen (only slots held) log → Fair (start n) (pass_key p own ∷ only slots held) log e
     fair mine log before =

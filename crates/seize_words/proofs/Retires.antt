@@ -39,7 +39,7 @@ unfolding begins_retiring
 may_retire n p size seen a b one one' idle may =
     subst (λ (hs : List (Held Entry)). MayAdd n p seen (hs ++ b) (begins_retiring p size (key_of a) (key_of b))) (sym (only_is slots a one))
     (subst (λ (hs : List (Held Entry)). MayAdd n p seen (only slots a ++ hs) (begins_retiring p size (key_of a) (key_of b))) (sym (only_is values b one'))
-    ((omega arith, (omega arith, tt)), (λ lives. refl), fair))
+    ((omega arith, (omega arith, tt)), (λ lives. refl), (λ s. refl), fair))
   where
     fair : (mine log : List Entry) → Before n p seen (only slots a ++ only values b) log → Fair (start n) (pass_key p mine ∷ (only slots a ++ only values b)) log (begins_retiring p size (key_of a) (key_of b))
     fair mine log before =

@@ -1,4 +1,4 @@
--- The invariant's halves of the rights, one at a time. Assumes `Logic`.
+-- The invariant's quarters of the keys, one at a time. Assumes `Logic`.
 use Rattle.std.proofs.Common.{◌≡◌, ℕ, zero, suc, ◌+◌, List, [], ◌∷◌, ◌++◌, length, set, sym, refl, ap, subst, Option, Some, slice_get, arith}
 use mathlib.Core.Path.{Path}
 use mathlib.Mathlib.Data.Part.{◌∈◌}
@@ -58,7 +58,7 @@ module _ {E : Type 0} (c : Coded E) {M : Type 1} {𝓤 : Ura M} (𝓛 : Logic �
         via 𝓤 (ex 𝓤 F) (entry_glue (halved c) 𝓛 δ k (quarter, w) (three_quarters, v)) (ex_e 𝓤 F (λ x. guard_e 𝓤 (x ∈ (halved c).op (quarter, w) (three_quarters, v)) ⟦ entry (halved c) δ k x ⟧ (λ m.
         subst (λ (y : Share × List E). ⟦ entry (halved c) δ k y ⟧ ⊢ Z) m.1 (guard_i 𝓤 (w ≡ v) ⟦ piece c δ k full_share w ⟧ m.0.1))))
 
-    -- the invariant's half of a right that someone has says the same
+    -- the invariant's quarter of a key that someone holds says the same
     pub has : (owns : List (List E)) (k i j : ℕ) (v : List E) → j ≡ k + i → ⟦ roster c δ k owns ⟧ ∗ ⟦ R j v ⟧ ⊢ guard 𝓤 (slice_get owns i ≡ Some v) (⟦ roster c δ k owns ⟧ ∗ ⟦ R j v ⟧)
     has [] k i j v e = qed 𝓛 (‵ (roster c δ k []) ∷ ‵ (R j v) ∷ []) ∵ move ! (1 ∷ 0 ∷ []) $
         use2 𝓛 (given (OpDef (halved c).op (three_quarters, v) (full_share, [])) (‵ (R j v) ⊛ ‵ (roster c δ k []))) (entries_beside (halved c) 𝓛 δ k j (λ _. (full_share, [])) (three_quarters, v) (omega arith)) $
@@ -94,8 +94,3 @@ module _ {E : Type 0} (c : Coded E) {M : Type 1} {𝓤 : Ura M} (𝓛 : Logic �
         qed 𝓛 (‵ (L k o) ∷ ‵ (roster c δ (suc k) owns) ∷ []) ∵ move ! (1 ∷ []) $
         use1 𝓛 (raw (upd 𝓤 (⟦ roster c δ (suc k) (owns ++ u ∷ []) ⟧ ∗ ⟦ R j u ⟧))) (mints owns (suc k) j u (omega arith)) $ settle 𝓛 Z (‵ (roster c δ (suc k) (owns ++ u ∷ [])) ⊛ ‵ (R j u)) $ split ! $
         suffices ! _ (upd_i 𝓤 Z) $ move ! (2 ∷ 0 ∷ []) $ join ! $ done !
-
-    -- a right is had by one alone
-    pub twice : (k : ℕ) (v w : List E) (Z : Pr) → ⟦ R k v ⟧ ∗ ⟦ R k w ⟧ ⊢ Z
-    twice k v w Z = let F : Share × List E → Pr = λ x. guard 𝓤 (x ∈ (halved c).op (three_quarters, v) (three_quarters, w)) ⟦ entry (halved c) δ k x ⟧ in
-        via 𝓤 (ex 𝓤 F) (entry_glue (halved c) 𝓛 δ k (three_quarters, v) (three_quarters, w)) (ex_e 𝓤 F (λ x. guard_e 𝓤 (x ∈ (halved c).op (three_quarters, v) (three_quarters, w)) ⟦ entry (halved c) δ k x ⟧ (λ m. absurd (Share.three_quarters_once m.0.0))))

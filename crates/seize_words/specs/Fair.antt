@@ -1,7 +1,7 @@
 -- What an event has to be, so that the holder of a pass and of some keys may add it.
 --     Before n p seen held log   what is known of the list just before the event
 --     Fair st held log e         the event is legal then; the keys that it touches are held, and it names no others
---     MayAdd n p seen held e     it is fair whatever the list is by then, and it ends no activation
+--     MayAdd n p seen held e     it is fair whatever the list is by then, and it neither ends nor begins an activation
 --     Added n p seen seen' held held' e     it was added: see Noted; the keys know of it, and its own keys were made
 use Rattle.std.specs.Prelude.{◌≡◌, ℕ, ◌<◌, ◌≤◌, false, List, [], ◌∷◌, ◌++◌}
 use mathlib.Core.List.{IsPrefix}
@@ -12,7 +12,7 @@ use Rattle.seize_machine.specs.declared.machine.event.Answer.{Answer}
 use Rattle.seize_words.specs.Ledger.{Held, Beside, IsThere, AllThere, AllKept, WithKinds, renewed, born}
 use Rattle.seize_words.specs.Entry.{Entry}
 use Rattle.seize_words.specs.Book.{after, IsLegalList, Does, mine, kind_of, touches, Sized, rules, births, passes, values, kinds}
-use Rattle.seize_words.specs.Laws.{ended_by}
+use Rattle.seize_words.specs.Laws.{ended_by, starts}
 use Rattle.seize_words.specs.Tokens.{Name, start, IsSole, Noted}
 
 abbrev pub pass_key : ℕ → List Entry → Held Entry
@@ -39,17 +39,19 @@ pub record Fair (st : State) (held : List (Held Entry)) (log : List Entry) (e : 
   pub covers : Covers st held log e
   pub names : NamesHeld st held log e
 
+-- it neither ends nor begins an activation
 abbrev pub EndsNone : Event → Type 0
 EndsNone event = (lives : ℕ → ℕ) → ended_by lives event ≡ []
 
+abbrev pub StartsNone : Event → Type 0
+StartsNone event = (s : ℕ) → starts s event ≡ false
+
 abbrev pub MayAdd : Name → ℕ → List Entry → List (Held Entry) → Entry → Type 0
 MayAdd n p seen held e =
-    WithKinds kinds held × EndsNone e.event
+    WithKinds kinds held × EndsNone e.event × StartsNone e.event
     × ((own log : List Entry) → Before n p seen held log → Fair (start n) (pass_key p own ∷ held) log e)
 
 pub record Added (n : Name) (p : ℕ) (seen seen' : List Entry) (held held' : List (Held Entry)) (e : Entry) : Type 0 where
   pub noted : Noted n p seen seen' e
   pub before : Before n p seen held noted.before
-  pub done : State × Answer
-  pub does : Does (start n) noted.before e done
   pub keys : held' ≡ renewed held seen' ++ born (births (after (start n) noted.before) e.event) seen'

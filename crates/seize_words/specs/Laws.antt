@@ -18,7 +18,7 @@ NotHanded st log v = (c : ℕ) → ¬ (Reclaimed (moments st log) v c)
 abbrev pub AllParted : State → List Entry → ℕ → Type 0
 AllParted st log v = (s i : ℕ) → Found (moments st log) s v i → HasParted (moments st log) s i (length log)
 
--- whether the event begins an activation of slot s
+-- whether the event begins an activation of slot s; one that swaps a head out does where it refreshes, and else the lifetime is not used
 abbrev pub starts : ℕ → Event → Bool
 starts s (Enter t) = t == s
 starts s (SwapOut t) = t == s

@@ -4,6 +4,8 @@
 --     book_of value                     its book
 --     MayRetire value                   it was never named, or it is loose
 --     IsOfBook keys pass                they are of one book
+--     state_of keys, value_of value     where the keys' list leads, and which value it is
+--     IsWith key other pass event       the slot's holder may add the event with one other key;  SameKind keys keys'   of the same kind
 --     Follows keys pass' keys'          it is the same key, and knows all that the pass has seen
 use Rattle.std.specs.Prelude.{◌≡◌, ℕ, Bool, true, false, [], ◌++◌, ◌⊎◌}
 use Rattle.seize_machine.specs.Machine.State.{State, has}

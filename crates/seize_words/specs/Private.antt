@@ -6,9 +6,9 @@
 --     IsOver slot            the slot's call has nothing more to do
 --     is_one r held          there is one key, of kind r;  key_of held, own_of held    its number and list
 use Rattle.std.specs.Prelude.{◌≡◌, ℕ, true, false, Bool, ◌==◌, List, [], ◌∷◌, Option, Some, None, is_some}
-use Rattle.seize_machine.specs.Machine.State.{State, Slot, Call, Place, Append, Rest, slot_at, head_at, is_active}
+use Rattle.seize_machine.specs.Machine.State.{State, Slot, Place, Append, Rest, slot_at, head_at, is_active}
 use Rattle.seize_machine.specs.Machine.Event.{Event, slot_of}
-use Rattle.seize_machine.specs.Machine.Next.{next}
+use Rattle.seize_machine.specs.Machine.Next.{next, of_call}
 use Rattle.seize_machine.specs.Machine.Frames.{changes_used, changes_head_of, changes_link, changes_batch, changes_value}
 use Rattle.seize_words.specs.Ledger.{Held}
 use Rattle.seize_words.specs.Entry.{Entry}
@@ -47,12 +47,8 @@ next_at (Append v) queue = Some v
 next_at (Rest [] []) (v ∷ queue) = Some v
 next_at place queue = None
 
-abbrev pub next_of_call : Option Call → Option ℕ
-next_of_call None = None
-next_of_call (Some call) = next_at call.place call.queue
-
 abbrev pub puts_next : Slot → Option ℕ
-puts_next slot = next_of_call slot.call
+puts_next slot = of_call next_at slot.call
 
 abbrev pub IsOver : Slot → Type 0
 IsOver slot = slot.call ≡ Some (record { place = Rest [] []; queue = [] })

@@ -1,9 +1,11 @@
 -- The words in which the contracts of slots' keys speak.
 --     IsOf key pass        they are of one book
 --     number_of key        the slot
---     own_list key         the list at the slot's last event
+--     own_list key         the list at the slot's last event;  start_of key, size_of key     its book's opening and batch size
+--     IsAfter key pass' key'     it is the same key, and knows all that the pass has seen
 --     slot_of key, active_of key     the slot's record as its key knows it, and whether it is active
---     Moves key key' log event     after this list, the event took the slot from where its key knew it to where it knows it now
+--     Moves key key' log event later answer     after this list, the event took the slot from where its key knew it to where it knows
+--                          it now
 --     Notes key pass key' pass' event     the slot's holder added this one event with the pass: see Noted and Moves
 --     hands_next slot      the value that the slot's call is about to hand to its reclaimer
 --     HandsOnce key pass' v    it was handed now, for the first time, and all who found it have left or refreshed since
@@ -12,7 +14,8 @@ use Rattle.seize_machine.specs.Machine.State.{State, Slot, slot_at, head_at, is_
 use Rattle.seize_machine.specs.Machine.Event.{Event}
 use Rattle.seize_machine.specs.Machine.Next.{next, of_call, handing_at}
 use Rattle.seize_machine.specs.declared.machine.event.Answer.{Answer}
-use Rattle.seize_words.specs.Entry.{Entry}
+use Rattle.seize_machine.specs.Machine.History.{done_by, handed_value}
+use Rattle.seize_words.specs.Entry.{Entry, timed}
 use Rattle.seize_words.specs.Book.{after}
 use Rattle.seize_words.specs.Laws.{NotHanded, AllParted}
 use Rattle.seize_words.specs.Tokens.{Noted, start}
@@ -47,10 +50,9 @@ active_of key = is_active (head_at (after (start_of key) (own_list key)) (number
 abbrev pub IsAfter : SlotKey → Pass → SlotKey → Type 0
 IsAfter key pass' key' = (key'.keys.name ≡ key.keys.name) × (number_of key' ≡ number_of key) × (own_list key' ≡ pass'.seen)
 
--- After this list, the event took the slot from where its key knew it to where it knows it now.
-pub record Moves (key key' : SlotKey) (log : List Entry) (event : Event) : Type 0 where
-  pub later : State
-  pub answer : Answer
+-- After this list, the event took the machine to `later` with this answer, and the slot from where its key knew it to where it knows it
+-- now.
+pub record Moves (key key' : SlotKey) (log : List Entry) (event : Event) (later : State) (answer : Answer) : Type 0 where
   pub was : slot_at (after (start_of key) log) (number_of key) ≡ slot_of key
   pub was_active : is_active (head_at (after (start_of key) log) (number_of key)) ≡ active_of key
   pub legal : next (size_of key) (after (start_of key) log) event ≡ Some (later, answer)
@@ -60,7 +62,8 @@ pub record Moves (key key' : SlotKey) (log : List Entry) (event : Event) : Type 
 abbrev pub Notes : SlotKey → Pass → SlotKey → Pass → Event → Type 0
 Notes key pass key' pass' event =
     IsSame pass pass' × IsAfter key pass' key'
-    × ((noted : Noted pass.name pass.id pass.seen pass'.seen (private pass event)) × Moves key key' noted.before event)
+    × ((noted : Noted pass.name pass.id pass.seen pass'.seen (private pass event))
+    × Moves key key' noted.before event noted.later noted.answer)
 
 -- the value that the slot's call is about to hand to its reclaimer
 abbrev pub hands_next : Slot → Option ℕ
@@ -72,5 +75,6 @@ pub record HandsOnce (key : SlotKey) (pass' : Pass) (v : ℕ) : Type 0 where
   pub before : List Entry
   pub last : Entry
   pub ends : pass'.seen ≡ before ++ last ∷ []
+  pub hands : handed_value (done_by next (after (start_of key) before) (timed last)).1 ≡ Some v
   pub not_handed : NotHanded (start_of key) before v
   pub all_parted : AllParted (start_of key) before v

@@ -15,7 +15,7 @@ use Rattle.seize_machine.specs.Machine.State.{State, opening, linked, are_distin
 use Rattle.seize_machine.specs.declared.machine.event.Answer.{Answer}
 use Rattle.seize_words.specs.Ledger.{Held, fact, logs, right, rights, reached, contents}
 use Rattle.seize_words.specs.Entry.{Entry, entry_coded}
-use Rattle.seize_words.specs.Book.{IsLegalList, mine, passes, rules}
+use Rattle.seize_words.specs.Book.{IsLegalList, Does, after, mine, passes, rules}
 use Rattle.seize_words.specs.Laws.{ended}
 
 -- Who may append: whoever has a pass; or one pass alone, whose copy of the list has this name.
@@ -140,14 +140,18 @@ held_coded =
     code_by (ℕ × (ℕ × List Entry)) (coded× coded_ℕ (coded× coded_ℕ (coded_list entry_coded))) (λ h. (h.kind, (h.key, h.own)))
     (λ t. record { kind = t.0; key = t.1.0; own = t.1.1 }) (λ _. refl)
 
--- Event e was appended with pass p. Nothing had been made with the pass since it had seen its beginning, and where it is alone nothing at
--- all had been appended.
+-- Event e was added with pass p. It took the machine to this state, with this answer, and this state is where all that the pass has seen
+-- leads. Nothing had been made with the pass since it had seen its beginning, and where it is alone nothing at all had been added. The
+-- links of the book's opening are distinct, so that the laws hold of its list.
 pub record Noted (n : Name) (p : ℕ) (seen seen' : List Entry) (e : Entry) : Type 0 where
   pub before : List Entry
   pub appended : seen' ≡ before ++ e ∷ []
   pub legal : IsLegalList (start n) seen'
   pub grows : IsPrefix seen before
+  pub later : State
   pub answer : Answer
+  pub does : Does (start n) before e (later, answer)
+  pub leads : after (start n) seen' ≡ later
   pub made : mine (start n) p seen' ≡ mine (start n) p seen ++ (e, answer) ∷ []
   pub alone : IsSole n.gate → before ≡ seen
   pub distinct : are_distinct (linked n.links) ≡ true

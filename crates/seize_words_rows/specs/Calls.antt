@@ -1,12 +1,11 @@
 -- What whole calls make with a pass.
 use Rattle.std.specs.Prelude.{◌≡◌, [], ◌∷◌, ◌++◌}
 use Rattle.seize_machine.specs.Machine.Event.{Event}
-use Rattle.seize_machine.specs.declared.machine.event.Answer.{Answer}
+use Rattle.seize_machine.specs.declared.machine.event.Answer.TheVariants.{Done}
 use Rattle.seize_words.specs.Adding.{private}
 use Rattle.seize_words.specs.Passes.{mine_of}
 use Rattle.seize_words.specs.declared.book.pass.Pass.{Pass}
 
--- these two events, in this order, and no others
+-- these two events, in this order, and no others; each is done
 abbrev pub HasMade : Pass → Pass → Event → Event → Type 0
-HasMade pass pass' first last =
-    (a : Answer) × (b : Answer) × (mine_of pass' ≡ mine_of pass ++ (private pass first, a) ∷ (private pass last, b) ∷ [])
+HasMade pass pass' first last = mine_of pass' ≡ mine_of pass ++ (private pass first, Done) ∷ (private pass last, Done) ∷ []

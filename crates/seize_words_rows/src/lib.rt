@@ -1,4 +1,5 @@
-//! Whole calls of a slot on the book, made of its private events. They show that the contracts of the events suffice for a caller.
+//! Whole calls of a slot on the book, made of its private events. They show that the contracts of the events, with the exported
+//! lemmas of the book, suffice for a caller.
 #![tactic(auto)]
 
 pub mod calls;

@@ -4,7 +4,7 @@ use std::mem::size_of;
 use std::test::*;
 use std::thread;
 
-// Two threads meet with a third in turn; nothing waits, since nothing is there when the program runs.
+// Two passes meet, go to threads, come back and meet again.
 #[test]
 fn passes_go_to_threads_and_meet(rt: HostRuntime) {
     let (mut book, keys) = Book::open(2, 32);
@@ -19,6 +19,15 @@ fn passes_go_to_threads_and_meet(rt: HostRuntime) {
 
 #[test]
 fn tokens_have_no_bytes(rt: HostRuntime) {
-    assert_eq!(rt; size_of::<Book>() + size_of::<Pass>() + size_of::<Keys>(), 0);
-    assert_eq!(rt; size_of::<SlotKey>() + size_of::<ValueKey>() + size_of::<BatchKey>() + size_of::<NumbersKey>(), 0);
+    assert_eq!(rt;
+        size_of::<Book>() + size_of::<Pass>() + size_of::<Keys>(),
+        0
+    );
+    assert_eq!(rt;
+        size_of::<SlotKey>()
+            + size_of::<ValueKey>()
+            + size_of::<BatchKey>()
+            + size_of::<NumbersKey>(),
+        0
+    );
 }

@@ -20,7 +20,7 @@ impl Model for Keys {
     ghost also_owns = { λ k. keys_own k.name k.held };
 }
 
-/// An event. A caller passes `Brand`, and its proof picks the event.
+/// An event. A caller passes `Brand`, and its proof picks the event; the one below stands where none is picked.
 pub(crate) trait Picks {
     ghost event: { Event };
 }

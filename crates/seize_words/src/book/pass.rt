@@ -25,7 +25,7 @@ impl Pass {
     ghost use Rattle.seize_words.specs.Passes.{Meets};
 
     /// Two passes of one book tell each other what they have seen: afterwards both have seen the longer of their two beginnings. No event
-    /// is added.
+    /// is made with either.
     pub fn meet(&mut self, other: &mut Pass)
         requires { other.old.name ≡ self.old.name }
         ensures { Meets self.old other.old self.new other.new }

@@ -25,7 +25,7 @@ returns g c =
         (told.1, number, own),
         (
           noted,
-          moves key _ pass.name (private pass g.P.Picks.event) noted.before added.done c.requires.book (told.1 ∙ c.requires.book) refl added.before.legal added.does
+          moves key _ pass.name (private pass g.P.Picks.event) noted.before (noted.later, noted.answer) c.requires.book (told.1 ∙ c.requires.book) refl added.before.legal noted.does
               (one_kept (start pass.name) key.keys.held noted.before key.one added.before.kept) number (own ∙ noted.appended),
         ),
       );

@@ -23,7 +23,7 @@ returns-clause-noted g c =
       (name, number, own),
       (
         noted,
-        moves key _ pass.name (private pass g.P.Picks.event) noted.before added.done book (name ∙ book) refl added.before.legal added.does
+        moves key _ pass.name (private pass g.P.Picks.event) noted.before (noted.later, noted.answer) book (name ∙ book) refl added.before.legal noted.does
             (two_kept st a b noted.before key.one (subst (λ hs. AllKept (rules st) hs noted.before) joined added.before.kept)) number (own ∙ noted.appended),
       ),
     )
