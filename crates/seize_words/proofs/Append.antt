@@ -223,18 +223,6 @@ module _ {E : Type 0} (c : Coded E) (rules : Rules E) (extra : List E → Fml) (
       use1 𝓛 (raw (upd 𝓤 (⟦ rosters c δs (grown rows' births log) ⟧ ∗ ⟦ rights c δs (born births log) ⟧))) (borns rows' births log below.1 (next_same births (bumped b.0 (sizes rows)) (sizes rows') (λ r. sym (more_sizes rows b.0 log r)) next.1)) $
       settle 𝓛 Z (‵ (rosters c δs (grown rows' births log)) ⊛ ‵ (rights c δs (born births log))) $ split ! $ suffices ! _ (upd_i 𝓤 Z) $ frame ! $ move ! (1 ∷ 0 ∷ []) $ fjoin ! $ done !
 
-  -- new keys of these kinds in turn, each the next of its kind: for the beginning
-  abbrev pub numbered : Rows → List (ℕ × ℕ) → List E → List (Held E)
-  numbered rows [] log = []
-  numbered rows (b ∷ births) log = record { kind = b.0; key = length (row rows b.0); own = log } ∷ numbered (one_more rows b.0 log) births log
-
-  pub mints_all : (rows : Rows) (births : List (ℕ × ℕ)) (log : List E) → AllBelow (length δs) births → ⟦ rosters c δs rows ⟧ ⊢ upd 𝓤 (⟦ rosters c δs (grown rows births log) ⟧ ∗ ⟦ rights c δs (numbered rows births log) ⟧)
-  mints_all rows [] log below = qed 𝓛 (‵ (rosters c δs rows) ∷ []) ∵ suffices ! _ (upd_i 𝓤 (⟦ rosters c δs rows ⟧ ∗ ⟦ ftrue ⟧)) $ frame ! $ nothing ! $ done !
-  mints_all rows (b ∷ births) log below = let rows' : Rows = one_more rows b.0 log in let k : ℕ = length (row rows b.0) in let Z : Pr = ⟦ rosters c δs (grown rows' births log) ⟧ ∗ ⟦ rights c δs (numbered rows (b ∷ births) log) ⟧ in
-      qed 𝓛 (‵ (rosters c δs rows) ∷ []) ∵ use1 𝓛 (raw (upd 𝓤 (⟦ rosters c δs rows' ⟧ ∗ ⟦ right c δs b.0 k log ⟧))) (mints_right rows b.0 log below.0) $ settle 𝓛 Z (‵ (rosters c δs rows') ⊛ ‵ (right c δs b.0 k log)) $ split ! $
-      use1 𝓛 (raw (upd 𝓤 (⟦ rosters c δs (grown rows' births log) ⟧ ∗ ⟦ rights c δs (numbered rows' births log) ⟧))) (mints_all rows' births log below.1) $
-      settle 𝓛 Z (‵ (rosters c δs (grown rows' births log)) ⊛ ‵ (rights c δs (numbered rows' births log))) $ split ! $ suffices ! _ (upd_i 𝓤 Z) $ frame ! $ move ! (1 ∷ 0 ∷ []) $ fjoin ! $ done !
-
   pub joins : (xs ys : List (Held E)) → ⟦ rights c δs xs ⟧ ∗ ⟦ rights c δs ys ⟧ ⊢ ⟦ rights c δs (xs ++ ys) ⟧
   joins [] ys = qed 𝓛 (‵ ftrue ∷ ‵ (rights c δs ys) ∷ []) ∵ keep ! (1 ∷ []) $ done !
   joins (h ∷ xs) ys = qed 𝓛 ((‵ (right c δs h.kind h.key h.own) ⊛ ‵ (rights c δs xs)) ∷ ‵ (rights c δs ys) ∷ []) ∵ split ! $ move ! (1 ∷ 2 ∷ []) $ use2 𝓛 (‵ (rights c δs (xs ++ ys))) (joins xs ys) $ move ! (1 ∷ 0 ∷ []) $ fjoin ! $ done !
@@ -334,6 +322,17 @@ module _ {E : Type 0} (c : Coded E) (rules : Rules E) (extra : List E → Fml) (
       use1 𝓛 (‵ (top s.1) ⊛ ‵ (had s.1)) (latest_shows (logs c) 𝓛 full_share η s.1 s.1 ([], mathlib.Core.List.append-nil s.1)) $ split ! $
       -- [top; reached; extra; rights; rosters]
       move ! (4 ∷ 0 ∷ 2 ∷ []) $ use3 𝓛 (‵ J) (shut s.0 s.1 so.0) $ show ! (Looked held seen) s.1 $ check ! so.1 $ move ! (0 ∷ 2 ∷ 1 ∷ []) $ done !))
+
+  -- the same beside what stands beside the list, which may tell more of it
+  pub looks_beside : (held : List (Held E)) (seen : List E) (Told : List E → Type 0) (X : Pr) → WithKinds (length δs) held → ((log : List E) → Known rules held seen log → ⟦ extra log ⟧ ∗ X ⊢ guard 𝓤 (Told log) (⟦ extra log ⟧ ∗ X))
+      → ⟦ J ⟧ ∗ ⟦ rights c δs held ⟧ ∗ ⟦ had seen ⟧ ∗ X ⊢ ex 𝓤 (λ log. guard 𝓤 (Known rules held seen log × Told log) (⟦ J ⟧ ∗ ⟦ rights c δs held ⟧ ∗ ⟦ had log ⟧ ∗ X))
+  looks_beside held seen Told X w tells = qed 𝓛 (‵ J ∷ ‵ (rights c δs held) ∷ ‵ (had seen) ∷ raw X ∷ []) ∵ use3 𝓛 (seeing held seen) (looked held seen w) $ pick ! (λ s. learn ! (λ so. split ! $ move ! (1 ∷ []) $ split3 ! $
+      use1 𝓛 (‵ (top s.1) ⊛ ‵ (had s.1)) (latest_shows (logs c) 𝓛 full_share η s.1 s.1 ([], mathlib.Core.List.append-nil s.1)) $ split ! $
+      -- [top; reached; extra; rights; rosters; X]
+      move ! (2 ∷ 5 ∷ []) $ use2 𝓛 (given (Told s.1) (‵ (extra s.1) ⊛ raw X)) (tells s.1 so.1) $ learn ! (λ told. split ! $
+      -- [extra; X; top; reached; rights; rosters]
+      move ! (5 ∷ 2 ∷ 0 ∷ []) $ use3 𝓛 (‵ J) (shut s.0 s.1 so.0) $ show ! (λ log. guard 𝓤 (Known rules held seen log × Told log) (⟦ J ⟧ ∗ ⟦ rights c δs held ⟧ ∗ ⟦ had log ⟧ ∗ X)) s.1 $
+      check ! (so.1, told) $ move ! (0 ∷ 3 ∷ 2 ∷ 1 ∷ []) $ done !)))
 
   holds_minted : (rows : Rows) (r : ℕ) (log : List E) → KeptNow → ((j : ℕ) → rules.Sized r j log → rules.Sized r (j + 1) log) → Holds rules rows log → Holds rules (one_more rows r log) log
   holds_minted rows r log same more so = record {

@@ -10,6 +10,7 @@ pub mod Gates
 pub mod Passes
 pub mod Notes
 pub mod Adds
+pub mod Looks
 pub mod Begins
 pub mod Books
 pub mod Tuples

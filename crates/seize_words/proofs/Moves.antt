@@ -1,14 +1,20 @@
 -- What a slot's key knows after an event that its holder added.
-use Rattle.std.proofs.Common.{◌≡◌, ℕ, List, [], ◌∷◌, ◌++◌, sym, ap, ◌∙◌}
+use Rattle.std.proofs.Common.{◌≡◌, ℕ, List, [], ◌∷◌, ◌++◌, sym, ap, subst, ◌∙◌, true}
 use Rattle.seize_machine.specs.Machine.State.{State, slot_at, head_at, is_active}
 use Rattle.seize_machine.specs.Machine.Next.{next}
 use Rattle.seize_machine.specs.declared.machine.event.Answer.{Answer}
 use Rattle.seize_words.specs.Entry.{Entry}
-use Rattle.seize_words.specs.Book.{after, IsLegalList, Does, TheSlot, Kept}
-use Rattle.seize_words.specs.Slots.{Moves, number_of, own_list}
+use Rattle.seize_words.specs.Book.{after, IsLegalList, Does, TheSlot, Kept, mine, slots}
+use Rattle.seize_words.specs.Slots.{Looks, Moves, number_of, own_list}
 use Rattle.seize_words.specs.Tokens.{Name, start}
+use Rattle.seize_words.specs.Fair.{Before}
+use Rattle.seize_words.specs.Passes.{IsSame}
+use Rattle.seize_words.specs.Private.{is_one, key_of, own_of}
+use Rattle.seize_words.specs.declared.book.keys.Keys.{Keys}
+use Rattle.seize_words.specs.declared.book.pass.Pass.{Pass}
 use Rattle.seize_words.specs.declared.book.slot_key.SlotKey.{SlotKey}
 use Rattle.seize_words.proofs.Lists.{after_push}
+use Rattle.seize_words.proofs.Private.{one_kept}
 
 -- what a key knows, of the state that its list ends with
 now : {X : Type 0} (key key' : SlotKey) (n : Name) (e : Entry) (later : State) (log : List Entry) → key'.keys.name ≡ n → own_list key' ≡ log ++ e ∷ [] → after (start n) (log ++ e ∷ []) ≡ later
@@ -33,4 +39,19 @@ moves key key' n e log d name name' size legal does kept number own =
       legal = ap (λ (m : Name). next m.size (after (start m) log) e.event) name ∙ ap (λ (s : ℕ). next s (after (start n) log) e.event) (sym size) ∙ does;
       is = now key key' n e d.0 log name' own push number (λ s j. slot_at s j);
       is_now_active = now key key' n e d.0 log name' own push number (λ s j. is_active (head_at s j));
+    }
+
+-- where its holder only looked
+pub stays : (key key' : SlotKey) (pass pass' : Pass) → key.keys.name ≡ pass.name → IsSame pass pass' → key'.keys ≡ key.keys → Before pass.name pass.id pass.seen key.keys.held pass'.seen
+    → is_one slots key.keys.held ≡ true → Looks key pass key' pass'
+stays key key' pass pass' book same is before one =
+    let k = number_of key in let kept = (one_kept (start pass.name) key.keys.held pass'.seen one before.kept).1 in
+    record {
+      same = same;
+      kept = (ap (λ (h : Keys). h.name) is, ap (λ (h : Keys). key_of h.held) is, ap (λ (h : Keys). own_of h.held) is);
+      none_made = ap (λ (m : Name). mine (start m) pass'.id pass'.seen) same.0 ∙ ap (λ (p : ℕ). mine (start pass.name) p pass'.seen) same.1 ∙ before.none_made;
+      grows = before.grows;
+      legal = subst (λ (m : Name). IsLegalList (start m) pass'.seen) (sym book) before.legal;
+      slot = in_book book pass'.seen (λ s. slot_at s k) ∙ sym kept.1 ∙ sym (in_book book (own_list key) (λ s. slot_at s k));
+      active = in_book book pass'.seen (λ s. is_active (head_at s k)) ∙ sym kept.2 ∙ sym (in_book book (own_list key) (λ s. is_active (head_at s k)));
     }

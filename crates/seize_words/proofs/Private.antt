@@ -7,9 +7,9 @@ use Rattle.seize_machine.specs.Machine.Next.{next}
 use Rattle.seize_machine.specs.Machine.Frames.{changes_slot}
 use Rattle.seize_machine.specs.declared.machine.event.Answer.{Answer}
 use Rattle.seize_machine.proofs.Facts.{is_true, eq_true}
-use Rattle.seize_words.specs.Ledger.{Held, AllKept, renewed, born}
+use Rattle.seize_words.specs.Ledger.{Held, AllKept, WithKinds, renewed, born}
 use Rattle.seize_words.specs.Entry.{Entry}
-use Rattle.seize_words.specs.Book.{after, TheSlot, Kept, rules, slots}
+use Rattle.seize_words.specs.Book.{after, TheSlot, Kept, kinds, rules, slots}
 use Rattle.seize_words.specs.Fair.{Before, Covers, Fair, EndsNone, StartsNone, MayAdd, pass_key}
 use Rattle.seize_words.specs.Private.{IsOwn, IsOpen, is_one, key_of, own_of}
 use Rattle.seize_words.specs.Tokens.{Name, start}
@@ -40,6 +40,9 @@ one_and_born r (x ∷ []) births seen h = (refl, refl, refl)
 -- what it knew just before
 pub one_kept : (st : State) (held : List (Held Entry)) (log : List Entry) → is_one slots held ≡ true → AllKept (rules st) held log → Kept st TheSlot (key_of held) (own_of held) log
 one_kept st held log h kept = (subst (λ (hs : List (Held Entry)). AllKept (rules st) hs log) (only_is slots held h) kept).0
+
+pub one_within : (held : List (Held Entry)) → is_one slots held ≡ true → WithKinds kinds held
+one_within held h = subst (WithKinds kinds) (sym (only_is slots held h)) (omega arith, tt)
 
 pub differ : (a k : ℕ) → ¬ (k ≡ a) → (a == k) ≡ false
 differ a k n = ⊎_elim (λ e. absurd (n (sym (eq_true a k e)))) (λ e. e) (is_true (a == k))

@@ -7,20 +7,22 @@
 --     Moves key key' log event later answer     after this list, the event took the slot from where its key knew it to where it knows
 --                          it now
 --     Notes key pass key' pass' event     the slot's holder added this one event with the pass: see Noted and Moves
+--     Looks key pass key' pass'     the pass has seen a legal list, in which the slot is as its key knows it; nothing was made with it
 --     hands_next slot      the value that the slot's call is about to hand to its reclaimer
 --     HandsOnce key pass' v    it was handed now, for the first time, and all who found it have left or refreshed since
 use Rattle.std.specs.Prelude.{◌≡◌, ℕ, Bool, List, [], ◌∷◌, ◌++◌, Option, Some}
+use mathlib.Core.List.{IsPrefix}
 use Rattle.seize_machine.specs.Machine.State.{State, Slot, slot_at, head_at, is_active}
 use Rattle.seize_machine.specs.Machine.Event.{Event}
 use Rattle.seize_machine.specs.Machine.Next.{next, of_call, handing_at}
 use Rattle.seize_machine.specs.declared.machine.event.Answer.{Answer}
 use Rattle.seize_machine.specs.Machine.History.{done_by, handed_value}
 use Rattle.seize_words.specs.Entry.{Entry, timed}
-use Rattle.seize_words.specs.Book.{after}
+use Rattle.seize_words.specs.Book.{after, IsLegalList}
 use Rattle.seize_words.specs.Laws.{NotHanded, AllParted}
 use Rattle.seize_words.specs.Tokens.{Noted, start}
 use Rattle.seize_words.specs.Private.{key_of, own_of}
-use Rattle.seize_words.specs.Passes.{IsSame}
+use Rattle.seize_words.specs.Passes.{IsSame, MadeNone}
 use Rattle.seize_words.specs.Adding.{private}
 use Rattle.seize_words.specs.declared.book.pass.Pass.{Pass}
 use Rattle.seize_words.specs.declared.book.slot_key.SlotKey.{SlotKey}
@@ -64,6 +66,18 @@ Notes key pass key' pass' event =
     IsSame pass pass' × IsAfter key pass' key'
     × ((noted : Noted pass.name pass.id pass.seen pass'.seen (private pass event))
     × Moves key key' noted.before event noted.later noted.answer)
+
+abbrev pub IsKept : SlotKey → SlotKey → Type 0
+IsKept key key' = (key'.keys.name ≡ key.keys.name) × (number_of key' ≡ number_of key) × (own_list key' ≡ own_list key)
+
+pub record Looks (key : SlotKey) (pass : Pass) (key' : SlotKey) (pass' : Pass) : Type 0 where
+  pub same : IsSame pass pass'
+  pub kept : IsKept key key'
+  pub none_made : MadeNone pass pass'
+  pub grows : IsPrefix pass.seen pass'.seen
+  pub legal : IsLegalList (start_of key) pass'.seen
+  pub slot : slot_at (after (start_of key) pass'.seen) (number_of key) ≡ slot_of key
+  pub active : is_active (head_at (after (start_of key) pass'.seen) (number_of key)) ≡ active_of key
 
 -- the value that the slot's call is about to hand to its reclaimer
 abbrev pub hands_next : Slot → Option ℕ

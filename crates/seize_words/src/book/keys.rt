@@ -30,12 +30,18 @@ impl Picks for Brand {
 }
 
 impl Keys {
-    ghost use Rattle.seize_words.specs.Adding.{Adds, Asks, Joins, Parts};
+    ghost use Rattle.seize_words.specs.Adding.{Adds, Asks, Joins, Looks, MayLook, Parts};
 
     /// Adds the event with the pass.
     pub(crate) fn note<P: Picks>(&mut self, pass: &mut Pass)
         requires { Asks self.old pass.old P.event }
         ensures { Adds self.old pass.old self.new pass.new P.event }
+    {}
+
+    /// Looks at the list with the pass, and adds nothing.
+    pub(crate) fn look(&mut self, pass: &mut Pass)
+        requires { MayLook self.old pass.old }
+        ensures { Looks self.old pass.old self.new pass.new }
     {}
 
     /// No keys of the same book.

@@ -25,7 +25,7 @@ impl SlotKey {
     ghost use Rattle.seize_words.specs.Batches.{CanDetach, Detaches};
     ghost use Rattle.seize_words.specs.Others.{Follows, IsOfBook, IsWith, MayRetire, SameKind, value_of};
     ghost use Rattle.seize_words.specs.Private.{IsOpen, IsPrivate};
-    ghost use Rattle.seize_words.specs.Slots.{HandsOnce, Notes, IsOf, active_of, hands_next, number_of, size_of, slot_of};
+    ghost use Rattle.seize_words.specs.Slots.{HandsOnce, Looks, Notes, IsOf, active_of, hands_next, number_of, size_of, slot_of};
 
     // Any event that changes nothing but the slot's own record.
     fn note<P: Picks>(&mut self, pass: &mut Pass)
@@ -48,6 +48,14 @@ impl SlotKey {
         both.join(other);
         both.note::<P>(pass);
         both.part(other);
+    }
+
+    /// Looks at the list with no event: what the pass has seen is legal then, and the slot is there as its key knows it.
+    pub fn look(&mut self, pass: &mut Pass)
+        requires book { IsOf self.old pass.old }
+        ensures looked { Looks self.old pass.old self.new pass.new }
+    {
+        self.keys.look(pass);
     }
 
     /// The event `Begin` of the retirement of a value.
