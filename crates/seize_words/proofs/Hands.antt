@@ -15,6 +15,7 @@ use Rattle.seize_words.specs.declared.book.pass.Pass.{Pass}
 use Rattle.seize_words.specs.declared.book.slot_key.SlotKey.{SlotKey}
 use Rattle.seize_words.proofs.Handed.{not_handed, all_parted}
 use Rattle.seize_words.proofs.Lists.{legal_front}
+use Rattle.seize_words.proofs.Lives.{all_over}
 
 -- with no further value, the answer is the value
 hands_it : (size : ℕ) (st : State) (s v : ℕ) (d : State × Answer) → of_call handing_at (slot_at st s).call ≡ Some v → next size st (Hand s []) ≡ Some d → handed_value d.1 ≡ Some v
@@ -29,11 +30,13 @@ hands_once key key' pass pass' v name is notes =
     let does : Does (start n) log e d = ap (λ (m : Name). next m.size (after (start n) log) (Hand (number_of key) [])) (sym name) ∙ moves.legal in
     let distinct : are_distinct (linked n.links) ≡ Rattle.std.proofs.Common.true = ap (λ (m : Name). are_distinct (linked m.links)) name ∙ noted.distinct in
     let hands = hands_it n.size (after (start n) log) (number_of key) v d (ap (λ slot. of_call handing_at slot.call) moves.was ∙ is) moves.legal in
+    let parted = all_parted n.slots n.links distinct log e d v front does hands in
     record {
       before = log;
       last = e;
       ends = noted.appended;
       hands = ap (λ o. handed_value (or_illegal (after (start n) log) o).1) does ∙ hands;
       not_handed = not_handed n.slots n.links distinct log e d v front does hands;
-      all_parted = all_parted n.slots n.links distinct log e d v front does hands;
+      all_parted = parted;
+      all_over = all_over (start n) log v front parted;
     }

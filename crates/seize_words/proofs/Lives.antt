@@ -18,7 +18,7 @@ use Rattle.seize_machine.specs.declared.machine.event.Answer.{Answer}
 use Rattle.seize_machine.proofs.Facts.{Step, step_of, head_frame, is_true, eq_true, and_true, some_is}
 use Rattle.seize_words.specs.Entry.{Entry, timed}
 use Rattle.seize_words.specs.Book.{moments, after, IsLegalList}
-use Rattle.seize_words.specs.Laws.{AllParted, starts, life_from, life, lives_after, ended_by, ended_from, ended, none_alive, Reader}
+use Rattle.seize_words.specs.Laws.{AllParted, starts, life_from, life, lives_after, ended_by, ended_from, ended, none_alive, Reader, IsIn, AllOver}
 use Rattle.seize_words.specs.Fair.{EndsNone}
 use Rattle.seize_words.specs.Tokens.{over}
 use Rattle.seize_words.proofs.Handed.{entry_of}
@@ -106,19 +106,15 @@ ends_after st (x ∷ log) a t (suc i) (suc p) f l on le h out =
     one_on a t i x log _ (ends_after (done_by next st (timed x)).0 log (if starts t x.event then x.life else a) t i p f (and_true _ _ l).1 on (omega arith) h out)
 
 -- what a SwapOut ends is among what has ended
-abbrev pub In : List ℕ → ℕ → Type 0
-In [] b = ⊥
-In (x ∷ xs) b = (x ≡ b) ⊎ In xs b
-
-in_right : (xs ys : List ℕ) (b : ℕ) → In ys b → In (xs ++ ys) b
+in_right : (xs ys : List ℕ) (b : ℕ) → IsIn ys b → IsIn (xs ++ ys) b
 in_right [] ys b h = h
 in_right (x ∷ xs) ys b h = inr (in_right xs ys b h)
 
-is_ended : (lives : ℕ → ℕ) (log : List Entry) (t q : ℕ) (g : Entry) → slice_get log q ≡ Some g → is_swap_out t g.event ≡ true → In (ended_from lives log) (life_from (lives t) t (take q log))
+is_ended : (lives : ℕ → ℕ) (log : List Entry) (t q : ℕ) (g : Entry) → slice_get log q ≡ Some g → is_swap_out t g.event ≡ true → IsIn (ended_from lives log) (life_from (lives t) t (take q log))
 is_ended lives [] t q g h out = absurd (cc)
 is_ended lives (x ∷ log) t zero g h out = go x.event (ap (λ (e : Entry). is_swap_out t e.event) (some_is _ _ h) ∙ out)
   where
-    go : (event : Event) → is_swap_out t event ≡ true → In (ended_by lives event ++ ended_from (lives_after lives x) log) (lives t)
+    go : (event : Event) → is_swap_out t event ≡ true → IsIn (ended_by lives event ++ ended_from (lives_after lives x) log) (lives t)
     go (Event.SwapOut s) o = inl (ap lives (eq_true s t o))
     go _ o = absurd (cc)
 is_ended lives (x ∷ log) t (suc q) g h out = in_right (ended_by lives x.event) (ended_from (lives_after lives x) log) _ (is_ended (lives_after lives x) log t q g h out)
@@ -141,15 +137,15 @@ was_active st t e v own h = go (next e.size st e.event) refl h
     go (Some d) n h = by_step e.event d (step_of e.size st e.event d n) own
 
 -- the activation of whoever found v has ended
-pub reader_ended : (st : State) (log : List Entry) (v a : ℕ) → IsLegalList st log → AllParted st log v → Reader st log v a → In (ended log) a
-reader_ended st log v a l parted r =
+pub all_over : (st : State) (log : List Entry) (v : ℕ) → IsLegalList st log → AllParted st log v → AllOver st log v
+all_over st log v l parted a r =
     let i : ℕ = r.0 in let t : ℕ = r.1 in let f : Found (moments st log) t v i = r.2 in
     let w = parted t i f in let p : ℕ = w.0 in let before : i < p = w.1 in
     let found = entry_of st log i f.0 f.1 in let out = entry_of st log p (w.3).0 (w.3).1 in
     let active : is_active (head_at (after st (take i log)) t) ≡ true =
     was_active (after st (take i log)) t found.0 v (ap (λ (m : Moment). is_link_event t m.timed.event) (sym found.2) ∙ f.2) (ap (λ (m : Moment). linked_value m.answer) (sym found.2) ∙ f.3) in
     let x = ends_after st log 0 t i p out.0 l active (omega arith) out.1 (ap (λ (m : Moment). is_swap_out t m.timed.event) (sym out.2) ∙ (w.3).2) in
-    subst (In (ended log)) (x.alive ∙ sym r.3) (is_ended none_alive log t x.at x.entry x.there x.out)
+    subst (IsIn (ended log)) (x.alive ∙ sym r.3) (is_ended none_alive log t x.at x.entry x.there x.out)
 
 -- what an event adds to what has ended
 lives_by : (ℕ → ℕ) → List Entry → ℕ → ℕ
@@ -192,7 +188,7 @@ module _ {M : Type 1} {𝓤 : Ura M} (𝓛 : Logic 𝓤) where
 
   infix 26 ◌⊢◌
   infixr 35 ◌∗◌
-  over_one : (xs : List ℕ) (b : ℕ) → In xs b → ⟦ over xs ⟧ ⊢ ⟦ over xs ⟧ ∗ ⟦ fdead (b ∷ []) ⟧
+  over_one : (xs : List ℕ) (b : ℕ) → IsIn xs b → ⟦ over xs ⟧ ⊢ ⟦ over xs ⟧ ∗ ⟦ fdead (b ∷ []) ⟧
   over_one [] b h = absurd h
   over_one (x ∷ xs) b (inl e) = qed 𝓛 (‵ (fdead (x ∷ [])) ∷ ‵ (over xs) ∷ []) ∵ use1 𝓛 (‵ (fdead (x ∷ [])) ⊛ ‵ (fdead (x ∷ []))) (𝓛.lfts.dead_dup (x ∷ [])) $ split ! $
       rewrite ! 1 (λ (z : ℕ). ‵ (fdead (z ∷ []))) e refl $ move ! (0 ∷ 2 ∷ []) $ fjoin ! $ done !
@@ -205,7 +201,7 @@ module _ {M : Type 1} {𝓤 : Ura M} (𝓛 : Logic 𝓤) where
   -- when v is handed, the activations of all who found it are over
   pub readers_over : (st : State) (log : List Entry) (v : ℕ) (bs : List ℕ) → IsLegalList st log → AllParted st log v → AllReaders st log v bs → ⟦ over (ended log) ⟧ ⊢ ⟦ over (ended log) ⟧ ∗ ⟦ over bs ⟧
   readers_over st log v [] l parted rs = qed 𝓛 (‵ (over (ended log)) ∷ []) ∵ frame ! $ nothing ! $ done !
-  readers_over st log v (b ∷ bs) l parted rs = qed 𝓛 (‵ (over (ended log)) ∷ []) ∵ use1 𝓛 (‵ (over (ended log)) ⊛ ‵ (fdead (b ∷ []))) (over_one (ended log) b (reader_ended st log v b l parted rs.0)) $ split ! $
+  readers_over st log v (b ∷ bs) l parted rs = qed 𝓛 (‵ (over (ended log)) ∷ []) ∵ use1 𝓛 (‵ (over (ended log)) ⊛ ‵ (fdead (b ∷ []))) (over_one (ended log) b (all_over st log v l parted b rs.0)) $ split ! $
       use1 𝓛 (‵ (over (ended log)) ⊛ ‵ (over bs)) (readers_over st log v bs l parted rs.1) $ split ! $ frame ! $ move ! (1 ∷ 0 ∷ []) $ fjoin ! $ done !
 
   pub stays : (log : List Entry) (e : Entry) (X : Pr) → EndsNone e.event → ⟦ over (ended log) ⟧ ∗ X ⊢ upd 𝓤 (⟦ over (ended (log ++ e ∷ [])) ⟧ ∗ X)

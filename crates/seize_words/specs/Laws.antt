@@ -3,8 +3,9 @@
 --     NotHanded st log v   no event of the list handed v to its reclaimer
 --     Reader st log v a    a is the lifetime of an activation in which a slot found v in a link
 --     ended log            the lifetimes of the activations that the list ended, in order
+--     AllOver st log v     of each activation in which a slot found v, the lifetime is among these
 --     life s log           the lifetime of the last activation of slot s that the list began
-use Rattle.std.specs.Prelude.{◌≡◌, ℕ, ◌==◌, Bool, false, List, [], ◌∷◌, ◌++◌, take, length, if◌then◌else◌}
+use Rattle.std.specs.Prelude.{◌≡◌, ℕ, ◌==◌, Bool, false, List, [], ◌∷◌, ◌++◌, take, length, if◌then◌else◌, ◌⊎◌}
 use Rattle.seize_machine.specs.Machine.State.{State}
 use Rattle.seize_machine.specs.Machine.Event.{Event, Enter, SwapOut}
 use Rattle.seize_machine.specs.Machine.History.{Found, Reclaimed, HasParted}
@@ -51,3 +52,10 @@ ended log = ended_from none_alive log
 
 abbrev pub Reader : State → List Entry → ℕ → ℕ → Type 0
 Reader st log v a = (i : ℕ) × (s : ℕ) × Found (moments st log) s v i × (a ≡ life s (take i log))
+
+abbrev pub IsIn : List ℕ → ℕ → Type 0
+IsIn [] a = ⊥
+IsIn (x ∷ xs) a = (x ≡ a) ⊎ IsIn xs a
+
+abbrev pub AllOver : State → List Entry → ℕ → Type 0
+AllOver st log v = (a : ℕ) → Reader st log v a → IsIn (ended log) a

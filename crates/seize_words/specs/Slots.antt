@@ -9,7 +9,8 @@
 --     Notes key pass key' pass' event     the slot's holder added this one event with the pass: see Noted and Moves
 --     Looks key pass key' pass'     the pass has seen a legal list, in which the slot is as its key knows it; nothing was made with it
 --     hands_next slot      the value that the slot's call is about to hand to its reclaimer
---     HandsOnce key pass' v    it was handed now, for the first time, and all who found it have left or refreshed since
+--     HandsOnce key pass' v    it was handed now, for the first time, all who found it have left or refreshed since, and
+--                          the activations in which they did are over
 use Rattle.std.specs.Prelude.{◌≡◌, ℕ, Bool, List, [], ◌∷◌, ◌++◌, Option, Some}
 use mathlib.Core.List.{IsPrefix}
 use Rattle.seize_machine.specs.Machine.State.{State, Slot, slot_at, head_at, is_active}
@@ -19,7 +20,7 @@ use Rattle.seize_machine.specs.declared.machine.event.Answer.{Answer}
 use Rattle.seize_machine.specs.Machine.History.{done_by, handed_value}
 use Rattle.seize_words.specs.Entry.{Entry, timed}
 use Rattle.seize_words.specs.Book.{after, IsLegalList}
-use Rattle.seize_words.specs.Laws.{NotHanded, AllParted}
+use Rattle.seize_words.specs.Laws.{NotHanded, AllParted, AllOver}
 use Rattle.seize_words.specs.Tokens.{Noted, start}
 use Rattle.seize_words.specs.Private.{key_of, own_of}
 use Rattle.seize_words.specs.Passes.{IsSame, MadeNone}
@@ -83,8 +84,8 @@ pub record Looks (key : SlotKey) (pass : Pass) (key' : SlotKey) (pass' : Pass) :
 abbrev pub hands_next : Slot → Option ℕ
 hands_next slot = of_call handing_at slot.call
 
--- All that the pass has seen ends with an event that handed v. It was not handed before, and each slot that found it in a link has left or
--- refreshed since.
+-- All that the pass has seen ends with an event that handed v. It was not handed before, each slot that found it in a link has left or
+-- refreshed since, and the activations in which they did are over.
 pub record HandsOnce (key : SlotKey) (pass' : Pass) (v : ℕ) : Type 0 where
   pub before : List Entry
   pub last : Entry
@@ -92,3 +93,4 @@ pub record HandsOnce (key : SlotKey) (pass' : Pass) (v : ℕ) : Type 0 where
   pub hands : handed_value (done_by next (after (start_of key) before) (timed last)).1 ≡ Some v
   pub not_handed : NotHanded (start_of key) before v
   pub all_parted : AllParted (start_of key) before v
+  pub all_over : AllOver (start_of key) before v
