@@ -313,26 +313,28 @@ module _ {E : Type 0} (c : Coded E) (rules : Rules E) (extra : List E → Fml) (
       -- [J; Y; reached; rights]
       show ! (Appended held seen ev births Told Y) log $ check ! (so.1, told) $ move ! (0 ∷ 3 ∷ 2 ∷ 1 ∷ []) $ done !)))
 
-  -- nothing is appended: what the log is now was reached, and the holders know of it
+  -- nothing is appended: what the log is now was reached, and the holders know of it. What stands beside the list may tell more of it, and
+  -- give what may be had twice.
+  pub looks_beside : (held : List (Held E)) (seen : List E) (Told : List E → Type 0) (X : Pr) (Y : List E → Pr) → WithKinds (length δs) held → ((log : List E) → Known rules held seen log → ⟦ extra log ⟧ ∗ X ⊢ guard 𝓤 (Told log) (⟦ extra log ⟧ ∗ Y log))
+      → ⟦ J ⟧ ∗ ⟦ rights c δs held ⟧ ∗ ⟦ had seen ⟧ ∗ X ⊢ ex 𝓤 (λ log. guard 𝓤 (Known rules held seen log × Told log) (⟦ J ⟧ ∗ ⟦ rights c δs held ⟧ ∗ ⟦ had log ⟧ ∗ Y log))
+  looks_beside held seen Told X Y w tells = qed 𝓛 (‵ J ∷ ‵ (rights c δs held) ∷ ‵ (had seen) ∷ raw X ∷ []) ∵ use3 𝓛 (seeing held seen) (looked held seen w) $ pick ! (λ s. learn ! (λ so. split ! $ move ! (1 ∷ []) $ split3 ! $
+      use1 𝓛 (‵ (top s.1) ⊛ ‵ (had s.1)) (latest_shows (logs c) 𝓛 full_share η s.1 s.1 ([], mathlib.Core.List.append-nil s.1)) $ split ! $
+      -- [top; reached; extra; rights; rosters; X]
+      move ! (2 ∷ 5 ∷ []) $ use2 𝓛 (given (Told s.1) (‵ (extra s.1) ⊛ raw (Y s.1))) (tells s.1 so.1) $ learn ! (λ told. split ! $
+      -- [extra; Y; top; reached; rights; rosters]
+      move ! (5 ∷ 2 ∷ 0 ∷ []) $ use3 𝓛 (‵ J) (shut s.0 s.1 so.0) $ show ! (λ log. guard 𝓤 (Known rules held seen log × Told log) (⟦ J ⟧ ∗ ⟦ rights c δs held ⟧ ∗ ⟦ had log ⟧ ∗ Y log)) s.1 $
+      check ! (so.1, told) $ move ! (0 ∷ 3 ∷ 2 ∷ 1 ∷ []) $ done !)))
+
   abbrev pub Looked : List (Held E) → List E → List E → Pr
   Looked held seen log = guard 𝓤 (Known rules held seen log) (⟦ J ⟧ ∗ ⟦ rights c δs held ⟧ ∗ ⟦ had log ⟧)
 
   pub looks : (held : List (Held E)) (seen : List E) → WithKinds (length δs) held → ⟦ J ⟧ ∗ ⟦ rights c δs held ⟧ ∗ ⟦ had seen ⟧ ⊢ ex 𝓤 (Looked held seen)
-  looks held seen w = qed 𝓛 (‵ J ∷ ‵ (rights c δs held) ∷ ‵ (had seen) ∷ []) ∵ use3 𝓛 (seeing held seen) (looked held seen w) $ pick ! (λ s. learn ! (λ so. split ! $ move ! (1 ∷ []) $ split3 ! $
-      use1 𝓛 (‵ (top s.1) ⊛ ‵ (had s.1)) (latest_shows (logs c) 𝓛 full_share η s.1 s.1 ([], mathlib.Core.List.append-nil s.1)) $ split ! $
-      -- [top; reached; extra; rights; rosters]
-      move ! (4 ∷ 0 ∷ 2 ∷ []) $ use3 𝓛 (‵ J) (shut s.0 s.1 so.0) $ show ! (Looked held seen) s.1 $ check ! so.1 $ move ! (0 ∷ 2 ∷ 1 ∷ []) $ done !))
-
-  -- the same beside what stands beside the list, which may tell more of it
-  pub looks_beside : (held : List (Held E)) (seen : List E) (Told : List E → Type 0) (X : Pr) → WithKinds (length δs) held → ((log : List E) → Known rules held seen log → ⟦ extra log ⟧ ∗ X ⊢ guard 𝓤 (Told log) (⟦ extra log ⟧ ∗ X))
-      → ⟦ J ⟧ ∗ ⟦ rights c δs held ⟧ ∗ ⟦ had seen ⟧ ∗ X ⊢ ex 𝓤 (λ log. guard 𝓤 (Known rules held seen log × Told log) (⟦ J ⟧ ∗ ⟦ rights c δs held ⟧ ∗ ⟦ had log ⟧ ∗ X))
-  looks_beside held seen Told X w tells = qed 𝓛 (‵ J ∷ ‵ (rights c δs held) ∷ ‵ (had seen) ∷ raw X ∷ []) ∵ use3 𝓛 (seeing held seen) (looked held seen w) $ pick ! (λ s. learn ! (λ so. split ! $ move ! (1 ∷ []) $ split3 ! $
-      use1 𝓛 (‵ (top s.1) ⊛ ‵ (had s.1)) (latest_shows (logs c) 𝓛 full_share η s.1 s.1 ([], mathlib.Core.List.append-nil s.1)) $ split ! $
-      -- [top; reached; extra; rights; rosters; X]
-      move ! (2 ∷ 5 ∷ []) $ use2 𝓛 (given (Told s.1) (‵ (extra s.1) ⊛ raw X)) (tells s.1 so.1) $ learn ! (λ told. split ! $
-      -- [extra; X; top; reached; rights; rosters]
-      move ! (5 ∷ 2 ∷ 0 ∷ []) $ use3 𝓛 (‵ J) (shut s.0 s.1 so.0) $ show ! (λ log. guard 𝓤 (Known rules held seen log × Told log) (⟦ J ⟧ ∗ ⟦ rights c δs held ⟧ ∗ ⟦ had log ⟧ ∗ X)) s.1 $
-      check ! (so.1, told) $ move ! (0 ∷ 3 ∷ 2 ∷ 1 ∷ []) $ done !)))
+  looks held seen w = qed 𝓛 (‵ J ∷ ‵ (rights c δs held) ∷ ‵ (had seen) ∷ []) ∵ nothing ! $ move ! (3 ∷ 0 ∷ []) $ join ! $ move ! (1 ∷ 2 ∷ 0 ∷ []) $
+      use3 𝓛 (some (λ (log : List E). given (Known rules held seen log × Unit {0}) (‵ J ⊛ ‵ (rights c δs held) ⊛ ‵ (had log) ⊛ ‵ ftrue))) (looks_beside held seen (λ _. Unit {0}) ⟦ ftrue ⟧ (λ _. ⟦ ftrue ⟧) w no_more) $
+      pick ! (λ log. learn ! (λ known. split ! $ move ! (1 ∷ []) $ split3 ! $ show ! (Looked held seen) log $ check ! known.0 $ keep ! (3 ∷ 0 ∷ 1 ∷ []) $ done !))
+    where
+      no_more : (log : List E) → Known rules held seen log → ⟦ extra log ⟧ ∗ ⟦ ftrue ⟧ ⊢ guard 𝓤 (Unit {0}) (⟦ extra log ⟧ ∗ ⟦ ftrue ⟧)
+      no_more log known = qed 𝓛 (‵ (extra log) ∷ ‵ ftrue ∷ []) ∵ check ! tt $ done !
 
   holds_minted : (rows : Rows) (r : ℕ) (log : List E) → KeptNow → ((j : ℕ) → rules.Sized r j log → rules.Sized r (j + 1) log) → Holds rules rows log → Holds rules (one_more rows r log) log
   holds_minted rows r log same more so = record {

@@ -2,6 +2,7 @@
 use Rattle.std.proofs.Common.{◌≡◌, ℕ, zero, suc, ◌<◌, ◌≤◌, Bool, true, false, ◌==◌, if◌then◌else◌, List, [], ◌∷◌, ◌++◌, length, take, slice_get, get_or, set, Option, Some, refl, sym, ◌∙◌, ap, subst, ◌⊎◌, inl, inr, arith, append_assoc, append-nil}
 use Rattle.std.proofs.lemmas.List.{get_or-set_other, get_or-set_same, get_or_past}
 use Rattle.std.proofs.lemmas.Bool.{cases_lt}
+use mathlib.Core.List.{IsPrefix}
 use native.Mathlib.Decide.{ℕ_discrete}
 use seplogic.Ra.Ura.{Ura}
 use base.Logic.{SProp, ent, sep, upd, upd_i}
@@ -164,6 +165,19 @@ unfolding lives_by
 lives_are lives [] t = refl
 lives_are lives (e ∷ log) t = lives_are (lives_after lives e) log t
 
+-- what has ended stays so
+in_grows : (xs ys zs : List ℕ) (b : ℕ) → (IsIn ys b → IsIn zs b) → IsIn (xs ++ ys) b → IsIn (xs ++ zs) b
+in_grows [] ys zs b f h = f h
+in_grows (x ∷ xs) ys zs b f (inl e) = inl e
+in_grows (x ∷ xs) ys zs b f (inr h) = inr (in_grows xs ys zs b f h)
+
+ended_more : (lives : ℕ → ℕ) (log more : List Entry) (b : ℕ) → IsIn (ended_from lives log) b → IsIn (ended_from lives (log ++ more)) b
+ended_more lives [] more b h = absurd h
+ended_more lives (e ∷ log) more b h = in_grows (ended_by lives e.event) _ _ b (ended_more (lives_after lives e) log more b) h
+
+pub ended_grows : (log log' : List Entry) (b : ℕ) → IsPrefix log log' → IsIn (ended log) b → IsIn (ended log') b
+ended_grows log log' b grows h = subst (λ (l : List Entry). IsIn (ended l) b) grows.1 (ended_more none_alive log grows.0 b h)
+
 -- an event that ends no activation
 same_ended : (log : List Entry) (e : Entry) → EndsNone e.event → ended (log ++ e ∷ []) ≡ ended log
 same_ended log e none = ended_push none_alive log e ∙ ap (λ (l : List ℕ). ended log ++ l) (none (lives_by none_alive log)) ∙ append-nil (ended log)
@@ -188,21 +202,11 @@ module _ {M : Type 1} {𝓤 : Ura M} (𝓛 : Logic 𝓤) where
 
   infix 26 ◌⊢◌
   infixr 35 ◌∗◌
-  over_one : (xs : List ℕ) (b : ℕ) → IsIn xs b → ⟦ over xs ⟧ ⊢ ⟦ over xs ⟧ ∗ ⟦ fdead (b ∷ []) ⟧
+  pub over_one : (xs : List ℕ) (b : ℕ) → IsIn xs b → ⟦ over xs ⟧ ⊢ ⟦ over xs ⟧ ∗ ⟦ fdead (b ∷ []) ⟧
   over_one [] b h = absurd h
   over_one (x ∷ xs) b (inl e) = qed 𝓛 (‵ (fdead (x ∷ [])) ∷ ‵ (over xs) ∷ []) ∵ use1 𝓛 (‵ (fdead (x ∷ [])) ⊛ ‵ (fdead (x ∷ []))) (𝓛.lfts.dead_dup (x ∷ [])) $ split ! $
       rewrite ! 1 (λ (z : ℕ). ‵ (fdead (z ∷ []))) e refl $ move ! (0 ∷ 2 ∷ []) $ fjoin ! $ done !
   over_one (x ∷ xs) b (inr h) = qed 𝓛 (‵ (fdead (x ∷ [])) ∷ ‵ (over xs) ∷ []) ∵ move ! (1 ∷ []) $ use1 𝓛 (‵ (over xs) ⊛ ‵ (fdead (b ∷ []))) (over_one xs b h) $ split ! $ move ! (2 ∷ 0 ∷ []) $ fjoin ! $ done !
-
-  abbrev pub AllReaders : State → List Entry → ℕ → List ℕ → Type 0
-  AllReaders st log v [] = Unit {0}
-  AllReaders st log v (b ∷ bs) = Reader st log v b × AllReaders st log v bs
-
-  -- when v is handed, the activations of all who found it are over
-  pub readers_over : (st : State) (log : List Entry) (v : ℕ) (bs : List ℕ) → IsLegalList st log → AllParted st log v → AllReaders st log v bs → ⟦ over (ended log) ⟧ ⊢ ⟦ over (ended log) ⟧ ∗ ⟦ over bs ⟧
-  readers_over st log v [] l parted rs = qed 𝓛 (‵ (over (ended log)) ∷ []) ∵ frame ! $ nothing ! $ done !
-  readers_over st log v (b ∷ bs) l parted rs = qed 𝓛 (‵ (over (ended log)) ∷ []) ∵ use1 𝓛 (‵ (over (ended log)) ⊛ ‵ (fdead (b ∷ []))) (over_one (ended log) b (all_over st log v l parted b rs.0)) $ split ! $
-      use1 𝓛 (‵ (over (ended log)) ⊛ ‵ (over bs)) (readers_over st log v bs l parted rs.1) $ split ! $ frame ! $ move ! (1 ∷ 0 ∷ []) $ fjoin ! $ done !
 
   pub stays : (log : List Entry) (e : Entry) (X : Pr) → EndsNone e.event → ⟦ over (ended log) ⟧ ∗ X ⊢ upd 𝓤 (⟦ over (ended (log ++ e ∷ [])) ⟧ ∗ X)
   stays log e X none = let Z : Pr = ⟦ over (ended (log ++ e ∷ [])) ⟧ ∗ X in qed 𝓛 (‵ (over (ended log)) ∷ raw X ∷ []) ∵ rewrite ! 0 (λ (l : List ℕ). ‵ (over l)) (sym (same_ended log e none)) refl $ suffices ! _ (upd_i 𝓤 Z) $ done !

@@ -1,23 +1,26 @@
--- The holder of a pass and of some keys looks at the list, with no event. Assumes `Logic`.
+-- The holder of a pass, and of keys, looks at the list with no event. Assumes `Logic`.
 use Rattle.std.proofs.Common.{◌≡◌, ℕ, List, [], ◌∷◌, sym, ◌∙◌, arith}
 use mathlib.Core.List.{IsPrefix}
 use seplogic.Ra.Ura.{Ura}
 use base.Logic.{SProp, ent, sep, ex, guard, upd_i}
-use base.Fml.{Fml, ftrue, finv}
+use base.Fml.{Fml, ftrue, finv, fdead}
 use types.Logic.{Logic, sem}
-use types.Kit.{‵, ◌⊛◌, some, given, ◌$◌, ◌∵◌, !, qed, move, drop, split, split3, join, fsplit, fjoin, fpick, fpack, pick, learn, show, check, frame, assume, suffices, done, use1, use2, use3}
+use types.Growing.{at_least_dup}
+use types.Kit.{‵, keep, ◌⊛◌, some, given, ◌$◌, ◌∵◌, !, qed, move, drop, split, split3, join, fsplit, fjoin, fpick, fpack, pick, learn, show, check, frame, assume, suffices, done, use1, use2, use3}
 use denote.Steps.{nothing}
 use Rattle.seize_machine.specs.Machine.State.{State}
-use Rattle.seize_words.specs.Ledger.{Held, WithKinds, Known, reached}
+use Rattle.seize_words.specs.Ledger.{Held, WithKinds, Known, logs, reached}
 use Rattle.seize_words.specs.Entry.{Entry, entry_coded}
 use Rattle.seize_words.specs.Book.{mine, rules, kinds}
 use Rattle.seize_words.specs.Fair.{Before, pass_key}
-use Rattle.seize_words.specs.Tokens.{Name, rows, start, beside, inside, knows, keys_own, IsSole, gate_keeps, gate_gives, pass_at, pass_holds, pass_owns}
+use Rattle.seize_words.specs.Laws.{ended, IsIn}
+use Rattle.seize_words.specs.Tokens.{Name, rows, start, beside, inside, knows, keys_own, over, IsSole, gate_keeps, gate_gives, pass_at, pass_holds, pass_owns}
 use Rattle.seize_words.proofs.Append.{looks_beside}
 use Rattle.seize_words.proofs.Gates.{agrees, gives_as}
 use Rattle.seize_words.proofs.Notes.{knows_twice, opens}
+use Rattle.seize_words.proofs.Lives.{ended_grows, over_one}
 
-module _ {M : Type 1} {𝓤 : Ura M} (𝓛 : Logic 𝓤) (n : Name) (p : ℕ) (seen : List Entry) (held : List (Held Entry)) where
+module _ {M : Type 1} {𝓤 : Ura M} (𝓛 : Logic 𝓤) (n : Name) (p : ℕ) where
   open 𝓛 use {H, A}
 
   abbrev Pr : Type 2
@@ -46,32 +49,74 @@ module _ {M : Type 1} {𝓤 : Ura M} (𝓛 : Logic 𝓤) (n : Name) (p : ℕ) (s
   abbrev gives : List Entry → Fml
   gives log = gate_gives n.gate log
 
-  abbrev alone : List Entry → Type 0
-  alone log = IsSole n.gate → log ≡ seen
+  abbrev keys : List (Held Entry) → Fml
+  keys held = keys_own n held
 
-  -- the gate tells a pass that is alone that it has seen all
-  tells : (own log : List Entry) → Known (rules st) (pass_key p own ∷ held) seen log → ⟦ beside n log ⟧ ∗ ⟦ gives seen ⟧ ⊢ guard 𝓤 (alone log) (⟦ beside n log ⟧ ∗ ⟦ gives seen ⟧)
-  tells own log known = qed 𝓛 (‵ (beside n log) ∷ ‵ (gives seen) ∷ []) ∵ fsplit ! $ move ! (1 ∷ 2 ∷ []) $
-      use2 𝓛 (given (alone log) (‵ (gate_keeps n.gate log) ⊛ ‵ (gives seen))) (agrees 𝓛 n.gate log seen) $ learn ! (λ same. check ! same $ split ! $ move ! (2 ∷ 0 ∷ []) $ fjoin ! $ done !)
+  -- nothing was made with the pass since the list was `own`
+  abbrev Idle : List Entry → List Entry → Type 0
+  Idle own seen = IsPrefix own seen × (mine st p own ≡ mine st p seen)
 
-  before : (own log : List Entry) → mine st p own ≡ mine st p seen → Known (rules st) (pass_key p own ∷ held) seen log → alone log → Before n p seen held log
-  before own log past known same = record { legal = known.0; grows = known.1; none_made = sym known.2.0.1 ∙ past; kept = known.2.1; alone = same }
+  -- a pass, taken apart: its key, what it has seen, and its copy of the list
+  abbrev Apart : List Entry → List Entry → Pr
+  Apart seen own = guard 𝓤 (Idle own seen) (⟦ keys (pass_key p own ∷ []) ⟧ ∗ ⟦ had seen ⟧ ∗ ⟦ gives seen ⟧)
 
-  abbrev pub Looked : List Entry → Pr
-  Looked log = guard 𝓤 (Before n p seen held log) (⟦ pass_owns n p log ⟧ ∗ ⟦ keys_own n held ⟧)
+  pub apart : (seen : List Entry) → ⟦ pass_holds n p seen ⟧ ⊢ ex 𝓤 (Apart seen)
+  apart seen = qed 𝓛 (‵ (pass_holds n p seen) ∷ []) ∵ fpick ! (λ own. fsplit ! $ move ! (1 ∷ []) $ fsplit ! $ move ! (1 ∷ []) $ fsplit ! $ move ! (1 ∷ []) $ fpick ! (λ past. drop ! $
+      -- [its copy; what it has seen; its key]
+      nothing ! $ move ! (3 ∷ 0 ∷ []) $ fjoin ! $ show ! (Apart seen) own $ check ! past $ move ! (0 ∷ 2 ∷ 1 ∷ []) $ done !))
 
-  pub looks_now : WithKinds kinds held → ⟦ pass_owns n p seen ⟧ ∗ ⟦ keys_own n held ⟧ ⊢ H.⇛ (ex 𝓤 Looked)
-  looks_now within = let Z : Pr = ex 𝓤 Looked in qed 𝓛 ((‵ (knows n) ⊛ ‵ (pass_holds n p seen)) ∷ ‵ (keys_own n held) ∷ []) ∵ split ! $ use1 𝓛 (‵ (knows n) ⊛ ‵ (knows n)) (knows_twice 𝓛 n) $ split ! $ use1 𝓛 (‵ (finv J)) (opens 𝓛 n) $
+  pub together : (seen own : List Entry) → Idle own seen → ⟦ keys (pass_key p own ∷ []) ⟧ ∗ ⟦ had seen ⟧ ∗ ⟦ gives seen ⟧ ⊢ ⟦ pass_holds n p seen ⟧
+  together seen own past = qed 𝓛 (‵ (keys (pass_key p own ∷ [])) ∷ ‵ (had seen) ∷ ‵ (gives seen) ∷ []) ∵ fsplit ! $ nothing ! $ fpack ! (Idle own seen) (λ _. ftrue) past $
+      -- [past; its key; nothing; what it has seen; its copy]
+      move ! (4 ∷ 0 ∷ []) $ fjoin ! $ move ! (3 ∷ 0 ∷ []) $ fjoin ! $ move ! (1 ∷ 0 ∷ []) $ fjoin ! $ fpack ! (List Entry) (pass_at n p seen) own $ keep ! (0 ∷ []) $ done !
+
+  module _ (seen : List Entry) (held : List (Held Entry)) where
+    abbrev alone : List Entry → Type 0
+    alone log = IsSole n.gate → log ≡ seen
+
+    -- the gate tells a pass that is alone that it has seen all
+    tells : (own log : List Entry) → Known (rules st) (pass_key p own ∷ held) seen log → ⟦ beside n log ⟧ ∗ ⟦ gives seen ⟧ ⊢ guard 𝓤 (alone log) (⟦ beside n log ⟧ ∗ ⟦ gives seen ⟧)
+    tells own log known = qed 𝓛 (‵ (beside n log) ∷ ‵ (gives seen) ∷ []) ∵ fsplit ! $ move ! (1 ∷ 2 ∷ []) $
+        use2 𝓛 (given (alone log) (‵ (gate_keeps n.gate log) ⊛ ‵ (gives seen))) (agrees 𝓛 n.gate log seen) $ learn ! (λ same. check ! same $ split ! $ move ! (2 ∷ 0 ∷ []) $ fjoin ! $ done !)
+
+    before : (own log : List Entry) → mine st p own ≡ mine st p seen → Known (rules st) (pass_key p own ∷ held) seen log → alone log → Before n p seen held log
+    before own log past known same = record { legal = known.0; grows = known.1; none_made = sym known.2.0.1 ∙ past; kept = known.2.1; alone = same }
+
+    abbrev pub Looked : List Entry → Pr
+    Looked log = guard 𝓤 (Before n p seen held log) (⟦ pass_owns n p log ⟧ ∗ ⟦ keys held ⟧)
+
+    -- with keys: the pass has seen all then, and the keys are as they were
+    pub looks_now : WithKinds kinds held → ⟦ pass_owns n p seen ⟧ ∗ ⟦ keys held ⟧ ⊢ H.⇛ (ex 𝓤 Looked)
+    looks_now within = let Z : Pr = ex 𝓤 Looked in qed 𝓛 ((‵ (knows n) ⊛ ‵ (pass_holds n p seen)) ∷ ‵ (keys held) ∷ []) ∵ split ! $ use1 𝓛 (‵ (knows n) ⊛ ‵ (knows n)) (knows_twice 𝓛 n) $ split ! $ use1 𝓛 (‵ (finv J)) (opens 𝓛 n) $
+        suffices ! _ (𝓛.invs.inv_acc J Z) $ frame ! $ assume ! (‵ J) $ move ! (2 ∷ []) $
+        -- [the pass; J; the book; the keys]
+        use1 𝓛 (some (λ (own : List Entry). given (Idle own seen) (‵ (keys (pass_key p own ∷ [])) ⊛ ‵ (had seen) ⊛ ‵ (gives seen)))) (apart seen) $ pick ! (λ own. learn ! (λ past. split3 ! $ fsplit ! $ move ! (1 ∷ []) $ drop ! $
+        -- [its key; what it has seen; its copy; J; the book; the keys]
+        move ! (0 ∷ 5 ∷ []) $ fjoin ! $ move ! (1 ∷ 2 ∷ []) $ join ! $ move ! (2 ∷ 1 ∷ 0 ∷ []) $
+        use3 𝓛 (some (λ (log : List Entry). given (Known (rules st) (pass_key p own ∷ held) seen log × alone log) (‵ J ⊛ ‵ (keys (pass_key p own ∷ held)) ⊛ ‵ (had log) ⊛ ‵ (gives seen))))
+        (looks_beside entry_coded (rules st) (beside n) n.log (rows n) 𝓛 (pass_key p own ∷ held) seen alone ⟦ gives seen ⟧ (λ _. ⟦ gives seen ⟧) (omega arith, within) (tells own)) $
+        suffices ! _ (upd_i 𝓤 (⟦ J ⟧ ∗ Z)) $ pick ! (λ log. learn ! (λ known. let b = before own log past.1 known.0 known.1 in split ! $ frame ! $ split3 ! $
+        -- [the keys; what was reached; its copy; the book]
+        move ! (2 ∷ []) $ use1 𝓛 (‵ (gives log)) (gives_as 𝓛 n.gate seen log (λ s. sym (known.1 s))) $ move ! (1 ∷ []) $ fsplit ! $
+        -- [its key; the keys; its copy; what was reached; the book]
+        nothing ! $ move ! (1 ∷ 0 ∷ []) $ fjoin ! $ move ! (0 ∷ 3 ∷ 2 ∷ []) $ use3 𝓛 (‵ (pass_holds n p log)) (together log own (known.0.2.0.0, known.0.2.0.1)) $
+        move ! (2 ∷ 0 ∷ []) $ fjoin ! $ show ! Looked log $ check ! b $ done !))))
+
+  -- a lifetime that the pass has seen ended is over
+  pub is_over : (seen : List Entry) (a : ℕ) → IsIn (ended seen) a → ⟦ pass_owns n p seen ⟧ ⊢ H.⇛ (⟦ pass_owns n p seen ⟧ ∗ ⟦ fdead (a ∷ []) ⟧)
+  is_over seen a there = let Z : Pr = ⟦ pass_owns n p seen ⟧ ∗ ⟦ fdead (a ∷ []) ⟧ in qed 𝓛 ((‵ (knows n) ⊛ ‵ (pass_holds n p seen)) ∷ []) ∵ split ! $ use1 𝓛 (‵ (knows n) ⊛ ‵ (knows n)) (knows_twice 𝓛 n) $ split ! $ use1 𝓛 (‵ (finv J)) (opens 𝓛 n) $
       suffices ! _ (𝓛.invs.inv_acc J Z) $ frame ! $ assume ! (‵ J) $ move ! (2 ∷ []) $
-      -- [the pass; J; the book; the keys]
-      fpick ! (λ own. fsplit ! $ move ! (1 ∷ []) $ fsplit ! $ move ! (1 ∷ []) $ fsplit ! $ move ! (1 ∷ []) $ fpick ! (λ past. drop ! $
-      -- [its copy; what it has seen; its key; J; the book; the keys]
-      move ! (2 ∷ 5 ∷ []) $ fjoin ! $ move ! (2 ∷ 1 ∷ []) $ join ! $ move ! (2 ∷ 1 ∷ 0 ∷ []) $
-      use3 𝓛 (some (λ (log : List Entry). given (Known (rules st) (pass_key p own ∷ held) seen log × alone log) (‵ J ⊛ ‵ (keys_own n (pass_key p own ∷ held)) ⊛ ‵ (had log) ⊛ ‵ (gives seen))))
-      (looks_beside entry_coded (rules st) (beside n) n.log (rows n) 𝓛 (pass_key p own ∷ held) seen alone ⟦ gives seen ⟧ (omega arith, within) (tells own)) $
-      suffices ! _ (upd_i 𝓤 (⟦ J ⟧ ∗ Z)) $ pick ! (λ log. learn ! (λ known. let b = before own log past.1 known.0 known.1 in split ! $ frame ! $ split3 ! $
-      -- [the keys; what was reached; its copy; the book]
-      move ! (2 ∷ []) $ use1 𝓛 (‵ (gives log)) (gives_as 𝓛 n.gate seen log (λ s. sym (known.1 s))) $ move ! (1 ∷ []) $ fsplit ! $
-      -- [its key; the keys; its copy; what was reached; the book]
-      nothing ! $ fpack ! (IsPrefix own log × (mine st p own ≡ mine st p log)) (λ _. ftrue) (known.0.2.0.0, known.0.2.0.1) $ move ! (3 ∷ 0 ∷ []) $ fjoin ! $ move ! (3 ∷ 0 ∷ []) $ fjoin ! $ move ! (1 ∷ 0 ∷ []) $ fjoin ! $
-      fpack ! (List Entry) (pass_at n p log) own $ move ! (2 ∷ 0 ∷ []) $ fjoin ! $ show ! Looked log $ check ! b $ done !))))
+      -- [the pass; J; the book]
+      use1 𝓛 (some (λ (own : List Entry). given (Idle own seen) (‵ (keys (pass_key p own ∷ [])) ⊛ ‵ (had seen) ⊛ ‵ (gives seen)))) (apart seen) $ pick ! (λ own. learn ! (λ past. split3 ! $ move ! (1 ∷ []) $
+      use1 𝓛 (‵ (had seen) ⊛ ‵ (had seen)) (at_least_dup (logs entry_coded) 𝓛 n.log seen) $ split ! $
+      -- [what it has seen, twice; its key; its copy; J; the book]
+      move ! (2 ∷ 0 ∷ 3 ∷ []) $ use3 𝓛 (‵ (pass_holds n p seen)) (together seen own past) $ move ! (3 ∷ 0 ∷ []) $ fjoin ! $
+      -- [the pass; what it has seen; J]
+      nothing ! $ move ! (2 ∷ 0 ∷ []) $ join ! $ nothing ! $ move ! (3 ∷ 0 ∷ 1 ∷ []) $
+      use3 𝓛 (some (λ (log : List Entry). given (Known (rules st) [] seen log × Unit {0}) (‵ J ⊛ ‵ ftrue ⊛ ‵ (had log) ⊛ ‵ (fdead (a ∷ [])))))
+      (looks_beside entry_coded (rules st) (beside n) n.log (rows n) 𝓛 [] seen (λ _. Unit {0}) ⟦ ftrue ⟧ (λ _. ⟦ fdead (a ∷ []) ⟧) tt dead) $
+      suffices ! _ (upd_i 𝓤 (⟦ J ⟧ ∗ Z)) $ pick ! (λ log. learn ! (λ known. split ! $ frame ! $ split3 ! $ keep ! (3 ∷ 2 ∷ []) $ done !))))
+    where
+      dead : (log : List Entry) → Known (rules st) [] seen log → ⟦ beside n log ⟧ ∗ ⟦ ftrue ⟧ ⊢ guard 𝓤 (Unit {0}) (⟦ beside n log ⟧ ∗ ⟦ fdead (a ∷ []) ⟧)
+      dead log known = qed 𝓛 (‵ (beside n log) ∷ ‵ ftrue ∷ []) ∵ fsplit ! $ use1 𝓛 (‵ (over (ended log)) ⊛ ‵ (fdead (a ∷ []))) (over_one 𝓛 (ended log) a (ended_grows seen log a known.1 there)) $ split ! $
+          check ! tt $ move ! (0 ∷ 2 ∷ []) $ fjoin ! $ keep ! (0 ∷ 1 ∷ []) $ done !

@@ -19,6 +19,7 @@ use Rattle.seize_words.specs.Tokens.{Name, rows, start, beside, inside, knows, I
 use Rattle.seize_words.proofs.Append.{looks}
 use Rattle.seize_words.proofs.Gates.{gives_both, gives_as}
 use Rattle.seize_words.proofs.Lists.{between}
+use Rattle.seize_words.proofs.Looks.{apart, together}
 use Rattle.seize_words.proofs.Notes.{knows_twice, opens}
 use Rattle.seize_words.proofs.Passes.{keys}
 
@@ -86,29 +87,15 @@ module _ {M : Type 1} {𝓤 : Ura M} (𝓛 : Logic 𝓤) (n : Name) where
       use3 𝓛 (some (λ (log : List Entry). given (Knows held seen log) (‵ J ⊛ ‵ (keys 𝓛 n held) ⊛ ‵ (had log)))) (looks entry_coded (rules st) (beside n) n.log (rows n) 𝓛 held seen w) $
       suffices ! _ (upd_i 𝓤 (⟦ J ⟧ ∗ Z)) $ pick ! (λ log. learn ! (λ known. split ! $ frame ! $ show ! (Peeked held seen) log $ check ! known $ done !))
 
-  -- a pass, taken apart: its key, what it has seen, and its copy of the list
-  abbrev Apart : ℕ → List Entry → List Entry → Pr
-  Apart p seen own = guard 𝓤 (IsPrefix own seen × (mine st p own ≡ mine st p seen)) (⟦ keys 𝓛 n (pass_key p own ∷ []) ⟧ ∗ ⟦ had seen ⟧ ∗ ⟦ gives seen ⟧)
-
-  apart : (p : ℕ) (seen : List Entry) → ⟦ pass_holds n p seen ⟧ ⊢ ex 𝓤 (Apart p seen)
-  apart p seen = qed 𝓛 (‵ (pass_holds n p seen) ∷ []) ∵ fpick ! (λ own. fsplit ! $ move ! (1 ∷ []) $ fsplit ! $ move ! (1 ∷ []) $ fsplit ! $ move ! (1 ∷ []) $ fpick ! (λ past. drop ! $
-      -- [its copy; what it has seen; its key]
-      nothing ! $ move ! (3 ∷ 0 ∷ []) $ fjoin ! $ show ! (Apart p seen) own $ check ! past $ move ! (0 ∷ 2 ∷ 1 ∷ []) $ done !))
-
-  together : (p : ℕ) (seen own : List Entry) → IsPrefix own seen × (mine st p own ≡ mine st p seen) → ⟦ keys 𝓛 n (pass_key p own ∷ []) ⟧ ∗ ⟦ had seen ⟧ ∗ ⟦ gives seen ⟧ ⊢ ⟦ pass_holds n p seen ⟧
-  together p seen own past = qed 𝓛 (‵ (keys 𝓛 n (pass_key p own ∷ [])) ∷ ‵ (had seen) ∷ ‵ (gives seen) ∷ []) ∵ fsplit ! $ nothing ! $ fpack ! (IsPrefix own seen × (mine st p own ≡ mine st p seen)) (λ _. ftrue) past $
-      -- [past; its key; nothing; what it has seen; its copy]
-      move ! (4 ∷ 0 ∷ []) $ fjoin ! $ move ! (3 ∷ 0 ∷ []) $ fjoin ! $ move ! (1 ∷ 0 ∷ []) $ fjoin ! $ fpack ! (List Entry) (pass_at n p seen) own $ keep ! (0 ∷ []) $ done !
-
   abbrev pub Met : ℕ → ℕ → List Entry → List Entry → List Entry → Pr
   Met p q x y z = guard 𝓤 (Longer x y z × (mine st p z ≡ mine st p x) × (mine st q z ≡ mine st q y)) (⟦ pass_owns n p z ⟧ ∗ ⟦ pass_owns n q z ⟧)
 
   pub meets : (p q : ℕ) (x y : List Entry) → ⟦ pass_owns n p x ⟧ ∗ ⟦ pass_owns n q y ⟧ ⊢ H.⇛ (ex 𝓤 (Met p q x y))
   meets p q x y = qed 𝓛 ((‵ (knows n) ⊛ ‵ (pass_holds n p x)) ∷ (‵ (knows n) ⊛ ‵ (pass_holds n q y)) ∷ []) ∵ updating ! $ split ! $ move ! (2 ∷ []) $ split ! $
       -- [the book; q's pass; the book; p's pass]
-      move ! (3 ∷ []) $ use1 𝓛 (some (λ (a : List Entry). given (IsPrefix a x × (mine st p a ≡ mine st p x)) (‵ (keys 𝓛 n (pass_key p a ∷ [])) ⊛ ‵ (had x) ⊛ ‵ (gives x)))) (apart p x) $ pick ! (λ a. learn ! (λ past. split3 ! $
+      move ! (3 ∷ []) $ use1 𝓛 (some (λ (a : List Entry). given (IsPrefix a x × (mine st p a ≡ mine st p x)) (‵ (keys 𝓛 n (pass_key p a ∷ [])) ⊛ ‵ (had x) ⊛ ‵ (gives x)))) (apart 𝓛 n p x) $ pick ! (λ a. learn ! (λ past. split3 ! $
       -- [p's key; x was reached; p's copy; the book; q's pass; the book]
-      move ! (4 ∷ []) $ use1 𝓛 (some (λ (b : List Entry). given (IsPrefix b y × (mine st q b ≡ mine st q y)) (‵ (keys 𝓛 n (pass_key q b ∷ [])) ⊛ ‵ (had y) ⊛ ‵ (gives y)))) (apart q y) $ pick ! (λ b. learn ! (λ past'. split3 ! $
+      move ! (4 ∷ []) $ use1 𝓛 (some (λ (b : List Entry). given (IsPrefix b y × (mine st q b ≡ mine st q y)) (‵ (keys 𝓛 n (pass_key q b ∷ [])) ⊛ ‵ (had y) ⊛ ‵ (gives y)))) (apart 𝓛 n q y) $ pick ! (λ b. learn ! (λ past'. split3 ! $
       -- [q's key; y was reached; q's copy; p's key; x was reached; p's copy; the book; the book]
       move ! (5 ∷ 2 ∷ []) $ use2 𝓛 (given (IsSole n.gate → x ≡ y) (‵ (gives x) ⊛ ‵ (gives y))) (gives_both 𝓛 n.gate x y) $ learn ! (λ one. split ! $
       -- [p's copy; q's copy; q's key; y; p's key; x; the book; the book]
@@ -129,10 +116,10 @@ module _ {M : Type 1} {𝓤 : Ura M} (𝓛 : Logic 𝓤) (n : Name) where
       -- [q's key; nothing; p's key; what was reached; nothing; the book; q's copy; p's copy; z, twice; the book]
       let same : mine st p z ≡ mine st p a = between st p a z log (prefix_trans a x z past.0 least.0) known.1 known.2.0.1 in
       let same' : mine st q z ≡ mine st q b = between st q b z log (prefix_trans b y z past'.0 least.1) known.1 known.2.1.0.1 in
-      fjoin ! $ move ! (7 ∷ 5 ∷ []) $ join ! $ move ! (1 ∷ 0 ∷ []) $ use2 𝓛 (‵ (pass_holds n q z)) (together q z b (prefix_trans b y z past'.0 least.1, sym same')) $
+      fjoin ! $ move ! (7 ∷ 5 ∷ []) $ join ! $ move ! (1 ∷ 0 ∷ []) $ use2 𝓛 (‵ (pass_holds n q z)) (together 𝓛 n q z b (prefix_trans b y z past'.0 least.1, sym same')) $
       -- [q's pass; p's key; what was reached; nothing; the book; p's copy; z; the book]
       now ! $ show ! (Met p q x y) z $ check ! (longer x y z least, same ∙ past.1, same' ∙ past'.1) $
       move ! (4 ∷ 0 ∷ []) $ fjoin ! $ move ! (1 ∷ 3 ∷ []) $ fjoin ! $ move ! (4 ∷ 3 ∷ []) $ join ! $ move ! (1 ∷ 0 ∷ []) $
-      use2 𝓛 (‵ (pass_holds n p z)) (together p z a (prefix_trans a x z past.0 least.0, sym same)) $
+      use2 𝓛 (‵ (pass_holds n p z)) (together 𝓛 n p z a (prefix_trans a x z past.0 least.0, sym same)) $
       -- [p's pass; q's, with its book; what was reached; the book]
       move ! (3 ∷ 0 ∷ []) $ fjoin ! $ keep ! (0 ∷ 1 ∷ []) $ done !)))))))))
