@@ -8,8 +8,7 @@ use seplogic.Ra.Ura.{Ura}
 use base.Logic.{SProp, ent, sep, upd, upd_i}
 use base.Fml.{Fml, ftrue, fdead}
 use types.Logic.{Logic, sem}
-use types.Kit.{‵, raw, ◌⊛◌, ◌$◌, ◌∵◌, !, qed, move, split, fjoin, frame, suffices, done, use1, use2, rewrite}
-use denote.Steps.{nothing}
+use types.Kit.{‵, raw, ◌⊛◌, ◌$◌, ◌∵◌, !, qed, move, split, fjoin, suffices, done, use1, use2, rewrite}
 use Rattle.seize_machine.specs.Machine.State.{State, Head, Inactive, Active, head_at, is_active}
 use Rattle.seize_machine.specs.Machine.Event.{Event, SwapOut}
 use Rattle.seize_machine.specs.Machine.Next.{next, can_link}
@@ -19,7 +18,7 @@ use Rattle.seize_machine.specs.declared.machine.event.Answer.{Answer}
 use Rattle.seize_machine.proofs.Facts.{Step, step_of, head_frame, is_true, eq_true, and_true, some_is}
 use Rattle.seize_words.specs.Entry.{Entry, timed}
 use Rattle.seize_words.specs.Book.{moments, after, IsLegalList}
-use Rattle.seize_words.specs.Laws.{AllParted, starts, life_from, life, lives_after, ended_by, ended_from, ended, none_alive, Reader, IsIn, AllOver}
+use Rattle.seize_words.specs.Laws.{AllParted, starts, life_from, life, lives_after, ended_by, ended_from, ended, none_alive, IsIn, AllOver}
 use Rattle.seize_words.specs.Fair.{EndsNone}
 use Rattle.seize_words.specs.Tokens.{over}
 use Rattle.seize_words.proofs.Handed.{entry_of}

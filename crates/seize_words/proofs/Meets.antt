@@ -4,18 +4,17 @@ use mathlib.Core.List.{IsPrefix}
 use seplogic.Ra.Ura.{Ura}
 use base.Growing.{Least, prefix_refl, prefix_anti, prefix_trans}
 use base.Logic.{SProp, ent, sep, ex, guard, upd_i}
-use base.Fml.{Fml, ftrue, finv}
+use base.Fml.{Fml, finv}
 use types.Logic.{Logic, sem}
 use types.Growing.{at_least_dup, at_least_join}
-use types.Kit.{‵, ◌⊛◌, some, given, later, ◌$◌, ◌∵◌, !, qed, move, keep, drop, split, split3, join, fsplit, fjoin, fpick, fpack, pick, learn, show, check, frame, assume, suffices, done, use1, use2, use3, updating, await, now}
-use denote.Steps.{nothing}
+use types.Kit.{‵, ◌⊛◌, some, given, later, ◌$◌, ◌∵◌, !, qed, move, keep, split, split3, join, fsplit, fjoin, pick, learn, show, check, frame, assume, suffices, done, use1, use2, use3, updating, await, now}
 use Rattle.seize_machine.specs.Machine.State.{State}
 use Rattle.seize_words.specs.Ledger.{Held, logs, reached, WithKinds, Known}
 use Rattle.seize_words.specs.Entry.{Entry, entry_coded}
 use Rattle.seize_words.specs.Book.{mine, rules, kinds}
 use Rattle.seize_words.specs.Fair.{pass_key}
 use Rattle.seize_words.specs.Passes.{Longer}
-use Rattle.seize_words.specs.Tokens.{Name, rows, start, beside, inside, knows, IsSole, gate_gives, pass_at, pass_holds, pass_owns}
+use Rattle.seize_words.specs.Tokens.{Name, rows, start, beside, inside, knows, IsSole, gate_gives, pass_holds, pass_owns}
 use Rattle.seize_words.proofs.Append.{looks}
 use Rattle.seize_words.proofs.Gates.{gives_both, gives_as}
 use Rattle.seize_words.proofs.Lists.{between}

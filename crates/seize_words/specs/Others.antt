@@ -3,19 +3,26 @@
 --                                       as its key knows
 --     book_of value                     its book
 --     MayRetire value                   it was never named, or it is loose
+--     IsLeast s st                      slot s is there, and its number is the least that is not in use and one of a table;
+--     MayTake numbers key               so it is for this slot, as the key of the numbers knows
 --     IsOfBook keys pass                they are of one book
 --     state_of keys, value_of value     where the keys' list leads, and which value it is
 --     IsWith key other pass event       the slot's holder may add the event with one other key;  SameKind keys keys'   of the same kind
 --     Follows keys pass' keys'          it is the same key, and knows all that the pass has seen
-use Rattle.std.specs.Prelude.{◌≡◌, ℕ, Bool, true, false, [], ◌++◌, ◌⊎◌}
+use Rattle.std.specs.Prelude.{◌≡◌, ℕ, ◌<◌, Bool, true, false, List, [], ◌++◌, length, ◌⊎◌}
 use Rattle.seize_machine.specs.Machine.State.{State, has}
 use Rattle.seize_words.specs.Book.{after, births}
 use Rattle.seize_words.specs.Private.{is_one, key_of, own_of}
 use Rattle.seize_machine.specs.Machine.Event.{Event}
+use Rattle.seize_machine.specs.Machine.Next.{first_free}
+use Rattle.seize_table.specs.Place.{all_numbers}
+use Rattle.seize_words.specs.Ledger.{Held}
+use Rattle.seize_words.specs.Entry.{Entry}
 use Rattle.seize_words.specs.Adding.{private}
-use Rattle.seize_words.specs.Fair.{MayAdd}
+use Rattle.seize_words.specs.Fair.{Before, MayAdd}
 use Rattle.seize_words.specs.Tokens.{Name, start}
 use Rattle.seize_words.specs.declared.book.keys.Keys.{Keys}
+use Rattle.seize_words.specs.declared.book.numbers_key.NumbersKey.{NumbersKey}
 use Rattle.seize_words.specs.declared.book.pass.Pass.{Pass}
 use Rattle.seize_words.specs.declared.book.slot_key.SlotKey.{SlotKey}
 use Rattle.seize_words.specs.declared.book.value_key.ValueKey.{ValueKey}
@@ -41,10 +48,20 @@ MayRetire value = (is_named value ≡ false) ⊎ (is_loose value ≡ true)
 abbrev pub IsOfBook : Keys → Pass → Type 0
 IsOfBook keys pass = keys.name ≡ pass.name
 
+abbrev pub IsLeast : ℕ → State → Type 0
+IsLeast s st = (s ≡ first_free st.slots) × (s < length st.slots) × (s < all_numbers)
+
+abbrev pub MayTake : NumbersKey → SlotKey → Type 0
+MayTake numbers key = IsLeast (key_of key.keys.held) (state_of numbers.keys)
+
+-- wherever the list is by then, the event makes no keys
+abbrev pub MakesNone : Name → ℕ → List Entry → List (Held Entry) → Event → Type 0
+MakesNone n p seen held event = (log : List Entry) → Before n p seen held log → births (after (start n) log) event ≡ []
+
 -- there is one other key, the event makes none, and it may be added with both
 abbrev pub IsWith : SlotKey → Keys → Pass → Event → Type 0
 IsWith key other pass event =
-    ((r : ℕ) × (is_one r other.held ≡ true)) × ((st : State) → births st event ≡ [])
+    ((r : ℕ) × (is_one r other.held ≡ true)) × MakesNone pass.name pass.id pass.seen (key.keys.held ++ other.held) event
     × MayAdd pass.name pass.id pass.seen (key.keys.held ++ other.held) (private pass event)
 
 abbrev pub SameKind : Keys → Keys → Type 0

@@ -1,7 +1,7 @@
 //! The key of a slot, and the events that its holder makes of the slot itself. It is `Keys` with one key; they are added with a pass.
 ghost use Rattle.std.specs.Prelude.{◌≡◌, [], true, false, IfSome, is_some};
 ghost use Rattle.seize_machine.specs.Machine.State.{is_idle};
-ghost use Rattle.seize_machine.specs.Machine.Event.{Begin, Detach, Give, Hand, Put, Return};
+ghost use Rattle.seize_machine.specs.Machine.Event.{Begin, Detach, Give, Hand, Put, Return, Take};
 ghost use Rattle.seize_machine.specs.declared.machine.event.Job.TheVariants.{Flush, Leave, Refresh, Retire};
 ghost use Rattle.seize_words.specs.Private.{IsOver, is_one, puts_next};
 ghost use Rattle.seize_words.specs.Book.{slots};
@@ -23,7 +23,7 @@ pub struct SlotKey {
 
 impl SlotKey {
     ghost use Rattle.seize_words.specs.Batches.{CanDetach, Detaches};
-    ghost use Rattle.seize_words.specs.Others.{Follows, IsOfBook, IsWith, MayRetire, SameKind, value_of};
+    ghost use Rattle.seize_words.specs.Others.{Follows, IsOfBook, IsWith, MayRetire, MayTake, SameKind, value_of};
     ghost use Rattle.seize_words.specs.Private.{IsOpen, IsPrivate};
     ghost use Rattle.seize_words.specs.Slots.{HandsOnce, Looks, Notes, IsOf, active_of, hands_next, number_of, size_of, slot_of};
 
@@ -74,6 +74,16 @@ impl SlotKey {
         requires book { IsOf self.old pass.old × IsOfBook numbers.old.keys pass.old }
         requires idle { (is_idle (slot_of self.old) ≡ true) × (active_of self.old ≡ false) }
         ensures noted { Notes self.old pass.old self.new pass.new (Give (number_of self.old)) }
+        ensures numbers { Follows numbers.old.keys pass.new numbers.new.keys }
+    {
+        self.note_with::<Brand>(&mut numbers.keys, pass);
+    }
+
+    /// The event `Take` of a number that was in use before: the slot, which is there, is in use again.
+    pub fn take_again(&mut self, numbers: &mut NumbersKey, pass: &mut Pass)
+        requires book { IsOf self.old pass.old × IsOfBook numbers.old.keys pass.old }
+        requires least { MayTake numbers.old self.old }
+        ensures noted { Notes self.old pass.old self.new pass.new (Take (number_of self.old)) }
         ensures numbers { Follows numbers.old.keys pass.new numbers.new.keys }
     {
         self.note_with::<Brand>(&mut numbers.keys, pass);
