@@ -1,5 +1,5 @@
 -- Events that change nothing but a slot's own record: its key is enough.
-use Rattle.std.proofs.Common.{◌≡◌, ℕ, zero, suc, ◌<◌, true, false, ◌==◌, List, [], ◌∷◌, ◌++◌, Option, Some, is_some, refl, sym, ◌∙◌, ap, subst, ⊎_elim, arith}
+use Rattle.std.proofs.Common.{◌≡◌, ℕ, zero, suc, ◌<◌, true, false, ◌==◌, List, [], ◌∷◌, ◌++◌, Option, Some, is_some, refl, sym, ◌∙◌, ap, subst, ⊎_elim, append-nil, arith}
 use Rattle.std.specs.Prelude.{take, drop}
 use Rattle.seize_machine.specs.Machine.State.{State, slot_at, head_at, is_active}
 use Rattle.seize_machine.specs.Machine.Event.{Event, slot_of}
@@ -9,8 +9,9 @@ use Rattle.seize_machine.specs.declared.machine.event.Answer.{Answer}
 use Rattle.seize_machine.proofs.Facts.{is_true, eq_true}
 use Rattle.seize_words.specs.Ledger.{Held, AllKept, WithKinds, renewed, born}
 use Rattle.seize_words.specs.Entry.{Entry}
-use Rattle.seize_words.specs.Book.{after, TheSlot, Kept, kinds, rules, slots}
-use Rattle.seize_words.specs.Fair.{Before, Covers, Fair, EndsNone, StartsNone, MayAdd, pass_key}
+use Rattle.seize_words.specs.Book.{after, births, TheSlot, Kept, kinds, rules, slots}
+use Rattle.seize_words.specs.Fair.{Added, Before, Covers, Fair, EndsNone, StartsNone, MayAdd, pass_key}
+use Rattle.seize_words.specs.Others.{MakesNone}
 use Rattle.seize_words.specs.Private.{IsOwn, IsOpen, is_one, key_of, own_of}
 use Rattle.seize_words.specs.Tokens.{Name, start}
 
@@ -95,26 +96,34 @@ may_add n p seen held e one pe private open_ = subst (λ (hs : List (Held Entry)
           names = λ many was there. (subst (λ (z : ℕ). z < many 0) (sym pe) there.0, λ v le. (private.3 (after (start n) log) v).1);
         }
 
--- Two keys, the first a slot's.
+-- A slot's key, and others after it.
 
-abbrev pub both_after : List (Held Entry) → List (Held Entry) → List Entry → List (Held Entry)
-both_after a b seen = renewed (a ++ b) seen ++ born [] seen
+-- they are of the same kinds afterwards
+pub same_kind : (q : ℕ) (held : List (Held Entry)) (seen : List Entry) → is_one q held ≡ true → is_one q (renewed held seen) ≡ true
+same_kind q [] seen h = absurd (cc)
+same_kind q (x ∷ y ∷ held) seen h = absurd (cc)
+same_kind q (x ∷ []) seen h = h
 
-pub record TwoAfter (a b : List (Held Entry)) (r : ℕ) (seen : List Entry) : Type 0 where
-  pub first_key : key_of (take 1 (both_after a b seen)) ≡ key_of a
-  pub first_own : own_of (take 1 (both_after a b seen)) ≡ seen
-  pub first_one : is_one slots (take 1 (both_after a b seen)) ≡ true
-  pub second_key : key_of (drop 1 (both_after a b seen)) ≡ key_of b
-  pub second_own : own_of (drop 1 (both_after a b seen)) ≡ seen
-  pub second_kind : (q : ℕ) → is_one q b ≡ true → is_one q (drop 1 (both_after a b seen)) ≡ true
+abbrev all_after : List (Held Entry) → List (Held Entry) → List Entry → List (Held Entry)
+all_after a b seen = renewed (a ++ b) seen ++ born [] seen
 
-pub two_after : (a b : List (Held Entry)) (r : ℕ) (seen : List Entry) → is_one slots a ≡ true → is_one r b ≡ true → TwoAfter a b r seen
-two_after [] b r seen h k = absurd (cc)
-two_after (x ∷ y ∷ a) b r seen h k = absurd (cc)
-two_after (x ∷ []) [] r seen h k = absurd (cc)
-two_after (x ∷ []) (y ∷ z ∷ b) r seen h k = absurd (cc)
-two_after (x ∷ []) (y ∷ []) r seen h k =
-    record { first_key = refl; first_own = refl; first_one = h; second_key = refl; second_own = refl; second_kind = λ q is. is }
+pub record Parted (a b : List (Held Entry)) (seen : List Entry) : Type 0 where
+  pub number : key_of (take 1 (all_after a b seen)) ≡ key_of a
+  pub own : own_of (take 1 (all_after a b seen)) ≡ seen
+  pub others : drop 1 (all_after a b seen) ≡ renewed b seen
+
+pub parted : (a b : List (Held Entry)) (seen : List Entry) → is_one slots a ≡ true → Parted a b seen
+parted [] b seen h = absurd (cc)
+parted (x ∷ y ∷ a) b seen h = absurd (cc)
+parted (x ∷ []) b seen h = record { number = refl; own = refl; others = append-nil (renewed b seen) }
+
+pub held_after : (n : Name) (p : ℕ) (seen seen' : List Entry) (held held' a b : List (Held Entry)) (e : Entry) → held ≡ a ++ b → MakesNone n p seen (a ++ b) e.event
+    → Added n p seen seen' held held' e → held' ≡ all_after a b seen'
+held_after n p seen seen' held held' a b e joined none added =
+    let log = added.noted.before in
+    added.keys
+    ∙ ap (λ (hs : List (Held Entry)). renewed hs seen' ++ born (births (after (start n) log) e.event) seen') joined
+    ∙ ap (λ (bs : List (ℕ × ℕ)). renewed (a ++ b) seen' ++ born bs seen') (none log (subst (λ (hs : List (Held Entry)). Before n p seen hs log) joined added.before))
 
 pub two_kept : (st : State) (a b : List (Held Entry)) (log : List Entry) → is_one slots a ≡ true → AllKept (rules st) (a ++ b) log → Kept st TheSlot (key_of a) (own_of a) log
 two_kept st a b log h kept = (subst (λ (hs : List (Held Entry)). AllKept (rules st) (hs ++ b) log) (only_is slots a h) kept).0

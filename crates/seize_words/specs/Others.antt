@@ -7,8 +7,9 @@
 --     MayTake numbers key               so it is for this slot, as the key of the numbers knows
 --     IsOfBook keys pass                they are of one book
 --     state_of keys, value_of value     where the keys' list leads, and which value it is
---     IsWith key other pass event       the slot's holder may add the event with one other key;  SameKind keys keys'   of the same kind
---     Follows keys pass' keys'          it is the same key, and knows all that the pass has seen
+--     IsWith key other pass event       the slot's holder may add the event with the other keys
+--     SameKind keys keys'               if there was one key of some kind, there is one of this kind
+--     Follows keys pass' keys'          they are the same keys, and know all that the pass has seen
 use Rattle.std.specs.Prelude.{◌≡◌, ℕ, ◌<◌, Bool, true, false, List, [], ◌++◌, length, ◌⊎◌}
 use Rattle.seize_machine.specs.Machine.State.{State, has}
 use Rattle.seize_words.specs.Book.{after, births}
@@ -16,7 +17,7 @@ use Rattle.seize_words.specs.Private.{is_one, key_of, own_of}
 use Rattle.seize_machine.specs.Machine.Event.{Event}
 use Rattle.seize_machine.specs.Machine.Next.{first_free}
 use Rattle.seize_table.specs.Place.{all_numbers}
-use Rattle.seize_words.specs.Ledger.{Held}
+use Rattle.seize_words.specs.Ledger.{Held, renewed}
 use Rattle.seize_words.specs.Entry.{Entry}
 use Rattle.seize_words.specs.Adding.{private}
 use Rattle.seize_words.specs.Fair.{Before, MayAdd}
@@ -58,14 +59,14 @@ MayTake numbers key = IsLeast (key_of key.keys.held) (state_of numbers.keys)
 abbrev pub MakesNone : Name → ℕ → List Entry → List (Held Entry) → Event → Type 0
 MakesNone n p seen held event = (log : List Entry) → Before n p seen held log → births (after (start n) log) event ≡ []
 
--- there is one other key, the event makes none, and it may be added with both
+-- the event makes no keys, and may be added with the slot's and the other keys
 abbrev pub IsWith : SlotKey → Keys → Pass → Event → Type 0
 IsWith key other pass event =
-    ((r : ℕ) × (is_one r other.held ≡ true)) × MakesNone pass.name pass.id pass.seen (key.keys.held ++ other.held) event
+    MakesNone pass.name pass.id pass.seen (key.keys.held ++ other.held) event
     × MayAdd pass.name pass.id pass.seen (key.keys.held ++ other.held) (private pass event)
 
 abbrev pub SameKind : Keys → Keys → Type 0
 SameKind keys keys' = (r : ℕ) → is_one r keys.held ≡ true → is_one r keys'.held ≡ true
 
 abbrev pub Follows : Keys → Pass → Keys → Type 0
-Follows keys pass' keys' = (keys'.name ≡ keys.name) × (key_of keys'.held ≡ key_of keys.held) × (own_of keys'.held ≡ pass'.seen)
+Follows keys pass' keys' = (keys'.name ≡ keys.name) × (keys'.held ≡ renewed keys.held pass'.seen)

@@ -37,7 +37,7 @@ impl SlotKey {
         self.keys.note::<P>(pass);
     }
 
-    // An event that changes what one other key knows too.
+    // An event that changes what other keys know too.
     fn note_with<P: Picks>(&mut self, other: &mut Keys, pass: &mut Pass)
         requires book { IsOf self.old pass.old × IsOfBook other.old pass.old }
         requires may { IsWith self.old other.old pass.old P.event }
