@@ -3,6 +3,7 @@
 --                                       as its key knows
 --     book_of value                     its book
 --     MayRetire value                   it was never named, or it is loose
+--     IsSpent v st                      it was named, and it is not loose;  CannotRetire value   so it is, as its key knows
 --     IsLeast s st                      slot s is there, and its number is the least that is not in use and one of a table;
 --     MayTake numbers key               so it is for this slot, as the key of the numbers knows
 --     IsOfBook keys pass                they are of one book
@@ -45,6 +46,12 @@ is_loose value = has (value_of value) (state_of value.keys).loose
 
 abbrev pub MayRetire : ValueKey → Type 0
 MayRetire value = (is_named value ≡ false) ⊎ (is_loose value ≡ true)
+
+abbrev pub IsSpent : ℕ → State → Type 0
+IsSpent v st = (has v st.named ≡ true) × (has v st.loose ≡ false)
+
+abbrev pub CannotRetire : ValueKey → Type 0
+CannotRetire value = IsSpent (value_of value) (state_of value.keys)
 
 abbrev pub IsOfBook : Keys → Pass → Type 0
 IsOfBook keys pass = keys.name ≡ pass.name

@@ -23,7 +23,7 @@ pub struct SlotKey {
 
 impl SlotKey {
     ghost use Rattle.seize_words.specs.Batches.{CanDetach, Detaches};
-    ghost use Rattle.seize_words.specs.Others.{Follows, IsOfBook, IsWith, MayRetire, MayTake, SameKind, value_of};
+    ghost use Rattle.seize_words.specs.Others.{CannotRetire, Follows, IsOfBook, IsWith, MayRetire, MayTake, SameKind, value_of};
     ghost use Rattle.seize_words.specs.Private.{IsOpen, IsPrivate};
     ghost use Rattle.seize_words.specs.Slots.{HandsOnce, Looks, Notes, IsOf, active_of, hands_next, number_of, size_of, slot_of};
 
@@ -58,13 +58,14 @@ impl SlotKey {
         self.keys.look(pass);
     }
 
-    /// The event `Begin` of the retirement of a value.
+    /// The event `Begin` of the retirement of a value. No other call may begin to retire it, until it was in a link and came out again.
     pub fn begin_retire(&mut self, value: &mut ValueKey, pass: &mut Pass)
         requires book { IsOf self.old pass.old × IsOfBook value.old.keys pass.old }
         requires idle { is_idle (slot_of self.old) ≡ true }
         requires value { MayRetire value.old }
         ensures noted { Notes self.old pass.old self.new pass.new (Begin (number_of self.old) (Retire (value_of value.old))) }
         ensures value { Follows value.old.keys pass.new value.new.keys }
+        ensures spent { CannotRetire value.new }
     {
         self.note_with::<Brand>(&mut value.keys, pass);
     }

@@ -3,7 +3,7 @@ use Rattle.seize_machine.specs.Machine.State.{slot_at, is_idle, has}
 use Rattle.seize_words.specs.Book.{after, values}
 use Rattle.seize_words.specs.Private.{key_of, own_of}
 use Rattle.seize_words.specs.Tokens.{Name, start}
-use Rattle.seize_words.proofs.Retires.{may_retire}
+use Rattle.seize_words.proofs.Retires.{may_retire, spent}
 use Rattle.seize_words.proofs.book.slot_key.SlotKey.begin_retire.Goals as goal
 
 pub note_with-requires-clause-may : goal.note_with-requires-clause-may
@@ -12,3 +12,8 @@ note_with-requires-clause-may c =
     let idle = subst (λ (n : Name). is_idle (slot_at (after (start n) (own_of a)) (key_of a)) ≡ true) c.requires.book.0 c.requires.idle in
     let may = subst (λ (n : Name). (has (key_of b) (after (start n) (own_of b)).named ≡ false) ⊎ (has (key_of b) (after (start n) (own_of b)).loose ≡ true)) c.requires.book.1 c.requires.value in
     ((λ log before. refl), may_retire pass.name pass.id pass.name.size pass.seen a b c.args.self.now.one c.args.value.now.one idle may)
+
+pub returns-clause-spent : goal.returns-clause-spent
+returns-clause-spent c =
+    let value = c.args.value.now in let told = c.note_with.ensures in
+    spent c.args.pass.now c.note_with.new.pass.seen value.keys c.note_with.new.other (key_of c.args.self.now.keys.held) told.noted.2.0 value.one c.requires.book.1 told.other.0.0 told.other.0.1

@@ -1,5 +1,5 @@
 use Rattle.std.proofs.Common.{subst}
-use Rattle.seize_words.specs.Book.{after, numbers}
+use Rattle.seize_words.specs.Book.{after}
 use Rattle.seize_words.specs.Others.{IsLeast}
 use Rattle.seize_words.specs.Private.{key_of, own_of}
 use Rattle.seize_words.specs.Tokens.{Name, start}
