@@ -58,7 +58,7 @@ impl SlotKey {
         self.keys.look(pass);
     }
 
-    /// The event `Begin` of the retirement of a value. No other call may begin to retire it, until it was in a link and came out again.
+    /// The event `Begin` of the retirement of a value. Its key knows then that no call may begin to retire it.
     pub fn begin_retire(&mut self, value: &mut ValueKey, pass: &mut Pass)
         requires book { IsOf self.old pass.old × IsOfBook value.old.keys pass.old }
         requires idle { is_idle (slot_of self.old) ≡ true }
