@@ -45,12 +45,14 @@ moves key key' n e log d name name' size legal does kept number own =
 pub stays : (key key' : SlotKey) (pass pass' : Pass) → key.keys.name ≡ pass.name → IsSame pass pass' → key'.keys ≡ key.keys → Before pass.name pass.id pass.seen key.keys.held pass'.seen
     → is_one slots key.keys.held ≡ true → Looks key pass key' pass'
 stays key key' pass pass' book same is before one =
-    let k = number_of key in let kept = (one_kept (start pass.name) key.keys.held pass'.seen one before.kept).1 in
+    let k = number_of key in let kept_all = one_kept (start pass.name) key.keys.held pass'.seen one before.kept in let kept = kept_all.1 in
     record {
       same = same;
       kept = (ap (λ (h : Keys). h.name) is, ap (λ (h : Keys). key_of h.held) is, ap (λ (h : Keys). own_of h.held) is);
       none_made = ap (λ (m : Name). mine (start m) pass'.id pass'.seen) same.0 ∙ ap (λ (p : ℕ). mine (start pass.name) p pass'.seen) same.1 ∙ before.none_made;
       grows = before.grows;
+      knows = kept_all.0;
+      alone = before.alone;
       legal = subst (λ (m : Name). IsLegalList (start m) pass'.seen) (sym book) before.legal;
       slot = in_book book pass'.seen (λ s. slot_at s k) ∙ sym kept.1 ∙ sym (in_book book (own_list key) (λ s. slot_at s k));
       active = in_book book pass'.seen (λ s. is_active (head_at s k)) ∙ sym kept.2 ∙ sym (in_book book (own_list key) (λ s. is_active (head_at s k)));

@@ -3,7 +3,8 @@
 --     NotHanded st log v   no event of the list handed v to its reclaimer
 --     Reader st log v a    a is the lifetime of an activation in which a slot found v in a link
 --     ended log            the lifetimes of the activations that the list ended, in order
---     AllOver st log v     of each activation in which a slot found v, the lifetime is among these
+--     AllOver st log v     of each activation in which a slot found v, the lifetime is among these; where a book's invariant stands,
+--                          these are over
 --     life s log           the lifetime of the last activation of slot s that the list began
 use Rattle.std.specs.Prelude.{◌≡◌, ℕ, ◌==◌, Bool, false, List, [], ◌∷◌, ◌++◌, take, length, if◌then◌else◌, ◌⊎◌}
 use Rattle.seize_machine.specs.Machine.State.{State}

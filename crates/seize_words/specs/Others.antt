@@ -8,6 +8,7 @@
 --     MayTake numbers key               so it is for this slot, as the key of the numbers knows
 --     IsOfBook keys pass                they are of one book
 --     state_of keys, value_of value     where the keys' list leads, and which value it is
+--     MakesNone n p seen held event     wherever the list is by then, the event makes no keys
 --     IsWith key other pass event       the slot's holder may add the event with the other keys
 --     SameKind keys keys'               if there was one key of some kind, there is one of this kind
 --     Follows keys pass' keys'          they are the same keys, and know all that the pass has seen

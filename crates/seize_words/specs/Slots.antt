@@ -7,10 +7,12 @@
 --     Moves key key' log event later answer     after this list, the event took the slot from where its key knew it to where it knows
 --                          it now
 --     Notes key pass key' pass' event     the slot's holder added this one event with the pass: see Noted and Moves
---     Looks key pass key' pass'     the pass has seen a legal list, in which the slot is as its key knows it; nothing was made with it
+--     IsKept key key'      it is the same key, and knows the same
+--     Looks key pass key' pass'     the pass has seen a legal list, which goes on from what it and the key knew and in which the slot is as
+--                          the key says; nothing was made with the pass, and the key is kept
 --     hands_next slot      the value that the slot's call is about to hand to its reclaimer
 --     HandsOnce key pass' v    it was handed now, for the first time, all who found it have left or refreshed since, and
---                          the activations in which they did are over
+--                          the activations in which they found it are over
 use Rattle.std.specs.Prelude.{◌≡◌, ℕ, Bool, List, [], ◌∷◌, ◌++◌, Option, Some}
 use mathlib.Core.List.{IsPrefix}
 use Rattle.seize_machine.specs.Machine.State.{State, Slot, slot_at, head_at, is_active}
@@ -21,7 +23,7 @@ use Rattle.seize_machine.specs.Machine.History.{done_by, handed_value}
 use Rattle.seize_words.specs.Entry.{Entry, timed}
 use Rattle.seize_words.specs.Book.{after, IsLegalList}
 use Rattle.seize_words.specs.Laws.{NotHanded, AllParted, AllOver}
-use Rattle.seize_words.specs.Tokens.{Noted, start}
+use Rattle.seize_words.specs.Tokens.{IsSole, Noted, start}
 use Rattle.seize_words.specs.Private.{key_of, own_of}
 use Rattle.seize_words.specs.Passes.{IsSame, MadeNone}
 use Rattle.seize_words.specs.Adding.{private}
@@ -76,6 +78,8 @@ pub record Looks (key : SlotKey) (pass : Pass) (key' : SlotKey) (pass' : Pass) :
   pub kept : IsKept key key'
   pub none_made : MadeNone pass pass'
   pub grows : IsPrefix pass.seen pass'.seen
+  pub knows : IsPrefix (own_list key) pass'.seen
+  pub alone : IsSole pass.name.gate → pass'.seen ≡ pass.seen
   pub legal : IsLegalList (start_of key) pass'.seen
   pub slot : slot_at (after (start_of key) pass'.seen) (number_of key) ≡ slot_of key
   pub active : is_active (head_at (after (start_of key) pass'.seen) (number_of key)) ≡ active_of key
@@ -85,7 +89,7 @@ abbrev pub hands_next : Slot → Option ℕ
 hands_next slot = of_call handing_at slot.call
 
 -- All that the pass has seen ends with an event that handed v. It was not handed before, each slot that found it in a link has left or
--- refreshed since, and the activations in which they did are over.
+-- refreshed since, and the activations in which they found it are over.
 pub record HandsOnce (key : SlotKey) (pass' : Pass) (v : ℕ) : Type 0 where
   pub before : List Entry
   pub last : Entry

@@ -104,15 +104,14 @@ abbrev pub gate_gives : Gate → List Entry → Fml
 gate_gives many seen = ftrue
 gate_gives (sole η) seen = latest (logs entry_coded) three_quarters η seen
 
--- what the invariant holds beside the list and the keys: the links of the opening are distinct, each activation that has ended is
--- over, and the gate
+-- what the invariant holds beside the list and the keys: each activation that has ended is over, and the gate
 abbrev pub beside : Name → List Entry → Fml
 beside n log = fsep (over (ended log)) (gate_keeps n.gate log)
 
 abbrev pub inside : Name → Fml
 inside n = contents entry_coded (rules (start n)) (beside n) n.log (rows n)
 
--- it lasts for good, and may be had twice
+-- it lasts for good, and may be had twice; and the links of the opening are distinct
 abbrev pub knows : Name → Fml
 knows n = fsep (fnamed n.number (inside n)) (fact (are_distinct (linked n.links) ≡ true))
 

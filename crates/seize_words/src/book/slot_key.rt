@@ -50,7 +50,8 @@ impl SlotKey {
         both.part(other);
     }
 
-    /// Looks at the list with no event: what the pass has seen is legal then, and the slot is there as its key knows it.
+    /// Looks at the list with no event: what the pass has seen is legal then, with all that the key knew, and the slot is in it as its key
+    /// knows it.
     pub fn look(&mut self, pass: &mut Pass)
         requires book { IsOf self.old pass.old }
         ensures looked { Looks self.old pass.old self.new pass.new }
@@ -141,7 +142,8 @@ impl SlotKey {
 
     /// The event `Hand` of a value whose reclaimer puts none: the value that the slot's call is about to hand to its reclaimer goes there.
     ///
-    /// It goes there for the first time, and each slot that found it in a link has left or refreshed since.
+    /// It goes there for the first time, and each slot that found it in a link has left or refreshed since, and the
+    /// activations in which they found it are over.
     pub fn hand(&mut self, pass: &mut Pass)
         requires book { IsOf self.old pass.old }
         requires next { is_some (hands_next (slot_of self.old)) ≡ true }
