@@ -21,11 +21,11 @@ abbrev pub put : {X : Type 0} → List (List X) → ℕ → List X → List (Lis
 put rows zero xs = xs ∷ rest rows
 put rows (suc r) xs = first rows ∷ put (rest rows) r xs
 
-pub put_same : {X : Type 0} (rows : List (List X)) (r : ℕ) (xs : List X) → row (put rows r xs) r ≡ xs
+put_same : {X : Type 0} (rows : List (List X)) (r : ℕ) (xs : List X) → row (put rows r xs) r ≡ xs
 put_same rows zero xs = refl
 put_same rows (suc r) xs = put_same (rest rows) r xs
 
-pub put_other : {X : Type 0} (rows : List (List X)) (r q : ℕ) (xs : List X) → ¬ (q ≡ r) → row (put rows r xs) q ≡ row rows q
+put_other : {X : Type 0} (rows : List (List X)) (r q : ℕ) (xs : List X) → ¬ (q ≡ r) → row (put rows r xs) q ≡ row rows q
 put_other rows zero zero xs n = absurd (n refl)
 put_other rows zero (suc q) xs n = refl
 put_other rows (suc r) zero xs n = refl
@@ -117,7 +117,7 @@ eq_true a b h = grind arith
 abbrev pub sizes : {E : Type 0} → List (List (List E)) → ℕ → ℕ
 sizes rows r = length (row rows r)
 
-pub more_sizes : {E : Type 0} (rows : List (List (List E))) (b : ℕ) (log : List E) (r : ℕ) → sizes (one_more rows b log) r ≡ bumped b (sizes rows) r
+more_sizes : {E : Type 0} (rows : List (List (List E))) (b : ℕ) (log : List E) (r : ℕ) → sizes (one_more rows b log) r ≡ bumped b (sizes rows) r
 more_sizes rows b log r = go (is_true (r == b))
   where
     go : ((r == b) ≡ true) ⊎ ((r == b) ≡ false) → sizes (one_more rows b log) r ≡ (if r == b then sizes rows r + 1 else sizes rows r)
@@ -127,11 +127,11 @@ more_sizes rows b log r = go (is_true (r == b))
 bumped_same : (b : ℕ) (f g : ℕ → ℕ) → ((r : ℕ) → f r ≡ g r) → (r : ℕ) → bumped b f r ≡ bumped b g r
 bumped_same b f g e r = ap (λ (n : ℕ). if r == b then n + 1 else n) (e r)
 
-pub next_same : (births : List (ℕ × ℕ)) (f g : ℕ → ℕ) → ((r : ℕ) → f r ≡ g r) → AreNext f births → AreNext g births
+next_same : (births : List (ℕ × ℕ)) (f g : ℕ → ℕ) → ((r : ℕ) → f r ≡ g r) → AreNext f births → AreNext g births
 next_same [] f g e h = tt
 next_same (b ∷ births) f g e h = (sym (e b.0) ∙ h.0, next_same births (bumped b.0 f) (bumped b.0 g) (bumped_same b.0 f g e) h.1)
 
-pub bumps_same : (births : List (ℕ × ℕ)) (f g : ℕ → ℕ) → ((r : ℕ) → f r ≡ g r) → (r : ℕ) → all_bumped births f r ≡ all_bumped births g r
+bumps_same : (births : List (ℕ × ℕ)) (f g : ℕ → ℕ) → ((r : ℕ) → f r ≡ g r) → (r : ℕ) → all_bumped births f r ≡ all_bumped births g r
 bumps_same [] f g e r = e r
 bumps_same (b ∷ births) f g e r = bumps_same births (bumped b.0 f) (bumped b.0 g) (bumped_same b.0 f g e) r
 

@@ -57,10 +57,10 @@ kept_now st r k log = (([], append-nil log), same_now st (kind_of r) k log)
 record Sizes (st : State) (log : List Entry) (e : Entry) (many : ℕ → ℕ) (more_slots more_batches : ℕ) : Type 0 where
   pub was : (r : ℕ) → Sized st (kind_of r) (many r) log
   pub none_made : (p : ℕ) → many passes ≤ p → mine st p (log ++ e ∷ []) ≡ []
-  pub slots_are : length (after st (log ++ e ∷ [])).slots ≡ length (after st log).slots + more_slots
-  pub links_are : length (after st (log ++ e ∷ [])).links ≡ length (after st log).links
-  pub batches_are : length (after st (log ++ e ∷ [])).batches ≡ length (after st log).batches + more_batches
-  pub none_named : (v : ℕ) → many values ≤ v → has v (after st (log ++ e ∷ [])).named ≡ false
+  slots_are : length (after st (log ++ e ∷ [])).slots ≡ length (after st log).slots + more_slots
+  links_are : length (after st (log ++ e ∷ [])).links ≡ length (after st log).links
+  batches_are : length (after st (log ++ e ∷ [])).batches ≡ length (after st log).batches + more_batches
+  none_named : (v : ℕ) → many values ≤ v → has v (after st (log ++ e ∷ [])).named ≡ false
 
 nothing_new : (st : State) (log : List Entry) (e : Entry) (many : ℕ → ℕ) → Sizes st log e many 0 0 → AreNext many [] × ((r : ℕ) → Sized st (kind_of r) (all_bumped [] many r) (log ++ e ∷ []))
 nothing_new st log e many s = (tt, go)
@@ -137,7 +137,7 @@ Can st held seen ev Told = (log : List Entry) → Known (rules st) held seen log
 abbrev pub births_of : State → (List Entry → Entry) → List Entry → List (ℕ × ℕ)
 births_of st ev log = births (after st log) (ev log).event
 
-pub prefix_push : (own log : List Entry) (e : Entry) → IsPrefix own log → IsPrefix own (log ++ e ∷ [])
+prefix_push : (own log : List Entry) (e : Entry) → IsPrefix own log → IsPrefix own (log ++ e ∷ [])
 prefix_push own log e p = (p.0 ++ e ∷ [], sym (append_assoc own p.0 (e ∷ [])) ∙ ap (λ (l : List Entry). l ++ e ∷ []) p.1)
 
 pub goes : (st : State) (held : List (Held Entry)) (seen : List Entry) (ev : List Entry → Entry) (Told : List Entry → Type 0) → Can st held seen ev Told

@@ -15,11 +15,11 @@ use Rattle.seize_words.proofs.Lists.{as_legal, legal_push}
 abbrev pub moment : State → Entry → Moment
 moment st e = let done = done_by next st (timed e) in record { before = st; timed = timed e; answer = done.1; after = done.0 }
 
-pub moments_push : (st : State) (log : List Entry) (e : Entry) → moments st (log ++ e ∷ []) ≡ moments st log ++ moment (after st log) e ∷ []
+moments_push : (st : State) (log : List Entry) (e : Entry) → moments st (log ++ e ∷ []) ≡ moments st log ++ moment (after st log) e ∷ []
 moments_push st [] e = refl
 moments_push st (x ∷ log) e = ap (λ (ms : List Moment). moment st x ∷ ms) (moments_push (done_by next st (timed x)).0 log e)
 
-pub moments_length : (st : State) (log : List Entry) → length (moments st log) ≡ length log
+moments_length : (st : State) (log : List Entry) → length (moments st log) ≡ length log
 moments_length st [] = refl
 moments_length st (e ∷ log) = ap suc (moments_length (done_by next st (timed e)).0 log)
 

@@ -39,7 +39,7 @@ answered_any : (st : State) (log : List Entry) (e : Entry) → answered st (log 
 answered_any st [] e = refl
 answered_any st (x ∷ log) e = ap (λ (more : List (Entry × Answer)). (x, (done_by next st (timed x)).1) ∷ more) (answered_any (done_by next st (timed x)).0 log e)
 
-pub answered_push : (st : State) (log : List Entry) (e : Entry) (d : State × Answer) → Does st log e d → answered st (log ++ e ∷ []) ≡ answered st log ++ (e, d.1) ∷ []
+answered_push : (st : State) (log : List Entry) (e : Entry) (d : State × Answer) → Does st log e d → answered st (log ++ e ∷ []) ≡ answered st log ++ (e, d.1) ∷ []
 answered_push st log e d h = answered_any st log e ∙ ap (λ o. answered st log ++ (e, (or_illegal (after st log) o).1) ∷ []) h
 
 filter_out : {X : Type 0} (test : X → Bool) (xs : List X) (x : X) → test x ≡ false → filter test (xs ++ x ∷ []) ≡ filter test xs

@@ -49,7 +49,7 @@ pub differ : (a k : ℕ) → ¬ (k ≡ a) → (a == k) ≡ false
 differ a k n = ⊎_elim (λ e. absurd (n (sym (eq_true a k e)))) (λ e. e) (is_true (a == k))
 
 -- an event of another slot
-pub of_other : (event : Event) (k : ℕ) → (slot_of event == k) ≡ false → changes_slot k event ≡ false
+of_other : (event : Event) (k : ℕ) → (slot_of event == k) ≡ false → changes_slot k event ≡ false
 of_other (Event.ReadLink s l) k h = refl
 of_other (Event.ExchangeLink s l exchange) k h = refl
 of_other _ k h = h

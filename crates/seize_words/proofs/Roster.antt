@@ -48,7 +48,7 @@ module _ {E : Type 0} (c : Coded E) {M : Type 1} {𝓤 : Ura M} (𝓛 : Logic �
     cut : (k : ℕ) (v : List E) → ⟦ piece c δ k full_share v ⟧ ⊢ ⟦ L k v ⟧ ∗ ⟦ R k v ⟧
     cut k v = entry_cut (halved c) 𝓛 δ k (quarter, v) (three_quarters, v) (full_share, v) (whole v)
 
-    pub resets : (k : ℕ) (v u : List E) → ⟦ piece c δ k full_share v ⟧ ⊢ upd 𝓤 (⟦ L k u ⟧ ∗ ⟦ R k u ⟧)
+    resets : (k : ℕ) (v u : List E) → ⟦ piece c δ k full_share v ⟧ ⊢ upd 𝓤 (⟦ L k u ⟧ ∗ ⟦ R k u ⟧)
     resets k v u = let B : Share × List E → Type 0 = λ x. Path (Share × List E) x (full_share, u) in let F : Share × List E → Pr = λ x. guard 𝓤 (B x) ⟦ entry (halved c) δ k x ⟧ in let Z : Pr = ⟦ L k u ⟧ ∗ ⟦ R k u ⟧ in
         via 𝓤 (upd 𝓤 (ex 𝓤 F)) (entry_set (halved c) 𝓛 δ k (full_share, v) B ∣ ((full_share, u), refl) ∣₁ (λ f d. absurd (not-OpDef-full_share f.0 d.0)))
         (upd_mono 𝓤 {P = ex 𝓤 F} {Q = Z} (ex_e 𝓤 F (λ x. guard_e 𝓤 (B x) ⟦ entry (halved c) δ k x ⟧ (λ e. subst (λ (y : Share × List E). ⟦ entry (halved c) δ k y ⟧ ⊢ Z) (sym e) (cut k u)))))
