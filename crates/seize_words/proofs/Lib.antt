@@ -21,5 +21,6 @@ pub mod Retires
 pub mod Gives
 pub mod Detaches
 pub mod Facts
+pub mod Steps
 pub mod Meets
 pub mod Sent

@@ -8,7 +8,7 @@ use seplogic.Ra.Ura.{Ura}
 use base.Logic.{SProp, ent, sep, upd, upd_i}
 use base.Fml.{Fml, ftrue, fdead}
 use types.Logic.{Logic, sem}
-use types.Kit.{‵, raw, ◌⊛◌, ◌$◌, ◌∵◌, !, qed, move, split, fjoin, suffices, done, use1, use2, rewrite}
+use types.Kit.{‵, raw, ◌⊛◌, ◌$◌, ◌∵◌, !, qed, move, keep, split, fjoin, suffices, done, use1, use2, rewrite}
 use Rattle.seize_machine.specs.Machine.State.{State, Head, Inactive, Active, head_at, is_active}
 use Rattle.seize_machine.specs.Machine.Event.{Event, SwapOut}
 use Rattle.seize_machine.specs.Machine.Next.{next, can_link}
@@ -218,3 +218,16 @@ module _ {M : Type 1} {𝓤 : Ura M} (𝓛 : Logic 𝓤) where
   pub leaves : (log : List Entry) (e : Entry) (s : ℕ) → e.event ≡ SwapOut s → ⟦ over (ended log) ⟧ ∗ ⟦ fdead (life s log ∷ []) ⟧ ⊢ ⟦ over (ended (log ++ e ∷ [])) ⟧
   leaves log e s is = qed 𝓛 (‵ (over (ended log)) ∷ ‵ (fdead (life s log ∷ [])) ∷ []) ∵ use2 𝓛 (‵ (over (ended log ++ life s log ∷ []))) (over_more (ended log) (life s log)) $
       rewrite ! 0 (λ (l : List ℕ). ‵ (over l)) (sym (out_ended log e s is)) refl $ done !
+
+  -- an event that ends no activation but one of these lifetimes, which are over
+  pub ends_those : (log : List Entry) (e : Entry) (lives : List ℕ) → ((a : ℕ) → IsIn (ended_by (λ s. life s log) e.event) a → IsIn lives a)
+      → ⟦ over (ended log) ⟧ ∗ ⟦ over lives ⟧ ⊢ ⟦ over (ended (log ++ e ∷ [])) ⟧
+  ends_those log e lives among = go e.event refl among
+    where
+      none : {x : Event} → e.event ≡ x → EndsNone x → ⟦ over (ended log) ⟧ ∗ ⟦ over lives ⟧ ⊢ ⟦ over (ended (log ++ e ∷ [])) ⟧
+      none is ends = qed 𝓛 (‵ (over (ended log)) ∷ ‵ (over lives) ∷ []) ∵ rewrite ! 0 (λ (l : List ℕ). ‵ (over l)) (sym (same_ended log e (subst EndsNone (sym is) ends))) refl $ keep ! (0 ∷ []) $ done !
+
+      go : (x : Event) → e.event ≡ x → ((a : ℕ) → IsIn (ended_by (λ s. life s log) x) a → IsIn lives a) → ⟦ over (ended log) ⟧ ∗ ⟦ over lives ⟧ ⊢ ⟦ over (ended (log ++ e ∷ [])) ⟧
+      go (Event.SwapOut s) is among = qed 𝓛 (‵ (over (ended log)) ∷ ‵ (over lives) ∷ []) ∵ move ! (1 ∷ []) $ use1 𝓛 (‵ (over lives) ⊛ ‵ (fdead (life s log ∷ []))) (over_one lives (life s log) (among (life s log) (inl refl))) $ split ! $
+          move ! (2 ∷ 1 ∷ []) $ use2 𝓛 (‵ (over (ended (log ++ e ∷ [])))) (leaves log e s is) $ keep ! (0 ∷ []) $ done !
+      go _ is among = none is (λ lives. refl)

@@ -12,3 +12,6 @@ pub mod Slots
 pub mod Others
 pub mod Batches
 pub mod Books
+pub mod Blocks
+pub mod Words
+pub mod Stepping

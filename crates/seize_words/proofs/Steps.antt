@@ -1,0 +1,190 @@
+-- **The step of a word**: one atomic step on the word, and with it one event in the list. Whatever the word holds and whatever the list is by
+-- then, the holder of a pass and of some keys adds the event with the word's own keys beside theirs. Assumes `Logic`.
+use Rattle.std.proofs.Common.{◌≡◌, ℕ, zero, suc, ◌+◌, ◌<◌, Bool, true, false, if◌then◌else◌, List, [], ◌∷◌, ◌++◌, refl, sym, ◌∙◌, ap, subst, ◌⊎◌, inl, inr, arith, append-nil, Option, Some, None}
+use seplogic.Ra.Ura.{Ura}
+use base.Logic.{SProp, ent, sep, ex, guard, guard_i, upd, upd_i, emp}
+use base.Fml.{Lft, Share, Fml, ftrue, fsep, fex, flft, fbor, fdead, fnamed}
+use types.Logic.{Logic, sem}
+use types.Kit.{‵, raw, ◌⊛◌, some, given, ◌$◌, ◌∵◌, !, qed, by, move, keep, drop, split, split3, join, fsplit, fjoin, fjoin3, fpick, fpack, pick, learn, show, check, frame, each, assume, suffices, settle, done, rewrite, use1, use2, use3}
+use denote.RawPtr.{block_ptr}
+use denote.Steps.{nothing}
+use Rattle.core.specs.Sync.RawAtomic.{word, asks, always}
+use Rattle.core.proofs.raw_atomic.Asked.{borrowed_with, LiesWith, AgainWith}
+use Rattle.seize_machine.specs.Machine.State.{State, link_at}
+use Rattle.seize_machine.proofs.Facts.{eq_true}
+use Rattle.seize_machine.specs.Machine.Event.{Event}
+use Rattle.seize_words.specs.Ledger.{fact, Held, right, rights, WithKinds, renewed, born}
+use Rattle.seize_words.specs.Entry.{Entry, entry_coded}
+use Rattle.seize_words.specs.Book.{Kind, ThePass, TheNumbers, TheSlot, TheHead, TheLink, TheBatch, TheValue, Nothing, after, rules, kinds, kind_of, births, values}
+use Rattle.seize_words.specs.Laws.{IsIn, ended, ended_by, life}
+use Rattle.seize_words.specs.Fair.{Before}
+use Rattle.seize_words.specs.Private.{is_one}
+use Rattle.seize_words.specs.Stepping.{in_step, FoundAs, EndsAmong, traded, IsStep, MayStep, Stepped}
+use Rattle.seize_words.specs.Tokens.{Name, Noted, rows, start, inside, knows, keys_own, over, beside, pass_holds, pass_owns}
+use Rattle.seize_words.specs.Words.{Site, Shows, ShowsOf, Stands, StandsOf, IsKeyOf, site_keys, word_knows, word_owns, word_lies, word_reading}
+
+use Rattle.seize_words.proofs.Lives.{ends_those}
+use Rattle.seize_words.proofs.Passes.{IsDistinct, by_pass, keys_after, Made}
+
+-- what a word stands for is one of the kinds
+kind_within : (st : State) (r k v : ℕ) (log : List Entry) → ShowsOf st (kind_of r) k v log → r < kinds
+kind_within st zero k v log so = absurd so
+kind_within st (suc zero) k v log so = absurd so
+kind_within st (suc (suc zero)) k v log so = absurd so
+kind_within st (suc (suc (suc zero))) k v log so = omega arith
+kind_within st (suc (suc (suc (suc zero)))) k v log so = omega arith
+kind_within st (suc (suc (suc (suc (suc zero))))) k v log so = absurd so
+kind_within st (suc (suc (suc (suc (suc (suc zero)))))) k v log so = absurd so
+kind_within st (suc (suc (suc (suc (suc (suc (suc r))))))) k v log so = absurd so
+
+one_within : (held : List (Held Entry)) → is_one values held ≡ true → WithKinds kinds held
+one_within [] one = absurd (cc)
+one_within (h ∷ g ∷ held) one = absurd (cc)
+one_within (h ∷ []) one = (let is : h.kind ≡ values = eq_true h.kind values one in omega arith, tt)
+
+linked_within : (o : Option ℕ) (vs : List (Held Entry)) → IsKeyOf o vs → WithKinds kinds vs
+linked_within None vs is = subst (WithKinds kinds) (sym is) tt
+linked_within (Some v) vs is = one_within vs is.0
+
+-- and so are the kinds of the keys beside it
+beside_within : (st : State) (kind : Kind) (k : ℕ) (log : List Entry) (vs : List (Held Entry)) → StandsOf st kind k log vs → WithKinds kinds vs
+beside_within st TheLink l log vs so = linked_within (link_at (after st log) l) vs so
+beside_within st ThePass k log vs so = subst (WithKinds kinds) (sym so) tt
+beside_within st TheNumbers k log vs so = subst (WithKinds kinds) (sym so) tt
+beside_within st TheSlot k log vs so = subst (WithKinds kinds) (sym so) tt
+beside_within st TheHead k log vs so = subst (WithKinds kinds) (sym so) tt
+beside_within st TheBatch k log vs so = subst (WithKinds kinds) (sym so) tt
+beside_within st TheValue k log vs so = subst (WithKinds kinds) (sym so) tt
+beside_within st Nothing k log vs so = subst (WithKinds kinds) (sym so) tt
+
+both_within : (a b : List (Held Entry)) → WithKinds kinds a → WithKinds kinds b → WithKinds kinds (a ++ b)
+both_within [] b h k = k
+both_within (x ∷ a) b h k = (h.0, both_within a b h.1 k)
+
+renewed_append : (a b : List (Held Entry)) (log : List Entry) → renewed (a ++ b) log ≡ renewed a log ++ renewed b log
+renewed_append [] b log = refl
+renewed_append (x ∷ a) b log = ap (λ (hs : List (Held Entry)). record { kind = x.kind; key = x.key; own = log } ∷ hs) (renewed_append a b log)
+
+module _ {M : Type 1} {𝓤 : Ura M} (𝓛 : Logic 𝓤) (site : Site) where
+  open 𝓛 use {H, A}
+
+  abbrev Pr : Type 2
+  Pr = SProp 𝓤
+
+  abbrev ◌⊢◌ : Pr → Pr → Type 1
+  P ⊢ Q = ent 𝓤 P Q
+
+  abbrev ◌∗◌ : Pr → Pr → Pr
+  P ∗ Q = sep 𝓤 P Q
+
+  abbrev ⟦◌⟧ : Fml → Pr
+  ⟦ P ⟧ = sem 𝓛 P
+
+  infix 26 ◌⊢◌
+  infixr 35 ◌∗◌
+  abbrev n : Name
+  n = site.name
+
+  abbrev st : State
+  st = start n
+
+  abbrev J : Fml
+  J = inside n
+
+  abbrev keys : List (Held Entry) → Fml
+  keys held = keys_own n held
+
+  abbrev At : Type 0
+  At = List Entry × List (Held Entry)
+
+  abbrev one : Held Entry → Fml
+  one x = right entry_coded (rows n) x.kind x.key x.own
+
+  parts : (a b : List (Held Entry)) → ⟦ keys (a ++ b) ⟧ ⊢ ⟦ keys a ⟧ ∗ ⟦ keys b ⟧
+  parts [] b = qed 𝓛 (‵ (keys b) ∷ []) ∵ nothing ! $ done !
+  parts (x ∷ a) b = qed 𝓛 ((‵ (one x) ⊛ ‵ (keys (a ++ b))) ∷ []) ∵ split ! $ move ! (1 ∷ []) $ use1 𝓛 (‵ (keys a) ⊛ ‵ (keys b)) (parts a b) $ split ! $ move ! (2 ∷ 0 ∷ []) $ fjoin ! $ done !
+
+  joins : (a b : List (Held Entry)) → ⟦ keys a ⟧ ∗ ⟦ keys b ⟧ ⊢ ⟦ keys (a ++ b) ⟧
+  joins [] b = qed 𝓛 (‵ ftrue ∷ ‵ (keys b) ∷ []) ∵ keep ! (1 ∷ []) $ done !
+  joins (x ∷ a) b = qed 𝓛 ((‵ (one x) ⊛ ‵ (keys a)) ∷ ‵ (keys b) ∷ []) ∵ split ! $ move ! (1 ∷ 2 ∷ []) $ use2 𝓛 (‵ (keys (a ++ b))) (joins a b) $ move ! (1 ∷ 0 ∷ []) $ fjoin ! $ done !
+
+  -- what stands beside the word afterwards, and what the holder has
+  trade : (trades : Bool) (a b : List (Held Entry)) (log : List Entry) → ⟦ keys (renewed (a ++ b) log) ⟧ ⊢ ⟦ keys (renewed (traded trades a b) log) ⟧ ∗ ⟦ keys (renewed (traded trades b a) log) ⟧
+  trade false a b log = qed 𝓛 (‵ (keys (renewed (a ++ b) log)) ∷ []) ∵ rewrite ! 0 (λ (hs : List (Held Entry)). ‵ (keys hs)) (renewed_append a b log) refl $ by ! (parts (renewed a log) (renewed b log))
+  trade true a b log = qed 𝓛 (‵ (keys (renewed (a ++ b) log)) ∷ []) ∵ rewrite ! 0 (λ (hs : List (Held Entry)). ‵ (keys hs)) (renewed_append a b log) refl $
+      use1 𝓛 (‵ (keys (renewed a log)) ⊛ ‵ (keys (renewed b log))) (parts (renewed a log) (renewed b log)) $ split ! $ move ! (1 ∷ 0 ∷ []) $ done !
+
+  module _ (p : ℕ) (seen : List Entry) (held : List (Held Entry)) (lives : List ℕ) (f : ℕ → ℕ) (entry : ℕ → List Entry → Entry) (trades : ℕ → Bool) where
+    -- what is had after a step that found v: the list is `t.0`, and the holder's keys are `t.1`
+    abbrev pub heard : ℕ → At → Fml
+    heard v t = fsep (fact (Stepped site p seen t.0 held t.1 v entry trades)) (fsep (pass_holds n p t.0) (keys t.1))
+
+    abbrev pub after_step : ℕ → Fml
+    after_step v = fex At (heard v)
+
+    module _ (distinct : IsDistinct 𝓛 n) (may : MayStep site p seen held lives f entry trades) (v : ℕ) (t : At) (so : Shows site v t.0 × Stands site t.0 t.1) where
+      abbrev all : List (Held Entry)
+      all = in_step site held t
+
+      abbrev ev : List Entry → Entry
+      ev log = entry v log
+
+      abbrev told : List Entry → Type 0
+      told log = Unit {0}
+
+      found : (log : List Entry) → Before n p seen all log → FoundAs site v p seen held t log
+      found log before = record { shows = so.0; stands = so.1; before = before }
+
+      step : (own log : List Entry) → Before n p seen all log → IsStep site p held lives (f v) (ev log) (trades v) t own log
+      step own log before = may.1 v t own log (found log before)
+
+      within : WithKinds kinds all
+      within = (kind_within st site.kind site.number v t.0 so.0, both_within t.1 held (beside_within st (kind_of site.kind) site.number t.0 t.1 so.1) may.0)
+
+      ends : (log : List Entry) → Before n p seen all log → told log → ⟦ over (ended log) ⟧ ∗ ⟦ over lives ⟧ ⊢ upd 𝓤 (⟦ over (ended (log ++ ev log ∷ [])) ⟧ ∗ ⟦ ftrue ⟧)
+      ends log before _ = let Z : Pr = ⟦ over (ended (log ++ ev log ∷ [])) ⟧ ∗ ⟦ ftrue ⟧ in qed 𝓛 (‵ (over (ended log)) ∷ ‵ (over lives) ∷ []) ∵
+          use2 𝓛 (‵ (over (ended (log ++ ev log ∷ [])))) (ends_those 𝓛 log (ev log) lives (step log log before).ends) $ nothing ! $ suffices ! _ (upd_i 𝓤 Z) $ move ! (1 ∷ 0 ∷ []) $ done !
+
+      abbrev now : List Entry → List Entry
+      now log = log ++ ev log ∷ []
+
+      abbrev had : List Entry → At
+      had log = (now log, renewed (traded (trades v) held t.1) (now log))
+
+      stepped : (log : List Entry) → Made 𝓛 n p seen all ev told log → Stepped site p seen (now log) held (had log).1 v entry trades
+      stepped log made = record { log = log; noted = made.0; is_log = made.1; since = t; found = found log made.2; keys = refl }
+
+      -- with the word's memory at hand: the event is added, and the word stands for what the list says then
+      adds : (b o : ℕ) → ⟦ word b o (f v) ⟧ ∗ ⟦ J ⟧ ∗ ⟦ pass_holds n p seen ⟧ ∗ ⟦ keys all ⟧ ∗ ⟦ over lives ⟧ ⊢ upd 𝓤 (⟦ word_reading site b o ⟧ ∗ ⟦ J ⟧ ∗ ⟦ after_step v ⟧)
+      adds b o = let Z : Pr = ⟦ word_reading site b o ⟧ ∗ ⟦ J ⟧ ∗ ⟦ after_step v ⟧ in
+          qed 𝓛 (‵ (word b o (f v)) ∷ ‵ J ∷ ‵ (pass_holds n p seen) ∷ ‵ (keys all) ∷ ‵ (over lives) ∷ []) ∵ move ! (3 ∷ 4 ∷ []) $ join ! $ move ! (2 ∷ 3 ∷ 0 ∷ []) $
+          use3 𝓛 (raw (upd 𝓤 (ex 𝓤 (λ log. guard 𝓤 (Made 𝓛 n p seen all ev told log) (⟦ J ⟧ ∗ ⟦ pass_holds n p (now log) ⟧ ∗ ⟦ keys_after 𝓛 n all ev log ⟧ ∗ ⟦ ftrue ⟧)))))
+          (by_pass 𝓛 n p seen all ev told ⟦ over lives ⟧ (λ _. ⟦ ftrue ⟧) distinct within (λ own log before _. ((step own log before).fair, (step own log before).its)) (λ log before. guard_i 𝓤 (Unit {0}) _ tt) ends) $
+          settle 𝓛 Z (some (λ (log : List Entry). given (Made 𝓛 n p seen all ev told log) (‵ J ⊛ ‵ (pass_holds n p (now log)) ⊛ ‵ (keys_after 𝓛 n all ev log) ⊛ ‵ ftrue))) $
+          suffices ! _ (upd_i 𝓤 Z) $ pick ! (λ log. learn ! (λ made. let is = step log log made.2 in let log' : List Entry = now log in
+          split ! $ move ! (1 ∷ []) $ split3 ! $
+          -- [the pass; the keys; nothing; J; the word]
+          move ! (1 ∷ []) $ rewrite ! 0 (λ (bs : List (ℕ × ℕ)). ‵ (keys (renewed all log' ++ born bs log'))) is.no_births refl $ rewrite ! 0 (λ (hs : List (Held Entry)). ‵ (keys hs)) (append-nil (renewed all log')) refl $
+          fsplit ! $ move ! (1 ∷ []) $ use1 𝓛 (‵ (keys (renewed (traded (trades v) t.1 held) log')) ⊛ ‵ (keys (had log).1)) (trade (trades v) t.1 held log') $ split ! $
+          -- [the keys beside the word; the holder's; the word's own; the pass; nothing; J; the word]
+          move ! (2 ∷ 0 ∷ []) $ fjoin ! $ nothing ! $ fpack ! (Shows site (f v) log' × Stands site log' (renewed (traded (trades v) t.1 held) log')) (λ _. ftrue) (is.shows, is.stands) $ move ! (0 ∷ 1 ∷ []) $ fjoin ! $
+          fpack ! At (word_knows site (f v)) (log', renewed (traded (trades v) t.1 held) log') $ move ! (5 ∷ 0 ∷ []) $ fjoin ! $ fpack ! ℕ (word_lies site b o) (f v) $ frame ! $
+          -- [the holder's keys; the pass; nothing; J]
+          move ! (3 ∷ []) $ frame ! $ move ! (1 ∷ 0 ∷ []) $ fjoin ! $ nothing ! $ fpack ! (Stepped site p seen log' held (had log).1 v entry trades) (λ _. ftrue) (stepped log made) $ move ! (0 ∷ 1 ∷ []) $ fjoin ! $
+          fpack ! At (heard v) (had log) $ keep ! (0 ∷ []) $ done !))
+
+    -- what a holder brings
+    abbrev pub brings : Pr
+    brings = ⟦ pass_holds n p seen ⟧ ∗ ⟦ keys held ⟧ ∗ ⟦ over lives ⟧
+
+    pub steps : (b o i : ℕ) (κ : Lft) (q : Share) → ¬ (n.number ≡ i) → IsDistinct 𝓛 n → MayStep site p seen held lives f entry trades
+        → A.named i (fbor κ (word_reading site b o)) ∗ A.named n.number J ∗ A.lft κ q ∗ brings ⊢ asks 𝓛 (block_ptr b o) f always (λ v. fsep (flft κ q) (after_step v))
+    steps b o i κ q apart distinct may = let I : Fml = word_reading site b o in let G : Pr = ex 𝓤 (LiesWith 𝓛 κ q I b o f always after_step J) in
+        borrowed_with 𝓛 κ q I b o f always after_step i n.number J apart brings (qed 𝓛 (‵ I ∷ ‵ J ∷ ‵ (pass_holds n p seen) ∷ ‵ (keys held) ∷ ‵ (over lives) ∷ []) ∵ suffices ! _ (upd_i 𝓤 G) $
+        fpick ! (λ v. fsplit ! $ move ! (1 ∷ []) $ fpick ! (λ t. fsplit ! $ fpick ! (λ so. drop ! $
+        -- [the word's keys; the word; J; the pass; the holder's keys; what is over]
+        fsplit ! $ move ! (1 ∷ 5 ∷ []) $ use2 𝓛 (‵ (keys (t.1 ++ held))) (joins t.1 held) $ move ! (1 ∷ 0 ∷ []) $ fjoin ! $
+        -- [all keys; the word; J; the pass; what is over]
+        move ! (1 ∷ []) $ show ! (LiesWith 𝓛 κ q I b o f always after_step J) v $ frame ! $ each ! (λ (_ : Unit {0}). AgainWith 𝓛 κ q I b o f always after_step J v) (λ _. assume ! (‵ (word b o (f v))) $
+        -- [the word; all keys; J; the pass; what is over]
+        move ! (0 ∷ 2 ∷ 3 ∷ 1 ∷ 4 ∷ []) $ by ! (adds distinct may v t so b o))))))

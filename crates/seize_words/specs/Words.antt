@@ -1,0 +1,76 @@
+-- What a word of the book is. A word stands for one head or link: its value shows what the list says of it. The word's key stands beside it,
+-- in the word's own invariant, so whoever takes an atomic step on the word may add the event that changes the head or the link in that very
+-- step, and nobody else may.
+--     Site                   which word it is: its book, and the kind and number of what it stands for
+--     Shows site v log       the value v is what the list says
+--     Stands site log vs     these are the other keys that stand beside it: of a link that of the value in it
+--     site_keys site since vs     its keys, its own first, which knows the list as it was when the word last changed
+--     word_owns site v       what stands beside the memory of a word with this value;  word_shares    what a `&` to it is
+use Rattle.std.specs.Prelude.{◌≡◌, ℕ, true, List, [], ◌∷◌, Option, Some, None}
+use Rattle.std.specs.Coded.{Coded, code_by, coded_ℕ, coded×}
+use mathlib.Core.Path.{refl}
+use base.Before.{before}
+use base.Fml.{Lft, Fml, ftrue, ffalse, fsep, fex, fbor, fnamed}
+use denote.RawPtr.{Ptr, block_ptr, null_ptr}
+use Rattle.core.specs.Sync.RawAtomic.{word}
+use Rattle.seize_machine.specs.Machine.State.{State, link_at}
+use Rattle.seize_words.specs.Ledger.{Held, fact}
+use Rattle.seize_words.specs.Entry.{Entry}
+use Rattle.seize_words.specs.Book.{Kind, TheHead, TheLink, kind_of, after, values}
+use Rattle.seize_words.specs.Blocks.{head_word, link_word}
+use Rattle.seize_words.specs.Private.{is_one, key_of}
+use Rattle.seize_words.specs.Tokens.{Name, name_coded, start, keys_own}
+
+pub record Site : Type 0 where
+  pub name : Name
+  pub kind : ℕ
+  pub number : ℕ
+
+abbrev pub site_coded : Coded Site
+site_coded =
+    code_by (Name × (ℕ × ℕ)) (coded× name_coded (coded× coded_ℕ coded_ℕ)) (λ s. (s.name, (s.kind, s.number)))
+    (λ t. record { name = t.0; kind = t.1.0; number = t.1.1 }) (λ _. refl)
+
+abbrev pub ShowsOf : State → Kind → ℕ → ℕ → List Entry → Type 0
+ShowsOf st TheHead m v log = v ≡ head_word st log m
+ShowsOf st TheLink l v log = v ≡ link_word (link_at (after st log) l)
+ShowsOf st _ k v log = ⊥
+
+abbrev pub Shows : Site → ℕ → List Entry → Type 0
+Shows site v log = ShowsOf (start site.name) (kind_of site.kind) site.number v log
+
+-- the keys of what a link holds
+abbrev pub IsKeyOf : Option ℕ → List (Held Entry) → Type 0
+IsKeyOf None vs = vs ≡ []
+IsKeyOf (Some v) vs = (is_one values vs ≡ true) × (key_of vs ≡ v)
+
+abbrev pub StandsOf : State → Kind → ℕ → List Entry → List (Held Entry) → Type 0
+StandsOf st TheLink l log vs = IsKeyOf (link_at (after st log) l) vs
+StandsOf st _ k log vs = vs ≡ []
+
+abbrev pub Stands : Site → List Entry → List (Held Entry) → Type 0
+Stands site log vs = StandsOf (start site.name) (kind_of site.kind) site.number log vs
+
+abbrev pub site_keys : Site → List Entry → List (Held Entry) → List (Held Entry)
+site_keys site since vs = record { kind = site.kind; key = site.number; own = since } ∷ vs
+
+-- the list was `since` when the word last changed
+abbrev pub word_knows : Site → ℕ → List Entry × List (Held Entry) → Fml
+word_knows site v t = fsep (fact (Shows site v t.0 × Stands site t.0 t.1)) (keys_own site.name (site_keys site t.0 t.1))
+
+abbrev pub word_owns : Site → ℕ → Fml
+word_owns site v = fex (List Entry × List (Held Entry)) (word_knows site v)
+
+abbrev pub word_lies : Site → ℕ → ℕ → ℕ → Fml
+word_lies site b o v = fsep (word b o v) (word_owns site v)
+
+abbrev pub word_reading : Site → ℕ → ℕ → Fml
+word_reading site b o = fex ℕ (word_lies site b o)
+
+-- while it is shared: an invariant with a number of its own, that is not the book's
+abbrev pub word_lent : Site → ℕ → ℕ → Lft → Lft × ℕ → Fml
+word_lent site b o κ t = fsep (before κ t.0) (fsep (fact (¬ (site.name.number ≡ t.1))) (fnamed t.1 (fbor t.0 (word_reading site b o))))
+
+abbrev pub word_shares : Site → Ptr → Lft → Fml
+word_shares site (block_ptr b o) κ = fex (Lft × ℕ) (word_lent site b o κ)
+word_shares site null_ptr κ = ffalse
