@@ -15,3 +15,4 @@ pub mod Books
 pub mod Blocks
 pub mod Words
 pub mod Stepping
+pub mod Heads
