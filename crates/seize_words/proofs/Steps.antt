@@ -24,6 +24,7 @@ use Rattle.seize_words.specs.Tokens.{Name, Noted, rows, start, inside, knows, ke
 use Rattle.seize_words.specs.Words.{Site, Shows, ShowsOf, Stands, StandsOf, IsKeyOf, site_keys, word_knows, word_owns, word_lies, word_reading}
 
 use Rattle.seize_words.proofs.Lives.{ends_those}
+use Rattle.seize_words.proofs.Notes.{knows_twice}
 use Rattle.seize_words.proofs.Passes.{IsDistinct, by_pass, keys_after, Made}
 
 -- what a word stands for is one of the kinds
@@ -188,3 +189,9 @@ module _ {M : Type 1} {𝓤 : Ura M} (𝓛 : Logic 𝓤) (site : Site) where
         move ! (1 ∷ []) $ show ! (LiesWith 𝓛 κ q I b o f always after_step J) v $ frame ! $ each ! (λ (_ : Unit {0}). AgainWith 𝓛 κ q I b o f always after_step J v) (λ _. assume ! (‵ (word b o (f v))) $
         -- [the word; all keys; J; the pass; what is over]
         move ! (0 ∷ 2 ∷ 3 ∷ 1 ∷ 4 ∷ []) $ by ! (adds distinct may v t so b o))))))
+
+  -- a pass, opened for a step
+  pub opened : (p : ℕ) (seen : List Entry) → ⟦ pass_owns n p seen ⟧ ⊢ guard 𝓤 (IsDistinct 𝓛 n) (⟦ knows n ⟧ ∗ A.named n.number J ∗ ⟦ pass_holds n p seen ⟧)
+  opened p seen = qed 𝓛 ((‵ (knows n) ⊛ ‵ (pass_holds n p seen)) ∷ []) ∵ split ! $ use1 𝓛 (‵ (knows n) ⊛ ‵ (knows n)) (knows_twice 𝓛 n) $ split ! $ fsplit ! $ move ! (1 ∷ []) $ fpick ! (λ distinct. drop ! $ check ! distinct $
+      -- [the invariant; the book; the pass]
+      move ! (1 ∷ 0 ∷ 2 ∷ []) $ done !)

@@ -16,3 +16,4 @@ pub mod Blocks
 pub mod Words
 pub mod Stepping
 pub mod Heads
+pub mod Atomic

@@ -1,6 +1,7 @@
 //! The list of the machine's events that threads share, and what their holders know of it.
 //!
-//! `book` is the list with its keys and passes, which have no bytes.
+//! `book` is the list with its keys and passes, which have no bytes. `word` is the memory that threads change by atomic steps.
 #![tactic(auto)]
 
 pub mod book;
+pub mod word;

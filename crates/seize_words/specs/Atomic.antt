@@ -1,0 +1,32 @@
+-- The words in which the contracts of atomic steps speak.
+--     exchanged seen new v          what a compare and exchange leaves that found v
+--     entries pass life event v log     the entry of a step that found v in the word, where the list was this just before
+--     MayTake word keys pass lives f life event trades     the holder of the keys may take the step with the pass: see MayStep
+--     Takes word keys pass keys' pass' v life event trades     the step was taken and found v: see Stepped
+use Rattle.std.specs.Prelude.{◌≡◌, ℕ, Bool, List}
+use lib.Dec.{eqb}
+use prog.Atomic.{either}
+use Rattle.seize_machine.specs.Machine.Event.{Event}
+use Rattle.seize_words.specs.Entry.{Entry}
+use Rattle.seize_words.specs.Passes.{IsSame}
+use Rattle.seize_words.specs.Stepping.{MayStep, Stepped}
+use Rattle.seize_words.specs.Words.{Site}
+use Rattle.seize_words.specs.declared.book.keys.Keys.{Keys}
+use Rattle.seize_words.specs.declared.book.pass.Pass.{Pass}
+
+abbrev pub exchanged : ℕ → ℕ → ℕ → ℕ
+exchanged seen new v = either (eqb v seen) new v
+
+abbrev pub Events : Type 0
+Events = ℕ → List Entry → Event
+
+abbrev pub entries : Pass → ℕ → Events → ℕ → List Entry → Entry
+entries pass life event v log = record { pass = pass.id; size = pass.name.size; event = event v log; life = life }
+
+abbrev pub MayTake : Site → Keys → Pass → List ℕ → (ℕ → ℕ) → ℕ → Events → (ℕ → Bool) → Type 0
+MayTake word keys pass lives f life event trades =
+    (word.name ≡ pass.name) × (keys.name ≡ pass.name) × MayStep word pass.id pass.seen keys.held lives f (entries pass life event) trades
+
+abbrev pub Takes : Site → Keys → Pass → Keys → Pass → ℕ → ℕ → Events → (ℕ → Bool) → Type 0
+Takes word keys pass keys' pass' v life event trades =
+    IsSame pass pass' × (keys'.name ≡ keys.name) × Stepped word pass.id pass.seen pass'.seen keys.held keys'.held v (entries pass life event) trades

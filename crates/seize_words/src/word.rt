@@ -1,0 +1,69 @@
+//! Words: the memory that threads change by single atomic steps. A word stands for a head or a link of the book. Its keys stand beside it,
+//! so an atomic step on it is an event in the list, which the holder of a pass adds in that very step. Heads and links are made of it.
+ghost use Rattle.std.specs.Prelude.{◌≡◌, ℕ, ◌<◌, ◌==◌, ◌^◌, Bool, false, if◌then◌else◌, List, []};
+ghost use base.Fml.{fsep, fex};
+ghost use Rattle.seize_machine.specs.Machine.Event.{Event, Return};
+ghost use Rattle.seize_words.specs.Entry.{Entry};
+ghost use Rattle.seize_words.specs.Words.{Site, site_coded, word_owns, word_shares};
+
+use crate::book::{Keys, Pass};
+use atomic_table::exchange;
+use std::marker::{Brand, Move, Owns};
+use std::sync::atomic::Ordering::SeqCst;
+use std::sync::atomic::raw;
+
+/// A word of a book.
+pub struct Word {
+    bits: u64,
+}
+
+impl Owns for Word {
+    ghost Value = { Site };
+
+    ghost coded = { site_coded };
+
+    ghost shr_at = { λ w p κ. word_shares w p κ };
+}
+
+impl Move for Word {
+    ghost own_val = { λ w vs. fex ℕ (λ n. fsep (Fields.own_val (record { bits = n }) vs) (word_owns w n)) };
+}
+
+/// The event of an atomic step, by what the step found in the word and what the list was just before; the lifetime of the activation that
+/// it begins; and whether the keys that stand beside the word's own change places with the holder's. A caller passes `Brand`, and its proof
+/// picks them; those below stand where none are picked.
+pub(crate) trait Finds {
+    ghost event: { ℕ → List Entry → Event };
+    ghost life: { ℕ };
+    ghost trades: { ℕ → Bool };
+}
+
+impl Finds for Brand {
+    ghost event = { λ v log. Return 0 };
+    ghost life = { 0 };
+    ghost trades = { λ v. false };
+}
+
+impl Word {
+    ghost use Rattle.seize_words.specs.Atomic.{MayTake, Takes, exchanged};
+
+    /// Reads the word.
+    pub(crate) fn load<P: Finds>(&self, keys: &mut Keys, pass: &mut Pass) -> u64
+        requires { MayTake self.now keys.old pass.old [] (λ v. v) P.life P.event P.trades }
+        ensures { Takes self.now keys.old pass.old keys.new pass.new result P.life P.event P.trades }
+    {
+        unsafe { raw::load::<Brand>(self as *const Self as *const u64, SeqCst) }
+    }
+
+    /// Stores `new` where the word holds `seen`, and gives what it held.
+    pub(crate) fn exchange<P: Finds>(&self, seen: u64, new: u64, keys: &mut Keys, pass: &mut Pass) -> u64
+        requires { MayTake self.now keys.old pass.old [] (exchanged seen new) P.life P.event P.trades }
+        ensures { Takes self.now keys.old pass.old keys.new pass.new result P.life P.event P.trades }
+    {
+        unsafe { exchange::<Brand>(self as *const Self as *const u64, seen, new) }
+    }
+}
+
+unsafe impl Send for Word {}
+
+unsafe impl Sync for Word {}
