@@ -3,14 +3,17 @@
 --     entries pass life event v log     the entry of a step that found v in the word, where the list was this just before
 --     MayTake word keys pass lives f life event trades     the holder of the keys may take the step with the pass: see MayStep
 --     Takes word keys pass keys' pass' v life event trades     the step was taken and found v: see Stepped
-use Rattle.std.specs.Prelude.{◌≡◌, ℕ, Bool, List}
+--     site_of keys, IsWordOf keys bits     which word the keys are of;  a word that holds this stands for what they know
+use Rattle.std.specs.Prelude.{◌≡◌, ℕ, Bool, List, [], ◌∷◌, drop}
 use lib.Dec.{eqb}
 use prog.Atomic.{either}
 use Rattle.seize_machine.specs.Machine.Event.{Event}
 use Rattle.seize_words.specs.Entry.{Entry}
+use Rattle.seize_words.specs.Ledger.{Held}
+use Rattle.seize_words.specs.Private.{key_of, own_of}
 use Rattle.seize_words.specs.Passes.{IsSame}
 use Rattle.seize_words.specs.Stepping.{MayStep, Stepped}
-use Rattle.seize_words.specs.Words.{Site}
+use Rattle.seize_words.specs.Words.{Site, Shows, Stands, site_keys}
 use Rattle.seize_words.specs.declared.book.keys.Keys.{Keys}
 use Rattle.seize_words.specs.declared.book.pass.Pass.{Pass}
 
@@ -30,3 +33,17 @@ MayTake word keys pass lives f life event trades =
 abbrev pub Takes : Site → Keys → Pass → Keys → Pass → ℕ → ℕ → Events → (ℕ → Bool) → Type 0
 Takes word keys pass keys' pass' v life event trades =
     IsSame pass pass' × (keys'.name ≡ keys.name) × Stepped word pass.id pass.seen pass'.seen keys.held keys'.held v (entries pass life event) trades
+
+-- The word that some keys are of: the first is its own, and the others stand beside it.
+
+abbrev pub first_kind : List (Held Entry) → ℕ
+first_kind [] = 0
+first_kind (h ∷ held) = h.kind
+
+abbrev pub site_of : Keys → Site
+site_of keys = record { name = keys.name; kind = first_kind keys.held; number = key_of keys.held }
+
+abbrev pub IsWordOf : Keys → ℕ → Type 0
+IsWordOf keys bits =
+    (keys.held ≡ site_keys (site_of keys) (own_of keys.held) (drop 1 keys.held))
+    × Shows (site_of keys) bits (own_of keys.held) × Stands (site_of keys) (own_of keys.held) (drop 1 keys.held)

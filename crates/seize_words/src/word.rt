@@ -45,7 +45,15 @@ impl Finds for Brand {
 }
 
 impl Word {
-    ghost use Rattle.seize_words.specs.Atomic.{MayTake, Takes, exchanged};
+    ghost use Rattle.seize_words.specs.Atomic.{IsWordOf, MayTake, Takes, exchanged, site_of};
+
+    /// A word that holds `bits` and has the keys of what it stands for.
+    pub(crate) fn new(bits: u64, keys: &mut Keys) -> Word
+        requires { IsWordOf keys.old bits }
+        ensures { (result ≡ site_of keys.old) × (keys.new.name ≡ keys.old.name) × (keys.new.held ≡ []) }
+    {
+        Word { bits }
+    }
 
     /// Reads the word.
     pub(crate) fn load<P: Finds>(&self, keys: &mut Keys, pass: &mut Pass) -> u64
