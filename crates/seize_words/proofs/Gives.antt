@@ -26,7 +26,7 @@ Turns s event =
     × ((st : State) (k : ℕ) → (changes_batch st k event ≡ false) × (changes_value st k event ≡ false))
 
 -- of the numbers there is one key
-the_only : (k j m : ℕ) → m ≡ 1 → k < m → j < m → k ≡ j
+pub the_only : (k j m : ℕ) → m ≡ 1 → k < m → j < m → k ≡ j
 the_only k j m e l h = omega (arith, e, l, h)
 
 covers : (st : State) (log : List Entry) (e : Entry) (p s j : ℕ) (mine own own' : List Entry) → e.pass ≡ p → Turns s e.event → j ≡ 0
@@ -69,10 +69,10 @@ may_give n p size seen a b one one' zero_is idle off =
         (d, next_of size st (Give s) d (Step.gave s (ap is_idle (sym slot.1) ∙ idle) (sym slot.2 ∙ off)))
 
 -- which number is the least that is not in use, by which are in use
-free_of : List Bool → ℕ
+pub free_of : List Bool → ℕ
 free_of us = position_or_len (λ u. not u) us
 
-free_by : (slots : List Slot) → first_free slots ≡ free_of (map (λ slot. slot.used) slots)
+pub free_by : (slots : List Slot) → first_free slots ≡ free_of (map (λ slot. slot.used) slots)
 unfolding free_of
 free_by [] = refl
 free_by (x ∷ xs) = ap (λ (m : ℕ). if not (not x.used) then 1 + m else 0) (free_by xs)

@@ -22,5 +22,7 @@ pub mod Gives
 pub mod Detaches
 pub mod Facts
 pub mod Steps
+pub mod Stepped
+pub mod Makes
 pub mod Meets
 pub mod Sent

@@ -3,13 +3,14 @@ use Rattle.std.proofs.Common.{◌≡◌, ℕ, Bool, true, false, cond, ◌==◌,
 use mathlib.Core.List.{IsPrefix, append_cancel_left, cons≢nil}
 use Rattle.std.proofs.lemmas.List.{map-append}
 use Rattle.std.proofs.lemmas.List.Elements.{filter-append}
-use Rattle.seize_machine.specs.Machine.State.{State}
+use Rattle.seize_machine.specs.Machine.State.{State, linked, are_distinct}
 use Rattle.seize_machine.specs.Machine.Next.{next}
-use Rattle.seize_machine.specs.Machine.History.{Timed, done_by, or_illegal, Legal, answers_of}
+use Rattle.seize_machine.specs.Machine.History.{Timed, IsReached, done_by, or_illegal, Legal, answers_of}
 use Rattle.seize_machine.specs.declared.machine.event.Answer.{Answer}
-use Rattle.seize_machine.proofs.Facts.{one_more, taken_apart}
+use Rattle.seize_machine.proofs.Facts.{one_more, opening_reached, reached_by, taken_apart}
 use Rattle.seize_words.specs.Entry.{Entry, timed, events_of}
 use Rattle.seize_words.specs.Book.{moments, after, IsLegalList, Does, answered, mine}
+use Rattle.seize_words.specs.Tokens.{Name, start}
 
 events_push : (log : List Entry) (e : Entry) → events_of (log ++ e ∷ []) ≡ events_of log ++ timed e ∷ []
 events_push log e = map-append timed log (e ∷ [])
@@ -28,6 +29,10 @@ legal_push st log e d l h = (longer st log e d l h).legal
 
 pub after_push : (st : State) (log : List Entry) (e : Entry) (d : State × Answer) → IsLegalList st log → Does st log e d → after st (log ++ e ∷ []) ≡ d.0
 after_push st log e d l h = (longer st log e d l h).end_is
+
+-- it leads to a state that the machine reaches
+pub reached_after : (n : Name) (log : List Entry) → are_distinct (linked n.links) ≡ true → IsLegalList (start n) log → IsReached (after (start n) log)
+reached_after n log distinct l = reached_by (events_of log) (start n) (after (start n) log) (answers_of (moments (start n) log)) (opening_reached n.slots n.links distinct) (as_legal (start n) log l)
 
 -- a legal list is legal without its last event
 pub legal_front : (st : State) (log : List Entry) (e : Entry) → IsLegalList st (log ++ e ∷ []) → IsLegalList st log

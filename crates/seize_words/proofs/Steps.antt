@@ -118,7 +118,7 @@ module _ {M : Type 1} {𝓤 : Ura M} (𝓛 : Logic 𝓤) (site : Site) where
   module _ (p : ℕ) (seen : List Entry) (held : List (Held Entry)) (lives : List ℕ) (f : ℕ → ℕ) (entry : ℕ → List Entry → Entry) (trades : ℕ → Bool) where
     -- what is had after a step that found v: the list is `t.0`, and the holder's keys are `t.1`
     abbrev pub heard : ℕ → At → Fml
-    heard v t = fsep (fact (Stepped site p seen t.0 held t.1 v entry trades)) (fsep (pass_holds n p t.0) (keys t.1))
+    heard v t = fsep (fact (Stepped site p seen t.0 held t.1 v (f v) entry trades)) (fsep (pass_holds n p t.0) (keys t.1))
 
     abbrev pub after_step : ℕ → Fml
     after_step v = fex At (heard v)
@@ -152,8 +152,8 @@ module _ {M : Type 1} {𝓤 : Ura M} (𝓛 : Logic 𝓤) (site : Site) where
       abbrev had : List Entry → At
       had log = (now log, renewed (traded (trades v) held t.1) (now log))
 
-      stepped : (log : List Entry) → Made 𝓛 n p seen all ev told log → Stepped site p seen (now log) held (had log).1 v entry trades
-      stepped log made = record { log = log; noted = made.0; is_log = made.1; since = t; found = found log made.2; keys = refl }
+      stepped : (log : List Entry) → Made 𝓛 n p seen all ev told log → Stepped site p seen (now log) held (had log).1 v (f v) entry trades
+      stepped log made = record { log = log; noted = made.0; is_log = made.1; since = t; found = found log made.2; left = (step log log made.2).shows; keys = refl }
 
       -- with the word's memory at hand: the event is added, and the word stands for what the list says then
       adds : (b o : ℕ) → ⟦ word b o (f v) ⟧ ∗ ⟦ J ⟧ ∗ ⟦ pass_holds n p seen ⟧ ∗ ⟦ keys all ⟧ ∗ ⟦ over lives ⟧ ⊢ upd 𝓤 (⟦ word_reading site b o ⟧ ∗ ⟦ J ⟧ ∗ ⟦ after_step v ⟧)
@@ -171,7 +171,7 @@ module _ {M : Type 1} {𝓤 : Ura M} (𝓛 : Logic 𝓤) (site : Site) where
           move ! (2 ∷ 0 ∷ []) $ fjoin ! $ nothing ! $ fpack ! (Shows site (f v) log' × Stands site log' (renewed (traded (trades v) t.1 held) log')) (λ _. ftrue) (is.shows, is.stands) $ move ! (0 ∷ 1 ∷ []) $ fjoin ! $
           fpack ! At (word_knows site (f v)) (log', renewed (traded (trades v) t.1 held) log') $ move ! (5 ∷ 0 ∷ []) $ fjoin ! $ fpack ! ℕ (word_lies site b o) (f v) $ frame ! $
           -- [the holder's keys; the pass; nothing; J]
-          move ! (3 ∷ []) $ frame ! $ move ! (1 ∷ 0 ∷ []) $ fjoin ! $ nothing ! $ fpack ! (Stepped site p seen log' held (had log).1 v entry trades) (λ _. ftrue) (stepped log made) $ move ! (0 ∷ 1 ∷ []) $ fjoin ! $
+          move ! (3 ∷ []) $ frame ! $ move ! (1 ∷ 0 ∷ []) $ fjoin ! $ nothing ! $ fpack ! (Stepped site p seen log' held (had log).1 v (f v) entry trades) (λ _. ftrue) (stepped log made) $ move ! (0 ∷ 1 ∷ []) $ fjoin ! $
           fpack ! At (heard v) (had log) $ keep ! (0 ∷ []) $ done !))
 
     -- what a holder brings

@@ -2,7 +2,7 @@
 --     exchanged seen new v          what a compare and exchange leaves that found v
 --     entries pass life event v log     the entry of a step that found v in the word, where the list was this just before
 --     MayTake word keys pass lives f life event trades     the holder of the keys may take the step with the pass: see MayStep
---     Takes word keys pass keys' pass' v life event trades     the step was taken and found v: see Stepped
+--     Takes word keys pass keys' pass' f v life event trades     the step was taken and found v: see Stepped
 --     site_of keys, IsWordOf keys bits     which word the keys are of;  a word that holds this stands for what they know
 use Rattle.std.specs.Prelude.{◌≡◌, ℕ, Bool, List, [], ◌∷◌, drop}
 use lib.Dec.{eqb}
@@ -30,9 +30,9 @@ abbrev pub MayTake : Site → Keys → Pass → List ℕ → (ℕ → ℕ) → �
 MayTake word keys pass lives f life event trades =
     (word.name ≡ pass.name) × (keys.name ≡ pass.name) × MayStep word pass.id pass.seen keys.held lives f (entries pass life event) trades
 
-abbrev pub Takes : Site → Keys → Pass → Keys → Pass → ℕ → ℕ → Events → (ℕ → Bool) → Type 0
-Takes word keys pass keys' pass' v life event trades =
-    IsSame pass pass' × (keys'.name ≡ keys.name) × Stepped word pass.id pass.seen pass'.seen keys.held keys'.held v (entries pass life event) trades
+abbrev pub Takes : Site → Keys → Pass → Keys → Pass → (ℕ → ℕ) → ℕ → ℕ → Events → (ℕ → Bool) → Type 0
+Takes word keys pass keys' pass' f v life event trades =
+    IsSame pass pass' × (keys'.name ≡ keys.name) × Stepped word pass.id pass.seen pass'.seen keys.held keys'.held v (f v) (entries pass life event) trades
 
 -- The word that some keys are of: the first is its own, and the others stand beside it.
 

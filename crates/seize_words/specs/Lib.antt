@@ -17,3 +17,4 @@ pub mod Words
 pub mod Stepping
 pub mod Heads
 pub mod Atomic
+pub mod Reservations

@@ -6,7 +6,8 @@
 --     slot_of key, active_of key     the slot's record as its key knows it, and whether it is active
 --     Moves key key' log event later answer     after this list, the event took the slot from where its key knew it to where it knows
 --                          it now
---     Notes key pass key' pass' event     the slot's holder added this one event with the pass: see Noted and Moves
+--     NotesAs key pass key' pass' e     the slot's holder added this one entry with the pass: see Noted and Moves
+--     Notes key pass key' pass' event     and it is one of an event that begins no activation
 --     IsKept key key'      it is the same key, and knows the same
 --     Looks key pass key' pass'     the pass has seen a legal list, which goes on from what it and the key knew and in which the slot is as
 --                          the key says; nothing was made with the pass, and the key is kept
@@ -64,11 +65,13 @@ pub record Moves (key key' : SlotKey) (log : List Entry) (event : Event) (later 
   pub is : slot_of key' ≡ slot_at later (number_of key)
   pub is_now_active : active_of key' ≡ is_active (head_at later (number_of key))
 
-abbrev pub Notes : SlotKey → Pass → SlotKey → Pass → Event → Type 0
-Notes key pass key' pass' event =
+abbrev pub NotesAs : SlotKey → Pass → SlotKey → Pass → Entry → Type 0
+NotesAs key pass key' pass' e =
     IsSame pass pass' × IsAfter key pass' key'
-    × ((noted : Noted pass.name pass.id pass.seen pass'.seen (private pass event))
-    × Moves key key' noted.before event noted.later noted.answer)
+    × ((noted : Noted pass.name pass.id pass.seen pass'.seen e) × Moves key key' noted.before e.event noted.later noted.answer)
+
+abbrev pub Notes : SlotKey → Pass → SlotKey → Pass → Event → Type 0
+Notes key pass key' pass' event = NotesAs key pass key' pass' (private pass event)
 
 abbrev pub IsKept : SlotKey → SlotKey → Type 0
 IsKept key key' = (key'.keys.name ≡ key.keys.name) × (number_of key' ≡ number_of key) × (own_list key' ≡ own_list key)

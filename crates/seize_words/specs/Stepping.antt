@@ -4,7 +4,7 @@
 --     MayStep site p seen held lives f entry trades     whatever it finds in the word, and whatever the list is by then: with f of it in
 --                              the word, and this entry added, all is as it has to be (IsStep). It ends no activation but those that
 --                              have these lifetimes. Where it trades, the holder's keys stay with the word, for those that stood there
---     Stepped site p seen seen' held held' v entry trades     the step was taken, and found v
+--     Stepped site p seen seen' held held' v w entry trades   the step was taken, found v and left w
 use Rattle.std.specs.Prelude.{◌≡◌, ℕ, Bool, if◌then◌else◌, List, [], ◌∷◌, ◌++◌}
 use Rattle.seize_machine.specs.Machine.Event.{Event}
 use Rattle.seize_words.specs.Ledger.{Held, WithKinds, renewed}
@@ -46,10 +46,11 @@ MayStep site p seen held lives f entry trades =
     × ((v : ℕ) (t : List Entry × List (Held Entry)) (own log : List Entry) → FoundAs site v p seen held t log
       → IsStep site p held lives (f v) (entry v log) (trades v) t own log)
 
-pub record Stepped (site : Site) (p : ℕ) (seen seen' : List Entry) (held held' : List (Held Entry)) (v : ℕ) (entry : ℕ → List Entry → Entry) (trades : ℕ → Bool) : Type 0 where
+pub record Stepped (site : Site) (p : ℕ) (seen seen' : List Entry) (held held' : List (Held Entry)) (v w : ℕ) (entry : ℕ → List Entry → Entry) (trades : ℕ → Bool) : Type 0 where
   pub log : List Entry
   pub noted : Noted site.name p seen seen' (entry v log)
   pub is_log : noted.before ≡ log
   pub since : List Entry × List (Held Entry)
   pub found : FoundAs site v p seen held since log
+  pub left : Shows site w seen'
   pub keys : held' ≡ renewed (traded (trades v) held since.1) seen'

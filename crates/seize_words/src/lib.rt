@@ -4,4 +4,5 @@
 #![tactic(auto)]
 
 pub mod book;
-pub mod word;
+pub mod reservation;
+mod word;

@@ -1,0 +1,111 @@
+-- The key of the numbers is enough to make the next slot, where all numbers are in use.
+use Rattle.std.proofs.Common.{◌≡◌, ℕ, zero, suc, ◌+◌, ◌<◌, ◌==◌, true, false, List, [], ◌∷◌, ◌++◌, length, map, get_or, Bool, refl, sym, ◌∙◌, ap, subst, arith, nat_lt, ◌&&◌, if◌then◌else◌, Some, None}
+use Rattle.std.proofs.lemmas.List.{length-map}
+use Rattle.seize_machine.specs.Machine.State.{State, Slot, Head, Inactive, head_at}
+use Rattle.seize_machine.specs.Machine.Event.{Take}
+use Rattle.seize_machine.specs.Machine.Next.{taken, first_free, next}
+use Rattle.seize_machine.specs.Machine.Frames.{used}
+use Rattle.seize_machine.specs.Machine.History.{IsReached}
+use Rattle.seize_machine.specs.declared.machine.event.Answer.{Answer}
+use Rattle.seize_machine.specs.declared.machine.event.Answer.TheVariants.{Done}
+use Rattle.seize_machine.proofs.Facts.{heads_length, some_is}
+use Rattle.seize_table.specs.Place.{all_numbers}
+use Rattle.seize_words.specs.Ledger.{Held, renewed, born}
+use Rattle.seize_words.specs.Entry.{Entry}
+use Rattle.seize_words.specs.Book.{after, births, Does, slots, heads, numbers, of_new_slot}
+use Rattle.seize_words.specs.Fair.{Before, Covers, Fair, MayAdd, pass_key}
+use Rattle.seize_words.specs.Private.{is_one, key_of, own_of}
+use Rattle.seize_words.specs.Tokens.{Name, start}
+use Rattle.seize_words.proofs.Gives.{free_by, free_of, the_only}
+use Rattle.seize_words.proofs.Private.{only, only_is, differ}
+
+takes : ℕ → ℕ → ℕ → Entry
+takes p size s = record { pass = p; size = size; event = Take s; life = 0 }
+
+covers : (st : State) (log : List Entry) (p size s j : ℕ) (mine own : List Entry) → s ≡ length (after st log).slots → j ≡ 0
+    → Covers st (pass_key p mine ∷ record { kind = numbers; key = j; own = own } ∷ []) log (takes p size s)
+unfolding takes
+covers st log p size s j mine own is z zero k b there = differ p k (λ i. b.0 (refl, i))
+covers st log p size s j mine own is z (suc zero) k b there = absurd (b.1.0 (refl, the_only k j there.0 there.1 there.2 (let n : there.0 ≡ 1 = there.1 in omega (arith, z, n))))
+covers st log p size s j mine own is z (suc (suc zero)) k b there = let n : there.0 ≡ length (after st log).slots = there.1 in let l : k < there.0 = there.2 in grind arith
+covers st log p size s j mine own is z (suc (suc (suc zero))) k b there = refl
+covers st log p size s j mine own is z (suc (suc (suc (suc zero)))) k b there = refl
+covers st log p size s j mine own is z (suc (suc (suc (suc (suc zero))))) k b there = refl
+covers st log p size s j mine own is z (suc (suc (suc (suc (suc (suc zero)))))) k b there = refl
+covers st log p size s j mine own is z (suc (suc (suc (suc (suc (suc (suc r))))))) k b there = refl
+
+equal : (x y : ℕ) → x ≡ y → (x == y) ≡ true
+equal x y e = grind arith
+
+-- how many slots there are, and which number is free, follows from which are in use
+as_many : (a b : State) → used a ≡ used b → length a.slots ≡ length b.slots
+as_many a b same = sym (length-map a.slots (λ slot. slot.used)) ∙ ap (λ (us : List Bool). length us) same ∙ length-map b.slots (λ slot. slot.used)
+
+as_free : (a b : State) → used a ≡ used b → first_free a.slots ≡ first_free b.slots
+as_free a b same = free_by a.slots ∙ ap free_of same ∙ sym (free_by b.slots)
+
+made_by : State → ℕ → State × Answer
+made_by st s = (record st { slots = st.slots ++ record { used = true; batch = []; call = None } ∷ []; heads = st.heads ++ Inactive ∷ [] }, Done)
+
+does : (size : ℕ) (st : State) (s : ℕ) → s ≡ length st.slots → s ≡ first_free st.slots → s < all_numbers → next size st (Take s) ≡ Some (made_by st s)
+unfolding made_by
+does size st s is least few =
+    ap (λ (c : Bool). if c && nat_lt s all_numbers then Some (taken st s, Done) else None) (equal s (first_free st.slots) least)
+    ∙ ap (λ (c : Bool). if c then Some (taken st s, Done) else None) (below s all_numbers few)
+    ∙ ap (λ (c : Bool). Some (if c then (made_by st s).0 else Rattle.seize_machine.specs.Machine.Next.set_slot st s (record (Rattle.seize_machine.specs.Machine.State.slot_at st s) { used = true }), Done)) (equal s (length st.slots) is)
+  where
+    below : (x y : ℕ) → x < y → nat_lt x y ≡ true
+    below x y l = grind arith
+
+module _ (n : Name) (b : List (Held Entry)) where
+  abbrev old : State
+  old = after (start n) (own_of b)
+
+  abbrev s : ℕ
+  s = length old.slots
+
+  pub may_make : (p size : ℕ) (seen : List Entry) → is_one numbers b ≡ true → key_of b ≡ 0 → first_free old.slots ≡ s → s < all_numbers → MayAdd n p seen b (record { pass = p; size = size; event = Take s; life = 0 })
+  unfolding takes
+  may_make p size seen one zero_is full few = subst (λ (hs : List (Held Entry)). MayAdd n p seen hs (takes p size s)) (sym (only_is numbers b one)) ((omega arith, tt), (λ lives. refl), (λ s. refl), fair)
+    where
+      fair : (mine log : List Entry) → Before n p seen (only numbers b) log → Fair (start n) (pass_key p mine ∷ only numbers b) log (takes p size s)
+      fair mine log before =
+          let same : used old ≡ used (after (start n) log) = before.kept.0.1 in let many : s ≡ length (after (start n) log).slots = as_many old (after (start n) log) same in
+          record {
+            done = made_by (after (start n) log) s;
+            legal = does size (after (start n) log) s many (sym full ∙ as_free old (after (start n) log) same) few;
+            covers = covers (start n) log p size s (key_of b) mine (own_of b) many zero_is;
+            names = λ many was there. (there.0, λ v le. refl);
+          }
+
+  -- the keys that come with it
+  pub new_keys : (p : ℕ) (seen log log' : List Entry) → is_one numbers b ≡ true → Before n p seen b log
+      → born (births (after (start n) log) (Take s)) log' ≡ record { kind = slots; key = s; own = log' } ∷ record { kind = heads; key = s; own = log' } ∷ []
+  new_keys p seen log log' one before =
+      let same : used old ≡ used (after (start n) log) = (subst (λ (hs : List (Held Entry)). Before n p seen hs log) (only_is numbers b one) before).kept.0.1 in
+      let many : s ≡ length (after (start n) log).slots = as_many old (after (start n) log) same in
+      ap (λ (c : Bool). born (if c then of_new_slot (after (start n) log) else []) log') (equal s (length (after (start n) log).slots) many)
+      ∙ ap (λ (k : ℕ). record { kind = slots; key = k; own = log' } ∷ record { kind = heads; key = k; own = log' } ∷ []) (sym many)
+
+  last : {X : Type 0} (xs : List X) (x d : X) → get_or (xs ++ x ∷ []) (length xs) d ≡ x
+  last [] x d = refl
+  last (y ∷ xs) x d = last xs x d
+
+  -- and its head is inactive
+  pub new_head : (p size : ℕ) (seen log : List Entry) (d : State × Answer) → is_one numbers b ≡ true → first_free old.slots ≡ s → s < all_numbers → Before n p seen b log
+      → IsReached (after (start n) log) → next size (after (start n) log) (Take s) ≡ Some d → head_at d.0 s ≡ Inactive
+  unfolding made_by
+  new_head p size seen log d one full few before reached done =
+      let st : State = after (start n) log in
+      let same : used old ≡ used st = (subst (λ (hs : List (Held Entry)). Before n p seen hs log) (only_is numbers b one) before).kept.0.1 in
+      let many : s ≡ length st.slots = as_many old st same in
+      let is : d ≡ made_by st s = some_is _ _ (sym done ∙ does size st s many (sym full ∙ as_free old st same) few) in
+      ap (λ (x : State × Answer). head_at x.0 s) is ∙ ap (λ (k : ℕ). get_or (st.heads ++ Inactive ∷ []) k Inactive) (many ∙ sym (heads_length st reached)) ∙ last st.heads Inactive Inactive
+
+  -- all keys then
+  pub all_keys : (p : ℕ) (seen log log' : List Entry) → is_one numbers b ≡ true → Before n p seen b log
+      → renewed b log' ++ born (births (after (start n) log) (Take s)) log'
+        ≡ record { kind = numbers; key = key_of b; own = log' } ∷ record { kind = slots; key = s; own = log' } ∷ record { kind = heads; key = s; own = log' } ∷ []
+  all_keys p seen log log' one before =
+      ap (λ (hs : List (Held Entry)). renewed hs log' ++ born (births (after (start n) log) (Take s)) log') (only_is numbers b one)
+      ∙ ap (λ (hs : List (Held Entry)). record { kind = numbers; key = key_of b; own = log' } ∷ hs) (new_keys p seen log log' one before)

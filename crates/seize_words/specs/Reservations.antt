@@ -1,0 +1,74 @@
+-- The words in which the contracts of heads speak.
+--     slot head                   the slot of the head;  IsOfBook head pass     it is of the pass's book
+--     MayRead key head pass       the slot's call reads this head next, and the pass has seen that its slot is there
+--     Shows head list v           the list says that the head's word is v
+--     FoundBefore head pass' v    all that the pass has seen shows v, without its last event
+--     TriesAt key head seen block     the slot's call is about to insert its batch here: see IsTrying. The block's number fits beside 2
+--     made_of numbers, IsFull numbers     how many slots there are, as the key knows;  all of their numbers are in use
+--     MakesSlot numbers pass numbers' pass' key head     the next slot was made, with this key and this head
+use Rattle.std.specs.Prelude.{◌≡◌, ℕ, ◌+◌, ◌<◌, ◌^◌, true, List, [], ◌∷◌, ◌++◌, length}
+use Rattle.seize_machine.specs.Machine.Event.{Take}
+use Rattle.seize_machine.specs.Machine.Next.{first_free}
+use Rattle.seize_table.specs.Place.{all_numbers}
+use Rattle.seize_words.specs.Adding.{private}
+use Rattle.seize_machine.specs.Machine.State.{Inactive, head_at}
+use Rattle.seize_words.specs.Blocks.{head_word}
+use Rattle.seize_words.specs.Book.{heads}
+use Rattle.seize_words.specs.Entry.{Entry}
+use Rattle.seize_words.specs.Heads.{IsMade, IsTrying, reads}
+use Rattle.seize_words.specs.Others.{Follows, state_of}
+use Rattle.seize_words.specs.Passes.{IsSame}
+use Rattle.seize_words.specs.Private.{is_one, key_of}
+use Rattle.seize_words.specs.Slots.{number_of, own_list, slot_of, start_of}
+use Rattle.seize_words.specs.Tokens.{Noted, start}
+use Rattle.seize_words.specs.declared.book.keys.Keys.{Keys}
+use Rattle.seize_words.specs.declared.book.numbers_key.NumbersKey.{NumbersKey}
+use Rattle.seize_words.specs.declared.book.pass.Pass.{Pass}
+use Rattle.seize_words.specs.declared.book.slot_key.SlotKey.{SlotKey}
+use Rattle.seize_words.specs.declared.reservation.Head.{Head}
+
+abbrev pub slot : Head → ℕ
+slot head = head.word.number
+
+abbrev pub IsOfBook : Head → Pass → Type 0
+IsOfBook head pass = head.word.name ≡ pass.name
+
+abbrev pub MayRead : SlotKey → Head → Pass → Type 0
+MayRead key head pass = (reads (slot_of key) (slot head) ≡ true) × IsMade head.word pass.seen
+
+abbrev pub Shows : Head → List Entry → ℕ → Type 0
+Shows head list v = v ≡ head_word (start head.word.name) list (slot head)
+
+abbrev pub FoundBefore : Head → Pass → ℕ → Type 0
+FoundBefore head pass' v = (before : List Entry) × (last : Entry) × (pass'.seen ≡ before ++ last ∷ []) × Shows head before v
+
+abbrev pub TriesAt : SlotKey → Head → ℕ → ℕ → Type 0
+TriesAt key head seen block = IsTrying (start_of key) (number_of key) (own_list key) (slot head) seen block × (block + 2 < 2 ^ 64)
+
+-- Slots are made.
+
+abbrev pub made_of : NumbersKey → ℕ
+made_of numbers = length (state_of numbers.keys).slots
+
+-- all numbers are in use, as the key knows, and one more is a number of a table
+abbrev pub IsFull : NumbersKey → Type 0
+IsFull numbers = (first_free (state_of numbers.keys).slots ≡ made_of numbers) × (made_of numbers < all_numbers)
+
+-- a new slot was made, inactive; its key and its head know all that the pass has seen
+pub record MakesSlot (numbers : NumbersKey) (pass : Pass) (numbers' : NumbersKey) (pass' : Pass) (key : SlotKey) (head : Head) : Type 0 where
+  pub same : IsSame pass pass'
+  pub noted : Noted pass.name pass.id pass.seen pass'.seen (private pass (Take (made_of numbers)))
+  pub follows : Follows numbers.keys pass' numbers'.keys
+  pub book : (key.keys.name ≡ pass.name) × (head.word.name ≡ pass.name)
+  pub number : (number_of key ≡ made_of numbers) × (slot head ≡ made_of numbers)
+  pub own : own_list key ≡ pass'.seen
+
+abbrev pub NumbersOf : NumbersKey → Pass → Type 0
+NumbersOf numbers pass = numbers.keys.name ≡ pass.name
+
+-- the one key is of a head, which is inactive
+abbrev pub IsOfHead : Keys → Type 0
+IsOfHead keys = (is_one heads keys.held ≡ true) × (head_at (state_of keys) (key_of keys.held) ≡ Inactive)
+
+abbrev pub IsHeadOf : Keys → Head → Type 0
+IsHeadOf keys head = (head.word.name ≡ keys.name) × (slot head ≡ key_of keys.held)

@@ -1,0 +1,67 @@
+//! Heads: what a slot has reserved. A head's word shows whether the slot is active, and the list of retired batches that wait for it. It
+//! uses words and the book's keys; slots are made with their heads.
+ghost use Rattle.std.specs.Prelude.{◌≡◌};
+ghost use Rattle.seize_machine.specs.Machine.Event.{Insert, ReadHead};
+ghost use Rattle.seize_words.specs.Heads.{IsHead, found_end};
+
+use crate::book::{Keys, NumbersKey, Pass, SlotKey};
+use crate::word::Word;
+use std::marker::Brand;
+
+/// The head of one slot, which threads share.
+///
+/// Its word is 0 where the slot is inactive, 1 where it is active and nothing waits for it, and else 2 and the number of the block with
+/// which the newest batch that waits was inserted.
+#[derive(Drop)]
+pub struct Head {
+    word: Word,
+    ghost head: { IsHead word },
+}
+
+impl Head {
+    ghost use Rattle.seize_words.specs.Reservations.{FoundBefore, IsFull, IsHeadOf, IsOfBook, IsOfHead, MakesSlot, MayRead, NumbersOf, Shows, TriesAt, slot};
+    ghost use Rattle.seize_words.specs.Slots.{IsOf, Notes, number_of};
+
+    /// Makes the next slot, with its head: the event `Take` of a number that was never in use. All numbers below it are in use.
+    pub fn make(numbers: &mut NumbersKey, pass: &mut Pass) -> (SlotKey, Head)
+        requires book { NumbersOf numbers.old pass.old }
+        requires full { IsFull numbers.old }
+        ensures made { MakesSlot numbers.old pass.old numbers.new pass.new result.0 result.1 }
+    {
+        let mut key = numbers.keys.none();
+        let mut head = numbers.keys.none();
+        numbers.keys.note::<Brand>(pass);
+        numbers.keys.part(&mut key);
+        key.part(&mut head);
+        (SlotKey { keys: key }, Head::of(&mut head))
+    }
+
+    // The head of an inactive slot.
+    fn of(keys: &mut Keys) -> Head
+        requires { IsOfHead keys.old }
+        ensures { IsHeadOf keys.old result }
+    {
+        Head { word: Word::new(0, keys) }
+    }
+
+    /// Reads the head: the event `ReadHead` of a slot whose call marks, or is about to insert its batch here.
+    pub fn read(&self, key: &mut SlotKey, pass: &mut Pass) -> u64
+        requires book { IsOf key.old pass.old × IsOfBook self.now pass.old }
+        requires reads { MayRead key.old self.now pass.old }
+        ensures noted { Notes key.old pass.old key.new pass.new (ReadHead (number_of key.old) (slot self.now)) }
+        ensures shows { Shows self.now pass.new.seen result }
+    {
+        self.word.load::<Brand>(&mut key.keys, pass)
+    }
+
+    /// Inserts the slot's batch with this block if the head's word is still what was seen: the event `Insert`. It gives the word that it
+    /// found; the insertion is won if that is what was seen.
+    pub fn insert(&self, seen: u64, block: u64, key: &mut SlotKey, pass: &mut Pass) -> u64
+        requires book { IsOf key.old pass.old × IsOfBook self.now pass.old }
+        requires tries { TriesAt key.old self.now seen block }
+        ensures noted { Notes key.old pass.old key.new pass.new (Insert (number_of key.old) (slot self.now) (found_end seen result)) }
+        ensures found { FoundBefore self.now pass.new result }
+    {
+        self.word.exchange::<Brand>(seen, block + 2, &mut key.keys, pass)
+    }
+}
