@@ -1,14 +1,14 @@
 -- The activations in which a value was found are over when it goes to its reclaimer. Assumes `Logic`.
-use Rattle.std.proofs.Common.{◌≡◌, ℕ, zero, suc, ◌<◌, ◌≤◌, Bool, true, false, ◌==◌, if◌then◌else◌, List, [], ◌∷◌, ◌++◌, length, take, slice_get, get_or, set, Option, Some, refl, sym, ◌∙◌, ap, subst, ◌⊎◌, inl, inr, arith, append_assoc, append-nil}
+use Rattle.std.proofs.Common.{◌≡◌, ℕ, zero, suc, ◌<◌, ◌≤◌, Bool, true, false, ◌==◌, if◌then◌else◌, List, [], ◌∷◌, ◌++◌, length, take, slice_get, get_or, set, Option, Some, refl, sym, ◌∙◌, ap, subst, ◌⊎◌, inl, inr, ⊎_elim, arith, append_assoc, append-nil}
 use Rattle.std.proofs.lemmas.List.{get_or-set_other, get_or-set_same, get_or_past}
 use Rattle.std.proofs.lemmas.Bool.{cases_lt}
 use mathlib.Core.List.{IsPrefix}
 use native.Mathlib.Decide.{ℕ_discrete}
 use seplogic.Ra.Ura.{Ura}
-use base.Logic.{SProp, ent, sep, upd, upd_i}
-use base.Fml.{Fml, ftrue, fdead}
+use base.Logic.{SProp, ent, sep, guard, guard_i, never, never_e, upd, upd_i}
+use base.Fml.{Share, Fml, ftrue, fsep, flft, fdead}
 use types.Logic.{Logic, sem}
-use types.Kit.{‵, raw, ◌⊛◌, ◌$◌, ◌∵◌, !, qed, move, keep, split, fjoin, suffices, done, use1, use2, rewrite}
+use types.Kit.{‵, raw, ◌⊛◌, given, ◌$◌, ◌∵◌, !, qed, by, move, keep, split, fjoin, learn, check, suffices, done, use1, use2, rewrite}
 use Rattle.seize_machine.specs.Machine.State.{State, Head, Inactive, Active, head_at, is_active}
 use Rattle.seize_machine.specs.Machine.Event.{Event, SwapOut}
 use Rattle.seize_machine.specs.Machine.Next.{next, can_link}
@@ -185,6 +185,14 @@ out_ended : (log : List Entry) (e : Entry) (s : ℕ) → e.event ≡ SwapOut s �
 out_ended log e s is =
     ended_push none_alive log e ∙ ap (λ (x : Event). ended log ++ ended_by (lives_by none_alive log) x) is ∙ ap (λ (x : ℕ). ended log ++ x ∷ []) (lives_are none_alive log s)
 
+is_in : (xs : List ℕ) (x : ℕ) → IsIn xs x ⊎ ¬ (IsIn xs x)
+is_in [] x = inr (λ t. t)
+is_in (y ∷ xs) x = go (ℕ_discrete y x) (is_in xs x)
+  where
+    go : Dec (y ≡ x) → IsIn xs x ⊎ ¬ (IsIn xs x) → IsIn (y ∷ xs) x ⊎ ¬ (IsIn (y ∷ xs) x)
+    go (yes e) rest = inl (inl e)
+    go (no n) rest = ⊎_elim (λ t. inl (inr t)) (λ m. inr (⊎_elim n m)) rest
+
 -- As resources.
 module _ {M : Type 1} {𝓤 : Ura M} (𝓛 : Logic 𝓤) where
   abbrev Pr : Type 2
@@ -231,3 +239,27 @@ module _ {M : Type 1} {𝓤 : Ura M} (𝓛 : Logic 𝓤) where
       go (Event.SwapOut s) is among = qed 𝓛 (‵ (over (ended log)) ∷ ‵ (over lives) ∷ []) ∵ move ! (1 ∷ []) $ use1 𝓛 (‵ (over lives) ⊛ ‵ (fdead (life s log ∷ []))) (over_one lives (life s log) (among (life s log) (inl refl))) $ split ! $
           move ! (2 ∷ 1 ∷ []) $ use2 𝓛 (‵ (over (ended (log ++ e ∷ [])))) (leaves log e s is) $ keep ! (0 ∷ []) $ done !
       go _ is among = none is (λ lives. refl)
+
+  -- shares of the tokens of these lifetimes
+  abbrev pub living : List ℕ → Share → Fml
+  living [] q = ftrue
+  living (a ∷ alive) q = fsep (flft (a ∷ []) q) (living alive q)
+
+  -- whoever has them knows that none of these is over
+  pub none_over : (alive xs : List ℕ) (q : Share) → ⟦ over xs ⟧ ∗ ⟦ living alive q ⟧ ⊢ guard 𝓤 ((a : ℕ) → IsIn alive a → ¬ (IsIn xs a)) (⟦ over xs ⟧ ∗ ⟦ living alive q ⟧)
+  none_over [] xs q = guard_i 𝓤 ((a : ℕ) → IsIn [] a → ¬ (IsIn xs a)) (⟦ over xs ⟧ ∗ ⟦ ftrue ⟧) (λ a t. absurd t)
+  none_over (x ∷ alive) xs q = go (is_in xs x) (none_over alive xs q)
+    where
+      Told : Type 0
+      Told = (a : ℕ) → IsIn (x ∷ alive) a → ¬ (IsIn xs a)
+
+      also : ¬ (IsIn xs x) → ((a : ℕ) → IsIn alive a → ¬ (IsIn xs a)) → (a : ℕ) → IsIn (x ∷ alive) a → ¬ (IsIn xs a)
+      also n none a (inl e) = λ t. n (subst (IsIn xs) (sym e) t)
+      also n none a (inr t) = none a t
+
+      go : IsIn xs x ⊎ ¬ (IsIn xs x) → (⟦ over xs ⟧ ∗ ⟦ living alive q ⟧ ⊢ guard 𝓤 ((a : ℕ) → IsIn alive a → ¬ (IsIn xs a)) (⟦ over xs ⟧ ∗ ⟦ living alive q ⟧))
+          → ⟦ over xs ⟧ ∗ ⟦ living (x ∷ alive) q ⟧ ⊢ guard 𝓤 Told (⟦ over xs ⟧ ∗ ⟦ living (x ∷ alive) q ⟧)
+      go (inl t) rest = qed 𝓛 (‵ (over xs) ∷ (‵ (flft (x ∷ []) q) ⊛ ‵ (living alive q)) ∷ []) ∵ use1 𝓛 (‵ (over xs) ⊛ ‵ (fdead (x ∷ []))) (over_one xs x t) $ split ! $ move ! (2 ∷ []) $ split ! $ move ! (0 ∷ 3 ∷ []) $
+          use2 𝓛 (raw (never 𝓤)) (𝓛.lfts.lft-dead (x ∷ []) q) $ keep ! (0 ∷ []) $ by ! (never_e 𝓤 _)
+      go (inr n) rest = qed 𝓛 (‵ (over xs) ∷ (‵ (flft (x ∷ []) q) ⊛ ‵ (living alive q)) ∷ []) ∵ move ! (1 ∷ []) $ split ! $ move ! (2 ∷ 1 ∷ []) $
+          use2 𝓛 (given ((a : ℕ) → IsIn alive a → ¬ (IsIn xs a)) (‵ (over xs) ⊛ ‵ (living alive q))) rest $ learn ! (λ none. check ! (also n none) $ split ! $ move ! (2 ∷ 1 ∷ []) $ fjoin ! $ move ! (1 ∷ 0 ∷ []) $ done !)

@@ -29,25 +29,25 @@ after_one r (x ∷ y ∷ held) seen one = absurd (cc)
 after_one r (x ∷ []) seen one = (refl, refl)
 
 -- beside a head's own key stands none
-alone : (site : Site) (v p : ℕ) (seen : List Entry) (held : List (Held Entry)) (t : List Entry × List (Held Entry)) (log : List Entry) → site.kind ≡ heads → FoundAs site v p seen held t log
+alone : (site : Site) (v p : ℕ) (seen : List Entry) (held : List (Held Entry)) (alive : List ℕ) (t : List Entry × List (Held Entry)) (log : List Entry) → site.kind ≡ heads → FoundAs site v p seen held alive t log
     → Kept (start site.name) TheHead site.number t.0 log × AllKept (rules (start site.name)) held log
-alone site v p seen held t log is found =
+alone site v p seen held alive t log is found =
     let none : t.1 ≡ [] = subst (λ (k : ℕ). StandsOf (start site.name) (kind_of k) site.number t.0 t.1) is found.stands in
     let kept = found.before.kept in (
       subst (λ (k : ℕ). Kept (start site.name) (kind_of k) site.number t.0 log) is kept.0,
       subst (λ (vs : List (Held Entry)). AllKept (rules (start site.name)) (vs ++ held) log) none kept.1,
     )
 
-module _ (word : Site) (key key' : SlotKey) (pass pass' : Pass) (f : ℕ → ℕ) (v life : ℕ) (event : Events) (head : word.kind ≡ heads)
-    (told : Takes (of_pass word pass) key.keys pass key'.keys pass' f v life event (λ _. false)) where
-  abbrev step : Stepped (of_pass word pass) pass.id pass.seen pass'.seen key.keys.held key'.keys.held v (f v) (entries pass life event) (λ _. false)
+module _ (word : Site) (key key' : SlotKey) (pass pass' : Pass) (alive : List ℕ) (f : ℕ → ℕ) (v life : ℕ) (event : Events) (head : word.kind ≡ heads)
+    (told : Takes (of_pass word pass) key.keys pass key'.keys pass' alive f v life event (λ _. false)) where
+  abbrev step : Stepped (of_pass word pass) pass.id pass.seen pass'.seen key.keys.held key'.keys.held alive v (f v) (entries pass life event) (λ _. false)
   step = told.2
 
   -- the slot's holder added the entry
   pub noted_by : IsOf key pass → NotesAs key pass key' pass' (entries pass life event v step.log)
   noted_by book =
       let noted = step.noted in let e = entries pass life event v step.log in
-      let keys = alone (of_pass word pass) v pass.id pass.seen key.keys.held step.since step.log head step.found in
+      let keys = alone (of_pass word pass) v pass.id pass.seen key.keys.held alive step.since step.log head step.found in
       let one = after_one slots key.keys.held pass'.seen key.one in
       let number = ap key_of step.keys ∙ one.0 in let own = ap own_of step.keys ∙ one.1 in
       let legal : IsLegalList (start pass.name) noted.before = subst (IsLegalList (start pass.name)) (sym step.is_log) step.found.before.legal in

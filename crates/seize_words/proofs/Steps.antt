@@ -19,11 +19,11 @@ use Rattle.seize_words.specs.Book.{Kind, ThePass, TheNumbers, TheSlot, TheHead, 
 use Rattle.seize_words.specs.Laws.{IsIn, ended, ended_by, life}
 use Rattle.seize_words.specs.Fair.{Before}
 use Rattle.seize_words.specs.Private.{is_one}
-use Rattle.seize_words.specs.Stepping.{in_step, FoundAs, EndsAmong, traded, IsStep, MayStep, Stepped}
+use Rattle.seize_words.specs.Stepping.{in_step, FoundAs, NoneEnded, EndsAmong, traded, IsStep, MayStep, Stepped}
 use Rattle.seize_words.specs.Tokens.{Name, Noted, rows, start, inside, knows, keys_own, over, beside, pass_holds, pass_owns}
 use Rattle.seize_words.specs.Words.{Site, Shows, ShowsOf, Stands, StandsOf, IsKeyOf, site_keys, word_knows, word_owns, word_lies, word_reading}
 
-use Rattle.seize_words.proofs.Lives.{ends_those}
+use Rattle.seize_words.proofs.Lives.{ends_those, living, none_over}
 use Rattle.seize_words.proofs.Notes.{knows_twice}
 use Rattle.seize_words.proofs.Passes.{IsDistinct, by_pass, keys_after, Made}
 
@@ -115,15 +115,15 @@ module _ {M : Type 1} {𝓤 : Ura M} (𝓛 : Logic 𝓤) (site : Site) where
   trade true a b log = qed 𝓛 (‵ (keys (renewed (a ++ b) log)) ∷ []) ∵ rewrite ! 0 (λ (hs : List (Held Entry)). ‵ (keys hs)) (renewed_append a b log) refl $
       use1 𝓛 (‵ (keys (renewed a log)) ⊛ ‵ (keys (renewed b log))) (parts (renewed a log) (renewed b log)) $ split ! $ move ! (1 ∷ 0 ∷ []) $ done !
 
-  module _ (p : ℕ) (seen : List Entry) (held : List (Held Entry)) (lives : List ℕ) (f : ℕ → ℕ) (entry : ℕ → List Entry → Entry) (trades : ℕ → Bool) where
+  module _ (p : ℕ) (seen : List Entry) (held : List (Held Entry)) (alive lives : List ℕ) (r : Share) (f : ℕ → ℕ) (entry : ℕ → List Entry → Entry) (trades : ℕ → Bool) where
     -- what is had after a step that found v: the list is `t.0`, and the holder's keys are `t.1`
     abbrev pub heard : ℕ → At → Fml
-    heard v t = fsep (fact (Stepped site p seen t.0 held t.1 v (f v) entry trades)) (fsep (pass_holds n p t.0) (keys t.1))
+    heard v t = fsep (fact (Stepped site p seen t.0 held t.1 alive v (f v) entry trades)) (fsep (pass_holds n p t.0) (fsep (keys t.1) (living 𝓛 alive r)))
 
     abbrev pub after_step : ℕ → Fml
     after_step v = fex At (heard v)
 
-    module _ (distinct : IsDistinct 𝓛 n) (may : MayStep site p seen held lives f entry trades) (v : ℕ) (t : At) (so : Shows site v t.0 × Stands site t.0 t.1) where
+    module _ (distinct : IsDistinct 𝓛 n) (may : MayStep site p seen held alive lives f entry trades) (v : ℕ) (t : At) (so : Shows site v t.0 × Stands site t.0 t.1) where
       abbrev all : List (Held Entry)
       all = in_step site held t
 
@@ -131,20 +131,24 @@ module _ {M : Type 1} {𝓤 : Ura M} (𝓛 : Logic 𝓤) (site : Site) where
       ev log = entry v log
 
       abbrev told : List Entry → Type 0
-      told log = Unit {0}
+      told log = NoneEnded alive log
 
-      found : (log : List Entry) → Before n p seen all log → FoundAs site v p seen held t log
-      found log before = record { shows = so.0; stands = so.1; before = before }
+      found : (log : List Entry) → Before n p seen all log → told log → FoundAs site v p seen held alive t log
+      found log before none = record { shows = so.0; stands = so.1; before = before; none_ended = none }
 
-      step : (own log : List Entry) → Before n p seen all log → IsStep site p held lives (f v) (ev log) (trades v) t own log
-      step own log before = may.1 v t own log (found log before)
+      step : (own log : List Entry) → Before n p seen all log → told log → IsStep site p held lives (f v) (ev log) (trades v) t own log
+      step own log before none = may.1 v t own log (found log before none)
 
       within : WithKinds kinds all
       within = (kind_within st site.kind site.number v t.0 so.0, both_within t.1 held (beside_within st (kind_of site.kind) site.number t.0 t.1 so.1) may.0)
 
-      ends : (log : List Entry) → Before n p seen all log → told log → ⟦ over (ended log) ⟧ ∗ ⟦ over lives ⟧ ⊢ upd 𝓤 (⟦ over (ended (log ++ ev log ∷ [])) ⟧ ∗ ⟦ ftrue ⟧)
-      ends log before _ = let Z : Pr = ⟦ over (ended (log ++ ev log ∷ [])) ⟧ ∗ ⟦ ftrue ⟧ in qed 𝓛 (‵ (over (ended log)) ∷ ‵ (over lives) ∷ []) ∵
-          use2 𝓛 (‵ (over (ended (log ++ ev log ∷ [])))) (ends_those 𝓛 log (ev log) lives (step log log before).ends) $ nothing ! $ suffices ! _ (upd_i 𝓤 Z) $ move ! (1 ∷ 0 ∷ []) $ done !
+      tells : (log : List Entry) → Before n p seen all log → ⟦ over (ended log) ⟧ ∗ (⟦ over lives ⟧ ∗ ⟦ living 𝓛 alive r ⟧) ⊢ guard 𝓤 (told log) (⟦ over (ended log) ⟧ ∗ (⟦ over lives ⟧ ∗ ⟦ living 𝓛 alive r ⟧))
+      tells log before = qed 𝓛 (‵ (over (ended log)) ∷ (‵ (over lives) ⊛ ‵ (living 𝓛 alive r)) ∷ []) ∵ move ! (1 ∷ []) $ split ! $ move ! (2 ∷ 1 ∷ []) $
+          use2 𝓛 (given (told log) (‵ (over (ended log)) ⊛ ‵ (living 𝓛 alive r))) (none_over 𝓛 alive (ended log) r) $ learn ! (λ none. check ! none $ split ! $ move ! (2 ∷ 1 ∷ []) $ join ! $ move ! (1 ∷ 0 ∷ []) $ done !)
+
+      ends : (log : List Entry) → Before n p seen all log → told log → ⟦ over (ended log) ⟧ ∗ (⟦ over lives ⟧ ∗ ⟦ living 𝓛 alive r ⟧) ⊢ upd 𝓤 (⟦ over (ended (log ++ ev log ∷ [])) ⟧ ∗ ⟦ living 𝓛 alive r ⟧)
+      ends log before none = let Z : Pr = ⟦ over (ended (log ++ ev log ∷ [])) ⟧ ∗ ⟦ living 𝓛 alive r ⟧ in qed 𝓛 (‵ (over (ended log)) ∷ (‵ (over lives) ⊛ ‵ (living 𝓛 alive r)) ∷ []) ∵ move ! (1 ∷ []) $ split ! $ move ! (2 ∷ 0 ∷ []) $
+          use2 𝓛 (‵ (over (ended (log ++ ev log ∷ [])))) (ends_those 𝓛 log (ev log) lives (step log log before none).ends) $ suffices ! _ (upd_i 𝓤 Z) $ done !
 
       abbrev now : List Entry → List Entry
       now log = log ++ ev log ∷ []
@@ -152,36 +156,36 @@ module _ {M : Type 1} {𝓤 : Ura M} (𝓛 : Logic 𝓤) (site : Site) where
       abbrev had : List Entry → At
       had log = (now log, renewed (traded (trades v) held t.1) (now log))
 
-      stepped : (log : List Entry) → Made 𝓛 n p seen all ev told log → Stepped site p seen (now log) held (had log).1 v (f v) entry trades
-      stepped log made = record { log = log; noted = made.0; is_log = made.1; since = t; found = found log made.2; left = (step log log made.2).shows; keys = refl }
+      stepped : (log : List Entry) → Made 𝓛 n p seen all ev told log → Stepped site p seen (now log) held (had log).1 alive v (f v) entry trades
+      stepped log made = record { log = log; noted = made.0; is_log = made.1; since = t; found = found log made.2 made.3; left = (step log log made.2 made.3).shows; keys = refl }
 
       -- with the word's memory at hand: the event is added, and the word stands for what the list says then
-      adds : (b o : ℕ) → ⟦ word b o (f v) ⟧ ∗ ⟦ J ⟧ ∗ ⟦ pass_holds n p seen ⟧ ∗ ⟦ keys all ⟧ ∗ ⟦ over lives ⟧ ⊢ upd 𝓤 (⟦ word_reading site b o ⟧ ∗ ⟦ J ⟧ ∗ ⟦ after_step v ⟧)
+      adds : (b o : ℕ) → ⟦ word b o (f v) ⟧ ∗ ⟦ J ⟧ ∗ ⟦ pass_holds n p seen ⟧ ∗ ⟦ keys all ⟧ ∗ (⟦ over lives ⟧ ∗ ⟦ living 𝓛 alive r ⟧) ⊢ upd 𝓤 (⟦ word_reading site b o ⟧ ∗ ⟦ J ⟧ ∗ ⟦ after_step v ⟧)
       adds b o = let Z : Pr = ⟦ word_reading site b o ⟧ ∗ ⟦ J ⟧ ∗ ⟦ after_step v ⟧ in
-          qed 𝓛 (‵ (word b o (f v)) ∷ ‵ J ∷ ‵ (pass_holds n p seen) ∷ ‵ (keys all) ∷ ‵ (over lives) ∷ []) ∵ move ! (3 ∷ 4 ∷ []) $ join ! $ move ! (2 ∷ 3 ∷ 0 ∷ []) $
-          use3 𝓛 (raw (upd 𝓤 (ex 𝓤 (λ log. guard 𝓤 (Made 𝓛 n p seen all ev told log) (⟦ J ⟧ ∗ ⟦ pass_holds n p (now log) ⟧ ∗ ⟦ keys_after 𝓛 n all ev log ⟧ ∗ ⟦ ftrue ⟧)))))
-          (by_pass 𝓛 n p seen all ev told ⟦ over lives ⟧ (λ _. ⟦ ftrue ⟧) distinct within (λ own log before _. ((step own log before).fair, (step own log before).its)) (λ log before. guard_i 𝓤 (Unit {0}) _ tt) ends) $
-          settle 𝓛 Z (some (λ (log : List Entry). given (Made 𝓛 n p seen all ev told log) (‵ J ⊛ ‵ (pass_holds n p (now log)) ⊛ ‵ (keys_after 𝓛 n all ev log) ⊛ ‵ ftrue))) $
-          suffices ! _ (upd_i 𝓤 Z) $ pick ! (λ log. learn ! (λ made. let is = step log log made.2 in let log' : List Entry = now log in
+          qed 𝓛 (‵ (word b o (f v)) ∷ ‵ J ∷ ‵ (pass_holds n p seen) ∷ ‵ (keys all) ∷ (‵ (over lives) ⊛ ‵ (living 𝓛 alive r)) ∷ []) ∵ move ! (3 ∷ 4 ∷ []) $ join ! $ move ! (2 ∷ 3 ∷ 0 ∷ []) $
+          use3 𝓛 (raw (upd 𝓤 (ex 𝓤 (λ log. guard 𝓤 (Made 𝓛 n p seen all ev told log) (⟦ J ⟧ ∗ ⟦ pass_holds n p (now log) ⟧ ∗ ⟦ keys_after 𝓛 n all ev log ⟧ ∗ ⟦ living 𝓛 alive r ⟧)))))
+          (by_pass 𝓛 n p seen all ev told (⟦ over lives ⟧ ∗ ⟦ living 𝓛 alive r ⟧) (λ _. ⟦ living 𝓛 alive r ⟧) distinct within (λ own log before none. ((step own log before none).fair, (step own log before none).its)) tells ends) $
+          settle 𝓛 Z (some (λ (log : List Entry). given (Made 𝓛 n p seen all ev told log) (‵ J ⊛ ‵ (pass_holds n p (now log)) ⊛ ‵ (keys_after 𝓛 n all ev log) ⊛ ‵ (living 𝓛 alive r)))) $
+          suffices ! _ (upd_i 𝓤 Z) $ pick ! (λ log. learn ! (λ made. let is = step log log made.2 made.3 in let log' : List Entry = now log in
           split ! $ move ! (1 ∷ []) $ split3 ! $
-          -- [the pass; the keys; nothing; J; the word]
+          -- [the pass; the keys; the tokens; J; the word]
           move ! (1 ∷ []) $ rewrite ! 0 (λ (bs : List (ℕ × ℕ)). ‵ (keys (renewed all log' ++ born bs log'))) is.no_births refl $ rewrite ! 0 (λ (hs : List (Held Entry)). ‵ (keys hs)) (append-nil (renewed all log')) refl $
           fsplit ! $ move ! (1 ∷ []) $ use1 𝓛 (‵ (keys (renewed (traded (trades v) t.1 held) log')) ⊛ ‵ (keys (had log).1)) (trade (trades v) t.1 held log') $ split ! $
-          -- [the keys beside the word; the holder's; the word's own; the pass; nothing; J; the word]
+          -- [the keys beside the word; the holder's; the word's own; the pass; the tokens; J; the word]
           move ! (2 ∷ 0 ∷ []) $ fjoin ! $ nothing ! $ fpack ! (Shows site (f v) log' × Stands site log' (renewed (traded (trades v) t.1 held) log')) (λ _. ftrue) (is.shows, is.stands) $ move ! (0 ∷ 1 ∷ []) $ fjoin ! $
           fpack ! At (word_knows site (f v)) (log', renewed (traded (trades v) t.1 held) log') $ move ! (5 ∷ 0 ∷ []) $ fjoin ! $ fpack ! ℕ (word_lies site b o) (f v) $ frame ! $
-          -- [the holder's keys; the pass; nothing; J]
-          move ! (3 ∷ []) $ frame ! $ move ! (1 ∷ 0 ∷ []) $ fjoin ! $ nothing ! $ fpack ! (Stepped site p seen log' held (had log).1 v (f v) entry trades) (λ _. ftrue) (stepped log made) $ move ! (0 ∷ 1 ∷ []) $ fjoin ! $
+          -- [the holder's keys; the pass; the tokens; J]
+          move ! (3 ∷ []) $ frame ! $ move ! (0 ∷ 2 ∷ []) $ fjoin ! $ move ! (1 ∷ 0 ∷ []) $ fjoin ! $ nothing ! $ fpack ! (Stepped site p seen log' held (had log).1 alive v (f v) entry trades) (λ _. ftrue) (stepped log made) $ move ! (0 ∷ 1 ∷ []) $ fjoin ! $
           fpack ! At (heard v) (had log) $ keep ! (0 ∷ []) $ done !))
 
     -- what a holder brings
     abbrev pub brings : Pr
-    brings = ⟦ pass_holds n p seen ⟧ ∗ ⟦ keys held ⟧ ∗ ⟦ over lives ⟧
+    brings = ⟦ pass_holds n p seen ⟧ ∗ ⟦ keys held ⟧ ∗ (⟦ over lives ⟧ ∗ ⟦ living 𝓛 alive r ⟧)
 
-    pub steps : (b o i : ℕ) (κ : Lft) (q : Share) → ¬ (n.number ≡ i) → IsDistinct 𝓛 n → MayStep site p seen held lives f entry trades
+    pub steps : (b o i : ℕ) (κ : Lft) (q : Share) → ¬ (n.number ≡ i) → IsDistinct 𝓛 n → MayStep site p seen held alive lives f entry trades
         → A.named i (fbor κ (word_reading site b o)) ∗ A.named n.number J ∗ A.lft κ q ∗ brings ⊢ asks 𝓛 (block_ptr b o) f always (λ v. fsep (flft κ q) (after_step v))
     steps b o i κ q apart distinct may = let I : Fml = word_reading site b o in let G : Pr = ex 𝓤 (LiesWith 𝓛 κ q I b o f always after_step J) in
-        borrowed_with 𝓛 κ q I b o f always after_step i n.number J apart brings (qed 𝓛 (‵ I ∷ ‵ J ∷ ‵ (pass_holds n p seen) ∷ ‵ (keys held) ∷ ‵ (over lives) ∷ []) ∵ suffices ! _ (upd_i 𝓤 G) $
+        borrowed_with 𝓛 κ q I b o f always after_step i n.number J apart brings (qed 𝓛 (‵ I ∷ ‵ J ∷ ‵ (pass_holds n p seen) ∷ ‵ (keys held) ∷ (‵ (over lives) ⊛ ‵ (living 𝓛 alive r)) ∷ []) ∵ suffices ! _ (upd_i 𝓤 G) $
         fpick ! (λ v. fsplit ! $ move ! (1 ∷ []) $ fpick ! (λ t. fsplit ! $ fpick ! (λ so. drop ! $
         -- [the word's keys; the word; J; the pass; the holder's keys; what is over]
         fsplit ! $ move ! (1 ∷ 5 ∷ []) $ use2 𝓛 (‵ (keys (t.1 ++ held))) (joins t.1 held) $ move ! (1 ∷ 0 ∷ []) $ fjoin ! $

@@ -1,8 +1,8 @@
 -- The words in which the contracts of atomic steps speak.
 --     exchanged seen new v          what a compare and exchange leaves that found v
 --     entries pass life event v log     the entry of a step that found v in the word, where the list was this just before
---     MayTake word keys pass lives f life event trades     the holder of the keys may take the step with the pass: see MayStep
---     Takes word keys pass keys' pass' f v life event trades     the step was taken and found v: see Stepped
+--     MayTake word keys pass alive lives f life event trades     the holder of the keys may take the step with the pass: see MayStep
+--     Takes word keys pass keys' pass' alive f v life event trades     the step was taken and found v: see Stepped
 --     site_of keys, IsWordOf keys bits     which word the keys are of;  a word that holds this stands for what they know
 use Rattle.std.specs.Prelude.{◌≡◌, ℕ, Bool, List, [], ◌∷◌, drop}
 use lib.Dec.{eqb}
@@ -26,13 +26,13 @@ Events = ℕ → List Entry → Event
 abbrev pub entries : Pass → ℕ → Events → ℕ → List Entry → Entry
 entries pass life event v log = record { pass = pass.id; size = pass.name.size; event = event v log; life = life }
 
-abbrev pub MayTake : Site → Keys → Pass → List ℕ → (ℕ → ℕ) → ℕ → Events → (ℕ → Bool) → Type 0
-MayTake word keys pass lives f life event trades =
-    (word.name ≡ pass.name) × (keys.name ≡ pass.name) × MayStep word pass.id pass.seen keys.held lives f (entries pass life event) trades
+abbrev pub MayTake : Site → Keys → Pass → List ℕ → List ℕ → (ℕ → ℕ) → ℕ → Events → (ℕ → Bool) → Type 0
+MayTake word keys pass alive lives f life event trades =
+    (word.name ≡ pass.name) × (keys.name ≡ pass.name) × MayStep word pass.id pass.seen keys.held alive lives f (entries pass life event) trades
 
-abbrev pub Takes : Site → Keys → Pass → Keys → Pass → (ℕ → ℕ) → ℕ → ℕ → Events → (ℕ → Bool) → Type 0
-Takes word keys pass keys' pass' f v life event trades =
-    IsSame pass pass' × (keys'.name ≡ keys.name) × Stepped word pass.id pass.seen pass'.seen keys.held keys'.held v (f v) (entries pass life event) trades
+abbrev pub Takes : Site → Keys → Pass → Keys → Pass → List ℕ → (ℕ → ℕ) → ℕ → ℕ → Events → (ℕ → Bool) → Type 0
+Takes word keys pass keys' pass' alive f v life event trades =
+    IsSame pass pass' × (keys'.name ≡ keys.name) × Stepped word pass.id pass.seen pass'.seen keys.held keys'.held alive v (f v) (entries pass life event) trades
 
 -- The word that some keys are of: the first is its own, and the others stand beside it.
 

@@ -1,16 +1,17 @@
 -- What an atomic step on a word has to be, so that the holder of a pass and of some keys may add the event that it is.
---     FoundAs site v p seen held t log     the step finds v in the word; the list is `log` then; t has the list at the word's last change,
---                              and the keys beside the word's own
---     MayStep site p seen held lives f entry trades     whatever it finds in the word, and whatever the list is by then: with f of it in
---                              the word, and this entry added, all is as it has to be (IsStep). It ends no activation but those that
---                              have these lifetimes. Where it trades, the holder's keys stay with the word, for those that stood there
---     Stepped site p seen seen' held held' v w entry trades   the step was taken, found v and left w
+--     FoundAs site v p seen held alive t log     the step finds v in the word; the list is `log` then; t has the list at the word's last
+--                              change, and the keys beside the word's own; the activations with the lifetimes `alive` have not ended
+--     MayStep site p seen held alive lives f entry trades     whatever it finds in the word, and whatever the list is by then: with f of
+--                              it in the word, and this entry added, all is as it has to be (IsStep). It ends no activation but those
+--                              that have the lifetimes `lives`. Where it trades, the holder's keys stay with the word, for those that
+--                              stood there
+--     Stepped site p seen seen' held held' alive v w entry trades   the step was taken, found v and left w
 use Rattle.std.specs.Prelude.{◌≡◌, ℕ, Bool, if◌then◌else◌, List, [], ◌∷◌, ◌++◌}
 use Rattle.seize_machine.specs.Machine.Event.{Event}
 use Rattle.seize_words.specs.Ledger.{Held, WithKinds, renewed}
 use Rattle.seize_words.specs.Entry.{Entry}
 use Rattle.seize_words.specs.Book.{after, births, kinds}
-use Rattle.seize_words.specs.Laws.{IsIn, ended_by, life}
+use Rattle.seize_words.specs.Laws.{IsIn, ended, ended_by, life}
 use Rattle.seize_words.specs.Tokens.{start, Noted}
 use Rattle.seize_words.specs.Fair.{Before, Fair, pass_key}
 use Rattle.seize_words.specs.Words.{Site, Shows, Stands, site_keys}
@@ -19,10 +20,15 @@ use Rattle.seize_words.specs.Words.{Site, Shows, Stands, site_keys}
 abbrev pub in_step : Site → List (Held Entry) → List Entry × List (Held Entry) → List (Held Entry)
 in_step site held t = site_keys site t.0 (t.1 ++ held)
 
-pub record FoundAs (site : Site) (v p : ℕ) (seen : List Entry) (held : List (Held Entry)) (t : List Entry × List (Held Entry)) (log : List Entry) : Type 0 where
+-- no activation with one of these lifetimes has ended
+abbrev pub NoneEnded : List ℕ → List Entry → Type 0
+NoneEnded alive log = (a : ℕ) → IsIn alive a → ¬ (IsIn (ended log) a)
+
+pub record FoundAs (site : Site) (v p : ℕ) (seen : List Entry) (held : List (Held Entry)) (alive : List ℕ) (t : List Entry × List (Held Entry)) (log : List Entry) : Type 0 where
   pub shows : Shows site v t.0
   pub stands : Stands site t.0 t.1
   pub before : Before site.name p seen (in_step site held t) log
+  pub none_ended : NoneEnded alive log
 
 -- each activation that the event ends has one of these lifetimes
 abbrev pub EndsAmong : List ℕ → List Entry → Event → Type 0
@@ -40,17 +46,17 @@ pub record IsStep (site : Site) (p : ℕ) (held : List (Held Entry)) (lives : Li
   pub shows : Shows site w (log ++ e ∷ [])
   pub stands : Stands site (log ++ e ∷ []) (renewed (traded trades t.1 held) (log ++ e ∷ []))
 
-abbrev pub MayStep : Site → ℕ → List Entry → List (Held Entry) → List ℕ → (ℕ → ℕ) → (ℕ → List Entry → Entry) → (ℕ → Bool) → Type 0
-MayStep site p seen held lives f entry trades =
+abbrev pub MayStep : Site → ℕ → List Entry → List (Held Entry) → List ℕ → List ℕ → (ℕ → ℕ) → (ℕ → List Entry → Entry) → (ℕ → Bool) → Type 0
+MayStep site p seen held alive lives f entry trades =
     WithKinds kinds held
-    × ((v : ℕ) (t : List Entry × List (Held Entry)) (own log : List Entry) → FoundAs site v p seen held t log
+    × ((v : ℕ) (t : List Entry × List (Held Entry)) (own log : List Entry) → FoundAs site v p seen held alive t log
       → IsStep site p held lives (f v) (entry v log) (trades v) t own log)
 
-pub record Stepped (site : Site) (p : ℕ) (seen seen' : List Entry) (held held' : List (Held Entry)) (v w : ℕ) (entry : ℕ → List Entry → Entry) (trades : ℕ → Bool) : Type 0 where
+pub record Stepped (site : Site) (p : ℕ) (seen seen' : List Entry) (held held' : List (Held Entry)) (alive : List ℕ) (v w : ℕ) (entry : ℕ → List Entry → Entry) (trades : ℕ → Bool) : Type 0 where
   pub log : List Entry
   pub noted : Noted site.name p seen seen' (entry v log)
   pub is_log : noted.before ≡ log
   pub since : List Entry × List (Held Entry)
-  pub found : FoundAs site v p seen held since log
+  pub found : FoundAs site v p seen held alive since log
   pub left : Shows site w seen'
   pub keys : held' ≡ renewed (traded (trades v) held since.1) seen'

@@ -57,16 +57,16 @@ impl Word {
 
     /// Reads the word.
     pub(crate) fn load<P: Finds>(&self, keys: &mut Keys, pass: &mut Pass) -> u64
-        requires { MayTake self.now keys.old pass.old [] (λ v. v) P.life P.event P.trades }
-        ensures { Takes self.now keys.old pass.old keys.new pass.new (λ v. v) result P.life P.event P.trades }
+        requires { MayTake self.now keys.old pass.old [] [] (λ v. v) P.life P.event P.trades }
+        ensures { Takes self.now keys.old pass.old keys.new pass.new [] (λ v. v) result P.life P.event P.trades }
     {
         unsafe { raw::load::<Brand>(self as *const Self as *const u64, SeqCst) }
     }
 
     /// Stores `new` where the word holds `seen`, and gives what it held.
     pub(crate) fn exchange<P: Finds>(&self, seen: u64, new: u64, keys: &mut Keys, pass: &mut Pass) -> u64
-        requires { MayTake self.now keys.old pass.old [] (exchanged seen new) P.life P.event P.trades }
-        ensures { Takes self.now keys.old pass.old keys.new pass.new (exchanged seen new) result P.life P.event P.trades }
+        requires { MayTake self.now keys.old pass.old [] [] (exchanged seen new) P.life P.event P.trades }
+        ensures { Takes self.now keys.old pass.old keys.new pass.new [] (exchanged seen new) result P.life P.event P.trades }
     {
         unsafe { exchange::<Brand>(self as *const Self as *const u64, seen, new) }
     }

@@ -2,6 +2,7 @@
 use Rattle.seize_words.proofs.Kit.{◌≡◌, ℕ, ◌^◌, List, [], ◌∷◌, refl, sym, ◌∙◌, w64, tail, proved, named, Val, vint, vptr, SProp, wand, emp, via, apply∗, Lft, Share, Fml, ftrue, fsep, flft, fnamed, ‵, raw, ◌⊛◌, some, given, later, mean, at_ret, ◌$◌, ◌∵◌, !, qed, by, move, keep, drop, split, split3, join, fsplit, fsplit3, fjoin, fjoin3, fpick, pick, learn, use1, use2, use3, await, rewrite, feq_i, flt_i, stop, addr, of_opd, no_more, and_then, first, blocks, exec, Calls-last, returns, enter, alloc_all, pass_all, free_all, look_at, get, through, sets, lands_last, env, fact, fact_i, tables, Lends-one, yes, RattleType, owns, types_at, plain, RefOf, block_ptr, unhide, uint_vals, uint_Tells, u64, mut_vals, mut_Tells, shr_vals, shr_Tells, nothing, opens, closes, heard, Stays, stay_dropped, stay_ref, walk_of, Goes-dropped, Goes-ref}
 use mir.Syntax.{a_type, dcons, dnil}
 use mir.MapTy.{inst_fn}
+use base.Fraction.{full_share}
 use denote.Param.{bounded}
 use Rattle.atomic_table.proofs.Calls.{fm, found, finds, exchanges}
 use Rattle.seize_words.specs.Entry.{Entry}
@@ -29,7 +30,7 @@ exchange_spec 𝓤 𝓛 𝓜 𝓡 wired P LP g d _ =
     let n : Name = site.name in let f : ℕ → ℕ = exchanged old new in
     let y : (walk_of 𝓛 En hs c).Ghost = ((κs, qs, bounds, a, (vptr b o ∷ [], (vint w64 old ∷ [], (vint w64 new ∷ [], (vptr kb ko ∷ [], (vptr pb po ∷ [], tt)))))), gh) in let Post : Val → SProp 𝓤 = (walk_of 𝓛 En hs c).post y in
     let toks : Fml = fsep (flft κs.0 qs.0) (fsep (flft κs.1.0 qs.1.0) (fsep (flft κs.1.1.0 qs.1.1.0) (fsep (flft κs.1.1.1.0 qs.1.1.1.0) ftrue))) in
-    let Asked : Type 0 = MayTake site keys pass [] f g.life g.event g.trades in
+    let Asked : Type 0 = MayTake site keys pass [] [] f g.life g.event g.trades in
     qed 𝓛 ((‵ toks ⊛ ‵ (owns (types_at En.signature.params κs) a y.0.4)) ∷ raw (fact 𝓤 _) ∷ raw (fact 𝓤 Asked) ∷ []) ∵ keep ! (2 ∷ 0 ∷ []) $ heard ! Asked (λ asked. split ! $
     fsplit ! $ move ! (1 ∷ []) $ fsplit ! $ move ! (1 ∷ []) $ fsplit ! $ move ! (4 ∷ []) $ fsplit ! $ fsplit ! $ move ! (2 ∷ []) $ fsplit ! $ move ! (1 ∷ []) $ fsplit ! $ move ! (1 ∷ []) $ fsplit ! $ fsplit3 ! $ move ! (3 ∷ []) $ fsplit ! $ fsplit3 ! $
     -- [the pass, in two; the keys, in two; the word; the tokens of the three, last first; the other tokens]
@@ -42,13 +43,13 @@ exchange_spec 𝓤 𝓛 𝓜 𝓡 wired P LP g d _ =
     move ! (9 ∷ 10 ∷ 11 ∷ []) $ opens ! tt Pass.the_row pb po (λ vs1. move ! (1 ∷ []) $ fsplit ! $ move ! (1 ∷ []) $ rewrite ! 0 (λ (z : Name). ‵ (pass_owns z pass.id pass.seen)) (sym asked.0) refl $
     use1 𝓛 (given (IsDistinct 𝓛 n) (‵ (knows n) ⊛ ‵ (fnamed n.number (inside n)) ⊛ ‵ (pass_holds n pass.id pass.seen))) (opened 𝓛 site pass.id pass.seen) $ learn ! (λ distinct. split3 ! $
     -- [the book; its invariant; the pass's; the pass; its cell, in four entries; the keys'; the keys; their cell; the token; the way back; the word's invariant; the other tokens]
-    let entry : ℕ → List Entry → Entry = entries pass g.life g.event in let after : ℕ → Fml = after_step 𝓛 site pass.id pass.seen keys.held [] f entry g.trades in let out : ℕ → Fml = λ v. fsep (flft ν s) (after v) in
+    let entry : ℕ → List Entry → Entry = entries pass g.life g.event in let after : ℕ → Fml = after_step 𝓛 site pass.id pass.seen keys.held [] [] full_share f entry g.trades in let out : ℕ → Fml = λ v. fsep (flft ν s) (after v) in
     first ! $ blocks ! $ sets ! (addr ! (through ! refl (stop !))) refl (tt, tt) $ sets ! (of_opd ! (get ! refl)) refl (tt, tt) $
-    nothing ! $ move ! (9 ∷ 0 ∷ []) $ join ! $ move ! (3 ∷ 0 ∷ []) $ join ! $ move ! (13 ∷ 0 ∷ []) $ join ! $ move ! (14 ∷ 2 ∷ 0 ∷ []) $
+    nothing ! $ nothing ! $ join ! $ move ! (9 ∷ 0 ∷ []) $ join ! $ move ! (3 ∷ 0 ∷ []) $ join ! $ move ! (13 ∷ 0 ∷ []) $ join ! $ move ! (14 ∷ 2 ∷ 0 ∷ []) $
     use3 𝓛 (raw (𝓣.C _ (vptr b o ∷ vint w64 old ∷ vint w64 new ∷ []) (λ u. mean 𝓛 (found out u))))
-    (via 𝓤 _ (steps 𝓛 site pass.id pass.seen keys.held [] f entry g.trades b o t.1 ν s apart distinct asked.2) (exchanges 𝓛 𝓜 𝓡 (code.calls-atomic_table::exchange 𝓡.env wired) (block_ptr b o) old new are.1.0.1 are.1.1.0.1 out)) $
+    (via 𝓤 _ (steps 𝓛 site pass.id pass.seen keys.held [] [] full_share f entry g.trades b o t.1 ν s apart distinct asked.2) (exchanges 𝓛 𝓜 𝓡 (code.calls-atomic_table::exchange 𝓡.env wired) (block_ptr b o) old new are.1.0.1 are.1.1.0.1 out)) $
     Calls-last ! (fm 𝓛 𝓜 𝓡) (found out) (and_then ! (get ! refl) (and_then ! (get ! refl) (and_then ! (get ! refl) (no_more !)))) (λ u. finds ! out (λ v fits. lands_last ! refl (tt, record { fits = fits }) $ exec ! 𝓣.C 𝓣.Λ Ev (tail fn.body) (at_ret Ev Post) $ sets ! (of_opd ! (get ! refl)) refl (tt, record { fits = fits }) $
-    fsplit ! $ move ! (0 ∷ 13 ∷ []) $ use2 𝓛 (later (‵ (flft κs.0 qs.0))) (apply∗ 𝓤 (𝓛.A.lft ν s) (H.⇛ (𝓛.A.lft κs.0 qs.0))) $ await ! tt $ move ! (1 ∷ []) $ fpick ! (λ x. fsplit ! $ fpick ! (λ so. drop ! $ fsplit ! $
+    fsplit ! $ move ! (0 ∷ 13 ∷ []) $ use2 𝓛 (later (‵ (flft κs.0 qs.0))) (apply∗ 𝓤 (𝓛.A.lft ν s) (H.⇛ (𝓛.A.lft κs.0 qs.0))) $ await ! tt $ move ! (1 ∷ []) $ fpick ! (λ x. fsplit ! $ fpick ! (λ so. drop ! $ fsplit ! $ move ! (1 ∷ []) $ fsplit ! $ move ! (1 ∷ []) $ drop ! $ move ! (1 ∷ 0 ∷ []) $
     -- [the pass's; the keys'; the word's token; the book; the pass; its cell, in four entries; the keys; their cell; the other tokens]
     let keys' : Keys.the_row.Denot = record keys { name = n; held = x.1 } in let pass' : Pass.the_row.Denot = record pass { name = n; seen = x.0 } in
     move ! (3 ∷ 0 ∷ []) $ fjoin ! $ move ! (3 ∷ 0 ∷ []) $ fjoin ! $ move ! (3 ∷ 0 ∷ 4 ∷ 5 ∷ 6 ∷ []) $ closes ! tt Pass.the_row pass' vs1 pb po $
