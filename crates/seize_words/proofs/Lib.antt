@@ -24,5 +24,7 @@ pub mod Facts
 pub mod Steps
 pub mod Stepped
 pub mod Makes
+pub mod Links
+pub mod Activations
 pub mod Meets
 pub mod Sent

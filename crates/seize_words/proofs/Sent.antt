@@ -17,7 +17,7 @@ rosters_keyless : (δs : List ℕ) (rows : List (List (List Entry))) → Keyless
 rosters_keyless [] rows = tt
 rosters_keyless (δ ∷ δs) rows = (roster_keyless δ 0 (first rows), rosters_keyless δs (rest rows))
 
-over_keyless : (lives : List ℕ) → Keyless (over lives)
+pub over_keyless : (lives : List ℕ) → Keyless (over lives)
 over_keyless [] = tt
 over_keyless (a ∷ lives) = (tt, over_keyless lives)
 

@@ -18,3 +18,5 @@ pub mod Stepping
 pub mod Heads
 pub mod Atomic
 pub mod Reservations
+pub mod Links
+pub mod Activations

@@ -3,6 +3,7 @@
 //! `book` is the list with its keys and passes, which have no bytes. `word` is the memory that threads change by atomic steps.
 #![tactic(auto)]
 
+pub mod activation;
 pub mod book;
 pub mod reservation;
 mod word;

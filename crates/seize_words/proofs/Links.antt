@@ -1,0 +1,194 @@
+-- Steps on a link's word by whoever has an activation of a slot meet what is asked of a step.
+use Rattle.std.proofs.Common.{◌≡◌, ℕ, zero, suc, ◌+◌, ◌<◌, ◌≤◌, Bool, true, false, not, ◌==◌, ◌&&◌, ◌||◌, nat_lt, if◌then◌else◌, List, [], ◌∷◌, ◌++◌, length, get_or, set, Option, Some, None, refl, sym, ◌∙◌, ap, subst, ◌⊎◌, inl, inr, arith}
+use Rattle.std.proofs.lemmas.List.{get_or-set_same}
+use Rattle.seize_machine.specs.Machine.State.{State, head_at, link_at, is_active, has}
+use Rattle.seize_machine.specs.Machine.Event.{Event, ReadLink, ExchangeLink}
+use Rattle.seize_machine.specs.Machine.Frames.{is_number}
+use Rattle.seize_machine.specs.Machine.Next.{can_link, is_none_or_fresh, is_stored, new_link, next, same_link}
+use Rattle.seize_machine.specs.declared.machine.event.Answer.{Answer}
+use Rattle.seize_machine.specs.declared.machine.event.Answer.TheVariants.{Link as Held_}
+use Rattle.seize_machine.specs.declared.machine.event.Exchange.{Exchange}
+use Rattle.seize_machine.proofs.Facts.{Step, eq_true, links_length, next_of, step_of, swapped}
+use Rattle.seize_words.specs.Blocks.{link_word}
+use Rattle.seize_words.specs.Book.{Kept, after, rules, IsLegalList, Does, kind_of, kinds, values}
+use Rattle.seize_words.specs.Entry.{Entry}
+use Rattle.seize_words.specs.Fair.{Before, Covers, Fair, NamesHeld, pass_key}
+use Rattle.seize_words.specs.Ledger.{Held, AllKept, AllThere, Beside, WithKinds, renewed}
+use Rattle.seize_words.specs.Links.{at_link, IsNewIn}
+use Rattle.seize_words.specs.Private.{is_one, key_of, own_of}
+use Rattle.seize_words.specs.Stepping.{FoundAs, IsStep, in_step}
+use Rattle.seize_words.specs.Tokens.{Name, start}
+use Rattle.seize_words.specs.Words.{IsKeyOf}
+use Rattle.seize_words.proofs.Lists.{after_push}
+use Rattle.seize_words.proofs.Private.{differ}
+
+-- the keys of what a link holds, later
+key_later : (o : Option ℕ) (vs : List (Held Entry)) (log : List Entry) → IsKeyOf o vs → IsKeyOf o (renewed vs log)
+key_later None vs log is = ap (λ (hs : List (Held Entry)). renewed hs log) is
+key_later (Some v) [] log is = is
+key_later (Some v) (x ∷ y ∷ vs) log is = is
+key_later (Some v) (x ∷ []) log is = is
+
+legal_link : (st : State) (s l : ℕ) → is_active (head_at st s) ≡ true → l < length st.links → can_link st s l ≡ true
+legal_link st s l on within = both (is_active (head_at st s)) (nat_lt l (length st.links)) on (grind arith)
+  where
+    both : (a b : Bool) → a ≡ true → b ≡ true → (a && b) ≡ true
+    both true true x y = refl
+    both true false x y = absurd (cc)
+    both false b x y = absurd (cc)
+
+-- A value's key is among those that are held, and so is what it says.
+
+beside_both : (a b : List (Held Entry)) (r k : ℕ) → Beside (a ++ b) r k → Beside a r k × Beside b r k
+beside_both [] b r k h = (tt, h)
+beside_both (x ∷ a) b r k h = let rest = beside_both a b r k h.1 in ((h.0, rest.0), rest.1)
+
+there_both : (many : ℕ → ℕ) (a b : List (Held Entry)) → AllThere many (a ++ b) → AllThere many a × AllThere many b
+there_both many [] b h = (tt, h)
+there_both many (x ∷ a) b h = let rest = there_both many a b h.1 in ((h.0, rest.0), rest.1)
+
+kept_right : (st : State) (a b : List (Held Entry)) (log : List Entry) → AllKept (rules st) (a ++ b) log → AllKept (rules st) b log
+kept_right st [] b log h = h
+kept_right st (x ∷ a) b log h = kept_right st a b log h.1
+
+other_value : (o : Option ℕ) (vs : List (Held Entry)) (k : ℕ) → IsKeyOf o vs → Beside vs values k → is_number k o ≡ false
+other_value None vs k is b = refl
+other_value (Some v) [] k is b = absurd (let x : false ≡ true = is.0 in cc)
+other_value (Some v) (x ∷ y ∷ vs) k is b = absurd (let x : false ≡ true = is.0 in cc)
+other_value (Some v) (x ∷ []) k is b = differ v k (λ e. b.0 (sym (eq_true x.kind values is.0), e ∙ sym is.1))
+
+past_value : (many : ℕ → ℕ) (o : Option ℕ) (vs : List (Held Entry)) (k : ℕ) → IsKeyOf o vs → AllThere many vs → many values ≤ k → is_number k o ≡ false
+past_value many None vs k is there le = refl
+past_value many (Some v) [] k is there le = absurd (let x : false ≡ true = is.0 in cc)
+past_value many (Some v) (x ∷ y ∷ vs) k is there le = absurd (let x : false ≡ true = is.0 in cc)
+past_value many (Some v) (x ∷ []) k is there le =
+    let kind : x.kind ≡ values = eq_true x.kind values is.0 in let l : v < many values = subst (λ (z : ℕ). v < many z) kind (subst (λ (z : ℕ). z < many x.kind) is.1 there.0) in differ v k (λ e. omega (arith, e))
+
+is_key : (st : State) (o : Option ℕ) (vs : List (Held Entry)) → IsNewIn st o vs → IsKeyOf o vs
+is_key st None vs new = new
+is_key st (Some v) vs new = new.0
+
+-- a value that its key knows to be new is new
+still_new : (st : State) (o : Option ℕ) (vs : List (Held Entry)) (log : List Entry) → IsNewIn st o vs → AllKept (rules st) vs log → is_none_or_fresh (after st log) o ≡ true
+still_new st None vs log new kept = refl
+still_new st (Some v) [] log new kept = absurd (let x : false ≡ true = new.0.0 in cc)
+still_new st (Some v) (x ∷ y ∷ vs) log new kept = absurd (let x : false ≡ true = new.0.0 in cc)
+still_new st (Some v) (x ∷ []) log new kept =
+    let known = subst (λ (r : ℕ). Kept st (kind_of r) x.key x.own log) (eq_true x.kind values new.0.0) kept.0 in
+    ap not (ap (λ (w : ℕ). has w (after st log).named) (sym new.0.1) ∙ sym known.1.0 ∙ ap (λ (w : ℕ). has w (after st x.own).named) new.0.1 ∙ new.1)
+
+or_both : (a b : Bool) → a ≡ false → b ≡ false → (a || b) ≡ false
+or_both false b x y = y
+or_both true b x y = absurd (cc)
+
+module _ (n : Name) (l : ℕ) where
+  abbrev st : State
+  st = start n
+
+  abbrev At : Type 0
+  At = List Entry × List (Held Entry)
+
+  -- what the link holds is what its word shows
+  same : (v p : ℕ) (seen : List Entry) (held : List (Held Entry)) (alive : List ℕ) (t : At) (log : List Entry) → FoundAs (at_link n l) v p seen held alive t log → link_at (after st t.0) l ≡ link_at (after st log) l
+  same v p seen held alive t log found = found.before.kept.0.1
+
+  module _ (v p size s : ℕ) (seen : List Entry) (held : List (Held Entry)) (alive : List ℕ) (t : At) (own log : List Entry) (found : FoundAs (at_link n l) v p seen held alive t log)
+      (on : is_active (head_at (after st log) s) ≡ true) (within : l < length (after st log).links) where
+    reads : Entry
+    reads = record { pass = p; size = size; event = ReadLink s l; life = 0 }
+
+    -- a read
+    pub read_step : IsStep (at_link n l) p held [] v (record { pass = p; size = size; event = ReadLink s l; life = 0 }) false t own log
+    unfolding reads
+    read_step =
+        let now : State = after st log in let d : State × Answer = (now, Held_ (link_at now l)) in
+        let does : Does st log reads d = next_of size now (ReadLink s l) d (Step.read s l (legal_link now s l on within)) in
+        let push : link_at (after st (log ++ reads ∷ [])) l ≡ link_at now l = ap (λ (z : State). link_at z l) (after_push st log reads d found.before.legal does) in
+        let is : link_at (after st t.0) l ≡ link_at (after st (log ++ reads ∷ [])) l = same v p seen held alive t log found ∙ sym push in
+        record {
+          fair = record { done = d; legal = does; covers = covers; names = λ many was there. (there.0, λ w le. refl) };
+          its = refl;
+          no_births = refl;
+          ends = λ a i. absurd i;
+          shows = found.shows ∙ ap link_word is;
+          stands = subst (λ (o : Option ℕ). IsKeyOf o (renewed t.1 (log ++ reads ∷ []))) is (key_later (link_at (after st t.0) l) t.1 (log ++ reads ∷ []) found.stands);
+        }
+      where
+        covers : Covers st (pass_key p own ∷ in_step (at_link n l) held t) log (record { pass = p; size = size; event = ReadLink s l; life = 0 })
+        covers zero k beside there = differ p k (λ i. beside.0 (refl, i))
+        covers (suc zero) k beside there = refl
+        covers (suc (suc zero)) k beside there = refl
+        covers (suc (suc (suc zero))) k beside there = refl
+        covers (suc (suc (suc (suc zero)))) k beside there = refl
+        covers (suc (suc (suc (suc (suc zero))))) k beside there = refl
+        covers (suc (suc (suc (suc (suc (suc zero)))))) k beside there = refl
+        covers (suc (suc (suc (suc (suc (suc (suc r))))))) k beside there = refl
+
+    -- An exchange, with the keys of the value that it would store.
+    module _ (o : Option ℕ) (exchange : Exchange) (for : new_link exchange ≡ o) (new : IsNewIn st o held) where
+      exchanges : Entry
+      exchanges = record { pass = p; size = size; event = ExchangeLink s l exchange; life = 0 }
+
+      abbrev now : State
+      now = after st log
+
+      abbrev all : List (Held Entry)
+      all = pass_key p own ∷ in_step (at_link n l) held t
+
+      -- the keys of what the link holds are there
+      here : IsKeyOf (link_at now l) t.1
+      here = subst (λ (x : Option ℕ). IsKeyOf x t.1) (same v p seen held alive t log found) found.stands
+
+      covers_exchange : Covers st all log (record { pass = p; size = size; event = ExchangeLink s l exchange; life = 0 })
+      covers_exchange zero k beside there = differ p k (λ i. beside.0 (refl, i))
+      covers_exchange (suc zero) k beside there = refl
+      covers_exchange (suc (suc zero)) k beside there = refl
+      covers_exchange (suc (suc (suc zero))) k beside there = refl
+      covers_exchange (suc (suc (suc (suc zero)))) k beside there = differ l k (λ i. beside.1.0 (refl, i))
+      covers_exchange (suc (suc (suc (suc (suc zero))))) k beside there = refl
+      covers_exchange (suc (suc (suc (suc (suc (suc zero)))))) k beside there = let b = beside_both t.1 held values k beside.1.1 in
+          or_both (is_number k (new_link exchange)) (is_number k (link_at now l)) (ap (is_number k) for ∙ other_value o held k (is_key st o held new) b.1) (other_value (link_at now l) t.1 k here b.0)
+      covers_exchange (suc (suc (suc (suc (suc (suc (suc r))))))) k beside there = refl
+
+      names_exchange : NamesHeld st all log (record { pass = p; size = size; event = ExchangeLink s l exchange; life = 0 })
+      names_exchange many was there = let h = there_both many t.1 held there.1.1 in (
+        there.0,
+        λ w le. or_both (is_number w (new_link exchange)) (is_number w (link_at now l)) (ap (is_number w) for ∙ past_value many o held w (is_key st o held new) h.1 le) (past_value many (link_at now l) t.1 w here h.0 le),
+      )
+
+      fresh : is_none_or_fresh now o ≡ true
+      fresh = still_new st o held log new (kept_right st t.1 held log found.before.kept.1)
+
+      -- it stores the value
+      pub store_step : (w : ℕ) → w ≡ link_word o → is_stored (link_at now l) exchange ≡ true
+          → IsStep (at_link n l) p held [] w (record { pass = p; size = size; event = ExchangeLink s l exchange; life = 0 }) true t own log
+      unfolding exchanges
+      store_step w word stored =
+          let d : State × Answer = (swapped now l o, Held_ (link_at now l)) in
+          let does : Does st log exchanges d = next_of size now (ExchangeLink s l exchange) d (Step.exchanged s l exchange o (legal_link now s l on within) fresh (sym for, stored)) in
+          let is : link_at (after st (log ++ exchanges ∷ [])) l ≡ o = ap (λ (z : State). link_at z l) (after_push st log exchanges d found.before.legal does) ∙ get_or-set_same now.links l o None within in
+          record {
+            fair = record { done = d; legal = does; covers = covers_exchange; names = names_exchange };
+            its = refl;
+            no_births = refl;
+            ends = λ a i. absurd i;
+            shows = word ∙ ap link_word (sym is);
+            stands = subst (λ (x : Option ℕ). IsKeyOf x (renewed held (log ++ exchanges ∷ []))) (sym is) (key_later o held (log ++ exchanges ∷ []) (is_key st o held new));
+          }
+
+      -- it finds something else
+      pub miss_step : is_stored (link_at now l) exchange ≡ false
+          → IsStep (at_link n l) p held [] v (record { pass = p; size = size; event = ExchangeLink s l exchange; life = 0 }) false t own log
+      unfolding exchanges
+      miss_step stored =
+          let d : State × Answer = (now, Held_ (link_at now l)) in
+          let does : Does st log exchanges d = next_of size now (ExchangeLink s l exchange) d (Step.compared s l exchange (legal_link now s l on within) (ap (is_none_or_fresh now) for ∙ fresh, stored)) in
+          let is : link_at (after st t.0) l ≡ link_at (after st (log ++ exchanges ∷ [])) l = same v p seen held alive t log found ∙ sym (ap (λ (z : State). link_at z l) (after_push st log exchanges d found.before.legal does)) in
+          record {
+            fair = record { done = d; legal = does; covers = covers_exchange; names = names_exchange };
+            its = refl;
+            no_births = refl;
+            ends = λ a i. absurd i;
+            shows = found.shows ∙ ap link_word is;
+            stands = subst (λ (x : Option ℕ). IsKeyOf x (renewed t.1 (log ++ exchanges ∷ []))) is (key_later (link_at (after st t.0) l) t.1 (log ++ exchanges ∷ []) found.stands);
+          }

@@ -1,0 +1,29 @@
+-- What a step on a link's word is, by whoever has an activation of a slot.
+--     at_link n l        the word of link l of the book
+--     IsWithin n s a since seen l   the slot was active, in the activation with lifetime a, when the list was `since`, which the pass has
+--                        seen; and the link is one of the book's
+--     IsNewIn st o vs    the keys are of this value, which was never named, as they know; or there is neither value nor key
+use Rattle.std.specs.Prelude.{◌≡◌, ℕ, ◌<◌, true, false, List, length, Option, Some, None}
+use mathlib.Core.List.{IsPrefix}
+use Rattle.seize_machine.specs.Machine.State.{State, head_at, is_active, has}
+use Rattle.seize_words.specs.Book.{after, links}
+use Rattle.seize_words.specs.Entry.{Entry}
+use Rattle.seize_words.specs.Laws.{life}
+use Rattle.seize_words.specs.Ledger.{Held}
+use Rattle.seize_words.specs.Private.{own_of}
+use Rattle.seize_words.specs.Tokens.{Name, start}
+use Rattle.seize_words.specs.Words.{Site, IsKeyOf}
+
+abbrev pub at_link : Name → ℕ → Site
+at_link n l = record { name = n; kind = links; number = l }
+
+pub record IsWithin (n : Name) (s a : ℕ) (since seen : List Entry) (l : ℕ) : Type 0 where
+  pub active : is_active (head_at (after (start n) since) s) ≡ true
+  pub its : life s since ≡ a
+  pub known : IsPrefix since seen
+  pub is_link : l < length n.links
+
+-- the keys are those of the value o, which was never named
+abbrev pub IsNewIn : State → Option ℕ → List (Held Entry) → Type 0
+IsNewIn st None vs = IsKeyOf None vs
+IsNewIn st (Some v) vs = IsKeyOf (Some v) vs × (has v (after st (own_of vs)).named ≡ false)
