@@ -24,7 +24,7 @@ use Rattle.seize_words.specs.Tokens.{over}
 use Rattle.seize_words.proofs.Handed.{entry_of}
 
 -- the first event of a legal list
-legal_first : (st : State) (e : Entry) (log : List Entry) → IsLegalList st (e ∷ log)
+pub legal_first : (st : State) (e : Entry) (log : List Entry) → IsLegalList st (e ∷ log)
     → (d : State × Answer) × (next e.size st e.event ≡ Some d) × (done_by next st (timed e) ≡ d) × IsLegalList d.0 log
 legal_first st e log l = go (next e.size st e.event) refl
   where
@@ -50,7 +50,7 @@ still_active heads m t waiting a = go (ℕ_discrete t m)
     go (no n) = ap is_active (get_or-set_other heads m t (Active waiting) Inactive n) ∙ a
 
 -- an active slot stays active, and begins no activation, until it leaves or refreshes
-active_on : (t size : ℕ) (st : State) (event : Event) (d : State × Answer) → Step size st event d → is_active (head_at st t) ≡ true → is_swap_out t event ≡ false
+pub active_on : (t size : ℕ) (st : State) (event : Event) (d : State × Answer) → Step size st event d → is_active (head_at st t) ≡ true → is_swap_out t event ≡ false
     → (is_active (head_at d.0 t) ≡ true) × (starts t event ≡ false)
 active_on t size st event d step a out = go (is_true (changes_head_of t event))
   where
@@ -106,11 +106,11 @@ ends_after st (x ∷ log) a t (suc i) (suc p) f l on le h out =
     one_on a t i x log _ (ends_after (done_by next st (timed x)).0 log (if starts t x.event then x.life else a) t i p f (and_true _ _ l).1 on (omega arith) h out)
 
 -- what a SwapOut ends is among what has ended
-in_right : (xs ys : List ℕ) (b : ℕ) → IsIn ys b → IsIn (xs ++ ys) b
+pub in_right : (xs ys : List ℕ) (b : ℕ) → IsIn ys b → IsIn (xs ++ ys) b
 in_right [] ys b h = h
 in_right (x ∷ xs) ys b h = inr (in_right xs ys b h)
 
-is_ended : (lives : ℕ → ℕ) (log : List Entry) (t q : ℕ) (g : Entry) → slice_get log q ≡ Some g → is_swap_out t g.event ≡ true → IsIn (ended_from lives log) (life_from (lives t) t (take q log))
+pub is_ended : (lives : ℕ → ℕ) (log : List Entry) (t q : ℕ) (g : Entry) → slice_get log q ≡ Some g → is_swap_out t g.event ≡ true → IsIn (ended_from lives log) (life_from (lives t) t (take q log))
 is_ended lives [] t q g h out = absurd (cc)
 is_ended lives (x ∷ log) t zero g h out = go x.event (ap (λ (e : Entry). is_swap_out t e.event) (some_is _ _ h) ∙ out)
   where

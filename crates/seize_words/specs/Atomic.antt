@@ -3,6 +3,7 @@
 --     entries pass life event v log     the entry of a step that found v in the word, where the list was this just before
 --     MayTake word keys pass alive lives f life event trades     the holder of the keys may take the step with the pass: see MayStep
 --     Takes word keys pass keys' pass' alive f v life event trades     the step was taken and found v: see Stepped
+--     MayTakeIn, TakesIn            the same where the activation has not ended
 --     site_of keys, IsWordOf keys bits     which word the keys are of;  a word that holds this stands for what they know
 use Rattle.std.specs.Prelude.{◌≡◌, ℕ, Bool, List, [], ◌∷◌, drop}
 use lib.Dec.{eqb}
@@ -14,6 +15,7 @@ use Rattle.seize_words.specs.Private.{key_of, own_of}
 use Rattle.seize_words.specs.Passes.{IsSame}
 use Rattle.seize_words.specs.Stepping.{MayStep, Stepped}
 use Rattle.seize_words.specs.Words.{Site, Shows, Stands, site_keys}
+use Rattle.seize_words.specs.declared.activation.Activation.{Activation}
 use Rattle.seize_words.specs.declared.book.keys.Keys.{Keys}
 use Rattle.seize_words.specs.declared.book.pass.Pass.{Pass}
 
@@ -33,6 +35,14 @@ MayTake word keys pass alive lives f life event trades =
 abbrev pub Takes : Site → Keys → Pass → Keys → Pass → List ℕ → (ℕ → ℕ) → ℕ → ℕ → Events → (ℕ → Bool) → Type 0
 Takes word keys pass keys' pass' alive f v life event trades =
     IsSame pass pass' × (keys'.name ≡ keys.name) × Stepped word pass.id pass.seen pass'.seen keys.held keys'.held alive v (f v) (entries pass life event) trades
+
+-- the same where the activation has not ended
+
+abbrev pub MayTakeIn : Site → Keys → Pass → Activation → (ℕ → ℕ) → ℕ → Events → (ℕ → Bool) → Type 0
+MayTakeIn word keys pass activation f life event trades = MayTake word keys pass (activation.life ∷ []) [] f life event trades
+
+abbrev pub TakesIn : Site → Keys → Pass → Keys → Pass → Activation → (ℕ → ℕ) → ℕ → ℕ → Events → (ℕ → Bool) → Type 0
+TakesIn word keys pass keys' pass' activation f v life event trades = Takes word keys pass keys' pass' (activation.life ∷ []) f v life event trades
 
 -- The word that some keys are of: the first is its own, and the others stand beside it.
 

@@ -6,6 +6,7 @@ ghost use Rattle.seize_machine.specs.Machine.Event.{Event, Return};
 ghost use Rattle.seize_words.specs.Entry.{Entry};
 ghost use Rattle.seize_words.specs.Words.{Site, site_coded, word_owns, word_shares};
 
+use crate::activation::{Activation, Ended};
 use crate::book::{Keys, Pass};
 use atomic_table::exchange;
 use std::marker::{Brand, Move, Owns};
@@ -45,7 +46,7 @@ impl Finds for Brand {
 }
 
 impl Word {
-    ghost use Rattle.seize_words.specs.Atomic.{IsWordOf, MayTake, Takes, exchanged, site_of};
+    ghost use Rattle.seize_words.specs.Atomic.{IsWordOf, MayTake, MayTakeIn, Takes, TakesIn, exchanged, site_of};
 
     /// A word that holds `bits` and has the keys of what it stands for.
     pub(crate) fn new(bits: u64, keys: &mut Keys) -> Word
@@ -61,6 +62,38 @@ impl Word {
         ensures { Takes self.now keys.old pass.old keys.new pass.new [] (λ v. v) result P.life P.event P.trades }
     {
         unsafe { raw::load::<Brand>(self as *const Self as *const u64, SeqCst) }
+    }
+
+    /// Reads the word, where the activation has not ended.
+    pub(crate) fn load_in<P: Finds>(&self, keys: &mut Keys, activation: &Activation, pass: &mut Pass) -> u64
+        requires { MayTakeIn self.now keys.old pass.old activation.now (λ v. v) P.life P.event P.trades }
+        ensures { TakesIn self.now keys.old pass.old keys.new pass.new activation.now (λ v. v) result P.life P.event P.trades }
+    {
+        unsafe { raw::load::<Brand>(self as *const Self as *const u64, SeqCst) }
+    }
+
+    /// Stores `new` and gives what the word held, where the activation has not ended.
+    pub(crate) fn swap_in<P: Finds>(&self, new: u64, keys: &mut Keys, activation: &Activation, pass: &mut Pass) -> u64
+        requires { MayTakeIn self.now keys.old pass.old activation.now (λ v. new) P.life P.event P.trades }
+        ensures { TakesIn self.now keys.old pass.old keys.new pass.new activation.now (λ v. new) result P.life P.event P.trades }
+    {
+        unsafe { raw::swap::<Brand>(self as *const Self as *const u64, new, SeqCst) }
+    }
+
+    /// Stores `new` where the word holds `seen`, and gives what it held, where the activation has not ended.
+    pub(crate) fn exchange_in<P: Finds>(&self, seen: u64, new: u64, keys: &mut Keys, activation: &Activation, pass: &mut Pass) -> u64
+        requires { MayTakeIn self.now keys.old pass.old activation.now (exchanged seen new) P.life P.event P.trades }
+        ensures { TakesIn self.now keys.old pass.old keys.new pass.new activation.now (exchanged seen new) result P.life P.event P.trades }
+    {
+        unsafe { exchange::<Brand>(self as *const Self as *const u64, seen, new) }
+    }
+
+    /// Stores `new` and gives what the word held. It may end activations with these lifetimes.
+    pub(crate) fn swap<P: Finds>(&self, new: u64, keys: &mut Keys, ended: &mut Ended, pass: &mut Pass) -> u64
+        requires { MayTake self.now keys.old pass.old [] ended.old.lives (λ v. new) P.life P.event P.trades }
+        ensures { Takes self.now keys.old pass.old keys.new pass.new [] (λ v. new) result P.life P.event P.trades }
+    {
+        unsafe { raw::swap::<Brand>(self as *const Self as *const u64, new, SeqCst) }
     }
 
     /// Stores `new` where the word holds `seen`, and gives what it held.
