@@ -9,6 +9,7 @@ use base.Logic.{SProp, ent, sep, guard, guard_i, never, never_e, upd, upd_i}
 use base.Fml.{Share, Fml, ftrue, fsep, flft, fdead}
 use types.Logic.{Logic, sem}
 use types.Kit.{‵, raw, ◌⊛◌, given, ◌$◌, ◌∵◌, !, qed, by, move, keep, split, fjoin, learn, check, suffices, done, use1, use2, rewrite}
+use denote.Steps.{nothing}
 use Rattle.seize_machine.specs.Machine.State.{State, Head, Inactive, Active, head_at, is_active}
 use Rattle.seize_machine.specs.Machine.Event.{Event, SwapOut}
 use Rattle.seize_machine.specs.Machine.Next.{next, can_link}
@@ -239,6 +240,12 @@ module _ {M : Type 1} {𝓤 : Ura M} (𝓛 : Logic 𝓤) where
       go (Event.SwapOut s) is among = qed 𝓛 (‵ (over (ended log)) ∷ ‵ (over lives) ∷ []) ∵ move ! (1 ∷ []) $ use1 𝓛 (‵ (over lives) ⊛ ‵ (fdead (life s log ∷ []))) (over_one lives (life s log) (among (life s log) (inl refl))) $ split ! $
           move ! (2 ∷ 1 ∷ []) $ use2 𝓛 (‵ (over (ended (log ++ e ∷ [])))) (leaves log e s is) $ keep ! (0 ∷ []) $ done !
       go _ is among = none is (λ lives. refl)
+
+  -- what is over may be had twice
+  pub over_twice : (xs : List ℕ) → ⟦ over xs ⟧ ⊢ ⟦ over xs ⟧ ∗ ⟦ over xs ⟧
+  over_twice [] = qed 𝓛 (‵ ftrue ∷ []) ∵ nothing ! $ done !
+  over_twice (x ∷ xs) = qed 𝓛 ((‵ (fdead (x ∷ [])) ⊛ ‵ (over xs)) ∷ []) ∵ split ! $ use1 𝓛 (‵ (fdead (x ∷ [])) ⊛ ‵ (fdead (x ∷ []))) (𝓛.lfts.dead_dup (x ∷ [])) $ split ! $
+      move ! (2 ∷ []) $ use1 𝓛 (‵ (over xs) ⊛ ‵ (over xs)) (over_twice xs) $ split ! $ move ! (2 ∷ 0 ∷ []) $ fjoin ! $ move ! (2 ∷ 1 ∷ []) $ fjoin ! $ move ! (1 ∷ 0 ∷ []) $ done !
 
   -- shares of the tokens of these lifetimes
   abbrev pub living : List ℕ → Share → Fml
