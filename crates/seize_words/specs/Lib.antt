@@ -20,3 +20,4 @@ pub mod Atomic
 pub mod Reservations
 pub mod Links
 pub mod Activations
+pub mod LinkWords

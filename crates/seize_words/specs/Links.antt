@@ -3,10 +3,13 @@
 --     IsWithin n s a since seen l   the slot was active, in the activation with lifetime a, when the list was `since`, which the pass has
 --                        seen; and the link is one of the book's
 --     IsNewIn st o vs    the keys are of this value, which was never named, as they know; or there is neither value nor key
-use Rattle.std.specs.Prelude.{◌≡◌, ℕ, ◌<◌, true, false, List, length, Option, Some, None}
+--     value_in held, is_at_most_one held     the value that a key is of, if there is one;  there is no other key
+--     compared seen old  what an exchange compares that asks for this word, where the link holds this
+use Rattle.std.specs.Prelude.{◌≡◌, ℕ, zero, suc, ◌<◌, ◌==◌, Bool, true, false, if◌then◌else◌, List, [], ◌∷◌, length, Option, Some, None}
+use Rattle.seize_words.specs.Blocks.{link_word}
 use mathlib.Core.List.{IsPrefix}
 use Rattle.seize_machine.specs.Machine.State.{State, head_at, is_active, has}
-use Rattle.seize_words.specs.Book.{after, links}
+use Rattle.seize_words.specs.Book.{after, links, values}
 use Rattle.seize_words.specs.Entry.{Entry}
 use Rattle.seize_words.specs.Laws.{life}
 use Rattle.seize_words.specs.Ledger.{Held}
@@ -27,3 +30,26 @@ pub record IsWithin (n : Name) (s a : ℕ) (since seen : List Entry) (l : ℕ) :
 abbrev pub IsNewIn : State → Option ℕ → List (Held Entry) → Type 0
 IsNewIn st None vs = IsKeyOf None vs
 IsNewIn st (Some v) vs = IsKeyOf (Some v) vs × (has v (after st (own_of vs)).named ≡ false)
+
+abbrev pub IsLink : Site → Type 0
+IsLink word = word.kind ≡ links
+
+-- the value that a key is of, if there is one
+abbrev pub value_in : List (Held Entry) → Option ℕ
+value_in [] = None
+value_in (h ∷ held) = Some h.key
+
+-- there is at most one key, and it is a value's
+abbrev pub is_at_most_one : List (Held Entry) → Bool
+is_at_most_one [] = true
+is_at_most_one (h ∷ []) = h.kind == values
+is_at_most_one (h ∷ g ∷ held) = false
+
+-- a value with this word, or none
+abbrev pub value_with : ℕ → Option ℕ
+value_with zero = None
+value_with (suc n) = Some n
+
+-- what is compared where the link's word has to be `seen` and the link holds this: what it holds if that is its word
+abbrev pub compared : ℕ → Option ℕ → Option ℕ
+compared seen old = if link_word old == seen then old else value_with seen

@@ -5,5 +5,6 @@
 
 pub mod activation;
 pub mod book;
+pub mod link;
 pub mod reservation;
 mod word;

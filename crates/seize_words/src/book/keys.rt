@@ -53,6 +53,15 @@ impl Keys {
         }
     }
 
+    /// No keys of the pass's book.
+    pub(crate) fn empty(pass: &mut Pass) -> Keys
+        ensures { (result.name ≡ pass.old.name) × (result.held ≡ []) × (pass.new ≡ pass.old) }
+    {
+        Keys {
+            marker: PhantomData,
+        }
+    }
+
     /// Takes the other's keys, which come after its own.
     pub(crate) fn join(&mut self, other: &mut Keys)
         requires { other.old.name ≡ self.old.name }

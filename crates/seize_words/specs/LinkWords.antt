@@ -1,0 +1,71 @@
+-- The words in which the contracts of links speak.
+--     IsNone key pass, IsKeyIn value key     it is none, of the pass's book;  it is the value's
+--     number link                 which link it is
+--     holds key                   the value whose key it is, if it is one
+--     IsIn link activation pass   all are of one book, the activation has begun, as the pass has seen, and the link is one of the book's
+--     IsNewFor link key new       the key is that of a value that was never named, or none, and this is its word
+--     Reads, Swaps, CompareExchanges     what the event is, in which state it was made, and what is had afterwards
+use Rattle.std.specs.Prelude.{◌≡◌, ◌≢◌, ℕ, List, [], ◌∷◌, Option}
+use Rattle.seize_machine.specs.Machine.State.{link_at}
+use Rattle.seize_machine.specs.Machine.Event.{Event, ReadLink, ExchangeLink}
+use Rattle.seize_machine.specs.declared.machine.event.Exchange.TheVariants.{Swap, Compare}
+use Rattle.seize_words.specs.Adding.{private}
+use Rattle.seize_words.specs.Blocks.{link_word}
+use Rattle.seize_words.specs.Book.{after}
+use Rattle.seize_words.specs.Entry.{Entry}
+use Rattle.seize_words.specs.Ledger.{renewed}
+use Rattle.seize_words.specs.Links.{IsNewIn, IsWithin, compared, value_in}
+use Rattle.seize_words.specs.Passes.{IsSame}
+use Rattle.seize_words.specs.Tokens.{Noted, start}
+use Rattle.seize_words.specs.declared.activation.Activation.{Activation}
+use Rattle.seize_words.specs.declared.book.pass.Pass.{Pass}
+use Rattle.seize_words.specs.declared.book.value_key.ValueKey.{ValueKey}
+use Rattle.seize_words.specs.declared.link.Link.{Link}
+use Rattle.seize_words.specs.declared.link.MaybeKey.{MaybeKey}
+
+abbrev pub IsNone : MaybeKey → Pass → Type 0
+IsNone key pass = (key.keys.name ≡ pass.name) × (key.keys.held ≡ [])
+
+abbrev pub IsKeyIn : ValueKey → MaybeKey → Type 0
+IsKeyIn value key = key.keys ≡ value.keys
+
+abbrev pub number : Link → ℕ
+number link = link.word.number
+
+abbrev pub holds : MaybeKey → Option ℕ
+holds key = value_in key.keys.held
+
+pub record IsIn (link : Link) (activation : Activation) (pass : Pass) : Type 0 where
+  pub book : (link.word.name ≡ pass.name) × (activation.name ≡ pass.name)
+  pub within : IsWithin pass.name activation.slot activation.life activation.since pass.seen (number link)
+
+abbrev pub IsNewFor : Link → MaybeKey → ℕ → Type 0
+IsNewFor link key new = (key.keys.name ≡ link.word.name) × IsNewIn (start link.word.name) (holds key) key.keys.held × (new ≡ link_word (holds key))
+
+-- The pass added the event, where the link held this, and this was its word.
+pub record Takes (link : Link) (pass pass' : Pass) (event : Option ℕ → Event) (v : ℕ) : Type 0 where
+  pub same : IsSame pass pass'
+  pub before : List Entry
+  pub noted : Noted pass.name pass.id pass.seen pass'.seen (private pass (event (link_at (after (start pass.name) before) (number link))))
+  pub is_before : noted.before ≡ before
+  pub found : v ≡ link_word (link_at (after (start pass.name) before) (number link))
+
+-- what the link held
+abbrev pub held_before : {link : Link} {pass pass' : Pass} {event : Option ℕ → Event} {v : ℕ} → Takes link pass pass' event v → Option ℕ
+held_before {link} {pass} t = link_at (after (start pass.name) t.before) (number link)
+
+abbrev pub Reads : Link → Activation → Pass → Pass → ℕ → Type 0
+Reads link activation pass pass' v = Takes link pass pass' (λ _. ReadLink activation.slot (number link)) v
+
+-- the key of what the link held came out
+abbrev pub Swaps : Link → Activation → MaybeKey → Pass → MaybeKey → Pass → ℕ → Type 0
+Swaps link activation key pass key' pass' v =
+    (t : Takes link pass pass' (λ _. ExchangeLink activation.slot (number link) (Swap (holds key))) v)
+    × (key'.keys.name ≡ key.keys.name) × (holds key' ≡ held_before t)
+
+-- and here where it was what was seen; else it is the same key, which knows all that the pass has seen
+abbrev pub CompareExchanges : Link → Activation → MaybeKey → Pass → ℕ → MaybeKey → Pass → ℕ → Type 0
+CompareExchanges link activation key pass seen key' pass' v =
+    (t : Takes link pass pass' (λ old. ExchangeLink activation.slot (number link) (Compare (compared seen old) (holds key))) v)
+    × (key'.keys.name ≡ key.keys.name)
+    × (v ≡ seen → holds key' ≡ held_before t) × (v ≢ seen → key'.keys.held ≡ renewed key.keys.held pass'.seen)

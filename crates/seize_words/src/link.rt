@@ -1,0 +1,76 @@
+//! Links: what holders of activations read and exchange. A link's word names the block of the value that the link holds, and the value's
+//! key stands beside it: whoever takes the value out gets the key. It uses words, activations and the book's keys.
+ghost use Rattle.std.specs.Prelude.{◌≡◌, true};
+ghost use Rattle.seize_words.specs.Links.{IsLink, is_at_most_one};
+
+use crate::activation::Activation;
+use crate::book::{Keys, Pass, ValueKey};
+use crate::word::Word;
+use std::marker::Brand;
+
+/// One link, which threads share.
+///
+/// Its word is 0 where it holds nothing, and else 1 and the number of the block that its value lies in.
+#[derive(Drop)]
+pub struct Link {
+    word: Word,
+    ghost link: { IsLink word },
+}
+
+/// The key of a value that goes into a link or came out of one, or none.
+#[derive(Drop)]
+pub struct MaybeKey {
+    pub(crate) keys: Keys,
+    ghost value: { is_at_most_one keys.held ≡ true },
+}
+
+impl MaybeKey {
+    ghost use Rattle.seize_words.specs.LinkWords.{IsKeyIn, IsNone};
+
+    /// None.
+    pub fn none(pass: &mut Pass) -> MaybeKey
+        ensures { IsNone result pass.old × (pass.new ≡ pass.old) }
+    {
+        MaybeKey { keys: Keys::empty(pass) }
+    }
+
+    /// The key of this value.
+    pub fn some(value: ValueKey) -> MaybeKey
+        ensures { IsKeyIn value result }
+    {
+        MaybeKey { keys: value.keys }
+    }
+}
+
+impl Link {
+    ghost use Rattle.seize_words.specs.LinkWords.{CompareExchanges, IsIn, IsNewFor, Reads, Swaps};
+
+    /// Reads the link: the event `ReadLink` of the activation's slot.
+    pub fn read(&self, activation: &Activation, pass: &mut Pass) -> u64
+        requires within { IsIn self.now activation.now pass.old }
+        ensures reads { Reads self.now activation.now pass.old pass.new result }
+    {
+        let mut keys = Keys::empty(pass);
+        self.word.load_in::<Brand>(&mut keys, activation, pass)
+    }
+
+    /// Puts a value that was never named into the link, or none: the event `ExchangeLink` of the activation's slot. It gives the word of what
+    /// the link held, and the key of that, in place of the value's.
+    pub fn swap(&self, new: u64, value: &mut MaybeKey, activation: &Activation, pass: &mut Pass) -> u64
+        requires within { IsIn self.now activation.now pass.old }
+        requires new { IsNewFor self.now value.old new }
+        ensures swaps { Swaps self.now activation.now value.old pass.old value.new pass.new result }
+    {
+        self.word.swap_in::<Brand>(new, &mut value.keys, activation, pass)
+    }
+
+    /// The same, but only if the link's word is what was seen. It gives the word of what the link held; the value's key comes back if that
+    /// was something else.
+    pub fn compare_exchange(&self, seen: u64, new: u64, value: &mut MaybeKey, activation: &Activation, pass: &mut Pass) -> u64
+        requires within { IsIn self.now activation.now pass.old }
+        requires new { IsNewFor self.now value.old new }
+        ensures exchanges { CompareExchanges self.now activation.now value.old pass.old seen value.new pass.new result }
+    {
+        self.word.exchange_in::<Brand>(seen, new, &mut value.keys, activation, pass)
+    }
+}
