@@ -25,6 +25,7 @@ pub mod Steps
 pub mod Stepped
 pub mod Makes
 pub mod Links
+pub mod Exchanges
 pub mod Activations
 pub mod Meets
 pub mod Sent

@@ -89,7 +89,7 @@ module _ (n : Name) (l : ℕ) where
   At = List Entry × List (Held Entry)
 
   -- what the link holds is what its word shows
-  same : (v p : ℕ) (seen : List Entry) (held : List (Held Entry)) (alive : List ℕ) (t : At) (log : List Entry) → FoundAs (at_link n l) v p seen held alive t log → link_at (after st t.0) l ≡ link_at (after st log) l
+  pub same : (v p : ℕ) (seen : List Entry) (held : List (Held Entry)) (alive : List ℕ) (t : At) (log : List Entry) → FoundAs (at_link n l) v p seen held alive t log → link_at (after st t.0) l ≡ link_at (after st log) l
   same v p seen held alive t log found = found.before.kept.0.1
 
   module _ (v p size s : ℕ) (seen : List Entry) (held : List (Held Entry)) (alive : List ℕ) (t : At) (own log : List Entry) (found : FoundAs (at_link n l) v p seen held alive t log)

@@ -1,0 +1,116 @@
+-- The calls of links: what is asked of them is enough for a step, and what is known after one.
+use Rattle.std.proofs.Common.{◌≡◌, ◌≢◌, ℕ, zero, suc, ◌+◌, ◌%◌, ◌^◌, ◌<◌, Bool, true, false, ◌==◌, ◌&&◌, if◌then◌else◌, List, [], ◌∷◌, ◌++◌, length, Option, Some, None, refl, sym, ◌∙◌, ap, subst, ◌⊎◌, inl, inr, ⊎_elim, arith}
+use mathlib.Core.List.{IsPrefix}
+use base.Growing.{prefix_trans}
+use Rattle.seize_machine.specs.Machine.State.{State, head_at, is_active, link_at}
+use Rattle.seize_machine.specs.Machine.Event.{ReadLink, ExchangeLink}
+use Rattle.seize_machine.specs.Machine.Next.{is_stored, new_link, same_link}
+use Rattle.seize_machine.specs.declared.machine.event.Exchange.TheVariants.{Compare, Swap}
+use Rattle.seize_machine.proofs.Facts.{eq_true, is_true, links_length, step_of}
+use Rattle.atomic_table.proofs.Lists as kit
+use Rattle.seize_words.specs.Atomic.{Events, exchanged}
+use Rattle.seize_words.specs.Blocks.{block_of, link_word}
+use Rattle.seize_words.specs.Book.{IsLegalList, after, kinds, values}
+use Rattle.seize_words.specs.Entry.{Entry}
+use Rattle.seize_words.specs.Laws.{IsIn, ended, life}
+use Rattle.seize_words.specs.Ledger.{Held, WithKinds, renewed}
+use Rattle.seize_words.specs.Links.{IsNewIn, IsWithin, at_link, compared, is_at_most_one, value_in, value_with}
+use Rattle.seize_words.specs.Stepping.{FoundAs, IsStep, MayStep}
+use Rattle.seize_words.specs.Tokens.{Name, start}
+use Rattle.seize_words.specs.Words.{IsKeyOf}
+use Rattle.seize_words.proofs.Activations.{still}
+use Rattle.seize_words.proofs.Links.{miss_step, read_step, same, store_step}
+use Rattle.seize_words.proofs.Lives.{legal_first}
+
+-- there are as many links as at the beginning
+links_stay : (st : State) (log : List Entry) → IsLegalList st log → length (after st log).links ≡ length st.links
+links_stay st [] l = refl
+links_stay st (e ∷ log) l =
+    let w = legal_first st e log l in
+    ap (λ (d : _). length (after d.0 log).links) w.2 ∙ links_stay (w.0).0 log w.3 ∙ links_length e.size st e.event w.0 (step_of _ _ _ _ w.1)
+
+module _ (n : Name) (s a l : ℕ) (since seen : List Entry) (in_ : IsWithin n s a since seen l) where
+  abbrev st : State
+  st = start n
+
+  abbrev At : Type 0
+  At = List Entry × List (Held Entry)
+
+  -- whoever has the activation knows that the slot is active, and that the link is there
+  within : (v p : ℕ) (held : List (Held Entry)) (t : At) (log : List Entry) → FoundAs (at_link n l) v p seen held (a ∷ []) t log
+      → (is_active (head_at (after st log) s) ≡ true) × (l < length (after st log).links)
+  within v p held t log found = (active (now (prefix_trans since seen log in_.known found.before.grows)), subst (λ (k : ℕ). l < k) (sym (links_stay st log found.before.legal)) in_.is_link)
+    where
+      now : IsPrefix since log → (is_active (head_at (after st log) s) ≡ true) ⊎ IsIn (ended log) a
+      now grows =
+          subst (λ (b : ℕ). (is_active (head_at (after st log) s) ≡ true) ⊎ IsIn (ended log) b) in_.its
+          (subst (λ (z : List Entry). (is_active (head_at (after st z) s) ≡ true) ⊎ IsIn (ended z) (life s since)) grows.1
+          (still st since grows.0 s (subst (IsLegalList st) (sym grows.1) found.before.legal) in_.active))
+
+      active : (is_active (head_at (after st log) s) ≡ true) ⊎ IsIn (ended log) a → is_active (head_at (after st log) s) ≡ true
+      active (inl on) = on
+      active (inr over) = absurd (found.none_ended a (inl refl) over)
+
+  pub may_read_link : (p size : ℕ) → MayStep (at_link n l) p seen [] (a ∷ []) [] (λ v. v) (λ v log. record { pass = p; size = size; event = ReadLink s l; life = 0 }) (λ v. false)
+  may_read_link p size = (tt, (λ v t own log found. let w = within v p [] t log found in read_step n l v p size s seen [] (a ∷ []) t own log found w.0 w.1))
+
+  all_values : (held : List (Held Entry)) → is_at_most_one held ≡ true → WithKinds kinds held
+  all_values [] one = tt
+  all_values (x ∷ []) one = (let is : x.kind ≡ values = eq_true x.kind values one in omega arith, tt)
+  all_values (x ∷ y ∷ held) one = absurd (cc)
+
+  pub may_swap_link : (p size new : ℕ) (held : List (Held Entry)) → is_at_most_one held ≡ true → IsNewIn st (value_in held) held → new ≡ link_word (value_in held)
+      → MayStep (at_link n l) p seen held (a ∷ []) [] (λ v. new) (λ v log. record { pass = p; size = size; event = ExchangeLink s l (Swap (value_in held)); life = 0 }) (λ v. true)
+  may_swap_link p size new held one fresh word =
+      (all_values held one, (λ v t own log found. let w = within v p held t log found in store_step n l v p size s seen held (a ∷ []) t own log found w.0 w.1 (value_in held) (Swap (value_in held)) refl fresh new word refl))
+
+  -- Where the word is what was seen, the link holds what is compared; and else it doesn't.
+
+  is_same : (o : Option ℕ) → same_link o o ≡ true
+  is_same None = refl
+  is_same (Some v) = let h : (v == v) ≡ true = grind arith in h
+
+  same_words : (o q : Option ℕ) → same_link o q ≡ true → link_word o ≡ link_word q
+  same_words None None h = refl
+  same_words (Some v) (Some w) h = ap (λ (k : ℕ). link_word (Some k)) (eq_true v w h)
+  same_words None (Some w) h = absurd (cc)
+  same_words (Some v) None h = absurd (cc)
+
+  equal : (x y : ℕ) → x ≡ y → (x == y) ≡ true
+  equal x y e = grind arith
+
+  unequal : (x y : ℕ) → x ≢ y → (x == y) ≡ false
+  unequal x y n = grind arith
+
+  hit : (seen_word : ℕ) (old o : Option ℕ) → link_word old ≡ seen_word → is_stored old (Compare (compared seen_word old) o) ≡ true
+  hit seen_word old o e = ap (λ (b : Bool). same_link old (if b then old else value_with seen_word)) (equal (link_word old) seen_word e) ∙ is_same old
+
+  missed : (seen_word : ℕ) (old o : Option ℕ) → seen_word < 2 ^ 64 → link_word old ≢ seen_word → is_stored old (Compare (compared seen_word old) o) ≡ false
+  missed seen_word old o fits differs = ap (λ (b : Bool). same_link old (if b then old else value_with seen_word)) (unequal (link_word old) seen_word differs) ∙ apart (is_true (same_link old (value_with seen_word)))
+    where
+      word_back : (w : ℕ) → w < 2 ^ 64 → link_word (value_with w) ≡ w
+      word_back zero f = refl
+      word_back (suc w) f = let small : w % 2 ^ 64 ≡ w = omega (arith, f) in omega (arith, small)
+
+      apart : (same_link old (value_with seen_word) ≡ true) ⊎ (same_link old (value_with seen_word) ≡ false) → same_link old (value_with seen_word) ≡ false
+      apart (inl h) = absurd (differs (same_words old (value_with seen_word) h ∙ word_back seen_word fits))
+      apart (inr h) = h
+
+  pub may_compare_link : (p size seen_word new : ℕ) (held : List (Held Entry)) → seen_word < 2 ^ 64 → is_at_most_one held ≡ true → IsNewIn st (value_in held) held → new ≡ link_word (value_in held)
+      → MayStep (at_link n l) p seen held (a ∷ []) [] (exchanged seen_word new)
+        (λ v log. record { pass = p; size = size; event = ExchangeLink s l (Compare (compared seen_word (link_at (after st log) l)) (value_in held)); life = 0 }) (λ v. v == seen_word)
+  may_compare_link p size seen_word new held fits one fresh word = (all_values held one, step)
+    where
+      e : List Entry → Entry
+      e log = record { pass = p; size = size; event = ExchangeLink s l (Compare (compared seen_word (link_at (after st log) l)) (value_in held)); life = 0 }
+
+      step : (v : ℕ) (t : At) (own log : List Entry) → FoundAs (at_link n l) v p seen held (a ∷ []) t log
+          → IsStep (at_link n l) p held [] (exchanged seen_word new v) (record { pass = p; size = size; event = ExchangeLink s l (Compare (compared seen_word (link_at (after st log) l)) (value_in held)); life = 0 }) (v == seen_word) t own log
+      step v t own log found =
+          let w = within v p held t log found in let old : Option ℕ = link_at (after st log) l in let is : v ≡ link_word old = found.shows ∙ ap link_word (same n l v p seen held (a ∷ []) t log found) in
+          let goal : ℕ → Type 0 = λ x. IsStep (at_link n l) p held [] x (record { pass = p; size = size; event = ExchangeLink s l (Compare (compared seen_word old) (value_in held)); life = 0 }) (v == seen_word) t own log in
+          kit.exchanged v seen_word new goal
+          (λ same. subst (λ (b : Bool). IsStep (at_link n l) p held [] new (record { pass = p; size = size; event = ExchangeLink s l (Compare (compared seen_word old) (value_in held)); life = 0 }) b t own log) (sym (equal v seen_word same))
+            (store_step n l v p size s seen held (a ∷ []) t own log found w.0 w.1 (value_in held) (Compare (compared seen_word old) (value_in held)) refl fresh new word (hit seen_word old (value_in held) (sym is ∙ same))))
+          (λ differs. subst (λ (b : Bool). IsStep (at_link n l) p held [] v (record { pass = p; size = size; event = ExchangeLink s l (Compare (compared seen_word old) (value_in held)); life = 0 }) b t own log) (sym (unequal v seen_word differs))
+            (miss_step n l v p size s seen held (a ∷ []) t own log found w.0 w.1 (value_in held) (Compare (compared seen_word old) (value_in held)) refl fresh (missed seen_word old (value_in held) fits (λ x. differs (is ∙ x)))))
