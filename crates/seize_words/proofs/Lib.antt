@@ -26,6 +26,7 @@ pub mod Stepped
 pub mod Makes
 pub mod Links
 pub mod Exchanges
+pub mod Exchanged
 pub mod Activations
 pub mod Meets
 pub mod Sent

@@ -57,15 +57,19 @@ held_before {link} {pass} t = link_at (after (start pass.name) t.before) (number
 abbrev pub Reads : Link → Activation → Pass → Pass → ℕ → Type 0
 Reads link activation pass pass' v = Takes link pass pass' (λ _. ReadLink activation.slot (number link)) v
 
+-- the key knows all that the pass has seen
+abbrev pub KnowsAll : MaybeKey → Pass → Type 0
+KnowsAll key pass = key.keys.held ≡ renewed key.keys.held pass.seen
+
 -- the key of what the link held came out
 abbrev pub Swaps : Link → Activation → MaybeKey → Pass → MaybeKey → Pass → ℕ → Type 0
 Swaps link activation key pass key' pass' v =
     (t : Takes link pass pass' (λ _. ExchangeLink activation.slot (number link) (Swap (holds key))) v)
-    × (key'.keys.name ≡ key.keys.name) × (holds key' ≡ held_before t)
+    × (key'.keys.name ≡ key.keys.name) × (holds key' ≡ held_before t) × KnowsAll key' pass'
 
--- and here where it was what was seen; else it is the same key, which knows all that the pass has seen
+-- and here where it was what was seen; else it is the same key
 abbrev pub CompareExchanges : Link → Activation → MaybeKey → Pass → ℕ → MaybeKey → Pass → ℕ → Type 0
 CompareExchanges link activation key pass seen key' pass' v =
     (t : Takes link pass pass' (λ old. ExchangeLink activation.slot (number link) (Compare (compared seen old) (holds key))) v)
     × (key'.keys.name ≡ key.keys.name)
-    × (v ≡ seen → holds key' ≡ held_before t) × (v ≢ seen → key'.keys.held ≡ renewed key.keys.held pass'.seen)
+    × (v ≡ seen → holds key' ≡ held_before t) × (v ≢ seen → holds key' ≡ holds key) × KnowsAll key' pass'

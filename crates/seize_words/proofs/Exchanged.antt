@@ -1,0 +1,87 @@
+-- What is known after a step on a link's word.
+use Rattle.std.proofs.Common.{◌≡◌, ℕ, Bool, true, false, ◌==◌, List, [], ◌∷◌, Option, Some, None, refl, sym, ◌∙◌, ap, subst, ◌⊎◌, inl, inr}
+use Rattle.seize_machine.specs.Machine.State.{link_at}
+use Rattle.seize_machine.specs.Machine.Event.{Event}
+use Rattle.seize_machine.proofs.Facts.{is_true}
+use Rattle.seize_words.specs.Atomic.{Takes as Took, entries}
+use Rattle.seize_words.specs.Blocks.{link_word}
+use Rattle.seize_words.specs.Book.{after, links}
+use Rattle.seize_words.specs.Entry.{Entry}
+use Rattle.seize_words.specs.Ledger.{Held, renewed}
+use Rattle.seize_words.specs.LinkWords.{Takes, held_before, number}
+use Rattle.seize_words.specs.Links.{at_link, is_at_most_one, value_in}
+use Rattle.seize_words.specs.Stepping.{Stepped, traded}
+use Rattle.seize_words.specs.Tokens.{Name, start}
+use Rattle.seize_words.specs.Words.{IsKeyOf, Site}
+use Rattle.seize_words.specs.declared.book.keys.Keys.{Keys}
+use Rattle.seize_words.specs.declared.book.pass.Pass.{Pass}
+use Rattle.seize_words.specs.declared.link.Link.{Link}
+use Rattle.seize_words.proofs.Links.{same}
+
+-- the word of a link, named by the pass's book
+pub is_at : (word : Site) (n : Name) → word.name ≡ n → word.kind ≡ links → word ≡ at_link n word.number
+is_at word n e k = ap (λ (t : Name × ℕ). record { name = t.0; kind = t.1; number = word.number }) (λ j. (e j, k j))
+
+value_of : (o : Option ℕ) (vs : List (Held Entry)) (log : List Entry) → IsKeyOf o vs → value_in (renewed vs log) ≡ o
+value_of None vs log is = ap (λ (hs : List (Held Entry)). value_in (renewed hs log)) is
+value_of (Some v) [] log is = absurd (let x : false ≡ true = is.0 in cc)
+value_of (Some v) (x ∷ y ∷ vs) log is = absurd (let x : false ≡ true = is.0 in cc)
+value_of (Some v) (x ∷ []) log is = ap Some is.1
+
+one_of : (o : Option ℕ) (vs : List (Held Entry)) (log : List Entry) → IsKeyOf o vs → is_at_most_one (renewed vs log) ≡ true
+one_of None vs log is = ap (λ (hs : List (Held Entry)). is_at_most_one (renewed hs log)) is
+one_of (Some v) [] log is = absurd (let x : false ≡ true = is.0 in cc)
+one_of (Some v) (x ∷ y ∷ vs) log is = absurd (let x : false ≡ true = is.0 in cc)
+one_of (Some v) (x ∷ []) log is = is.0
+
+same_value : (vs : List (Held Entry)) (log : List Entry) → value_in (renewed vs log) ≡ value_in vs
+same_value [] log = refl
+same_value (x ∷ vs) log = refl
+
+one_later : (vs : List (Held Entry)) (log : List Entry) → is_at_most_one vs ≡ true → is_at_most_one (renewed vs log) ≡ true
+one_later [] log h = refl
+one_later (x ∷ []) log h = h
+one_later (x ∷ y ∷ vs) log h = absurd (cc)
+
+renewed_twice : (vs : List (Held Entry)) (log : List Entry) → renewed vs log ≡ renewed (renewed vs log) log
+renewed_twice [] log = refl
+renewed_twice (x ∷ vs) log = ap (λ (hs : List (Held Entry)). record { kind = x.kind; key = x.key; own = log } ∷ hs) (renewed_twice vs log)
+
+module _ (link : Link) (pass pass' : Pass) (keys keys' : Keys) (alive : List ℕ) (f : ℕ → ℕ) (v : ℕ) (ev : Option ℕ → Event) (trades : ℕ → Bool)
+    (told : Took (at_link pass.name (number link)) keys pass keys' pass' alive f v 0 (λ v log. ev (link_at (after (start pass.name) log) (number link))) trades) where
+  abbrev event : ℕ → List Entry → Event
+  event v log = ev (link_at (after (start pass.name) log) (number link))
+
+  abbrev step : Stepped (at_link pass.name (number link)) pass.id pass.seen pass'.seen keys.held keys'.held alive v (f v) (entries pass 0 event) trades
+  step = told.2
+
+  -- what the link held, as its word's keys know
+  held : link_at (after (start pass.name) step.since.0) (number link) ≡ link_at (after (start pass.name) step.log) (number link)
+  held = same pass.name (number link) v pass.id pass.seen keys.held alive step.since step.log step.found
+
+  pub taken : Takes link pass pass' ev v
+  taken = record { same = told.0; before = step.log; noted = step.noted; is_before = step.is_log; found = step.found.shows ∙ ap link_word held }
+
+  its_key : IsKeyOf (link_at (after (start pass.name) step.log) (number link)) step.since.1
+  its_key = subst (λ (o : Option ℕ). IsKeyOf o step.since.1) held step.found.stands
+
+  had : (b : Bool) → trades v ≡ b → keys'.held ≡ renewed (traded b keys.held step.since.1) pass'.seen
+  had b e = step.keys ∙ ap (λ (c : Bool). renewed (traded c keys.held step.since.1) pass'.seen) e
+
+  -- where the keys changed places, it came out
+  pub came_out : trades v ≡ true → value_in keys'.held ≡ link_at (after (start pass.name) step.log) (number link)
+  came_out e = ap value_in (had true e) ∙ value_of (link_at (after (start pass.name) step.log) (number link)) step.since.1 pass'.seen its_key
+
+  pub stayed : trades v ≡ false → value_in keys'.held ≡ value_in keys.held
+  stayed e = ap value_in (had false e) ∙ same_value keys.held pass'.seen
+
+  pub knows_all : keys'.held ≡ renewed keys'.held pass'.seen
+  knows_all = step.keys ∙ renewed_twice (traded (trades v) keys.held step.since.1) pass'.seen ∙ ap (λ (hs : List (Held Entry)). renewed hs pass'.seen) (sym step.keys)
+
+  -- and there is still at most one key
+  pub still_one : is_at_most_one keys.held ≡ true → is_at_most_one keys'.held ≡ true
+  still_one one = go (is_true (trades v))
+    where
+      go : (trades v ≡ true) ⊎ (trades v ≡ false) → is_at_most_one keys'.held ≡ true
+      go (inl e) = ap is_at_most_one (had true e) ∙ one_of (link_at (after (start pass.name) step.log) (number link)) step.since.1 pass'.seen its_key
+      go (inr e) = ap is_at_most_one (had false e) ∙ one_later keys.held pass'.seen one
