@@ -69,7 +69,8 @@ module _ (link : Link) (pass pass' : Pass) (keys keys' : Keys) (alive : List ℕ
   had b e = step.keys ∙ ap (λ (c : Bool). renewed (traded c keys.held step.since.1) pass'.seen) e
 
   -- where the keys changed places, it came out
-  pub came_out : trades v ≡ true → value_in keys'.held ≡ link_at (after (start pass.name) step.log) (number link)
+  pub came_out : trades v ≡ true → value_in keys'.held ≡ held_before taken
+  unfolding taken
   came_out e = ap value_in (had true e) ∙ value_of (link_at (after (start pass.name) step.log) (number link)) step.since.1 pass'.seen its_key
 
   pub stayed : trades v ≡ false → value_in keys'.held ≡ value_in keys.held

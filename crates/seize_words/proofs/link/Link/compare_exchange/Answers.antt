@@ -1,0 +1,62 @@
+use Rattle.std.proofs.Common.{◌≡◌, ◌≢◌, ℕ, ◌==◌, List, [], ◌∷◌, Option, true, false, refl, sym, ap, ◌∙◌, subst, arith}
+use Rattle.seize_machine.specs.Machine.State.{link_at}
+use Rattle.seize_machine.specs.Machine.Event.{Event, ExchangeLink}
+use Rattle.seize_machine.specs.declared.machine.event.Exchange.TheVariants.{Compare}
+use Rattle.seize_words.specs.Atomic.{Events, Takes as Took, exchanged}
+use Rattle.seize_words.specs.Book.{after}
+use Rattle.seize_words.specs.Entry.{Entry}
+use Rattle.seize_words.specs.LinkWords.{holds, number}
+use Rattle.seize_words.specs.Links.{IsNewIn, compared}
+use Rattle.seize_words.specs.Stepping.{MayStep}
+use Rattle.seize_words.specs.Tokens.{Name, start}
+use Rattle.seize_words.specs.Words.{Site}
+use Rattle.seize_words.proofs.Exchanged.{came_out, is_at, knows_all, stayed, still_one, taken}
+use Rattle.seize_words.proofs.Exchanges.{may_compare_link}
+use Rattle.seize_words.proofs.link.Link.compare_exchange.Goals as goal
+
+-- the event by what the link held
+abbrev by_held : ℕ → ℕ → ℕ → Option ℕ → Option ℕ → Event
+by_held s l seen o old = ExchangeLink s l (Compare (compared seen old) o)
+
+abbrev events : Name → ℕ → ℕ → ℕ → Option ℕ → Events
+events n s l seen o v log = by_held s l seen o (link_at (after (start n) log) l)
+
+equal : (x y : ℕ) → x ≡ y → (x == y) ≡ true
+equal x y e = grind arith
+
+unequal : (x y : ℕ) → x ≢ y → (x == y) ≡ false
+unequal x y n = grind arith
+
+pub exchange_in-requires : goal.exchange_in-requires
+exchange_in-requires c =
+    let link = c.args.self.now in let a = c.args.activation.now in let pass = c.args.pass.now in let in_ = c.requires.within in let l = number link in let value = c.args.value.now in let held = value.keys.held in
+    let fresh = subst (λ (n : Name). IsNewIn (start n) (holds value) held) in_.book.0 c.requires.new.1 in
+    let may = may_compare_link pass.name a.slot a.life l a.since pass.seen in_.within pass.id pass.name.size c.args.seen c.args.new held c.ranges.seen.fits value.value fresh c.requires.new.2 in (
+      in_.book.0,
+      c.requires.new.0 ∙ in_.book.0,
+      subst (λ (t : Site). MayStep t pass.id pass.seen held (a.life ∷ []) [] (exchanged c.args.seen c.args.new)
+            (λ v log. record { pass = pass.id; size = pass.name.size; event = events pass.name a.slot l c.args.seen (holds value) v log; life = 0 }) (λ v. v == c.args.seen))
+          (sym (is_at link.word pass.name in_.book.0 link.link)) may,
+    )
+
+pub returns : goal.returns
+returns c =
+    let link = c.args.self.now in let a = c.args.activation.now in let pass = c.args.pass.now in let in_ = c.requires.within in let l = number link in let value = c.args.value.now in let seen = c.args.seen in
+    let pass' = c.exchange_in.new.pass in let keys' = c.exchange_in.new.keys in let v = c.exchange_in.result in let f = exchanged seen c.args.new in let ev = by_held a.slot l seen (holds value) in
+    let told = subst (λ (t : Site). Took t value.keys pass keys' pass' (a.life ∷ []) f v 0 (events pass.name a.slot l seen (holds value)) (λ v. v == seen)) (is_at link.word pass.name in_.book.0 link.link) c.exchange_in.ensures in
+    record {
+      exchanges = (
+        taken link pass pass' value.keys keys' (a.life ∷ []) f v ev (λ v. v == seen) told,
+        told.1,
+        (λ e. came_out link pass pass' value.keys keys' (a.life ∷ []) f v ev (λ v. v == seen) told (equal v seen e)),
+        (λ differs. stayed link pass pass' value.keys keys' (a.life ∷ []) f v ev (λ v. v == seen) told (unequal v seen differs)),
+        knows_all link pass pass' value.keys keys' (a.life ∷ []) f v ev (λ v. v == seen) told,
+      );
+    }
+
+pub invariant_of-value : goal.invariant_of-value
+invariant_of-value c =
+    let link = c.args.self.now in let a = c.args.activation.now in let pass = c.args.pass.now in let in_ = c.requires.within in let l = number link in let value = c.args.value.now in let seen = c.args.seen in
+    let pass' = c.exchange_in.new.pass in let keys' = c.exchange_in.new.keys in let v = c.exchange_in.result in let f = exchanged seen c.args.new in let ev = by_held a.slot l seen (holds value) in
+    let told = subst (λ (t : Site). Took t value.keys pass keys' pass' (a.life ∷ []) f v 0 (events pass.name a.slot l seen (holds value)) (λ v. v == seen)) (is_at link.word pass.name in_.book.0 link.link) c.exchange_in.ensures in
+    record { value = still_one link pass pass' value.keys keys' (a.life ∷ []) f v ev (λ v. v == seen) told value.value }

@@ -1,0 +1,46 @@
+use Rattle.std.proofs.Common.{ℕ, List, [], ◌∷◌, Option, true, refl, sym, ap, ◌∙◌, subst}
+use Rattle.seize_machine.specs.Machine.Event.{ExchangeLink}
+use Rattle.seize_machine.specs.declared.machine.event.Exchange.TheVariants.{Swap}
+use Rattle.seize_words.specs.Atomic.{Takes as Took}
+use Rattle.seize_words.specs.LinkWords.{holds, number}
+use Rattle.seize_words.specs.Links.{IsNewIn}
+use Rattle.seize_words.specs.Stepping.{MayStep}
+use Rattle.seize_words.specs.Tokens.{Name, start}
+use Rattle.seize_words.specs.Words.{Site}
+use Rattle.seize_words.proofs.Exchanged.{came_out, is_at, knows_all, still_one, taken}
+use Rattle.seize_words.proofs.Exchanges.{may_swap_link}
+use Rattle.seize_words.proofs.link.Link.swap.Goals as goal
+
+pub swap_in-requires : goal.swap_in-requires
+swap_in-requires c =
+    let link = c.args.self.now in let a = c.args.activation.now in let pass = c.args.pass.now in let in_ = c.requires.within in let l = number link in let value = c.args.value.now in let held = value.keys.held in
+    let fresh = subst (λ (n : Name). IsNewIn (start n) (holds value) held) in_.book.0 c.requires.new.1 in
+    let may = may_swap_link pass.name a.slot a.life l a.since pass.seen in_.within pass.id pass.name.size c.args.new held value.value fresh c.requires.new.2 in (
+      in_.book.0,
+      c.requires.new.0 ∙ in_.book.0,
+      subst (λ (t : Site). MayStep t pass.id pass.seen held (a.life ∷ []) [] (λ v. c.args.new) (λ v log. record { pass = pass.id; size = pass.name.size; event = ExchangeLink a.slot l (Swap (holds value)); life = 0 }) (λ v. true))
+          (sym (is_at link.word pass.name in_.book.0 link.link)) may,
+    )
+
+pub returns : goal.returns
+returns c =
+    let link = c.args.self.now in let a = c.args.activation.now in let pass = c.args.pass.now in let in_ = c.requires.within in let l = number link in let value = c.args.value.now in
+    let ev = λ (o : Option ℕ). ExchangeLink a.slot l (Swap (holds value)) in
+    let told = subst (λ (t : Site). Took t value.keys pass c.swap_in.new.keys c.swap_in.new.pass (a.life ∷ []) (λ v. c.args.new) c.swap_in.result 0 (λ v log. ExchangeLink a.slot l (Swap (holds value))) (λ v. true))
+        (is_at link.word pass.name in_.book.0 link.link) c.swap_in.ensures in
+    record {
+      swaps = (
+        taken link pass c.swap_in.new.pass value.keys c.swap_in.new.keys (a.life ∷ []) (λ v. c.args.new) c.swap_in.result ev (λ v. true) told,
+        told.1,
+        came_out link pass c.swap_in.new.pass value.keys c.swap_in.new.keys (a.life ∷ []) (λ v. c.args.new) c.swap_in.result ev (λ v. true) told refl,
+        knows_all link pass c.swap_in.new.pass value.keys c.swap_in.new.keys (a.life ∷ []) (λ v. c.args.new) c.swap_in.result ev (λ v. true) told,
+      );
+    }
+
+pub invariant_of-value : goal.invariant_of-value
+invariant_of-value c =
+    let link = c.args.self.now in let a = c.args.activation.now in let pass = c.args.pass.now in let in_ = c.requires.within in let l = number link in let value = c.args.value.now in
+    let ev = λ (o : Option ℕ). ExchangeLink a.slot l (Swap (holds value)) in
+    let told = subst (λ (t : Site). Took t value.keys pass c.swap_in.new.keys c.swap_in.new.pass (a.life ∷ []) (λ v. c.args.new) c.swap_in.result 0 (λ v log. ExchangeLink a.slot l (Swap (holds value))) (λ v. true))
+        (is_at link.word pass.name in_.book.0 link.link) c.swap_in.ensures in
+    record { value = still_one link pass c.swap_in.new.pass value.keys c.swap_in.new.keys (a.life ∷ []) (λ v. c.args.new) c.swap_in.result ev (λ v. true) told value.value }
