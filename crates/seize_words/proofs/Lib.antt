@@ -22,6 +22,7 @@ pub mod Gives
 pub mod Detaches
 pub mod Facts
 pub mod Steps
+pub mod Plans
 pub mod Stepped
 pub mod Makes
 pub mod Links
