@@ -23,6 +23,7 @@ pub mod Detaches
 pub mod Facts
 pub mod Steps
 pub mod Plans
+pub mod Heads
 pub mod Stepped
 pub mod Makes
 pub mod Links

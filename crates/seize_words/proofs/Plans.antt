@@ -1,16 +1,16 @@
 -- Plans of batches: what is fixed when a batch is detached stays so, and a head's word follows from the list.
-use Rattle.std.proofs.Common.{◌≡◌, ◌≢◌, ℕ, zero, suc, ◌+◌, ◌<◌, ◌≤◌, Bool, true, false, ◌&&◌, replicate, List, [], ◌∷◌, ◌++◌, length, get_or, set, Option, Some, None, refl, sym, ◌∙◌, ap, subst, ◌⊎◌, inl, inr, arith, append_assoc, append-nil}
+use Rattle.std.proofs.Common.{◌≡◌, ◌≢◌, ℕ, zero, suc, ◌+◌, ◌<◌, ◌≤◌, ℤ, pos, ◌+ℤ◌, ◌-ℤ◌, ◌==◌, nat_lt, if◌then◌else◌, Bool, true, false, ◌&&◌, replicate, List, [], ◌∷◌, ◌++◌, length, get_or, set, Option, Some, None, refl, sym, ◌∙◌, ap, subst, ◌⊎◌, inl, inr, arith, append_assoc, append-nil}
 use Rattle.std.proofs.lemmas.List.{get_or_past, get_or_append_left, get_or-set_same, get_or-set_other, length-set}
 use Rattle.std.proofs.lemmas.Bool.{cases_lt}
 use mathlib.Core.List.{IsPrefix}
 use native.Mathlib.Decide.{ℕ_discrete}
-use Rattle.seize_machine.specs.Machine.State.{State, Slot, Head, Inactive, Active, Try, Look, no_batch, slot_at, head_at, batch_at, waiting_at, linked, are_distinct, opening}
-use Rattle.seize_machine.specs.Machine.Event.{Event, Detach}
-use Rattle.seize_machine.specs.Machine.Next.{next}
+use Rattle.seize_machine.specs.Machine.State.{State, Slot, Call, Head, Inactive, Active, Mark, Try, Look, Rest, no_batch, no_slot, slot_at, is_active, head_at, batch_at, waiting_at, linked, are_distinct, opening}
+use Rattle.seize_machine.specs.Machine.Event.{Event, Detach, slot_of}
+use Rattle.seize_machine.specs.Machine.Next.{next, look, looked, marked_place}
 use Rattle.seize_machine.specs.Machine.History.{IsReached, Timed, done_by}
-use Rattle.seize_machine.specs.Machine.Frames.{batches_added, changes_head_of}
+use Rattle.seize_machine.specs.Machine.Frames.{batches_added, changes_head_of, changes_slot}
 use Rattle.seize_machine.specs.declared.machine.event.Answer.{Answer}
-use Rattle.seize_machine.proofs.Facts.{Step, Stands, step_of, batches_length, reached_holds, tries_tidy, head_frame, is_true, and_true}
+use Rattle.seize_machine.proofs.Facts.{Step, Stands, counted, eq_true, slot_frame, some_is, step_of, batches_length, reached_holds, tries_tidy, head_frame, is_true, and_true}
 use Rattle.seize_words.specs.Blocks.{Plan, no_plan, plan_of, planned_by, plans, block_in, block_for, list_word, word_of, head_word}
 use Rattle.seize_words.specs.Book.{Kept, TheHead, IsLegalList, Does, after}
 use Rattle.seize_words.specs.Entry.{Entry, timed}
@@ -85,7 +85,7 @@ has_values st b h = go (cases_lt b (length st.batches))
     go (inl l) = l
     go (inr le) = let none : length (batch_at st b).values ≡ 0 = ap (λ x. length x.values) (get_or_past st.batches b no_batch le) in absurd (omega (arith, none))
 
-tried_there : (st : State) (s b won m : ℕ) (later saw queue : List ℕ) → IsReached st → Stands st s (Try b won m later saw) queue → b < length st.batches
+pub tried_there : (st : State) (s b won m : ℕ) (later saw queue : List ℕ) → IsReached st → Stands st s (Try b won m later saw) queue → b < length st.batches
 tried_there st s b won m later saw queue r stands = has_values st b (let t = (tries_tidy st s b won m later saw queue r stands).1 in omega (arith, t))
 
 pub waiting_there : (st : State) → IsReached st → WaitingThere st
@@ -120,9 +120,114 @@ waiting_there = reached_holds WaitingThere begins goes
         go (inl c) = changed t.size st t.event d m r step c old
         go (inr n) = kept st t d m step n old
 
+-- And so were those that a call saw which is about to insert: it read them at a head.
+
+abbrev pub SawThere : State → Type 0
+SawThere st = (s b won m : ℕ) (later saw queue : List ℕ) → Stands st s (Try b won m later saw) queue → AllLess (length st.batches) saw
+
+-- a slot's record after a write, where it has a call
+written : (slots : List Slot) (s : ℕ) (x : Slot) (call : Call) → (get_or (set slots s x) s no_slot).call ≡ Some call → x.call ≡ Some call
+written slots s x call h = go (cases_lt s (length slots))
+  where
+    go : (s < length slots) ⊎ (length slots ≤ s) → x.call ≡ Some call
+    go (inl l) = ap (λ (y : Slot). y.call) (sym (get_or-set_same slots s x no_slot l)) ∙ h
+    go (inr le) = absurd (let none : Option.None ≡ Some call = ap (λ (y : Slot). y.call) (sym (get_or_past (set slots s x) s no_slot (subst (λ (k : ℕ). k ≤ s) (sym (length-set slots s x)) le))) ∙ h in cc)
+
+-- no call under way at a slot that is added
+added_none : (slots : List Slot) (x : Slot) (s : ℕ) (call : Call) → x.call ≡ Option.None → (get_or (slots ++ x ∷ []) s no_slot).call ≡ Some call → (get_or slots s no_slot).call ≡ Some call
+added_none [] x zero call none h = absurd (let e : Option.None ≡ Some call = sym none ∙ h in cc)
+added_none [] x (suc s) call none h = h
+added_none (y ∷ slots) x zero call none h = h
+added_none (y ∷ slots) x (suc s) call none h = added_none slots x s call none h
+
+looked_saw : (n : ℕ) (h : Head) (b won k : ℕ) (later : List ℕ) (b' won' m' : ℕ) (later' saw : List ℕ) → AllLess n (waiting_at h) → looked h b won k later ≡ Try b' won' m' later' saw → AllLess n saw
+looked_saw n Inactive b won k [] b' won' m' later' saw old e = absurd (cc)
+looked_saw n Inactive b won k (j ∷ later) b' won' m' later' saw old e = absurd (cc)
+looked_saw n (Active waiting) b won k later b' won' m' later' saw old e = let is : waiting ≡ saw = cc in subst (AllLess n) is old
+
+-- a step on a slot leads to such a place only by a read of a head
+module _ (size : ℕ) (st : State) (waiting : WaitingThere st) (old : SawThere st) (b won m : ℕ) (later saw queue : List ℕ) where
+  abbrev tries : Call
+  tries = record { place = Try b won m later saw; queue = queue }
+
+  abbrev Goal : Type 0
+  Goal = AllLess (length st.batches) saw
+
+  at_try : (x : Call) → Some x ≡ Some tries → x.place ≡ Try b won m later saw
+  at_try x e = ap (λ (y : Call). y.place) (some_is _ _ e)
+
+  not_marked : (active : Bool) (k note : ℕ) (marks batch q : List ℕ) → Some (record { place = marked_place active k note marks batch; queue = q }) ≡ Some tries → ⊥
+  not_marked false k note marks batch q e = let p = at_try _ e in cc
+  not_marked true k note marks batch q e = go (nat_lt (length marks) (length batch)) e
+    where
+      go : (c : Bool) → Some (record { place = (if c then Mark (k + 1) note (marks ++ k ∷ []) else Rest [] []); queue = q }) ≡ Some tries → ⊥
+      go true e = let p = at_try _ e in cc
+      go false e = let p = at_try _ e in cc
+
+  not_looked : (c w : ℕ) (marks q : List ℕ) → Some (record { place = look c w marks; queue = q }) ≡ Some tries → ⊥
+  not_looked c w [] q e = let p = at_try _ e in cc
+  not_looked c w (k ∷ marks) q e = let p = at_try _ e in cc
+
+  counted_rest : (s c : ℕ) (count : ℤ) (walk q : List ℕ) (d : State × Answer) → counted st s c count walk q ≡ Some d → Stands d.0 s (Try b won m later saw) queue → ⊥
+  counted_rest s c count walk q d is h =
+      let same = some_is _ _ is in let p = at_try _ (written st.slots s _ tries (ap (λ (x : State × Answer). (slot_at x.0 s).call) same ∙ h)) in cc
+
+  saw_step : (event : Event) (d : State × Answer) → Step size st event d → Stands d.0 (slot_of event) (Try b won m later saw) queue → Goal
+  saw_step event _ (Step.took_new s is free) h = old s b won m later saw queue (added_none st.slots _ s tries refl h)
+  saw_step event _ (Step.took_old s there off free) h = old s b won m later saw queue (written st.slots s _ tries h)
+  saw_step event _ (Step.gave s idle off) h = old s b won m later saw queue (written st.slots s _ tries h)
+  saw_step event _ (Step.entered s idle off) h = old s b won m later saw queue h
+  saw_step event _ (Step.begun_retire s v idle may) h = absurd (let at = at_try _ (written st.slots s _ tries h) in cc)
+  saw_step event _ (Step.begun_other s job place idle (inl p) may) h = absurd (let at = at_try _ (written st.slots s _ tries h) in cc)
+  saw_step event _ (Step.begun_other s job place idle (inr (inl p)) may) h = absurd (let at = at_try _ (written st.slots s _ tries h) in cc)
+  saw_step event _ (Step.begun_other s job place idle (inr (inr (inl p))) may) h = absurd (let at = at_try _ (written st.slots s _ tries h) in cc)
+  saw_step event _ (Step.begun_other s job place idle (inr (inr (inr p))) may) h = absurd (let at = at_try _ (written st.slots s _ tries h) in cc)
+  saw_step event _ (Step.put s v from before after_ place stands how (inl p) is) h = absurd (let at = at_try _ (written st.slots s _ tries h) in let e = p.0 in cc)
+  saw_step event _ (Step.put s v from before after_ place stands how (inr p) is) h = absurd (let at = at_try _ (written st.slots s _ tries h) in cc)
+  saw_step event _ (Step.marked s k x note marks q stands there turn) h = absurd (not_marked (is_active (head_at st k)) k note marks (slot_at st s).batch q (written st.slots s _ tries h))
+  saw_step event _ (Step.looked_at s c w k rest q stands) h =
+      let w' = written st.slots s _ tries h in looked_saw (length st.batches) (head_at st k) c w k rest b won m later saw (waiting k) (ap (λ (x : Call). x.place) (some_is _ _ w'))
+  saw_step event _ (Step.detached s x note marks q stands le) h = absurd (not_looked (length st.batches) 0 marks q (written st.slots s _ tries h))
+  saw_step event _ (Step.inserted s k c w rest was q list stands head_is) h = absurd (not_looked c (w + 1) rest q (written st.slots s _ tries h))
+  saw_step event _ (Step.lost s k c w rest was q stands other) h = absurd (let at = at_try _ (written st.slots s _ tries h) in cc)
+  saw_step event _ (Step.added s c w q d stands is) h = absurd (counted_rest s c ((batch_at st c).count +ℤ pos w) [] q d is h)
+  saw_step event _ (Step.subtracted s c walk q d stands is) h = absurd (counted_rest s c ((batch_at st c).count -ℤ pos 1) walk q d is h)
+  saw_step event _ (Step.swapped_out s stays q stands) h = absurd (let at = at_try _ (written st.slots s _ tries h) in cc)
+  saw_step event _ (Step.handed s v puts given_ walk q stands fresh) h = absurd (let at = at_try _ (written st.slots s _ tries h) in cc)
+  saw_step event _ (Step.returned s stands) h = absurd (let e = written st.slots s _ tries h in cc)
+  saw_step event _ (Step.read s l may) h = old s b won m later saw queue h
+  saw_step event _ (Step.exchanged s l exchange new may fresh how) h = old s b won m later saw queue h
+  saw_step event _ (Step.compared s l exchange may how) h = old s b won m later saw queue h
+
+pub saw_there : (st : State) → IsReached st → SawThere st
+saw_there = reached_holds SawThere begins goes
+  where
+    begins : (slots : ℕ) (links : List (Option ℕ)) → are_distinct (linked links) ≡ true → SawThere (opening slots links)
+    begins slots links distinct s b won m later saw queue h = absurd (none slots s h)
+      where
+        none : (slots s : ℕ) → (get_or (replicate slots no_slot) s no_slot).call ≡ Some (record { place = Try b won m later saw; queue = queue }) → ⊥
+        none zero s h = cc
+        none (suc slots) zero h = cc
+        none (suc slots) (suc s) h = none slots s h
+
+    goes : (st : State) (t : Timed) (d : State × Answer) → IsReached st → Step t.size st t.event d → SawThere st → SawThere d.0
+    goes st t d r step old s b won m later saw queue h = more_less (length st.batches) (length d.0.batches) saw many (go (is_true (slot_of t.event == s)))
+      where
+        many : length st.batches ≤ length d.0.batches
+        many = let is : length d.0.batches ≡ length st.batches + batches_added t.event = batches_length t.size st t.event d step in omega (arith, is)
+
+        go : ((slot_of t.event == s) ≡ true) ⊎ ((slot_of t.event == s) ≡ false) → AllLess (length st.batches) saw
+        go (inl c) = saw_step t.size st (waiting_there st r) old b won m later saw queue t.event d step (subst (λ (k : ℕ). Stands d.0 k (Try b won m later saw) queue) (sym (eq_true (slot_of t.event) s c)) h)
+        go (inr n) = old s b won m later saw queue (ap (λ (x : Slot). x.call) (sym (slot_frame s t.size st t.event d step (other t.event n))) ∙ h)
+          where
+            other : (event : Event) → (slot_of event == s) ≡ false → changes_slot s event ≡ false
+            other (Event.ReadLink i l) n = refl
+            other (Event.ExchangeLink i l exchange) n = refl
+            other _ n = n
+
 -- What a head's word shows stays while nothing changes the head.
 
-blocks_stay : (n : Name) (own log : List Entry) (m : ℕ) (bs : List ℕ) → IsPrefix own log → AllLess (length (plans (start n) own)) bs
+pub blocks_stay : (n : Name) (own log : List Entry) (m : ℕ) (bs : List ℕ) → IsPrefix own log → AllLess (length (plans (start n) own)) bs
     → list_word (λ b. block_for (start n) own b m) bs ≡ list_word (λ b. block_for (start n) log b m) bs
 blocks_stay n own log m [] grows there = refl
 blocks_stay n own log m (b ∷ bs) grows there = ap (λ (k : ℕ). k + 2) (block_stays (start n) own log b m grows there.0)

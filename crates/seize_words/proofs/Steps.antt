@@ -134,7 +134,7 @@ module _ {M : Type 1} {𝓤 : Ura M} (𝓛 : Logic 𝓤) (site : Site) where
       told log = NoneEnded alive log
 
       found : (log : List Entry) → Before n p seen all log → told log → FoundAs site v p seen held alive t log
-      found log before none = record { shows = so.0; stands = so.1; before = before; none_ended = none }
+      found log before none = record { shows = so.0; stands = so.1; before = before; none_ended = none; distinct = distinct }
 
       step : (own log : List Entry) → Before n p seen all log → told log → IsStep site p held lives (f v) (ev log) (trades v) t own log
       step own log before none = may.1 v t own log (found log before none)

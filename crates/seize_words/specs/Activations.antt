@@ -1,7 +1,7 @@
 -- The words in which the contracts of activations speak.
 --     IsNewOf keys a           it is one of the slot that the keys are of
 --     Begun a keys a'          it has begun with what the keys know
---     Renewed a a' lives       its lifetime is over, and it is another one of the same slot
+--     Renewed a a' lives next  its lifetime is over, and it is another one of the same slot, with the next
 use Rattle.std.specs.Prelude.{◌≡◌, ℕ, List, [], ◌∷◌}
 use Rattle.seize_words.specs.Private.{key_of, own_of}
 use Rattle.seize_words.specs.declared.activation.Activation.{Activation}
@@ -13,5 +13,5 @@ IsNewOf keys a = (a.name ≡ keys.name) × (a.slot ≡ key_of keys.held)
 abbrev pub Begun : Activation → Keys → Activation → Type 0
 Begun a keys a' = (a'.name ≡ a.name) × (a'.slot ≡ a.slot) × (a'.life ≡ a.life) × (a'.since ≡ own_of keys.held)
 
-abbrev pub Renewed : Activation → Activation → List ℕ → Type 0
-Renewed a a' lives = (a'.name ≡ a.name) × (a'.slot ≡ a.slot) × (lives ≡ a.life ∷ [])
+abbrev pub Renewed : Activation → Activation → List ℕ → ℕ → Type 0
+Renewed a a' lives next = (a'.name ≡ a.name) × (a'.slot ≡ a.slot) × (lives ≡ a.life ∷ []) × (next ≡ a'.life)

@@ -6,7 +6,8 @@
 --                              that have the lifetimes `lives`. Where it trades, the holder's keys stay with the word, for those that
 --                              stood there
 --     Stepped site p seen seen' held held' alive v w entry trades   the step was taken, found v and left w
-use Rattle.std.specs.Prelude.{◌≡◌, ℕ, Bool, if◌then◌else◌, List, [], ◌∷◌, ◌++◌}
+use Rattle.std.specs.Prelude.{◌≡◌, ℕ, Bool, true, if◌then◌else◌, List, [], ◌∷◌, ◌++◌}
+use Rattle.seize_machine.specs.Machine.State.{linked, are_distinct}
 use Rattle.seize_machine.specs.Machine.Event.{Event}
 use Rattle.seize_words.specs.Ledger.{Held, WithKinds, renewed}
 use Rattle.seize_words.specs.Entry.{Entry}
@@ -29,6 +30,7 @@ pub record FoundAs (site : Site) (v p : ℕ) (seen : List Entry) (held : List (H
   pub stands : Stands site t.0 t.1
   pub before : Before site.name p seen (in_step site held t) log
   pub none_ended : NoneEnded alive log
+  pub distinct : are_distinct (linked site.name.links) ≡ true
 
 -- each activation that the event ends has one of these lifetimes
 abbrev pub EndsAmong : List ℕ → List Entry → Event → Type 0

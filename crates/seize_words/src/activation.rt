@@ -30,10 +30,11 @@ impl Model for Activation {
     ghost also_shares = { λ a _ κ. one (λ q. flft (a.life ∷ []) q) κ };
 }
 
-/// Lifetimes of activations that are over.
+/// Lifetimes of activations that are over, and the one that comes next.
 pub(crate) struct Ended {
     marker: PhantomData<()>,
     pub(crate) ghost lives: { List ℕ } by { coded_list coded_ℕ },
+    pub(crate) ghost next: { ℕ },
 }
 
 impl Model for Ended {
@@ -59,7 +60,7 @@ impl Activation {
 
     /// Ends it. It is another one then, which has still to begin.
     pub(crate) fn renew(&mut self) -> Ended
-        ensures { Renewed self.old self.new result.lives }
+        ensures { Renewed self.old self.new result.lives result.next }
     {
         Ended {
             marker: PhantomData,

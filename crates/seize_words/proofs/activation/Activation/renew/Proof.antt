@@ -28,7 +28,7 @@ renew_spec 𝓤 𝓛 𝓜 𝓡 wired =
     -- [what the book owns; the book; its cell, in four entries]
     use1 𝓛 (later (some (λ (life : ℕ). ‵ (flft (life ∷ []) full_share) ⊛ ‵ (over (b.life ∷ []))))) (renews 𝓛 b.life) $ await ! tt $ pick ! (λ life. split ! $
     -- [what the key owns; what the book owns; the book; its cell, in four entries]
-    let r : Ended.the_row.Denot = record { marker = record {}; lives = b.life ∷ [] } in let b' : Activation.the_row.Denot = record b { life = life } in
+    let r : Ended.the_row.Denot = record { marker = record {}; lives = b.life ∷ []; next = life } in let b' : Activation.the_row.Denot = record b { life = life } in
     move ! (2 ∷ 0 ∷ []) $ fjoin ! $ move ! (2 ∷ 0 ∷ 3 ∷ 4 ∷ 5 ∷ []) $ closes ! tt Activation.the_row b' vs pb po $
     -- [the book, in two; its token; what the key owns]
     sets ! (agg ! (no_more !)) refl (tt, tt) $ sets ! (agg ! (and_then ! (get ! refl) (no_more !))) refl (tt, (tt, tt)) $
@@ -38,4 +38,4 @@ renew_spec 𝓤 𝓛 𝓜 𝓡 wired =
     -- [the tokens; the result; the book, in two]
     nothing ! $ feq_i ! (List Val) (vptr pb po ∷ []) (vptr pb po ∷ []) refl $ move ! (0 ∷ 4 ∷ 5 ∷ []) $ fjoin3 ! $ fjoin ! $
     returns ! (look_at ! 0 refl) $ free_all ! refl $ keep ! (1 ∷ 0 ∷ 2 ∷ []) $
-    by ! (ends 𝓛 ended hs c y token r (b', tt) (tt, tt) (fact_i 𝓤 _ (emp 𝓤) (refl, refl, refl)))))))
+    by ! (ends 𝓛 ended hs c y token r (b', tt) (tt, tt) (fact_i 𝓤 _ (emp 𝓤) (refl, refl, refl, refl)))))))

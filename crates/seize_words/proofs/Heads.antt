@@ -1,0 +1,362 @@
+-- Steps on a head's word by a slot's holder meet what is asked of a step.
+use Rattle.std.proofs.Common.{◌≡◌, ◌≢◌, ℕ, zero, suc, ◌+◌, ◌<◌, ◌≤◌, Bool, true, false, cond, ◌==◌, ◌&&◌, ◌||◌, nat_le, nat_lt, unwrap_or, if◌then◌else◌, List, [], ◌∷◌, ◌++◌, length, get_or, set, Option, Some, None, refl, sym, ◌∙◌, ap, subst, ◌⊎◌, inl, inr, ⊎_elim, arith}
+use Rattle.std.proofs.lemmas.List.{get_or-set_same, get_or_past}
+use Rattle.std.proofs.lemmas.Bool.{cases_lt}
+use mathlib.Core.List.{IsPrefix}
+use base.Growing.{prefix_trans}
+use Rattle.atomic_table.proofs.Lists as kit
+use Rattle.seize_machine.specs.Machine.State.{State, Slot, Call, Place, Head, Inactive, Active, Mark, Look, Try, Out, Rest, no_slot, slot_at, head_at, is_active, is_idle, waiting_at, linked, are_distinct}
+use Rattle.seize_machine.specs.Machine.Event.{Event, Enter, Insert, ReadHead, SwapOut}
+use Rattle.seize_machine.specs.Machine.Next.{in_turn, look, next, of_call, set_head}
+use Rattle.seize_machine.specs.Machine.History.{IsReached, done_by}
+use Rattle.seize_machine.specs.Machine.Frames.{changes_slot, changes_used, changes_head_of, changes_link, changes_batch, changes_value, slots_added}
+use Rattle.seize_machine.specs.declared.machine.event.Answer.{Answer}
+use Rattle.seize_machine.specs.declared.machine.event.Answer.TheVariants.{Done}
+use Rattle.seize_machine.specs.declared.machine.event.Try.{Try as Insertion}
+use Rattle.seize_machine.specs.declared.machine.event.Try.TheVariants.{Won, Lost}
+use Rattle.seize_machine.proofs.Facts.{Step, Stands, and_true, eq_true, go_on, head_frame, heads_length, is_true, next_of, slots_length, step_of}
+use Rattle.seize_words.specs.Atomic.{exchanged}
+use Rattle.seize_words.specs.Blocks.{block_for, head_word, list_word, plans, word_of}
+use Rattle.seize_words.specs.Book.{Kept, TheHead, TheSlot, Does, IsLegalList, after, births, by_slot, heads, kinds, rules, slots}
+use Rattle.seize_words.specs.Entry.{Entry, timed}
+use Rattle.seize_words.specs.Fair.{Before, Covers, Fair, pass_key}
+use Rattle.seize_words.specs.Heads.{IsTrying, found_end, reads, reads_at}
+use Rattle.seize_words.specs.Laws.{IsIn, life, life_from, starts}
+use Rattle.seize_words.specs.Ledger.{Held, AllKept, WithKinds}
+use Rattle.seize_words.specs.Private.{is_one, key_of, own_of}
+use Rattle.seize_words.specs.Stepping.{EndsAmong, FoundAs, IsStep, MayStep, in_step}
+use Rattle.seize_words.specs.Tokens.{Name, start}
+use Rattle.seize_words.specs.Words.{Site}
+use Rattle.seize_words.proofs.Lives.{legal_first}
+use Rattle.seize_words.proofs.Lists.{after_push, legal_push, reached_after}
+use Rattle.seize_words.proofs.Plans.{AllLess, block_stays, blocks_stay, head_stays, legal_prefix, plans_long, saw_there, tried_there}
+use Rattle.seize_words.proofs.Private.{differ, only, only_is}
+
+abbrev pub at_head : Name → ℕ → Site
+at_head n m = record { name = n; kind = heads; number = m }
+
+-- What an event of slot s may change that is a step on the head of slot m.
+record Touches (s m : ℕ) (event : Event) : Type 1 where
+  pub slot : (k : ℕ) → k ≢ s → changes_slot k event ≡ false
+  pub used : changes_used event ≡ false
+  pub head : (k : ℕ) → k ≢ m → changes_head_of k event ≡ false
+  pub link : (k : ℕ) → changes_link k event ≡ false
+  pub others : (st : State) (k : ℕ) → (changes_batch st k event ≡ false) × (changes_value st k event ≡ false)
+  pub births : (st : State) → births st event ≡ []
+
+in_use : (st : State) (s : ℕ) → (slot_at st s ≡ no_slot → ⊥) → s < length st.slots
+in_use st s there = go (cases_lt s (length st.slots))
+  where
+    go : (s < length st.slots) ⊎ (length st.slots ≤ s) → s < length st.slots
+    go (inl l) = l
+    go (inr le) = absurd (there (get_or_past st.slots s no_slot le))
+
+slots_grow : (st : State) (a b : List Entry) → IsPrefix a b → IsLegalList st b → length (after st a).slots ≤ length (after st b).slots
+slots_grow st a b p l = subst (λ (z : List Entry). length (after st a).slots ≤ length (after st z).slots) p.1 (from st a p.0 (subst (IsLegalList st) (sym p.1) l))
+  where
+    more : (st : State) (log : List Entry) → IsLegalList st log → length st.slots ≤ length (after st log).slots
+    more st [] l = omega arith
+    more st (e ∷ log) l =
+        let w = legal_first st e log l in
+        let one : length (w.0).0.slots ≡ length st.slots + slots_added st e.event = slots_length e.size st e.event w.0 (step_of _ _ _ _ w.1) in
+        let rest : length (w.0).0.slots ≤ length (after (w.0).0 log).slots = more (w.0).0 log w.3 in
+        let same : length (after (done_by next st (timed e)).0 log).slots ≡ length (after (w.0).0 log).slots = ap (λ (d : State × Answer). length (after d.0 log).slots) w.2 in
+        omega (arith, one, rest, same)
+
+    from : (st : State) (a more_ : List Entry) → IsLegalList st (a ++ more_) → length (after st a).slots ≤ length (after st (a ++ more_)).slots
+    from st [] more_ l = more st more_ l
+    from st (e ∷ a) more_ l = from (done_by next st (timed e)).0 a more_ (and_true _ _ l).1
+
+-- The lifetime of a slot's last activation follows from the slot's own events.
+
+lives_in : ℕ → ℕ → List (Entry × Answer) → ℕ
+lives_in a s [] = a
+lives_in a s (x ∷ xs) = lives_in (if starts s x.0.event then x.0.life else a) s xs
+
+life_in : ℕ → List (Entry × Answer) → ℕ
+life_in s xs = lives_in 0 s xs
+
+-- who begins an activation of the slot makes an event of it
+starts_own : (s : ℕ) (event : Event) → changes_slot s event ≡ false → starts s event ≡ false
+starts_own s (Event.Enter t) h = h
+starts_own s (Event.SwapOut t) h = h
+starts_own s _ h = refl
+
+life_by_slot : (st : State) (s : ℕ) (log : List Entry) → life s log ≡ life_in s (by_slot st s log)
+unfolding life_in lives_in
+life_by_slot st s log = from st 0 log
+  where
+    from : (st : State) (a : ℕ) (log : List Entry) → life_from a s log ≡ lives_in a s (by_slot st s log)
+    from st a [] = refl
+    from st a (e ∷ log) = go (changes_slot s e.event) refl (λ b. from (done_by next st (timed e)).0 b log)
+      where
+        rest : List (Entry × Answer)
+        rest = by_slot (done_by next st (timed e)).0 s log
+
+        x : Entry × Answer
+        x = (e, (done_by next st (timed e)).1)
+
+        go : (c : Bool) → changes_slot s e.event ≡ c → ((b : ℕ) → life_from b s log ≡ lives_in b s (by_slot (done_by next st (timed e)).0 s log))
+            → life_from (if starts s e.event then e.life else a) s log ≡ lives_in a s (cond (changes_slot s e.event) (x ∷ by_slot (done_by next st (timed e)).0 s log) (by_slot (done_by next st (timed e)).0 s log))
+        go true h ih = ih (if starts s e.event then e.life else a) ∙ ap (λ (c : Bool). lives_in a s (cond c (x ∷ rest) rest)) (sym h)
+        go false h ih = ap (λ (b : Bool). life_from (if b then e.life else a) s log) (starts_own s e.event h) ∙ ih a ∙ ap (λ (c : Bool). lives_in a s (cond c (x ∷ rest) rest)) (sym h)
+
+prefix_push : (log : List Entry) (e : Entry) → IsPrefix log (log ++ e ∷ [])
+prefix_push log e = (e ∷ [], refl)
+
+module _ (n : Name) (m : ℕ) where
+  abbrev st : State
+  st = start n
+
+  abbrev At : Type 0
+  At = List Entry × List (Held Entry)
+
+  -- a head that the event leaves shows the same
+  unchanged : (log : List Entry) (e : Entry) (d : State × Answer) → are_distinct (linked n.links) ≡ true → IsLegalList st log → Does st log e d → changes_head_of m e.event ≡ false
+      → head_word st log m ≡ head_word st (log ++ e ∷ []) m
+  unchanged log e d distinct legal does same =
+      head_stays n m log (log ++ e ∷ []) distinct (legal_push st log e d legal does)
+      (prefix_push log e, sym (ap (λ (z : State). head_at z m) (after_push st log e d legal does) ∙ head_frame m e.size (after st log) e.event d (step_of e.size (after st log) e.event d does) same))
+
+  -- what the word holds is what the head shows
+  shown : (v p : ℕ) (seen : List Entry) (held : List (Held Entry)) (t : At) (log : List Entry) → FoundAs (at_head n m) v p seen held [] t log → v ≡ head_word st log m
+  shown v p seen held t log found = found.shows ∙ head_stays n m t.0 log found.distinct found.before.legal found.before.kept.0
+
+  abbrev key : ℕ → List Entry → List (Held Entry)
+  key s own = record { kind = slots; key = s; own = own } ∷ []
+
+  -- One event of the slot, with the slot's key.
+  module _ (p s : ℕ) (slots_own own since log : List Entry) (lives : List ℕ) (w : ℕ) (e : Entry) (pe : e.pass ≡ p) (t : Touches s m e.event) (d : State × Answer) where
+    covers : Covers st (pass_key p own ∷ in_step (at_head n m) (key s slots_own) (since, [])) log e
+    covers zero k b there = differ e.pass k (λ i. b.0 (refl, i ∙ pe))
+    covers (suc zero) k b there = t.used
+    covers (suc (suc zero)) k b there = t.slot k (λ i. b.1.1.0 (refl, i))
+    covers (suc (suc (suc zero))) k b there = t.head k (λ i. b.1.0 (refl, i))
+    covers (suc (suc (suc (suc zero)))) k b there = t.link k
+    covers (suc (suc (suc (suc (suc zero))))) k b there = (t.others (after st log) k).0
+    covers (suc (suc (suc (suc (suc (suc zero)))))) k b there = (t.others (after st log) k).1
+    covers (suc (suc (suc (suc (suc (suc (suc r))))))) k b there = refl
+
+    made : Does st log e d → EndsAmong lives log e.event → w ≡ head_word st (log ++ e ∷ []) m → IsStep (at_head n m) p (key s slots_own) lives w e false (since, []) own log
+    made does ends shows = record {
+      fair = record { done = d; legal = does; covers = covers; names = λ many was there. (subst (λ (z : ℕ). z < many 0) (sym pe) there.0, λ v le. (t.others (after st log) v).1) };
+      its = pe;
+      no_births = t.births (after st log);
+      ends = ends;
+      shows = shows;
+      stands = refl;
+    }
+
+  -- it is enough to see it for the slot's key alone, and with no key beside the head's
+  MayStepAs : (p s : ℕ) (seen slots_own : List Entry) (lives : List ℕ) (f : ℕ → ℕ) (entry : ℕ → List Entry → Entry) → Type 0
+  MayStepAs p s seen slots_own lives f entry =
+      (v : ℕ) (t : At) (own log : List Entry) → FoundAs (at_head n m) v p seen (key s slots_own) [] t log → Kept st TheSlot s slots_own log → v ≡ head_word st log m
+      → IsStep (at_head n m) p (key s slots_own) lives (f v) (entry v log) false (t.0, []) own log
+
+  may_step : (p : ℕ) (seen : List Entry) (held : List (Held Entry)) (lives : List ℕ) (f : ℕ → ℕ) (entry : ℕ → List Entry → Entry) → is_one slots held ≡ true
+      → MayStepAs p (key_of held) seen (own_of held) lives f entry → MayStep (at_head n m) p seen held [] lives f entry (λ v. false)
+  unfolding MayStepAs
+  may_step p seen held lives f entry one steps =
+      subst (λ (hs : List (Held Entry)). MayStep (at_head n m) p seen hs [] lives f entry (λ v. false)) (sym (only_is slots held one))
+      ((omega arith, tt), (λ v t own log found.
+        let kept = subst (λ (vs : List (Held Entry)). AllKept (rules st) (vs ++ key (key_of held) (own_of held)) log) found.stands found.before.kept.1 in
+        subst (λ (vs : List (Held Entry)). IsStep (at_head n m) p (key (key_of held) (own_of held)) lives (f v) (entry v log) false (t.0, vs) own log) (sym found.stands)
+        (steps v t own log found kept.0 (shown v p seen (key (key_of held) (own_of held)) t log found))))
+
+  -- A read.
+
+  in_turn_is : (x note k : ℕ) → in_turn x note k ≡ true → (k ≡ x) ⊎ ((note ≤ x) × (x < k))
+  in_turn_is x note k h = go (is_true (k == x)) h
+    where
+      past : (nat_le note x && nat_lt x k) ≡ true → (note ≤ x) × (x < k)
+      past h = let both = and_true _ _ h in let a : nat_le note x ≡ true = both.0 in let b : nat_lt x k ≡ true = both.1 in (grind arith, grind arith)
+
+      go : ((k == x) ≡ true) ⊎ ((k == x) ≡ false) → in_turn x note k ≡ true → (k ≡ x) ⊎ ((note ≤ x) × (x < k))
+      go (inl e) h = inl (eq_true k x e)
+      go (inr d) h = inr (past (ap (λ (b : Bool). b || (nat_le note x && nat_lt x k)) (sym d) ∙ h))
+
+  -- what the machine makes of it
+  read_done : (size s : ℕ) (now : State) → reads (slot_at now s) m ≡ true → m < length now.slots → (d : State × Answer) × (next size now (ReadHead s m) ≡ Some d)
+  read_done size s now may there = go (slot_at now s).call refl may
+    where
+      by_place : (place : Place) (queue : List ℕ) → Stands now s place queue → unwrap_or (reads_at m place queue) false ≡ true
+          → (d : State × Answer) × (next size now (ReadHead s m) ≡ Some d)
+      by_place (Mark x note marks) queue stands h = (_, next_of size now (ReadHead s m) _ (Step.marked s m x note marks queue stands there (in_turn_is x note m h)))
+      by_place (Look b won k later) queue stands h =
+          subst (λ (j : ℕ). (d : State × Answer) × (next size now (ReadHead s j) ≡ Some d)) (sym (eq_true m k h)) (_, next_of size now (ReadHead s k) _ (Step.looked_at s b won k later queue stands))
+      by_place _ queue stands h = absurd (cc)
+
+      go : (call : Option Call) → (slot_at now s).call ≡ call → unwrap_or (of_call (reads_at m) call) false ≡ true
+          → (d : State × Answer) × (next size now (ReadHead s m) ≡ Some d)
+      go None e h = absurd (cc)
+      go (Some call) e h = by_place call.place call.queue e h
+
+  read_touches : (s : ℕ) → Touches s m (ReadHead s m)
+  read_touches s = record { slot = λ k d. differ s k d; used = refl; head = λ k d. refl; link = λ k. refl; others = λ st k. (refl, refl); births = λ st. refl }
+
+  pub may_read : (p size : ℕ) (seen : List Entry) (held : List (Held Entry)) → is_one slots held ≡ true → reads (slot_at (after st (own_of held)) (key_of held)) m ≡ true → m < length (after st seen).slots
+      → MayStep (at_head n m) p seen held [] [] (λ v. v) (λ v log. record { pass = p; size = size; event = ReadHead (key_of held) m; life = 0 }) (λ v. false)
+  unfolding MayStepAs
+  may_read p size seen held one may there =
+      may_step p seen held [] (λ v. v) (λ v log. record { pass = p; size = size; event = ReadHead (key_of held) m; life = 0 }) one (λ v t own log found kept word.
+        let s = key_of held in let le : length (after st seen).slots ≤ length (after st log).slots = slots_grow st seen log found.before.grows found.before.legal in
+        let done = read_done size s (after st log) (ap (λ (x : Slot). reads x m) (sym kept.1.1) ∙ may) (omega (arith, le)) in
+        let e : Entry = record { pass = p; size = size; event = ReadHead s m; life = 0 } in
+        made p s (own_of held) own t.0 log [] v e refl (read_touches s) done.0 done.1 (λ a i. absurd i) (word ∙ unchanged log e done.0 found.distinct found.before.legal done.1 refl))
+
+  -- The slot becomes active.
+
+  enter_touches : (s : ℕ) → s ≡ m → Touches s m (Enter s)
+  enter_touches s is = record { slot = λ k d. differ s k d; used = refl; head = λ k d. differ s k (λ e. d (e ∙ is)); link = λ k. refl; others = λ st k. (refl, refl); births = λ st. refl }
+
+  -- a slot with a call, or in use, is there, and so is its head
+  head_there : (log : List Entry) (s : ℕ) → are_distinct (linked n.links) ≡ true → IsLegalList st log → (slot_at (after st log) s ≡ no_slot → ⊥) → s < length (after st log).heads
+  head_there log s distinct legal there = let l : s < length (after st log).slots = in_use (after st log) s there in
+      let same : length (after st log).heads ≡ length (after st log).slots = heads_length (after st log) (reached_after n log distinct legal) in omega (arith, l, same)
+
+  set_word : (log : List Entry) (e : Entry) (d : State × Answer) (h : Head) (now : List Head) → IsLegalList st log → Does st log e d → d.0.heads ≡ set now m h → m < length now
+      → head_at (after st (log ++ e ∷ [])) m ≡ h
+  set_word log e d h now legal does is there =
+      ap (λ (z : State). head_at z m) (after_push st log e d legal does) ∙ ap (λ (hs : List Head). get_or hs m Inactive) is ∙ get_or-set_same now m h Inactive there
+
+  pub may_enter : (p size a : ℕ) (seen : List Entry) (held : List (Held Entry)) → is_one slots held ≡ true → is_idle (slot_at (after st (own_of held)) (key_of held)) ≡ true
+      → is_active (head_at (after st (own_of held)) (key_of held)) ≡ false → key_of held ≡ m
+      → (lives : List ℕ) → MayStep (at_head n m) p seen held [] lives (λ v. 1) (λ v log. record { pass = p; size = size; event = Enter (key_of held); life = a }) (λ v. false)
+  unfolding MayStepAs
+  may_enter p size a seen held one idle off is lives =
+      may_step p seen held lives (λ v. 1) (λ v log. record { pass = p; size = size; event = Enter (key_of held); life = a }) one (λ v t own log found kept word.
+        let s = key_of held in let now : State = after st log in let e : Entry = record { pass = p; size = size; event = Enter s; life = a } in
+        let idle_now : is_idle (slot_at now s) ≡ true = ap is_idle (sym kept.1.1) ∙ idle in
+        let d : State × Answer = (set_head now s (Active []), Done) in
+        let does : Does st log e d = next_of size now (Enter s) d (Step.entered s idle_now (sym kept.1.2 ∙ off)) in
+        let there : s < length now.heads = head_there log s found.distinct found.before.legal (λ x. let y : true ≡ false = sym idle_now ∙ ap is_idle x in cc) in
+        let head = set_word log e d (Active []) now.heads found.before.legal does (ap (λ (k : ℕ). set now.heads k (Active [])) is) (subst (λ (k : ℕ). k < length now.heads) is there) in
+        made p s (own_of held) own t.0 log lives 1 e refl (enter_touches s is) d does (λ a i. absurd i) (sym (ap (word_of (λ b. block_for st (log ++ e ∷ []) b m)) head)))
+
+  -- The slot leaves or refreshes.
+
+  leave_touches : (s : ℕ) → s ≡ m → Touches s m (SwapOut s)
+  leave_touches s is = record { slot = λ k d. differ s k d; used = refl; head = λ k d. differ s k (λ e. d (e ∙ is)); link = λ k. refl; others = λ st k. (refl, refl); births = λ st. refl }
+
+  left_word : (stays : Bool) (block : ℕ → ℕ) → (if stays then 1 else 0) ≡ word_of block (if stays then Active [] else Inactive)
+  left_word true block = refl
+  left_word false block = refl
+
+  pub may_leave : (p size a : ℕ) (stays : Bool) (queue seen_lives : List ℕ) (seen : List Entry) (held : List (Held Entry)) → is_one slots held ≡ true
+      → Stands (after st (own_of held)) (key_of held) (Out stays) queue → key_of held ≡ m → IsIn seen_lives (life (key_of held) (own_of held))
+      → MayStep (at_head n m) p seen held [] seen_lives (λ v. if stays then 1 else 0) (λ v log. record { pass = p; size = size; event = SwapOut (key_of held); life = a }) (λ v. false)
+  unfolding MayStepAs
+  may_leave p size a stays queue lives seen held one stands is among =
+      may_step p seen held lives (λ v. if stays then 1 else 0) (λ v log. record { pass = p; size = size; event = SwapOut (key_of held); life = a }) one (λ v t own log found kept word.
+        let s = key_of held in let now : State = after st log in let e : Entry = record { pass = p; size = size; event = SwapOut s; life = a } in let h : Head = if stays then Active [] else Inactive in
+        let stands_now : Stands now s (Out stays) queue = ap (λ (x : Slot). x.call) (sym kept.1.1) ∙ stands in
+        let d : State × Answer = (go_on (set_head now s h) s (record { place = Rest [] (waiting_at (head_at now s)); queue = queue }), Done) in
+        let does : Does st log e d = next_of size now (SwapOut s) d (Step.swapped_out s stays queue stands_now) in
+        let there : s < length now.heads = head_there log s found.distinct found.before.legal (λ x. let y : Option.None ≡ (slot_at now s).call = sym (ap (λ (z : Slot). z.call) x) in let z : Option.None ≡ Some (record { place = Out stays; queue = queue }) = y ∙ stands_now in cc) in
+        let head = set_word log e d h now.heads found.before.legal does (ap (λ (k : ℕ). set now.heads k h) is) (subst (λ (k : ℕ). k < length now.heads) is there) in
+        let its : life s (own_of held) ≡ life s log = life_kept s (own_of held) log kept in
+        made p s (own_of held) own t.0 log lives (if stays then 1 else 0) e refl (leave_touches s is) d does (λ b i. subst (IsIn lives) (its ∙ only_that (life s log) b i) among)
+            (left_word stays (λ b. block_for st (log ++ e ∷ []) b m) ∙ sym (ap (word_of (λ b. block_for st (log ++ e ∷ []) b m)) head)))
+    where
+      only_that : (x b : ℕ) → IsIn (x ∷ []) b → x ≡ b
+      only_that x b (inl e) = e
+      only_that x b (inr t) = absurd t
+
+      life_kept : (s : ℕ) (a b : List Entry) → Kept st TheSlot s a b → life s a ≡ life s b
+      life_kept s a b kept = life_by_slot st s a ∙ ap (life_in s) kept.1.0 ∙ sym (life_by_slot st s b)
+
+  -- An insertion, won or lost.
+
+  insert_touches : (s : ℕ) (end : Insertion) → Touches s m (Insert s m end)
+  insert_touches s Won = record { slot = λ k d. differ s k d; used = refl; head = λ k d. differ m k d; link = λ k. refl; others = λ st k. (refl, refl); births = λ st. refl }
+  insert_touches s Lost = record { slot = λ k d. differ s k d; used = refl; head = λ k d. refl; link = λ k. refl; others = λ st k. (refl, refl); births = λ st. refl }
+
+  -- a head's word that is that of a list is an active head's
+  word_active : (block : ℕ → ℕ) (h : Head) (x : ℕ) (bs : List ℕ) (other : ℕ → ℕ) → word_of block h ≡ list_word other bs → (waiting : List ℕ) × (h ≡ Active waiting)
+  word_active block (Active waiting) x bs other e = (waiting, refl)
+  word_active block Inactive x [] other e = absurd (omega (arith, e))
+  word_active block Inactive x (b ∷ bs) other e = absurd (omega (arith, e))
+
+  module _ (p size seen_word block : ℕ) (seen : List Entry) (held : List (Held Entry)) (tries : IsTrying st (key_of held) (own_of held) m seen_word block)
+      (v : ℕ) (t : At) (own log : List Entry) (found : FoundAs (at_head n m) v p seen (key (key_of held) (own_of held)) [] t log) (kept : Kept st TheSlot (key_of held) (own_of held) log) (word : v ≡ head_word st log m) where
+    abbrev s : ℕ
+    s = key_of held
+
+    abbrev then_own : List Entry
+    then_own = own_of held
+
+    abbrev now : State
+    now = after st log
+
+    abbrev inserts : Insertion → Entry
+    inserts end = record { pass = p; size = size; event = Insert s m end; life = 0 }
+
+    own_legal : IsLegalList st then_own
+    own_legal = legal_prefix st then_own log kept.0 found.before.legal
+
+    stands_own : Stands (after st then_own) s (Try tries.batch tries.won m tries.later tries.saw) tries.queue
+    stands_own = tries.trying
+
+    stands_now : Stands now s (Try tries.batch tries.won m tries.later tries.saw) tries.queue
+    stands_now = ap (λ (x : Slot). x.call) (sym kept.1.1) ∙ tries.trying
+
+    planned : (bs : List ℕ) → AllLess (length (after st then_own).batches) bs → AllLess (length (plans st then_own)) bs
+    planned bs there = subst (λ (k : ℕ). AllLess k bs) (sym (plans_long n then_own own_legal)) there
+
+    reached_own : IsReached (after st then_own)
+    reached_own = reached_after n then_own found.distinct own_legal
+
+    -- what the slot saw shows still what it showed then
+    saw_word : seen_word ≡ list_word (λ b. block_for st log b m) tries.saw
+    saw_word = tries.is_seen ∙ blocks_stay n then_own log m tries.saw kept.0 (planned tries.saw (saw_there (after st then_own) reached_own s tries.batch tries.won m tries.later tries.saw tries.queue stands_own))
+
+    abbrev Step_ : ℕ → Insertion → Type 0
+    Step_ w end = IsStep (at_head n m) p (key s then_own) [] w (record { pass = p; size = size; event = Insert s m end; life = 0 }) false (t.0, []) own log
+
+    lost : v ≢ seen_word → Step_ v Lost
+    lost differs =
+        let d : State × Answer = (go_on now s (record { place = Look tries.batch tries.won m tries.later; queue = tries.queue }), Done) in
+        let other : head_at now m ≢ Active tries.saw = λ x. differs (word ∙ ap (word_of (λ b. block_for st log b m)) x ∙ sym saw_word) in
+        let does : Does st log (inserts Lost) d = next_of size now (Insert s m Lost) d (Step.lost s m tries.batch tries.won tries.later tries.saw tries.queue stands_now other) in
+        made p s then_own own t.0 log [] v (inserts Lost) refl (insert_touches s Lost) d does (λ a i. absurd i) (word ∙ unchanged log (inserts Lost) d found.distinct found.before.legal does refl)
+
+    won : v ≡ seen_word → Step_ (block + 2) Won
+    won same =
+        let active = word_active (λ b. block_for st log b m) (head_at now m) v tries.saw (λ b. block_for st log b m) (sym word ∙ same ∙ saw_word) in let waiting : List ℕ = active.0 in let b : ℕ = tries.batch in
+        let d : State × Answer = (go_on (set_head now m (Active (b ∷ waiting))) s (record { place = look b (tries.won + 1) tries.later; queue = tries.queue }), Done) in
+        let does : Does st log (inserts Won) d = next_of size now (Insert s m Won) d (Step.inserted s m b tries.won tries.later tries.saw tries.queue waiting stands_now active.1) in
+        let there : m < length now.heads = head_within waiting active.1 in
+        let head = set_word log (inserts Won) d (Active (b ∷ waiting)) now.heads found.before.legal does refl there in
+        let its : b < length (plans st then_own) = subst (λ (k : ℕ). b < k) (sym (plans_long n then_own own_legal)) (tried_there (after st then_own) s b tries.won m tries.later tries.saw tries.queue reached_own stands_own) in
+        let stays = block_stays st then_own (log ++ inserts Won ∷ []) b m (prefix_trans then_own log (log ++ inserts Won ∷ []) kept.0 (prefix_push log (inserts Won))) its in
+        made p s then_own own t.0 log [] (block + 2) (inserts Won) refl (insert_touches s Won) d does (λ a i. absurd i)
+            (ap (λ (k : ℕ). k + 2) (tries.is_block ∙ stays) ∙ sym (ap (word_of (λ b. block_for st (log ++ inserts Won ∷ []) b m)) head))
+      where
+        head_within : (waiting : List ℕ) → head_at now m ≡ Active waiting → m < length now.heads
+        head_within waiting e = go (cases_lt m (length now.heads))
+          where
+            go : (m < length now.heads) ⊎ (length now.heads ≤ m) → m < length now.heads
+            go (inl l) = l
+            go (inr le) = absurd (let x : Inactive ≡ Active waiting = sym (get_or_past now.heads m Inactive le) ∙ e in cc)
+
+    either_way : Step_ (exchanged seen_word (block + 2) v) (found_end seen_word v)
+    either_way = kit.exchanged v seen_word (block + 2) (λ x. Step_ x (found_end seen_word v))
+        (λ same. subst (Step_ (block + 2)) (sym (ap (λ (c : Bool). if c then Won else Lost) (equal v seen_word same))) (won same))
+        (λ differs. subst (Step_ v) (sym (ap (λ (c : Bool). if c then Won else Lost) (unequal v seen_word differs))) (lost differs))
+      where
+        equal : (x y : ℕ) → x ≡ y → (x == y) ≡ true
+        equal x y e = grind arith
+
+        unequal : (x y : ℕ) → x ≢ y → (x == y) ≡ false
+        unequal x y n = grind arith
+
+  pub may_insert : (p size seen_word block : ℕ) (seen : List Entry) (held : List (Held Entry)) → is_one slots held ≡ true → IsTrying st (key_of held) (own_of held) m seen_word block
+      → MayStep (at_head n m) p seen held [] [] (exchanged seen_word (block + 2)) (λ v log. record { pass = p; size = size; event = Insert (key_of held) m (found_end seen_word v); life = 0 }) (λ v. false)
+  unfolding MayStepAs
+  may_insert p size seen_word block seen held one tries =
+      may_step p seen held [] (exchanged seen_word (block + 2)) (λ v log. record { pass = p; size = size; event = Insert (key_of held) m (found_end seen_word v); life = 0 }) one
+      (λ v t own log found kept word. either_way p size seen_word block seen held tries v t own log found kept word)
+
+  -- What the word held is what the list said of the head just before.
+  pub found_word : (v p : ℕ) (seen : List Entry) (held : List (Held Entry)) (t : At) (log : List Entry) → FoundAs (at_head n m) v p seen held [] t log → v ≡ head_word st log m
+  found_word = shown
