@@ -1,16 +1,19 @@
 -- What is known after an atomic step on a head's word by a slot's holder.
-use Rattle.std.proofs.Common.{◌≡◌, ℕ, Bool, true, false, List, [], ◌∷◌, ◌++◌, sym, refl, ap, ◌∙◌, subst}
-use Rattle.seize_machine.specs.Machine.State.{linked, are_distinct}
+use Rattle.std.proofs.Common.{if◌then◌else◌, ◌+◌, arith, ◌≡◌, ℕ, Bool, true, false, List, [], ◌∷◌, ◌++◌, sym, refl, ap, ◌∙◌, subst}
+use Rattle.seize_machine.specs.Machine.State.{Head, Inactive, Active, head_at, is_active}
 use Rattle.seize_words.specs.Atomic.{Events, Takes, entries}
-use Rattle.seize_words.specs.Blocks.{head_word}
-use Rattle.seize_words.specs.Book.{Kept, TheHead, IsLegalList, heads, kind_of, rules, slots}
+use Rattle.seize_words.specs.Blocks.{block_for, head_word, word_of}
+use Rattle.seize_words.specs.Book.{Kept, TheHead, IsLegalList, after, heads, kind_of, rules, slots}
 use Rattle.seize_words.specs.Entry.{Entry}
 use Rattle.seize_words.specs.Ledger.{Held, AllKept, renewed}
+use Rattle.seize_words.specs.Laws.{life, life_from, starts}
+use Rattle.seize_words.specs.Reservations.{IsActivationOf}
 use Rattle.seize_words.specs.Private.{is_one, key_of, own_of}
 use Rattle.seize_words.specs.Slots.{IsOf, NotesAs, number_of, own_list}
 use Rattle.seize_words.specs.Stepping.{Stepped, FoundAs, in_step}
 use Rattle.seize_words.specs.Tokens.{Name, start}
 use Rattle.seize_words.specs.Words.{Site, ShowsOf, StandsOf}
+use Rattle.seize_words.specs.declared.activation.Activation.{Activation}
 use Rattle.seize_words.specs.declared.book.keys.Keys.{Keys}
 use Rattle.seize_words.specs.declared.book.pass.Pass.{Pass}
 use Rattle.seize_words.specs.declared.book.slot_key.SlotKey.{SlotKey}
@@ -59,3 +62,33 @@ module _ (m : ℕ) (pass pass' : Pass) (keys keys' : Keys) (f : ℕ → ℕ) (v 
     step.noted.appended,
     subst (λ (log : List Entry). v ≡ head_word (start pass.name) log m) (sym step.is_log) (found_word pass.name m v pass.id pass.seen keys.held step.since step.log step.found),
   )
+
+-- An activation has begun with the last event.
+
+life_push : (a s : ℕ) (log : List Entry) (e : Entry) → life_from a s (log ++ e ∷ []) ≡ (if starts s e.event then e.life else life_from a s log)
+life_push a s [] e = refl
+life_push a s (x ∷ log) e = life_push (if starts s x.event then x.life else a) s log e
+
+active_word : (block : ℕ → ℕ) (h : Head) → 1 ≡ word_of block h → is_active h ≡ true
+active_word block (Active waiting) e = refl
+active_word block Inactive e = absurd (omega (arith, e))
+
+pub activation_is : (m : ℕ) (pass pass' : Pass) (keys keys' : Keys) (f : ℕ → ℕ) (v life : ℕ) (event : Events) (told : Takes (at_head pass.name m) keys pass keys' pass' [] f v life event (λ _. false))
+    → f v ≡ 1 → starts m (event v told.2.log) ≡ true → is_one slots keys.held ≡ true → keys.name ≡ pass.name → key_of keys.held ≡ m
+    → (key' : SlotKey) (a : Activation) → key'.keys ≡ keys' → a.name ≡ keys.name → a.slot ≡ key_of keys.held → a.since ≡ own_of keys'.held → a.life ≡ life → IsActivationOf key' a
+activation_is m pass pass' keys keys' f v life_ event told one begins is_slot book is_m key' a same name slot since its =
+    let step = told.2 in let e : Entry = entries pass life_ event v step.log in let after_it = after_one slots keys.held pass'.seen is_slot in
+    let number = ap key_of step.keys ∙ after_it.0 in let own = ap own_of step.keys ∙ after_it.1 in let all = since ∙ own in
+    record {
+      book = name ∙ sym (ap (λ (k : Keys). k.name) same ∙ told.1);
+      slot = slot ∙ sym (ap (λ (k : Keys). key_of k.held) same ∙ number);
+      since = since ∙ sym (ap (λ (k : Keys). own_of k.held) same);
+      active =
+      ap (λ (t : Name × (List Entry × ℕ)). is_active (head_at (after (start t.0) t.1.0) t.1.1)) (λ j. ((name ∙ book) j, (all j, (slot ∙ is_m) j)))
+          ∙ active_word (λ b. block_for (start pass.name) pass'.seen b m) (head_at (after (start pass.name) pass'.seen) m) (sym one ∙ step.left);
+      its =
+      ap (λ (t : ℕ × List Entry). life t.0 t.1) (λ j. ((slot ∙ is_m) j, (all ∙ step.noted.appended) j))
+          ∙ life_push 0 m step.noted.before e
+          ∙ ap (λ (b : Bool). if b then life_ else life_from 0 m step.noted.before) begins
+          ∙ sym its;
+    }

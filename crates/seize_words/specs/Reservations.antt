@@ -4,23 +4,27 @@
 --     Shows head list v           the list says that the head's word is v
 --     FoundBefore head pass' v    all that the pass has seen shows v, without its last event
 --     TriesAt key head seen block     the slot's call is about to insert its batch here: see IsTrying. The block's number fits beside 2
+--     IsOwn head key, IsOut key stays     it is the slot's own head;  the slot's call is about to swap it out
+--     life_of key, IsActivationOf key a   the lifetime of the slot's last activation;  and this is that one
 --     made_of numbers, IsFull numbers     how many slots there are, as the key knows;  all of their numbers are in use
 --     MakesSlot numbers pass numbers' pass' key head     the next slot was made, with this key and this head
-use Rattle.std.specs.Prelude.{◌≡◌, ℕ, ◌+◌, ◌<◌, ◌^◌, true, List, [], ◌∷◌, ◌++◌, length}
-use Rattle.seize_machine.specs.Machine.Event.{Take}
+use Rattle.std.specs.Prelude.{◌≡◌, ℕ, ◌+◌, ◌<◌, ◌^◌, Bool, true, List, [], ◌∷◌, ◌++◌, length, Some}
+use Rattle.seize_machine.specs.Machine.Event.{Event, Take}
 use Rattle.seize_machine.specs.Machine.Next.{first_free}
 use Rattle.seize_table.specs.Place.{all_numbers}
 use Rattle.seize_words.specs.Adding.{private}
-use Rattle.seize_machine.specs.Machine.State.{Inactive, head_at}
+use Rattle.seize_machine.specs.Machine.State.{Inactive, Out, head_at, is_active}
 use Rattle.seize_words.specs.Blocks.{head_word}
-use Rattle.seize_words.specs.Book.{heads}
+use Rattle.seize_words.specs.Book.{after, heads}
 use Rattle.seize_words.specs.Entry.{Entry}
 use Rattle.seize_words.specs.Heads.{IsMade, IsTrying, reads}
+use Rattle.seize_words.specs.Laws.{life}
 use Rattle.seize_words.specs.Others.{Follows, state_of}
 use Rattle.seize_words.specs.Passes.{IsSame}
 use Rattle.seize_words.specs.Private.{is_one, key_of}
 use Rattle.seize_words.specs.Slots.{number_of, own_list, slot_of, start_of}
 use Rattle.seize_words.specs.Tokens.{Noted, start}
+use Rattle.seize_words.specs.declared.activation.Activation.{Activation}
 use Rattle.seize_words.specs.declared.book.keys.Keys.{Keys}
 use Rattle.seize_words.specs.declared.book.numbers_key.NumbersKey.{NumbersKey}
 use Rattle.seize_words.specs.declared.book.pass.Pass.{Pass}
@@ -44,6 +48,31 @@ FoundBefore head pass' v = (before : List Entry) × (last : Entry) × (pass'.see
 
 abbrev pub TriesAt : SlotKey → Head → ℕ → ℕ → Type 0
 TriesAt key head seen block = IsTrying (start_of key) (number_of key) (own_list key) (slot head) seen block × (block + 2 < 2 ^ 64)
+
+-- Activations.
+
+abbrev pub IsOwn : Head → SlotKey → Type 0
+IsOwn head key = slot head ≡ number_of key
+
+-- the slot's call is about to swap its head out, and then the slot stays active or not
+abbrev pub IsOut : SlotKey → Bool → Type 0
+IsOut key stays = (queue : List ℕ) × ((slot_of key).call ≡ Some (record { place = Out stays; queue = queue }))
+
+-- the lifetime of the slot's last activation, as its key knows
+abbrev pub life_of : SlotKey → ℕ
+life_of key = life (number_of key) (own_list key)
+
+-- the entry of an event that begins an activation with this lifetime
+abbrev pub beginning : Pass → ℕ → Event → Entry
+beginning pass life event = record { pass = pass.id; size = pass.name.size; event = event; life = life }
+
+-- it has begun with what the key knows last
+pub record IsActivationOf (key : SlotKey) (a : Activation) : Type 0 where
+  pub book : a.name ≡ key.keys.name
+  pub slot : a.slot ≡ number_of key
+  pub since : a.since ≡ own_list key
+  pub active : is_active (head_at (after (start a.name) a.since) a.slot) ≡ true
+  pub its : life a.slot a.since ≡ a.life
 
 -- Slots are made.
 

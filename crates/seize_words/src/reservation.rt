@@ -1,9 +1,11 @@
 //! Heads: what a slot has reserved. A head's word shows whether the slot is active, and the list of retired batches that wait for it. It
 //! uses words and the book's keys; slots are made with their heads.
-ghost use Rattle.std.specs.Prelude.{◌≡◌};
-ghost use Rattle.seize_machine.specs.Machine.Event.{Insert, ReadHead};
+ghost use Rattle.std.specs.Prelude.{◌≡◌, true, false};
+ghost use Rattle.seize_machine.specs.Machine.State.{is_idle};
+ghost use Rattle.seize_machine.specs.Machine.Event.{Enter, Insert, ReadHead, SwapOut};
 ghost use Rattle.seize_words.specs.Heads.{IsHead, found_end};
 
+use crate::activation::Activation;
 use crate::book::{Keys, NumbersKey, Pass, SlotKey};
 use crate::word::Word;
 use std::marker::Brand;
@@ -19,8 +21,8 @@ pub struct Head {
 }
 
 impl Head {
-    ghost use Rattle.seize_words.specs.Reservations.{FoundBefore, IsFull, IsHeadOf, IsOfBook, IsOfHead, MakesSlot, MayRead, NumbersOf, Shows, TriesAt, slot};
-    ghost use Rattle.seize_words.specs.Slots.{IsOf, Notes, number_of};
+    ghost use Rattle.seize_words.specs.Reservations.{FoundBefore, IsActivationOf, IsFull, IsHeadOf, IsOfBook, IsOfHead, IsOut, IsOwn, MakesSlot, MayRead, NumbersOf, Shows, TriesAt, beginning, life_of, slot};
+    ghost use Rattle.seize_words.specs.Slots.{IsOf, Notes, NotesAs, active_of, number_of, slot_of};
 
     /// Makes the next slot, with its head: the event `Take` of a number that was never in use. All numbers below it are in use.
     pub fn make(numbers: &mut NumbersKey, pass: &mut Pass) -> (SlotKey, Head)
@@ -63,5 +65,48 @@ impl Head {
         ensures found { FoundBefore self.now pass.new result }
     {
         self.word.exchange::<Brand>(seen, block + 2, &mut key.keys, pass)
+    }
+
+    /// The slot becomes active: the event `Enter`, which begins the activation.
+    pub fn enter(&self, key: &mut SlotKey, pass: &mut Pass) -> Activation
+        requires book { IsOf key.old pass.old × IsOfBook self.now pass.old × IsOwn self.now key.old }
+        requires outside { (is_idle (slot_of key.old) ≡ true) × (active_of key.old ≡ false) }
+        ensures noted { NotesAs key.old pass.old key.new pass.new (beginning pass.old result.life (Enter (number_of key.old))) }
+        ensures activation { IsActivationOf key.new result }
+    {
+        let mut activation = Activation::new(&mut key.keys);
+        let mut ended = activation.renew();
+        self.word.swap::<Brand>(1, &mut key.keys, &mut ended, pass);
+        activation.begun(&mut key.keys);
+        activation
+    }
+
+    /// The slot leaves: the event `SwapOut` of a leave, which ends the activation. It gives the word of the head that comes out.
+    pub fn leave(&self, activation: Activation, key: &mut SlotKey, pass: &mut Pass) -> u64
+        requires book { IsOf key.old pass.old × IsOfBook self.now pass.old × IsOwn self.now key.old }
+        requires leaving { IsOut key.old false }
+        requires activation { activation.life ≡ life_of key.old }
+        ensures noted { Notes key.old pass.old key.new pass.new (SwapOut (number_of key.old)) }
+        ensures found { FoundBefore self.now pass.new result }
+    {
+        let mut last = activation;
+        let mut ended = last.renew();
+        self.word.swap::<Brand>(0, &mut key.keys, &mut ended, pass)
+    }
+
+    /// The slot refreshes: the event `SwapOut` of a refresh, which ends the activation and begins another one. It gives the word of the head
+    /// that comes out.
+    pub fn refresh(&self, activation: &mut Activation, key: &mut SlotKey, pass: &mut Pass) -> u64
+        requires book { IsOf key.old pass.old × IsOfBook self.now pass.old × IsOwn self.now key.old }
+        requires refreshing { IsOut key.old true }
+        requires activation { activation.old.life ≡ life_of key.old }
+        ensures noted { NotesAs key.old pass.old key.new pass.new (beginning pass.old activation.new.life (SwapOut (number_of key.old))) }
+        ensures activation { (activation.old.name ≡ key.old.keys.name) → (activation.old.slot ≡ number_of key.old) → IsActivationOf key.new activation.new }
+        ensures found { FoundBefore self.now pass.new result }
+    {
+        let mut ended = activation.renew();
+        let word = self.word.swap::<Brand>(1, &mut key.keys, &mut ended, pass);
+        activation.begun(&mut key.keys);
+        word
     }
 }

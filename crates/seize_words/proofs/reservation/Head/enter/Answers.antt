@@ -1,0 +1,53 @@
+use Rattle.std.proofs.Common.{◌≡◌, ℕ, ◌==◌, true, false, List, [], refl, sym, ap, ◌∙◌, subst, arith}
+use Rattle.seize_machine.specs.Machine.State.{head_at, is_active, is_idle, slot_at}
+use Rattle.seize_machine.specs.Machine.Event.{Enter}
+use Rattle.seize_words.specs.Atomic.{MayTake, Takes}
+use Rattle.seize_words.specs.Book.{after}
+use Rattle.seize_words.specs.Private.{key_of, own_of}
+use Rattle.seize_words.specs.Reservations.{slot}
+use Rattle.seize_words.specs.Stepping.{MayStep}
+use Rattle.seize_words.specs.Tokens.{Name, start}
+use Rattle.seize_words.specs.Words.{Site}
+use Rattle.seize_words.specs.declared.book.keys.Keys.{Keys}
+use Rattle.seize_words.specs.declared.book.pass.Pass.{Pass}
+use Rattle.seize_words.proofs.Heads.{at_head, may_enter}
+use Rattle.seize_words.proofs.Stepped.{activation_is, is_at_head, noted_by}
+use Rattle.seize_words.proofs.reservation.Head.enter.Goals as goal
+
+pub swap-requires : goal.swap-requires
+swap-requires c =
+    let head = c.args.self.now in let key = c.args.key.now in let pass = c.args.pass.now in let held = key.keys.held in let book = c.requires.book in let m = slot head in let s = key_of held in
+    let idle = subst (λ (n : Name). is_idle (slot_at (after (start n) (own_of held)) s) ≡ true) book.0 c.requires.outside.0 in
+    let off = subst (λ (n : Name). is_active (head_at (after (start n) (own_of held)) s) ≡ false) book.0 c.requires.outside.1 in
+    let lives = c.renew-ended.result.lives in let next = c.renew-ended.result.next in
+    subst (λ (k : Keys). MayTake head.word k pass [] lives (λ v. 1) next (λ v log. Enter (key_of k.held)) (λ v. false)) (sym c.new-activation.ensures.1) (
+      book.1,
+      book.0,
+      subst (λ (w : Site). MayStep w pass.id pass.seen held [] lives (λ v. 1) (λ v log. record { pass = pass.id; size = pass.name.size; event = Enter s; life = next }) (λ v. false))
+          (sym (is_at_head head.word pass.name book.1 head.head)) (may_enter pass.name m pass.id pass.name.size next pass.seen held key.one idle off (sym book.2) lives),
+    )
+
+-- what the step tells, said of the key and of the activation as they are in the end
+told : (word : Site) (m : ℕ) (pass pass' : Pass) (k k' old new : Keys) (v next life : ℕ) → word ≡ at_head pass.name m → k ≡ old → k' ≡ new → next ≡ life
+    → Takes word k pass k' pass' [] (λ v. 1) v next (λ v log. Enter (key_of k.held)) (λ v. false) → Takes (at_head pass.name m) old pass new pass' [] (λ v. 1) v life (λ v log. Enter (key_of old.held)) (λ v. false)
+told word m pass pass' k k' old new v next life w a b i =
+    subst (λ (t : Site × (Keys × (Keys × ℕ))). Takes t.0 t.1.0 pass t.1.1.0 pass' [] (λ v. 1) v t.1.1.1 (λ v log. Enter (key_of t.1.0.held)) (λ v. false)) (λ j. (w j, (a j, (b j, i j))))
+
+equal : (x y : ℕ) → x ≡ y → (x == y) ≡ true
+equal x y e = grind arith
+
+pub returns-clause-noted : goal.returns-clause-noted
+returns-clause-noted c =
+    let head = c.args.self.now in let key = c.args.key.now in let pass = c.args.pass.now in let s = key_of key.keys.held in let m = slot head in let life = c.begun.new.self.life in
+    noted_by m key _ pass c.swap.new.pass (λ v. 1) c.swap.result life (λ v log. Enter s)
+    (told head.word m pass c.swap.new.pass c.new-activation.new.keys c.swap.new.keys key.keys c.begun.new.keys c.swap.result c.renew-ended.result.next life (is_at_head head.word pass.name c.requires.book.1 head.head)
+      c.new-activation.ensures.1 (sym c.begun.ensures.1) (c.renew-ended.ensures.3 ∙ sym c.begun.ensures.0.2) c.swap.ensures) c.requires.book.0
+
+pub returns-clause-activation : goal.returns-clause-activation
+returns-clause-activation c =
+    let head = c.args.self.now in let key = c.args.key.now in let pass = c.args.pass.now in let s = key_of key.keys.held in let m = slot head in let a = c.begun.new.self in let b = c.begun.ensures.0 in
+    let new = c.new-activation.ensures in let then_ = c.renew-ended.ensures in let pass' = c.swap.new.pass in
+    let t = told head.word m pass pass' c.new-activation.new.keys c.swap.new.keys key.keys c.begun.new.keys c.swap.result c.renew-ended.result.next a.life (is_at_head head.word pass.name c.requires.book.1 head.head)
+        new.1 (sym c.begun.ensures.1) (then_.3 ∙ sym b.2) c.swap.ensures in
+    activation_is m pass pass' key.keys c.begun.new.keys (λ v. 1) c.swap.result a.life (λ v log. Enter s) t refl (equal s m (sym c.requires.book.2)) key.one c.requires.book.0 (sym c.requires.book.2)
+    _ a refl (b.0 ∙ then_.0 ∙ new.0.0) (b.1 ∙ then_.1 ∙ new.0.1) (b.3 ∙ ap (λ (k : Keys). own_of k.held) (sym c.begun.ensures.1)) refl
