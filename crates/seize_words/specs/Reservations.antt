@@ -5,7 +5,8 @@
 --     FoundBefore head pass' v    all that the pass has seen shows v, without its last event
 --     TriesAt key head seen block     the slot's call is about to insert its batch here: see IsTrying. The block's number fits beside 2
 --     IsOwn head key, IsOut key stays     it is the slot's own head;  the slot's call is about to swap it out
---     life_of key, IsActivationOf key a   the lifetime of the slot's last activation;  and this is that one
+--     life_of key, IsLastOf key a         the lifetime of the slot's last activation;  and this is that one
+--     IsActivationOf key a                it has begun with what the key knows last
 --     made_of numbers, IsFull numbers     how many slots there are, as the key knows;  all of their numbers are in use
 --     MakesSlot numbers pass numbers' pass' key head     the next slot was made, with this key and this head
 use Rattle.std.specs.Prelude.{◌≡◌, ℕ, ◌+◌, ◌<◌, ◌^◌, Bool, true, List, [], ◌∷◌, ◌++◌, length, Some}
@@ -61,6 +62,9 @@ IsOut key stays = (queue : List ℕ) × ((slot_of key).call ≡ Some (record { p
 -- the lifetime of the slot's last activation, as its key knows
 abbrev pub life_of : SlotKey → ℕ
 life_of key = life (number_of key) (own_list key)
+
+abbrev pub IsLastOf : SlotKey → Activation → Type 0
+IsLastOf key a = (a.name ≡ key.keys.name) × (a.slot ≡ number_of key) × (a.life ≡ life_of key)
 
 -- the entry of an event that begins an activation with this lifetime
 abbrev pub beginning : Pass → ℕ → Event → Entry

@@ -21,7 +21,7 @@ pub struct Head {
 }
 
 impl Head {
-    ghost use Rattle.seize_words.specs.Reservations.{FoundBefore, IsActivationOf, IsFull, IsHeadOf, IsOfBook, IsOfHead, IsOut, IsOwn, MakesSlot, MayRead, NumbersOf, Shows, TriesAt, beginning, life_of, slot};
+    ghost use Rattle.seize_words.specs.Reservations.{FoundBefore, IsActivationOf, IsFull, IsHeadOf, IsLastOf, IsOfBook, IsOfHead, IsOut, IsOwn, MakesSlot, MayRead, NumbersOf, Shows, TriesAt, beginning, slot};
     ghost use Rattle.seize_words.specs.Slots.{IsOf, Notes, NotesAs, active_of, number_of, slot_of};
 
     /// Makes the next slot, with its head: the event `Take` of a number that was never in use. All numbers below it are in use.
@@ -85,7 +85,7 @@ impl Head {
     pub fn leave(&self, activation: Activation, key: &mut SlotKey, pass: &mut Pass) -> u64
         requires book { IsOf key.old pass.old × IsOfBook self.now pass.old × IsOwn self.now key.old }
         requires leaving { IsOut key.old false }
-        requires activation { activation.life ≡ life_of key.old }
+        requires last { IsLastOf key.old activation }
         ensures noted { Notes key.old pass.old key.new pass.new (SwapOut (number_of key.old)) }
         ensures found { FoundBefore self.now pass.new result }
     {
@@ -99,9 +99,9 @@ impl Head {
     pub fn refresh(&self, activation: &mut Activation, key: &mut SlotKey, pass: &mut Pass) -> u64
         requires book { IsOf key.old pass.old × IsOfBook self.now pass.old × IsOwn self.now key.old }
         requires refreshing { IsOut key.old true }
-        requires activation { activation.old.life ≡ life_of key.old }
+        requires last { IsLastOf key.old activation.old }
         ensures noted { NotesAs key.old pass.old key.new pass.new (beginning pass.old activation.new.life (SwapOut (number_of key.old))) }
-        ensures activation { (activation.old.name ≡ key.old.keys.name) → (activation.old.slot ≡ number_of key.old) → IsActivationOf key.new activation.new }
+        ensures activation { IsActivationOf key.new activation.new }
         ensures found { FoundBefore self.now pass.new result }
     {
         let mut ended = activation.renew();

@@ -21,7 +21,7 @@ swap-requires c =
     let head = c.args.self.now in let key = c.args.key.now in let pass = c.args.pass.now in let held = key.keys.held in let book = c.requires.book in let m = slot head in let s = key_of held in
     let out = subst (λ (n : Name). Stands (after (start n) (own_of held)) s (Out false) c.requires.leaving.0) book.0 c.requires.leaving.1 in
     let lives = c.renew-ended.result.lives in
-    let its = subst (λ (ls : List ℕ). IsIn ls (life s (own_of held))) (sym c.renew-ended.ensures.2) (inl c.requires.activation) in (
+    let its = subst (λ (ls : List ℕ). IsIn ls (life s (own_of held))) (sym c.renew-ended.ensures.2) (inl c.requires.last.2) in (
       book.1,
       book.0,
       subst (λ (w : Site). MayStep w pass.id pass.seen held [] lives (λ v. 0) (λ v log. record { pass = pass.id; size = pass.name.size; event = SwapOut s; life = 0 }) (λ v. false))
