@@ -4,20 +4,24 @@
 --     holds key                   the value whose key it is, if it is one
 --     IsIn link activation pass   all are of one book, the activation has begun, as the pass has seen, and the link is one of the book's
 --     IsNewFor link key new       the key is that of a value that was never named, or none, and this is its word
+--     HasNext left, IsNext left link left'     a link is left to make;  it was made
 --     Reads, Swaps, CompareExchanges     what the event is, in which state it was made, and what is had afterwards
-use Rattle.std.specs.Prelude.{◌≡◌, ◌≢◌, ℕ, List, [], ◌∷◌, Option}
+use Rattle.std.specs.Prelude.{◌≡◌, ◌≢◌, ℕ, suc, List, [], ◌∷◌, Option, None, drop}
 use Rattle.seize_machine.specs.Machine.State.{link_at}
 use Rattle.seize_machine.specs.Machine.Event.{Event, ReadLink, ExchangeLink}
 use Rattle.seize_machine.specs.declared.machine.event.Exchange.TheVariants.{Swap, Compare}
 use Rattle.seize_words.specs.Adding.{private}
+use Rattle.seize_words.specs.Begin.{first_links}
 use Rattle.seize_words.specs.Blocks.{link_word}
 use Rattle.seize_words.specs.Book.{after}
 use Rattle.seize_words.specs.Entry.{Entry}
 use Rattle.seize_words.specs.Ledger.{renewed}
 use Rattle.seize_words.specs.Links.{IsNewIn, IsWithin, compared, value_in}
 use Rattle.seize_words.specs.Passes.{IsSame}
+use Rattle.seize_words.specs.Private.{key_of}
 use Rattle.seize_words.specs.Tokens.{Noted, start}
 use Rattle.seize_words.specs.declared.activation.Activation.{Activation}
+use Rattle.seize_words.specs.declared.book.link_keys.LinkKeys.{LinkKeys}
 use Rattle.seize_words.specs.declared.book.pass.Pass.{Pass}
 use Rattle.seize_words.specs.declared.book.value_key.ValueKey.{ValueKey}
 use Rattle.seize_words.specs.declared.link.Link.{Link}
@@ -73,3 +77,14 @@ CompareExchanges link activation key pass seen key' pass' v =
     (t : Takes link pass pass' (λ old. ExchangeLink activation.slot (number link) (Compare (compared seen old) (holds key))) v)
     × (key'.keys.name ≡ key.keys.name)
     × (v ≡ seen → holds key' ≡ held_before t) × (v ≢ seen → holds key' ≡ holds key) × KnowsAll key' pass'
+
+-- Links are made of the keys that their book begins with.
+
+-- there is one left, which is empty at the book's beginning
+abbrev pub HasNext : LinkKeys → Type 0
+HasNext left = (l many : ℕ) × (left.keys.held ≡ first_links l (suc many)) × (link_at (start left.keys.name) l ≡ None)
+
+abbrev pub IsNext : LinkKeys → Link → LinkKeys → Type 0
+IsNext left link left' =
+    (link.word.name ≡ left.keys.name) × (number link ≡ key_of left.keys.held)
+    × (left'.keys.name ≡ left.keys.name) × (left'.keys.held ≡ drop 1 left.keys.held)

@@ -7,6 +7,7 @@
 
 mod batch_key;
 mod keys;
+mod link_keys;
 mod numbers_key;
 mod pass;
 mod slot_key;
@@ -15,6 +16,7 @@ mod value_key;
 
 pub use batch_key::BatchKey;
 pub use keys::Keys;
+pub use link_keys::LinkKeys;
 pub use numbers_key::NumbersKey;
 pub use pass::Pass;
 pub use slot_key::SlotKey;

@@ -4,7 +4,7 @@ ghost use Rattle.std.specs.Prelude.{◌≡◌, true};
 ghost use Rattle.seize_words.specs.Links.{IsLink, is_at_most_one};
 
 use crate::activation::Activation;
-use crate::book::{Keys, Pass, ValueKey};
+use crate::book::{Keys, LinkKeys, Pass, ValueKey};
 use crate::word::Word;
 use std::marker::Brand;
 
@@ -43,7 +43,19 @@ impl MaybeKey {
 }
 
 impl Link {
-    ghost use Rattle.seize_words.specs.LinkWords.{CompareExchanges, IsIn, IsNewFor, Reads, Swaps};
+    ghost use Rattle.seize_words.specs.LinkWords.{CompareExchanges, HasNext, IsIn, IsNext, IsNewFor, Reads, Swaps};
+
+    /// The first of the links that were not made yet. It is empty.
+    pub fn next(left: &mut LinkKeys) -> Link
+        requires { HasNext left.old }
+        ensures { IsNext left.old result left.new }
+    {
+        let mut rest = left.keys.none();
+        left.keys.part(&mut rest);
+        let word = Word::new(0, &mut left.keys);
+        left.keys.join(&mut rest);
+        Link { word }
+    }
 
     /// Reads the link: the event `ReadLink` of the activation's slot.
     pub fn read(&self, activation: &Activation, pass: &mut Pass) -> u64

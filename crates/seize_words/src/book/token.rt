@@ -4,6 +4,8 @@ ghost use Rattle.seize_words.specs.Begin.{book_owns};
 ghost use Rattle.seize_words.specs.Tokens.{Name, many, name_coded};
 
 use crate::book::keys::Keys;
+use crate::book::link_keys::LinkKeys;
+use crate::book::numbers_key::NumbersKey;
 use crate::book::pass::Pass;
 use crate::book::value_key::ValueKey;
 use std::marker::{Model, PhantomData};
@@ -20,13 +22,35 @@ impl Model for Book {
 }
 
 impl Book {
-    ghost use Rattle.seize_words.specs.Books.{IsNew, IsNewValue, Opens, OpensAlone};
+    ghost use Rattle.seize_words.specs.Books.{Begins, IsAlone, IsMany, IsNew, IsNewValue, Opens, OpensAlone};
     ghost use Rattle.seize_words.specs.Others.{book_of, is_named};
 
-    /// A new book, of which any number of passes may be made, and its keys: that of the numbers and those of the links, in this order.
-    /// It has no slot yet.
-    pub fn open(links: usize, size: usize) -> (Book, Keys)
-        ensures { Opens result.0 result.1 links size }
+    /// A new book, of which any number of passes may be made, the key of its numbers, and those of its links. It has no slot yet, and its
+    /// links are empty.
+    pub fn open(links: usize, size: usize) -> (Book, NumbersKey, LinkKeys)
+        ensures { Opens result.0 result.1 result.2 links size }
+    {
+        let (book, keys) = Book::open_keys(links, size);
+        let mut numbers = keys;
+        let mut rest = numbers.none();
+        numbers.part(&mut rest);
+        (book, NumbersKey { keys: numbers }, LinkKeys { keys: rest })
+    }
+
+    /// A new book as `open` makes one, but that its one pass is alone: only who has it appends, and it has seen all there is.
+    pub fn open_alone(links: usize, size: usize) -> (Book, Pass, NumbersKey, LinkKeys)
+        ensures { OpensAlone result.0 result.1 result.2 result.3 links size }
+    {
+        let (book, pass, keys) = Book::open_sole(links, size);
+        let mut numbers = keys;
+        let mut rest = numbers.none();
+        numbers.part(&mut rest);
+        (book, pass, NumbersKey { keys: numbers }, LinkKeys { keys: rest })
+    }
+
+    // A new book with all its keys: that of the numbers and those of the links, in this order.
+    fn open_keys(links: usize, size: usize) -> (Book, Keys)
+        ensures { IsMany result.0 × Begins result.0 result.1 links size }
     {
         let book = Book {
             marker: PhantomData,
@@ -37,9 +61,8 @@ impl Book {
         (book, keys)
     }
 
-    /// A new book as `open` makes one, but that its one pass is alone: only who has it appends, and it has seen all there is.
-    pub fn open_alone(links: usize, size: usize) -> (Book, Pass, Keys)
-        ensures { OpensAlone result.0 result.1 result.2 links size }
+    fn open_sole(links: usize, size: usize) -> (Book, Pass, Keys)
+        ensures { IsAlone result.0 result.1 × Begins result.0 result.2 links size }
     {
         let book = Book {
             marker: PhantomData,

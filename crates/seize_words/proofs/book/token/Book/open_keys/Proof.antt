@@ -1,4 +1,4 @@
--- `open` begins a book, to which many may append.
+-- `open_keys` begins a book, to which many may append.
 use Rattle.seize_words.proofs.Kit.{◌≡◌, ℕ, [], ◌∷◌, refl, w64, proved, Val, vint, SProp, emp, ftrue, ‵, raw, ◌⊛◌, some, given, later, await, ◌$◌, ◌∵◌, !, qed, by, move, keep, drop, split3, fjoin, pick, learn, use0, use2, of_opd, no_more, and_then, returns, enter, alloc_all, pass_all, free_all, look_at, get, sets, agg, fact_i, tables, yes, RattleType, owns, types_at, plain, uint_vals, uint_Tells, nothing, Stays, stay_dropped, walk_of, Goes-dropped}
 use denote.Builtin.{usize}
 use denote.Struct.Tuple.{Tuple}
@@ -9,13 +9,13 @@ use Rattle.seize_words.specs.contracts.book.token.Book as Book
 use Rattle.seize_words.proofs.Begins.{begins, many_opens}
 use Rattle.seize_words.proofs.Fields.{Token, token, token_made, ends}
 use Rattle.seize_words.proofs.Tuples.{pair_val, pair_of}
-use Rattle.seize_words.specs.contracts.book.token.Book.open.{ended, clauses}
-use Rattle.seize_words.specs.contracts.book.token.Book.open.Key.{name as #self}
-use Rattle.seize_words.proofs.book.token.Book.open.Statement.{statement}
-use Rattle.seize_words.proofs.book.token.Book.open.Code as code
+use Rattle.seize_words.specs.contracts.book.token.Book.open_keys.{ended, clauses}
+use Rattle.seize_words.specs.contracts.book.token.Book.open_keys.Key.{name as #self}
+use Rattle.seize_words.proofs.book.token.Book.open_keys.Statement.{statement}
+use Rattle.seize_words.proofs.book.token.Book.open_keys.Code as code
 
-pub open_spec : {M : Type 1} → statement M
-open_spec 𝓤 𝓛 𝓜 𝓡 wired =
+pub open_keys_spec : {M : Type 1} → statement M
+open_keys_spec 𝓤 𝓛 𝓜 𝓡 wired =
     let H = 𝓛.H in let 𝓣 = tables 𝓤 H 𝓜 𝓡 𝓡.env in let fn = code.function in let c = clauses 𝓛 𝓜.mem 𝓡.returns in
     let hs : Stays ended.signature.params ended.kept = (stay_dropped (plain (λ _. usize)) yes, (stay_dropped (plain (λ _. usize)) yes, tt)) in let goes = Goes-dropped 𝓛 0 (plain (λ _. usize)) yes (λ κs x f. refl) in
     proved 𝓛 ended hs c 𝓜 𝓡 (goes, (goes, tt)) #self fn (code.unfolded 𝓤 H 𝓜 𝓡 wired)

@@ -1,4 +1,4 @@
--- `open_alone` begins a book, to which one pass appends.
+-- `open_sole` begins a book, to which one pass appends.
 use Rattle.seize_words.proofs.Kit.{ℕ, [], ◌∷◌, refl, w64, proved, Val, vint, SProp, emp, ftrue, ‵, raw, ◌⊛◌, some, given, later, await, ◌$◌, ◌∵◌, !, qed, by, move, keep, drop, split, split3, fsplit, fjoin, pick, learn, use0, use1, use3, of_opd, no_more, and_then, returns, enter, alloc_all, pass_all, free_all, look_at, get, sets, agg, fact_i, tables, yes, RattleType, owns, types_at, plain, uint_vals, uint_Tells, nothing, Stays, stay_dropped, walk_of, Goes-dropped}
 use denote.Builtin.{usize}
 use denote.Struct.Tuple.{Tuple}
@@ -11,13 +11,13 @@ use Rattle.seize_words.proofs.Begins.{begins, sole_opens}
 use Rattle.seize_words.proofs.Books.{book_twice}
 use Rattle.seize_words.proofs.Fields.{Token, token, token_made, ends}
 use Rattle.seize_words.proofs.Tuples.{triple_val, triple_of}
-use Rattle.seize_words.specs.contracts.book.token.Book.open_alone.{ended, clauses}
-use Rattle.seize_words.specs.contracts.book.token.Book.open_alone.Key.{name as #self}
-use Rattle.seize_words.proofs.book.token.Book.open_alone.Statement.{statement}
-use Rattle.seize_words.proofs.book.token.Book.open_alone.Code as code
+use Rattle.seize_words.specs.contracts.book.token.Book.open_sole.{ended, clauses}
+use Rattle.seize_words.specs.contracts.book.token.Book.open_sole.Key.{name as #self}
+use Rattle.seize_words.proofs.book.token.Book.open_sole.Statement.{statement}
+use Rattle.seize_words.proofs.book.token.Book.open_sole.Code as code
 
-pub open_alone_spec : {M : Type 1} → statement M
-open_alone_spec 𝓤 𝓛 𝓜 𝓡 wired =
+pub open_sole_spec : {M : Type 1} → statement M
+open_sole_spec 𝓤 𝓛 𝓜 𝓡 wired =
     let H = 𝓛.H in let 𝓣 = tables 𝓤 H 𝓜 𝓡 𝓡.env in let fn = code.function in let c = clauses 𝓛 𝓜.mem 𝓡.returns in
     let hs : Stays ended.signature.params ended.kept = (stay_dropped (plain (λ _. usize)) yes, (stay_dropped (plain (λ _. usize)) yes, tt)) in let goes = Goes-dropped 𝓛 0 (plain (λ _. usize)) yes (λ κs x f. refl) in
     proved 𝓛 ended hs c 𝓜 𝓡 (goes, (goes, tt)) #self fn (code.unfolded 𝓤 H 𝓜 𝓡 wired)
@@ -46,4 +46,4 @@ open_alone_spec 𝓤 𝓛 𝓜 𝓡 wired =
     sets ! (agg ! (and_then ! (get ! refl) (and_then ! (get ! refl) (and_then ! (get ! refl) (no_more !))))) refl (tt, ((tt, tt), ((tt, tt), ((tt, tt), tt)))) $
     nothing ! $ nothing ! $ fjoin ! $ nothing ! $ fjoin ! $ nothing ! $
     returns ! (look_at ! 0 refl) $ free_all ! refl $ keep ! (0 ∷ 1 ∷ 2 ∷ []) $
-    by ! (ends 𝓛 ended hs c y triple (b, p, k) (tt, (tt, tt)) (tt, (tt, tt)) (fact_i 𝓤 _ (emp 𝓤) (so.0, (so.1, refl, refl), refl, refl)))))))
+    by ! (ends 𝓛 ended hs c y triple (b, p, k) (tt, (tt, tt)) (tt, (tt, tt)) (fact_i 𝓤 _ (emp 𝓤) ((so.0, refl, refl), (so.1, refl, refl))))))))
