@@ -347,15 +347,41 @@ module _ {E : Type 0} (c : Coded E) (rules : Rules E) (extra : List E → Fml) (
       go q (inl t) = let e : q ≡ r = eq_true q r t in subst (λ (y : Bool). rules.Sized q (if y then sizes rows q + 1 else sizes rows q) log) (sym t) (subst (λ (z : ℕ). rules.Sized z (sizes rows z + 1) log) (sym e) (more (sizes rows r) (so.sized r)))
       go q (inr t) = subst (λ (y : Bool). rules.Sized q (if y then sizes rows q + 1 else sizes rows q) log) (sym t) (so.sized q)
 
-  -- a new key of a kind of which there may always be one more: the next number of that kind, from the log as it is
-  abbrev pub Minted : ℕ → List E → ℕ × List E → Pr
-  Minted r seen t = guard 𝓤 (rules.Legal t.1 × IsPrefix seen t.1 × rules.Sized r t.0 t.1) (⟦ J ⟧ ∗ ⟦ right c δs r t.0 t.1 ⟧ ∗ ⟦ had t.1 ⟧)
+  -- many keys more, which nobody holds
+  many_more : ℕ → Rows → ℕ → List E → Rows
+  many_more zero rows r log = rows
+  many_more (suc d) rows r log = many_more d (one_more rows r log) r log
 
-  pub mint : (r : ℕ) (seen : List E) → r < length δs → KeptNow → ((log : List E) (j : ℕ) → rules.Sized r j log → rules.Sized r (j + 1) log) → ⟦ J ⟧ ∗ ⟦ had seen ⟧ ⊢ upd 𝓤 (ex 𝓤 (Minted r seen))
-  mint r seen h same more = let Z : Pr = ex 𝓤 (Minted r seen) in qed 𝓛 (‵ J ∷ ‵ (had seen) ∷ []) ∵ nothing ! $ move ! (1 ∷ 0 ∷ 2 ∷ []) $ use3 𝓛 (seeing [] seen) (looked [] seen tt) $ pick ! (λ s. learn ! (λ so. let rows : Rows = s.0 in let log : List E = s.1 in let k : ℕ = length (row rows r) in
+  skipped : (d : ℕ) (rows : Rows) (r : ℕ) (log : List E) → r < length δs → ⟦ rosters c δs rows ⟧ ⊢ upd 𝓤 ⟦ rosters c δs (many_more d rows r log) ⟧
+  unfolding many_more
+  skipped zero rows r log h = upd_i 𝓤 ⟦ rosters c δs rows ⟧
+  skipped (suc d) rows r log h = let Z : Pr = ⟦ rosters c δs (many_more d (one_more rows r log) r log) ⟧ in qed 𝓛 (‵ (rosters c δs rows) ∷ []) ∵
+      use1 𝓛 (raw (upd 𝓤 (⟦ rosters c δs (one_more rows r log) ⟧ ∗ ⟦ right c δs r (length (row rows r)) log ⟧))) (mints_right rows r log h) $
+      settle 𝓛 Z (‵ (rosters c δs (one_more rows r log)) ⊛ ‵ (right c δs r (length (row rows r)) log)) $ split ! $ keep ! (0 ∷ []) $ by ! (skipped d (one_more rows r log) r log h)
+
+  many_sizes : (d : ℕ) (rows : Rows) (r : ℕ) (log : List E) → length (row (many_more d rows r log) r) ≡ length (row rows r) + d
+  unfolding many_more
+  many_sizes zero rows r log = omega arith
+  many_sizes (suc d) rows r log =
+      let one : length (row (one_more rows r log) r) ≡ length (row rows r) + 1 = more_sizes rows r log r ∙ ap (λ (b : Bool). if b then length (row rows r) + 1 else length (row rows r)) (let same : (r == r) ≡ true = grind arith in same) in
+      let rest : length (row (many_more d (one_more rows r log) r log) r) ≡ length (row (one_more rows r log) r) + d = many_sizes d (one_more rows r log) r log in omega (arith, one, rest)
+
+  holds_many : (d : ℕ) (rows : Rows) (r : ℕ) (log : List E) → KeptNow → ((j : ℕ) → rules.Sized r j log → rules.Sized r (j + 1) log) → Holds rules rows log → Holds rules (many_more d rows r log) log
+  unfolding many_more
+  holds_many zero rows r log same more so = so
+  holds_many (suc d) rows r log same more so = holds_many d (one_more rows r log) r log same more (holds_minted rows r log same more so)
+
+  -- A new key of a kind of which there may always be one more. Its number is past all of that kind, and `skips` picks how far.
+  abbrev pub Minted : ℕ → (ℕ → ℕ) → List E → ℕ × List E → Pr
+  Minted r skips seen t = guard 𝓤 (rules.Legal t.1 × IsPrefix seen t.1 × rules.Sized r t.0 t.1 × ((k : ℕ) × (t.0 ≡ k + skips k))) (⟦ J ⟧ ∗ ⟦ right c δs r t.0 t.1 ⟧ ∗ ⟦ had t.1 ⟧)
+
+  pub mint : (r : ℕ) (skips : ℕ → ℕ) (seen : List E) → r < length δs → KeptNow → ((log : List E) (j : ℕ) → rules.Sized r j log → rules.Sized r (j + 1) log) → ⟦ J ⟧ ∗ ⟦ had seen ⟧ ⊢ upd 𝓤 (ex 𝓤 (Minted r skips seen))
+  mint r skips seen h same more = let Z : Pr = ex 𝓤 (Minted r skips seen) in qed 𝓛 (‵ J ∷ ‵ (had seen) ∷ []) ∵ nothing ! $ move ! (1 ∷ 0 ∷ 2 ∷ []) $ use3 𝓛 (seeing [] seen) (looked [] seen tt) $ pick ! (λ s. learn ! (λ so. let log : List E = s.1 in let before : ℕ = length (row s.0 r) in
+      let rows : Rows = many_more (skips before) s.0 r log in let k : ℕ = length (row rows r) in let holds = holds_many (skips before) s.0 r log same (more log) so.0 in
       split ! $ move ! (1 ∷ []) $ split3 ! $ move ! (3 ∷ []) $
+      use1 𝓛 (raw (upd 𝓤 ⟦ rosters c δs rows ⟧)) (skipped (skips before) s.0 r log h) $ settle 𝓛 Z (‵ (rosters c δs rows)) $
       use1 𝓛 (raw (upd 𝓤 (⟦ rosters c δs (one_more rows r log) ⟧ ∗ ⟦ right c δs r k log ⟧))) (mints_right rows r log h) $ settle 𝓛 Z (‵ (rosters c δs (one_more rows r log)) ⊛ ‵ (right c δs r k log)) $ split ! $
       -- [rosters; right; top; extra; nothing]
       move ! (2 ∷ []) $ use1 𝓛 (‵ (top log) ⊛ ‵ (had log)) (latest_shows (logs c) 𝓛 full_share η log log ([], mathlib.Core.List.append-nil log)) $ split ! $
-      move ! (2 ∷ 0 ∷ 4 ∷ []) $ use3 𝓛 (‵ J) (shut (one_more rows r log) log (holds_minted rows r log same (more log) so.0)) $ suffices ! _ (upd_i 𝓤 Z) $
-      show ! (Minted r seen) (k, log) $ check ! (so.1.0, so.1.1, so.0.sized r) $ keep ! (0 ∷ 2 ∷ 1 ∷ []) $ done !))
+      move ! (2 ∷ 0 ∷ 4 ∷ []) $ use3 𝓛 (‵ J) (shut (one_more rows r log) log (holds_minted rows r log same (more log) holds)) $ suffices ! _ (upd_i 𝓤 Z) $
+      show ! (Minted r skips seen) (k, log) $ check ! (so.1.0, so.1.1, holds.sized r, (before, many_sizes (skips before) s.0 r log)) $ keep ! (0 ∷ 2 ∷ 1 ∷ []) $ done !))

@@ -1,5 +1,5 @@
 -- What the token of a book gives: itself once more, a new pass, and the key of a new value. Assumes `Logic`.
-use Rattle.std.proofs.Common.{◌≡◌, ℕ, false, List, [], ◌∷◌}
+use Rattle.std.proofs.Common.{◌<◌, ◌^◌, ◌≡◌, ℕ, false, List, [], ◌∷◌}
 use seplogic.Ra.Ura.{Ura}
 use base.Logic.{SProp, ent, sep, ex, guard}
 use base.Fml.{Fml}
@@ -10,6 +10,7 @@ use denote.Steps.{nothing}
 use mathlib.Core.List.{IsPrefix}
 use Rattle.seize_machine.specs.Machine.State.{State, has}
 use Rattle.seize_words.specs.Ledger.{Held, logs, reached}
+use Rattle.seize_words.specs.Blocks.{block_of}
 use Rattle.seize_words.specs.Entry.{Entry, entry_coded}
 use Rattle.seize_words.specs.Book.{after, mine, values}
 use Rattle.seize_words.specs.Tokens.{Name, start, knows, key, many, keys_own, pass_owns}
@@ -56,11 +57,11 @@ module _ {M : Type 1} {𝓤 : Ura M} (𝓛 : Logic 𝓤) (n : Name) where
   abbrev pub value_key : ℕ × List Entry → List (Held Entry)
   value_key t = record { kind = values; key = t.0; own = t.1 } ∷ []
 
-  abbrev pub HasValue : ℕ × List Entry → Pr
-  HasValue t = guard 𝓤 (has t.0 (after st t.1).named ≡ false) (⟦ keys_own n (value_key t) ⟧ ∗ ⟦ book_owns n ⟧)
+  abbrev pub HasValue : ℕ → ℕ × List Entry → Pr
+  HasValue block t = guard 𝓤 ((has t.0 (after st t.1).named ≡ false) × (block_of t.0 ≡ block)) (⟦ keys_own n (value_key t) ⟧ ∗ ⟦ book_owns n ⟧)
 
-  pub value : ⟦ book_owns n ⟧ ⊢ H.⇛ (ex 𝓤 HasValue)
-  value = qed 𝓛 (‵ (book_owns n) ∷ []) ∵ updating ! $ use1 𝓛 (‵ (book_owns n) ⊛ ‵ (book_owns n)) book_twice $ split ! $ fsplit ! $
-      use2 𝓛 (later (some (λ (t : ℕ × List Entry). given (IsPrefix [] t.1 × (has t.0 (after st t.1).named ≡ false)) (‵ (key n values t.0 t.1) ⊛ ‵ (had t.1))))) (new_value 𝓛 n []) $ await ! tt $ pick ! (λ t. learn ! (λ so. split ! $
+  pub value : (block : ℕ) → block < 2 ^ 64 → ⟦ book_owns n ⟧ ⊢ H.⇛ (ex 𝓤 (HasValue block))
+  value block small = qed 𝓛 (‵ (book_owns n) ∷ []) ∵ updating ! $ use1 𝓛 (‵ (book_owns n) ⊛ ‵ (book_owns n)) book_twice $ split ! $ fsplit ! $
+      use2 𝓛 (later (some (λ (t : ℕ × List Entry). given (IsPrefix [] t.1 × (has t.0 (after st t.1).named ≡ false) × (block_of t.0 ≡ block)) (‵ (key n values t.0 t.1) ⊛ ‵ (had t.1))))) (new_value 𝓛 n block [] small) $ await ! tt $ pick ! (λ t. learn ! (λ so. split ! $
       -- [the key; what was reached; the book]
-      now ! $ show ! HasValue t $ check ! so.1 $ nothing ! $ move ! (1 ∷ 0 ∷ []) $ fjoin ! $ keep ! (0 ∷ 2 ∷ []) $ done !))
+      now ! $ show ! (HasValue block) t $ check ! (so.1, so.2) $ nothing ! $ move ! (1 ∷ 0 ∷ []) $ fjoin ! $ keep ! (0 ∷ 2 ∷ []) $ done !))

@@ -2,9 +2,10 @@
 --     Opens book numbers rest links size       a new book to which many may append, with so many links, which are empty; and its keys
 --     OpensAlone book pass numbers rest links size     a new book to which this pass alone may append
 --     IsNew pass                               nothing was made with it
---     IsNewValue keys                          it is one key, of a value that was never named
+--     IsNewValue keys block                    it is one key, of a value of the block that was never named
 use Rattle.std.specs.Prelude.{◌≡◌, ℕ, true, false, []}
 use Rattle.seize_machine.specs.Machine.State.{has}
+use Rattle.seize_words.specs.Blocks.{block_of}
 use Rattle.seize_words.specs.Book.{after, values}
 use Rattle.seize_words.specs.Tokens.{many, IsSole, start}
 use Rattle.seize_words.specs.Private.{is_one, key_of, own_of}
@@ -41,5 +42,7 @@ Opens book numbers rest links size = IsMany book × HasKeys book numbers rest li
 abbrev pub OpensAlone : Book → Pass → NumbersKey → LinkKeys → ℕ → ℕ → Type 0
 OpensAlone book pass numbers rest links size = IsAlone book pass × HasKeys book numbers rest links size
 
-abbrev pub IsNewValue : Keys → Type 0
-IsNewValue keys = (is_one values keys.held ≡ true) × (has (key_of keys.held) (after (start keys.name) (own_of keys.held)).named ≡ false)
+abbrev pub IsNewValue : Keys → ℕ → Type 0
+IsNewValue keys block =
+    (is_one values keys.held ≡ true) × (has (key_of keys.held) (after (start keys.name) (own_of keys.held)).named ≡ false)
+    × (block_of (key_of keys.held) ≡ block)

@@ -23,7 +23,8 @@ impl Model for Book {
 
 impl Book {
     ghost use Rattle.seize_words.specs.Books.{Begins, IsAlone, IsMany, IsNew, IsNewValue, Opens, OpensAlone};
-    ghost use Rattle.seize_words.specs.Others.{book_of, is_named};
+    ghost use Rattle.seize_words.specs.Blocks.{block_of};
+    ghost use Rattle.seize_words.specs.Others.{book_of, is_named, value_of};
 
     /// A new book, of which any number of passes may be made, the key of its numbers, and those of its links. It has no slot yet, and its
     /// links are empty.
@@ -95,18 +96,18 @@ impl Book {
         }
     }
 
-    /// The key of a value that was never named, as for a block just made.
-    pub fn value(&mut self) -> ValueKey
-        ensures { (is_named result ≡ false) × (book_of result ≡ self.old.name) × (self.new.name ≡ self.old.name) }
+    /// The key of a value that was never named, and lies in the block with this number.
+    pub fn value(&mut self, block: u64) -> ValueKey
+        ensures { (is_named result ≡ false) × (block_of (value_of result) ≡ block) × (book_of result ≡ self.old.name) × (self.new.name ≡ self.old.name) }
     {
         ValueKey {
-            keys: self.value_keys(),
+            keys: self.value_keys(block),
         }
     }
 
     // The same as `Keys`.
-    fn value_keys(&mut self) -> Keys
-        ensures { IsNewValue result × (result.name ≡ self.old.name) × (self.new.name ≡ self.old.name) }
+    fn value_keys(&mut self, block: u64) -> Keys
+        ensures { IsNewValue result block × (result.name ≡ self.old.name) × (self.new.name ≡ self.old.name) }
     {
         Keys {
             marker: PhantomData,
