@@ -1,12 +1,11 @@
 -- Activations: a slot is active while its activation has not ended; and lifetimes are made, ended and lent. Assumes `Logic`.
-use Rattle.std.proofs.Common.{◌≡◌, ℕ, zero, Bool, true, false, if◌then◌else◌, List, [], ◌∷◌, ◌++◌, refl, sym, ◌∙◌, ap, subst, ◌⊎◌, inl, inr, ⊎_elim}
-use mathlib.Core.List.{IsPrefix}
+use Rattle.std.proofs.Common.{◌≡◌, ℕ, zero, Bool, true, false, if◌then◌else◌, List, [], ◌∷◌, ◌++◌, refl, ◌∙◌, ap, subst, ◌⊎◌, inl, inr, ⊎_elim}
 use seplogic.Ra.Ura.{Ura}
 use base.Fraction.{full_share}
 use base.Logic.{SProp, ent, sep, ex}
-use base.Fml.{Lft, Fml, ftrue, flft, fbor, fdead}
+use base.Fml.{Lft, Fml, ftrue, flft, fbor}
 use types.Logic.{Logic, sem, lfts}
-use types.Kit.{‵, raw, ◌⊛◌, ◌$◌, ◌∵◌, !, qed, move, keep, split, fjoin, show, updating, await, now, done}
+use types.Kit.{‵, raw, ◌$◌, ◌∵◌, !, qed, move, keep, fjoin, show, updating, now, done}
 use types.Tokens.{bor_fracture, lft_end, lft_new}
 use denote.Sharing.{one}
 use denote.Steps.{nothing}

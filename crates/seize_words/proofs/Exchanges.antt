@@ -1,23 +1,22 @@
 -- The calls of links: what is asked of them is enough for a step, and what is known after one.
-use Rattle.std.proofs.Common.{◌≡◌, ◌≢◌, ℕ, zero, suc, ◌+◌, ◌%◌, ◌^◌, ◌<◌, Bool, true, false, ◌==◌, ◌&&◌, if◌then◌else◌, List, [], ◌∷◌, ◌++◌, length, Option, Some, None, refl, sym, ◌∙◌, ap, subst, ◌⊎◌, inl, inr, ⊎_elim, arith}
+use Rattle.std.proofs.Common.{◌≡◌, ◌≢◌, ℕ, zero, suc, ◌%◌, ◌^◌, ◌<◌, Bool, true, false, ◌==◌, if◌then◌else◌, List, [], ◌∷◌, length, Option, Some, None, refl, sym, ◌∙◌, ap, subst, ◌⊎◌, inl, inr, arith}
 use mathlib.Core.List.{IsPrefix}
 use base.Growing.{prefix_trans}
 use Rattle.seize_machine.specs.Machine.State.{State, head_at, is_active, link_at}
 use Rattle.seize_machine.specs.Machine.Event.{ReadLink, ExchangeLink}
-use Rattle.seize_machine.specs.Machine.Next.{is_stored, new_link, same_link}
+use Rattle.seize_machine.specs.Machine.Next.{is_stored, same_link}
 use Rattle.seize_machine.specs.declared.machine.event.Exchange.TheVariants.{Compare, Swap}
 use Rattle.seize_machine.proofs.Facts.{eq_true, is_true, links_length, step_of}
 use Rattle.atomic_table.proofs.Lists as kit
-use Rattle.seize_words.specs.Atomic.{Events, exchanged}
-use Rattle.seize_words.specs.Blocks.{block_of, link_word}
+use Rattle.seize_words.specs.Atomic.{exchanged}
+use Rattle.seize_words.specs.Blocks.{link_word}
 use Rattle.seize_words.specs.Book.{IsLegalList, after, kinds, values}
 use Rattle.seize_words.specs.Entry.{Entry}
 use Rattle.seize_words.specs.Laws.{IsIn, ended, life}
-use Rattle.seize_words.specs.Ledger.{Held, WithKinds, renewed}
+use Rattle.seize_words.specs.Ledger.{Held, WithKinds}
 use Rattle.seize_words.specs.Links.{IsNewIn, IsWithin, at_link, compared, is_at_most_one, value_in, value_with}
 use Rattle.seize_words.specs.Stepping.{FoundAs, IsStep, MayStep}
 use Rattle.seize_words.specs.Tokens.{Name, start}
-use Rattle.seize_words.specs.Words.{IsKeyOf}
 use Rattle.seize_words.proofs.Activations.{still}
 use Rattle.seize_words.proofs.Links.{miss_step, read_step, same, store_step}
 use Rattle.seize_words.proofs.Lives.{legal_first}
@@ -98,7 +97,7 @@ module _ (n : Name) (s a l : ℕ) (since seen : List Entry) (in_ : IsWithin n s 
 
   pub may_compare_link : (p size seen_word new : ℕ) (held : List (Held Entry)) → seen_word < 2 ^ 64 → is_at_most_one held ≡ true → IsNewIn st (value_in held) held → new ≡ link_word (value_in held)
       → MayStep (at_link n l) p seen held (a ∷ []) [] (exchanged seen_word new)
-        (λ v log. record { pass = p; size = size; event = ExchangeLink s l (Compare (compared seen_word (link_at (after st log) l)) (value_in held)); life = 0 }) (λ v. v == seen_word)
+      (λ v log. record { pass = p; size = size; event = ExchangeLink s l (Compare (compared seen_word (link_at (after st log) l)) (value_in held)); life = 0 }) (λ v. v == seen_word)
   may_compare_link p size seen_word new held fits one fresh word = (all_values held one, step)
     where
       e : List Entry → Entry
@@ -111,6 +110,6 @@ module _ (n : Name) (s a l : ℕ) (since seen : List Entry) (in_ : IsWithin n s 
           let goal : ℕ → Type 0 = λ x. IsStep (at_link n l) p held [] x (record { pass = p; size = size; event = ExchangeLink s l (Compare (compared seen_word old) (value_in held)); life = 0 }) (v == seen_word) t own log in
           kit.exchanged v seen_word new goal
           (λ same. subst (λ (b : Bool). IsStep (at_link n l) p held [] new (record { pass = p; size = size; event = ExchangeLink s l (Compare (compared seen_word old) (value_in held)); life = 0 }) b t own log) (sym (equal v seen_word same))
-            (store_step n l v p size s seen held (a ∷ []) t own log found w.0 w.1 (value_in held) (Compare (compared seen_word old) (value_in held)) refl fresh new word (hit seen_word old (value_in held) (sym is ∙ same))))
+          (store_step n l v p size s seen held (a ∷ []) t own log found w.0 w.1 (value_in held) (Compare (compared seen_word old) (value_in held)) refl fresh new word (hit seen_word old (value_in held) (sym is ∙ same))))
           (λ differs. subst (λ (b : Bool). IsStep (at_link n l) p held [] v (record { pass = p; size = size; event = ExchangeLink s l (Compare (compared seen_word old) (value_in held)); life = 0 }) b t own log) (sym (unequal v seen_word differs))
-            (miss_step n l v p size s seen held (a ∷ []) t own log found w.0 w.1 (value_in held) (Compare (compared seen_word old) (value_in held)) refl fresh (missed seen_word old (value_in held) fits (λ x. differs (is ∙ x)))))
+          (miss_step n l v p size s seen held (a ∷ []) t own log found w.0 w.1 (value_in held) (Compare (compared seen_word old) (value_in held)) refl fresh (missed seen_word old (value_in held) fits (λ x. differs (is ∙ x)))))

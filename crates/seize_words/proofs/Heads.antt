@@ -1,5 +1,5 @@
 -- Steps on a head's word by a slot's holder meet what is asked of a step.
-use Rattle.std.proofs.Common.{◌≡◌, ◌≢◌, ℕ, zero, suc, ◌+◌, ◌<◌, ◌≤◌, Bool, true, false, cond, ◌==◌, ◌&&◌, ◌||◌, nat_le, nat_lt, unwrap_or, if◌then◌else◌, List, [], ◌∷◌, ◌++◌, length, get_or, set, Option, Some, None, refl, sym, ◌∙◌, ap, subst, ◌⊎◌, inl, inr, ⊎_elim, arith}
+use Rattle.std.proofs.Common.{◌≡◌, ◌≢◌, ℕ, zero, suc, ◌+◌, ◌<◌, ◌≤◌, Bool, true, false, cond, ◌==◌, ◌&&◌, ◌||◌, nat_le, nat_lt, unwrap_or, if◌then◌else◌, List, [], ◌∷◌, ◌++◌, length, get_or, set, Option, Some, None, refl, sym, ◌∙◌, ap, subst, ◌⊎◌, inl, inr, arith}
 use Rattle.std.proofs.lemmas.List.{get_or-set_same, get_or_past}
 use Rattle.std.proofs.lemmas.Bool.{cases_lt}
 use mathlib.Core.List.{IsPrefix}
@@ -17,12 +17,12 @@ use Rattle.seize_machine.specs.declared.machine.event.Try.TheVariants.{Won, Lost
 use Rattle.seize_machine.proofs.Facts.{Step, Stands, and_true, eq_true, go_on, head_frame, heads_length, is_true, next_of, slots_length, step_of}
 use Rattle.seize_words.specs.Atomic.{exchanged}
 use Rattle.seize_words.specs.Blocks.{block_for, head_word, list_word, plans, word_of}
-use Rattle.seize_words.specs.Book.{Kept, TheHead, TheSlot, Does, IsLegalList, after, births, by_slot, heads, kinds, rules, slots}
+use Rattle.seize_words.specs.Book.{Kept, TheSlot, Does, IsLegalList, after, births, by_slot, heads, rules, slots}
 use Rattle.seize_words.specs.Entry.{Entry, timed}
-use Rattle.seize_words.specs.Fair.{Before, Covers, Fair, pass_key}
+use Rattle.seize_words.specs.Fair.{Covers, pass_key}
 use Rattle.seize_words.specs.Heads.{IsTrying, found_end, reads, reads_at}
 use Rattle.seize_words.specs.Laws.{IsIn, life, life_from, starts}
-use Rattle.seize_words.specs.Ledger.{Held, AllKept, WithKinds}
+use Rattle.seize_words.specs.Ledger.{Held, AllKept}
 use Rattle.seize_words.specs.Private.{is_one, key_of, own_of}
 use Rattle.seize_words.specs.Stepping.{EndsAmong, FoundAs, IsStep, MayStep, in_step}
 use Rattle.seize_words.specs.Tokens.{Name, start}
@@ -30,7 +30,7 @@ use Rattle.seize_words.specs.Words.{Site}
 use Rattle.seize_words.proofs.Lives.{legal_first}
 use Rattle.seize_words.proofs.Lists.{after_push, legal_push, reached_after}
 use Rattle.seize_words.proofs.Plans.{AllLess, block_stays, blocks_stay, head_stays, legal_prefix, plans_long, saw_there, tried_there}
-use Rattle.seize_words.proofs.Private.{differ, only, only_is}
+use Rattle.seize_words.proofs.Private.{differ, only_is}
 
 abbrev pub at_head : Name → ℕ → Site
 at_head n m = record { name = n; kind = heads; number = m }
@@ -157,11 +157,13 @@ module _ (n : Name) (m : ℕ) where
       → MayStepAs p (key_of held) seen (own_of held) lives f entry → MayStep (at_head n m) p seen held [] lives f entry (λ v. false)
   unfolding MayStepAs
   may_step p seen held lives f entry one steps =
-      subst (λ (hs : List (Held Entry)). MayStep (at_head n m) p seen hs [] lives f entry (λ v. false)) (sym (only_is slots held one))
-      ((omega arith, tt), (λ v t own log found.
-        let kept = subst (λ (vs : List (Held Entry)). AllKept (rules st) (vs ++ key (key_of held) (own_of held)) log) found.stands found.before.kept.1 in
-        subst (λ (vs : List (Held Entry)). IsStep (at_head n m) p (key (key_of held) (own_of held)) lives (f v) (entry v log) false (t.0, vs) own log) (sym found.stands)
-        (steps v t own log found kept.0 (shown v p seen (key (key_of held) (own_of held)) t log found))))
+      subst (λ (hs : List (Held Entry)). MayStep (at_head n m) p seen hs [] lives f entry (λ v. false)) (sym (only_is slots held one)) (
+        (omega arith, tt),
+        (λ v t own log found.
+            let kept = subst (λ (vs : List (Held Entry)). AllKept (rules st) (vs ++ key (key_of held) (own_of held)) log) found.stands found.before.kept.1 in
+            subst (λ (vs : List (Held Entry)). IsStep (at_head n m) p (key (key_of held) (own_of held)) lives (f v) (entry v log) false (t.0, vs) own log) (sym found.stands)
+            (steps v t own log found kept.0 (shown v p seen (key (key_of held) (own_of held)) t log found))),
+      )
 
   -- A read.
 
@@ -199,10 +201,10 @@ module _ (n : Name) (m : ℕ) where
   unfolding MayStepAs
   may_read p size seen held one may there =
       may_step p seen held [] (λ v. v) (λ v log. record { pass = p; size = size; event = ReadHead (key_of held) m; life = 0 }) one (λ v t own log found kept word.
-        let s = key_of held in let le : length (after st seen).slots ≤ length (after st log).slots = slots_grow st seen log found.before.grows found.before.legal in
-        let done = read_done size s (after st log) (ap (λ (x : Slot). reads x m) (sym kept.1.1) ∙ may) (omega (arith, le)) in
-        let e : Entry = record { pass = p; size = size; event = ReadHead s m; life = 0 } in
-        made p s (own_of held) own t.0 log [] v e refl (read_touches s) done.0 done.1 (λ a i. absurd i) (word ∙ unchanged log e done.0 found.distinct found.before.legal done.1 refl))
+      let s = key_of held in let le : length (after st seen).slots ≤ length (after st log).slots = slots_grow st seen log found.before.grows found.before.legal in
+      let done = read_done size s (after st log) (ap (λ (x : Slot). reads x m) (sym kept.1.1) ∙ may) (omega (arith, le)) in
+      let e : Entry = record { pass = p; size = size; event = ReadHead s m; life = 0 } in
+      made p s (own_of held) own t.0 log [] v e refl (read_touches s) done.0 done.1 (λ a i. absurd i) (word ∙ unchanged log e done.0 found.distinct found.before.legal done.1 refl))
 
   -- The slot becomes active.
 
@@ -225,13 +227,13 @@ module _ (n : Name) (m : ℕ) where
   unfolding MayStepAs
   may_enter p size a seen held one idle off is lives =
       may_step p seen held lives (λ v. 1) (λ v log. record { pass = p; size = size; event = Enter (key_of held); life = a }) one (λ v t own log found kept word.
-        let s = key_of held in let now : State = after st log in let e : Entry = record { pass = p; size = size; event = Enter s; life = a } in
-        let idle_now : is_idle (slot_at now s) ≡ true = ap is_idle (sym kept.1.1) ∙ idle in
-        let d : State × Answer = (set_head now s (Active []), Done) in
-        let does : Does st log e d = next_of size now (Enter s) d (Step.entered s idle_now (sym kept.1.2 ∙ off)) in
-        let there : s < length now.heads = head_there log s found.distinct found.before.legal (λ x. let y : true ≡ false = sym idle_now ∙ ap is_idle x in cc) in
-        let head = set_word log e d (Active []) now.heads found.before.legal does (ap (λ (k : ℕ). set now.heads k (Active [])) is) (subst (λ (k : ℕ). k < length now.heads) is there) in
-        made p s (own_of held) own t.0 log lives 1 e refl (enter_touches s is) d does (λ a i. absurd i) (sym (ap (word_of (λ b. block_for st (log ++ e ∷ []) b m)) head)))
+      let s = key_of held in let now : State = after st log in let e : Entry = record { pass = p; size = size; event = Enter s; life = a } in
+      let idle_now : is_idle (slot_at now s) ≡ true = ap is_idle (sym kept.1.1) ∙ idle in
+      let d : State × Answer = (set_head now s (Active []), Done) in
+      let does : Does st log e d = next_of size now (Enter s) d (Step.entered s idle_now (sym kept.1.2 ∙ off)) in
+      let there : s < length now.heads = head_there log s found.distinct found.before.legal (λ x. let y : true ≡ false = sym idle_now ∙ ap is_idle x in cc) in
+      let head = set_word log e d (Active []) now.heads found.before.legal does (ap (λ (k : ℕ). set now.heads k (Active [])) is) (subst (λ (k : ℕ). k < length now.heads) is there) in
+      made p s (own_of held) own t.0 log lives 1 e refl (enter_touches s is) d does (λ a i. absurd i) (sym (ap (word_of (λ b. block_for st (log ++ e ∷ []) b m)) head)))
 
   -- The slot leaves or refreshes.
 
@@ -248,15 +250,15 @@ module _ (n : Name) (m : ℕ) where
   unfolding MayStepAs
   may_leave p size a stays queue lives seen held one stands is among =
       may_step p seen held lives (λ v. if stays then 1 else 0) (λ v log. record { pass = p; size = size; event = SwapOut (key_of held); life = a }) one (λ v t own log found kept word.
-        let s = key_of held in let now : State = after st log in let e : Entry = record { pass = p; size = size; event = SwapOut s; life = a } in let h : Head = if stays then Active [] else Inactive in
-        let stands_now : Stands now s (Out stays) queue = ap (λ (x : Slot). x.call) (sym kept.1.1) ∙ stands in
-        let d : State × Answer = (go_on (set_head now s h) s (record { place = Rest [] (waiting_at (head_at now s)); queue = queue }), Done) in
-        let does : Does st log e d = next_of size now (SwapOut s) d (Step.swapped_out s stays queue stands_now) in
-        let there : s < length now.heads = head_there log s found.distinct found.before.legal (λ x. let y : Option.None ≡ (slot_at now s).call = sym (ap (λ (z : Slot). z.call) x) in let z : Option.None ≡ Some (record { place = Out stays; queue = queue }) = y ∙ stands_now in cc) in
-        let head = set_word log e d h now.heads found.before.legal does (ap (λ (k : ℕ). set now.heads k h) is) (subst (λ (k : ℕ). k < length now.heads) is there) in
-        let its : life s (own_of held) ≡ life s log = life_kept s (own_of held) log kept in
-        made p s (own_of held) own t.0 log lives (if stays then 1 else 0) e refl (leave_touches s is) d does (λ b i. subst (IsIn lives) (its ∙ only_that (life s log) b i) among)
-            (left_word stays (λ b. block_for st (log ++ e ∷ []) b m) ∙ sym (ap (word_of (λ b. block_for st (log ++ e ∷ []) b m)) head)))
+      let s = key_of held in let now : State = after st log in let e : Entry = record { pass = p; size = size; event = SwapOut s; life = a } in let h : Head = if stays then Active [] else Inactive in
+      let stands_now : Stands now s (Out stays) queue = ap (λ (x : Slot). x.call) (sym kept.1.1) ∙ stands in
+      let d : State × Answer = (go_on (set_head now s h) s (record { place = Rest [] (waiting_at (head_at now s)); queue = queue }), Done) in
+      let does : Does st log e d = next_of size now (SwapOut s) d (Step.swapped_out s stays queue stands_now) in
+      let there : s < length now.heads = head_there log s found.distinct found.before.legal (λ x. let y : Option.None ≡ (slot_at now s).call = sym (ap (λ (z : Slot). z.call) x) in let z : Option.None ≡ Some (record { place = Out stays; queue = queue }) = y ∙ stands_now in cc) in
+      let head = set_word log e d h now.heads found.before.legal does (ap (λ (k : ℕ). set now.heads k h) is) (subst (λ (k : ℕ). k < length now.heads) is there) in
+      let its : life s (own_of held) ≡ life s log = life_kept s (own_of held) log kept in
+      made p s (own_of held) own t.0 log lives (if stays then 1 else 0) e refl (leave_touches s is) d does (λ b i. subst (IsIn lives) (its ∙ only_that (life s log) b i) among)
+      (left_word stays (λ b. block_for st (log ++ e ∷ []) b m) ∙ sym (ap (word_of (λ b. block_for st (log ++ e ∷ []) b m)) head)))
     where
       only_that : (x b : ℕ) → IsIn (x ∷ []) b → x ≡ b
       only_that x b (inl e) = e
@@ -330,7 +332,7 @@ module _ (n : Name) (m : ℕ) where
         let its : b < length (plans st then_own) = subst (λ (k : ℕ). b < k) (sym (plans_long n then_own own_legal)) (tried_there (after st then_own) s b tries.won m tries.later tries.saw tries.queue reached_own stands_own) in
         let stays = block_stays st then_own (log ++ inserts Won ∷ []) b m (prefix_trans then_own log (log ++ inserts Won ∷ []) kept.0 (prefix_push log (inserts Won))) its in
         made p s then_own own t.0 log [] (block + 2) (inserts Won) refl (insert_touches s Won) d does (λ a i. absurd i)
-            (ap (λ (k : ℕ). k + 2) (tries.is_block ∙ stays) ∙ sym (ap (word_of (λ b. block_for st (log ++ inserts Won ∷ []) b m)) head))
+        (ap (λ (k : ℕ). k + 2) (tries.is_block ∙ stays) ∙ sym (ap (word_of (λ b. block_for st (log ++ inserts Won ∷ []) b m)) head))
       where
         head_within : (waiting : List ℕ) → head_at now m ≡ Active waiting → m < length now.heads
         head_within waiting e = go (cases_lt m (length now.heads))

@@ -1,21 +1,20 @@
 -- Steps on a link's word by whoever has an activation of a slot meet what is asked of a step.
-use Rattle.std.proofs.Common.{◌≡◌, ℕ, zero, suc, ◌+◌, ◌<◌, ◌≤◌, Bool, true, false, not, ◌==◌, ◌&&◌, ◌||◌, nat_lt, if◌then◌else◌, List, [], ◌∷◌, ◌++◌, length, get_or, set, Option, Some, None, refl, sym, ◌∙◌, ap, subst, ◌⊎◌, inl, inr, arith}
+use Rattle.std.proofs.Common.{◌≡◌, ℕ, zero, suc, ◌<◌, ◌≤◌, Bool, true, false, not, ◌&&◌, ◌||◌, nat_lt, List, [], ◌∷◌, ◌++◌, length, Option, Some, None, refl, sym, ◌∙◌, ap, subst, arith}
 use Rattle.std.proofs.lemmas.List.{get_or-set_same}
 use Rattle.seize_machine.specs.Machine.State.{State, head_at, link_at, is_active, has}
-use Rattle.seize_machine.specs.Machine.Event.{Event, ReadLink, ExchangeLink}
+use Rattle.seize_machine.specs.Machine.Event.{ReadLink, ExchangeLink}
 use Rattle.seize_machine.specs.Machine.Frames.{is_number}
-use Rattle.seize_machine.specs.Machine.Next.{can_link, is_none_or_fresh, is_stored, new_link, next, same_link}
+use Rattle.seize_machine.specs.Machine.Next.{can_link, is_none_or_fresh, is_stored, new_link}
 use Rattle.seize_machine.specs.declared.machine.event.Answer.{Answer}
 use Rattle.seize_machine.specs.declared.machine.event.Answer.TheVariants.{Link as Held_}
 use Rattle.seize_machine.specs.declared.machine.event.Exchange.{Exchange}
-use Rattle.seize_machine.proofs.Facts.{Step, eq_true, links_length, next_of, step_of, swapped}
+use Rattle.seize_machine.proofs.Facts.{Step, eq_true, next_of, swapped}
 use Rattle.seize_words.specs.Blocks.{link_word}
-use Rattle.seize_words.specs.Book.{Kept, after, rules, IsLegalList, Does, kind_of, kinds, values}
+use Rattle.seize_words.specs.Book.{Kept, after, rules, Does, kind_of, values}
 use Rattle.seize_words.specs.Entry.{Entry}
-use Rattle.seize_words.specs.Fair.{Before, Covers, Fair, NamesHeld, pass_key}
-use Rattle.seize_words.specs.Ledger.{Held, AllKept, AllThere, Beside, WithKinds, renewed}
+use Rattle.seize_words.specs.Fair.{Covers, NamesHeld, pass_key}
+use Rattle.seize_words.specs.Ledger.{Held, AllKept, AllThere, Beside, renewed}
 use Rattle.seize_words.specs.Links.{at_link, IsNewIn}
-use Rattle.seize_words.specs.Private.{is_one, key_of, own_of}
 use Rattle.seize_words.specs.Stepping.{FoundAs, IsStep, in_step}
 use Rattle.seize_words.specs.Tokens.{Name, start}
 use Rattle.seize_words.specs.Words.{IsKeyOf}

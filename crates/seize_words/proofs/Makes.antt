@@ -1,5 +1,5 @@
 -- The key of the numbers is enough to make the next slot, where all numbers are in use.
-use Rattle.std.proofs.Common.{◌≡◌, ℕ, zero, suc, ◌+◌, ◌<◌, ◌==◌, true, false, List, [], ◌∷◌, ◌++◌, length, map, get_or, Bool, refl, sym, ◌∙◌, ap, subst, arith, nat_lt, ◌&&◌, if◌then◌else◌, Some, None}
+use Rattle.std.proofs.Common.{◌≡◌, ℕ, zero, suc, ◌<◌, ◌==◌, true, List, [], ◌∷◌, ◌++◌, length, get_or, Bool, refl, sym, ◌∙◌, ap, subst, arith, nat_lt, ◌&&◌, if◌then◌else◌, Some, None}
 use Rattle.std.proofs.lemmas.List.{length-map}
 use Rattle.seize_machine.specs.Machine.State.{State, Slot, Head, Inactive, head_at}
 use Rattle.seize_machine.specs.Machine.Event.{Take}
@@ -12,7 +12,7 @@ use Rattle.seize_machine.proofs.Facts.{heads_length, some_is}
 use Rattle.seize_table.specs.Place.{all_numbers}
 use Rattle.seize_words.specs.Ledger.{Held, renewed, born}
 use Rattle.seize_words.specs.Entry.{Entry}
-use Rattle.seize_words.specs.Book.{after, births, Does, slots, heads, numbers, of_new_slot}
+use Rattle.seize_words.specs.Book.{after, births, slots, heads, numbers, of_new_slot}
 use Rattle.seize_words.specs.Fair.{Before, Covers, Fair, MayAdd, pass_key}
 use Rattle.seize_words.specs.Private.{is_one, key_of, own_of}
 use Rattle.seize_words.specs.Tokens.{Name, start}
@@ -105,7 +105,7 @@ module _ (n : Name) (b : List (Held Entry)) where
   -- all keys then
   pub all_keys : (p : ℕ) (seen log log' : List Entry) → is_one numbers b ≡ true → Before n p seen b log
       → renewed b log' ++ born (births (after (start n) log) (Take s)) log'
-        ≡ record { kind = numbers; key = key_of b; own = log' } ∷ record { kind = slots; key = s; own = log' } ∷ record { kind = heads; key = s; own = log' } ∷ []
+      ≡ record { kind = numbers; key = key_of b; own = log' } ∷ record { kind = slots; key = s; own = log' } ∷ record { kind = heads; key = s; own = log' } ∷ []
   all_keys p seen log log' one before =
       ap (λ (hs : List (Held Entry)). renewed hs log' ++ born (births (after (start n) log) (Take s)) log') (only_is numbers b one)
       ∙ ap (λ (hs : List (Held Entry)). record { kind = numbers; key = key_of b; own = log' } ∷ hs) (new_keys p seen log log' one before)

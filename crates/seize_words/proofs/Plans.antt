@@ -1,18 +1,18 @@
 -- Plans of batches: what is fixed when a batch is detached stays so, and a head's word follows from the list.
-use Rattle.std.proofs.Common.{◌≡◌, ◌≢◌, ℕ, zero, suc, ◌+◌, ◌<◌, ◌≤◌, ℤ, pos, ◌+ℤ◌, ◌-ℤ◌, ◌==◌, nat_lt, if◌then◌else◌, Bool, true, false, ◌&&◌, replicate, List, [], ◌∷◌, ◌++◌, length, get_or, set, Option, Some, None, refl, sym, ◌∙◌, ap, subst, ◌⊎◌, inl, inr, arith, append_assoc, append-nil}
+use Rattle.std.proofs.Common.{◌≡◌, ℕ, zero, suc, ◌+◌, ◌<◌, ◌≤◌, ℤ, pos, ◌+ℤ◌, ◌-ℤ◌, ◌==◌, nat_lt, if◌then◌else◌, Bool, true, false, ◌&&◌, replicate, List, [], ◌∷◌, ◌++◌, length, get_or, set, Option, Some, refl, sym, ◌∙◌, ap, subst, ◌⊎◌, inl, inr, arith, append_assoc}
 use Rattle.std.proofs.lemmas.List.{get_or_past, get_or_append_left, get_or-set_same, get_or-set_other, length-set}
 use Rattle.std.proofs.lemmas.Bool.{cases_lt}
 use mathlib.Core.List.{IsPrefix}
 use native.Mathlib.Decide.{ℕ_discrete}
-use Rattle.seize_machine.specs.Machine.State.{State, Slot, Call, Head, Inactive, Active, Mark, Try, Look, Rest, no_batch, no_slot, slot_at, is_active, head_at, batch_at, waiting_at, linked, are_distinct, opening}
-use Rattle.seize_machine.specs.Machine.Event.{Event, Detach, slot_of}
+use Rattle.seize_machine.specs.Machine.State.{State, Slot, Call, Head, Inactive, Active, Mark, Try, Rest, no_batch, no_slot, slot_at, is_active, head_at, batch_at, waiting_at, linked, are_distinct, opening}
+use Rattle.seize_machine.specs.Machine.Event.{Event, slot_of}
 use Rattle.seize_machine.specs.Machine.Next.{next, look, looked, marked_place}
 use Rattle.seize_machine.specs.Machine.History.{IsReached, Timed, done_by}
 use Rattle.seize_machine.specs.Machine.Frames.{batches_added, changes_head_of, changes_slot}
 use Rattle.seize_machine.specs.declared.machine.event.Answer.{Answer}
 use Rattle.seize_machine.proofs.Facts.{Step, Stands, counted, eq_true, slot_frame, some_is, step_of, batches_length, reached_holds, tries_tidy, head_frame, is_true, and_true}
-use Rattle.seize_words.specs.Blocks.{Plan, no_plan, plan_of, planned_by, plans, block_in, block_for, list_word, word_of, head_word}
-use Rattle.seize_words.specs.Book.{Kept, TheHead, IsLegalList, Does, after}
+use Rattle.seize_words.specs.Blocks.{Plan, no_plan, planned_by, plans, block_in, block_for, list_word, word_of, head_word}
+use Rattle.seize_words.specs.Book.{Kept, TheHead, IsLegalList, after}
 use Rattle.seize_words.specs.Entry.{Entry, timed}
 use Rattle.seize_words.specs.Tokens.{Name, start}
 use Rattle.seize_words.proofs.Lists.{reached_after}
@@ -39,7 +39,7 @@ many_plans st [] l = omega arith
 many_plans st (e ∷ log) l =
     let w = legal_first st e log l in let now = (done_by next st (timed e)).0 in
     let same : length now.batches ≡ length st.batches + length (planned_by st e.event) =
-        ap (λ (d : State × Answer). length d.0.batches) w.2 ∙ batches_length e.size st e.event w.0 (step_of _ _ _ _ w.1) ∙ ap (λ (k : ℕ). length st.batches + k) (sym (planned_many st e.event)) in
+    ap (λ (d : State × Answer). length d.0.batches) w.2 ∙ batches_length e.size st e.event w.0 (step_of _ _ _ _ w.1) ∙ ap (λ (k : ℕ). length st.batches + k) (sym (planned_many st e.event)) in
     let rest : length now.batches + length (plans now log) ≡ length (after now log).batches = many_plans now log (subst (λ (d : State × Answer). IsLegalList d.0 log) (sym w.2) w.3) in
     let both : length (planned_by st e.event ++ plans now log) ≡ length (planned_by st e.event) + length (plans now log) = length_both (planned_by st e.event) (plans now log) in
     omega (arith, same, rest, both)

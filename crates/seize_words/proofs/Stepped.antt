@@ -1,18 +1,18 @@
 -- What is known after an atomic step on a head's word by a slot's holder.
-use Rattle.std.proofs.Common.{if◌then◌else◌, ◌+◌, arith, ◌≡◌, ℕ, Bool, true, false, List, [], ◌∷◌, ◌++◌, sym, refl, ap, ◌∙◌, subst}
+use Rattle.std.proofs.Common.{if◌then◌else◌, arith, ◌≡◌, ℕ, Bool, true, false, List, [], ◌∷◌, ◌++◌, sym, refl, ap, ◌∙◌, subst}
 use Rattle.seize_machine.specs.Machine.State.{Head, Inactive, Active, head_at, is_active}
 use Rattle.seize_words.specs.Atomic.{Events, Takes, entries}
 use Rattle.seize_words.specs.Blocks.{block_for, head_word, word_of}
-use Rattle.seize_words.specs.Book.{Kept, TheHead, IsLegalList, after, heads, kind_of, rules, slots}
+use Rattle.seize_words.specs.Book.{IsLegalList, after, heads, rules, slots}
 use Rattle.seize_words.specs.Entry.{Entry}
 use Rattle.seize_words.specs.Ledger.{Held, AllKept, renewed}
 use Rattle.seize_words.specs.Laws.{life, life_from, starts}
 use Rattle.seize_words.specs.Reservations.{IsActivationOf}
 use Rattle.seize_words.specs.Private.{is_one, key_of, own_of}
-use Rattle.seize_words.specs.Slots.{IsOf, NotesAs, number_of, own_list}
-use Rattle.seize_words.specs.Stepping.{Stepped, FoundAs, in_step}
+use Rattle.seize_words.specs.Slots.{IsOf, NotesAs}
+use Rattle.seize_words.specs.Stepping.{Stepped}
 use Rattle.seize_words.specs.Tokens.{Name, start}
-use Rattle.seize_words.specs.Words.{Site, ShowsOf, StandsOf}
+use Rattle.seize_words.specs.Words.{Site}
 use Rattle.seize_words.specs.declared.activation.Activation.{Activation}
 use Rattle.seize_words.specs.declared.book.keys.Keys.{Keys}
 use Rattle.seize_words.specs.declared.book.pass.Pass.{Pass}
@@ -43,8 +43,7 @@ module _ (m : ℕ) (key key' : SlotKey) (pass pass' : Pass) (f : ℕ → ℕ) (v
       let one = after_one slots key.keys.held pass'.seen key.one in
       let number = ap key_of step.keys ∙ one.0 in let own = ap own_of step.keys ∙ one.1 in
       let legal : IsLegalList (start pass.name) noted.before = subst (IsLegalList (start pass.name)) (sym step.is_log) step.found.before.legal in
-      let kept = one_kept (start pass.name) key.keys.held noted.before key.one (subst (AllKept (rules (start pass.name)) key.keys.held) (sym step.is_log) kept_then) in
-      (
+      let kept = one_kept (start pass.name) key.keys.held noted.before key.one (subst (AllKept (rules (start pass.name)) key.keys.held) (sym step.is_log) kept_then) in (
         told.0,
         (told.1, number, own),
         (noted, moves key key' pass.name e noted.before (noted.later, noted.answer) book (told.1 ∙ book) refl legal noted.does kept number (own ∙ noted.appended)),
@@ -84,10 +83,10 @@ activation_is m pass pass' keys keys' f v life_ event told one begins is_slot bo
       slot = slot ∙ sym (ap (λ (k : Keys). key_of k.held) same ∙ number);
       since = since ∙ sym (ap (λ (k : Keys). own_of k.held) same);
       active =
-      ap (λ (t : Name × (List Entry × ℕ)). is_active (head_at (after (start t.0) t.1.0) t.1.1)) (λ j. ((name ∙ book) j, (all j, (slot ∙ is_m) j)))
+          ap (λ (t : Name × (List Entry × ℕ)). is_active (head_at (after (start t.0) t.1.0) t.1.1)) (λ j. ((name ∙ book) j, (all j, (slot ∙ is_m) j)))
           ∙ active_word (λ b. block_for (start pass.name) pass'.seen b m) (head_at (after (start pass.name) pass'.seen) m) (sym one ∙ step.left);
       its =
-      ap (λ (t : ℕ × List Entry). life t.0 t.1) (λ j. ((slot ∙ is_m) j, (all ∙ step.noted.appended) j))
+          ap (λ (t : ℕ × List Entry). life t.0 t.1) (λ j. ((slot ∙ is_m) j, (all ∙ step.noted.appended) j))
           ∙ life_push 0 m step.noted.before e
           ∙ ap (λ (b : Bool). if b then life_ else life_from 0 m step.noted.before) begins
           ∙ sym its;

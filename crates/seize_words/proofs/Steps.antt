@@ -1,28 +1,26 @@
 -- **The step of a word**: one atomic step on the word, and with it one event in the list. Whatever the word holds and whatever the list is by
 -- then, the holder of a pass and of some keys adds the event with the word's own keys beside theirs. Assumes `Logic`.
-use Rattle.std.proofs.Common.{◌≡◌, ℕ, zero, suc, ◌+◌, ◌<◌, Bool, true, false, if◌then◌else◌, List, [], ◌∷◌, ◌++◌, refl, sym, ◌∙◌, ap, subst, ◌⊎◌, inl, inr, arith, append-nil, Option, Some, None}
+use Rattle.std.proofs.Common.{◌≡◌, ℕ, zero, suc, ◌<◌, Bool, true, false, List, [], ◌∷◌, ◌++◌, refl, sym, ap, subst, arith, append-nil, Option, Some, None}
 use seplogic.Ra.Ura.{Ura}
-use base.Logic.{SProp, ent, sep, ex, guard, guard_i, upd, upd_i, emp}
-use base.Fml.{Lft, Share, Fml, ftrue, fsep, fex, flft, fbor, fdead, fnamed}
+use base.Logic.{SProp, ent, sep, ex, guard, upd, upd_i}
+use base.Fml.{Lft, Share, Fml, ftrue, fsep, fex, flft, fbor}
 use types.Logic.{Logic, sem}
-use types.Kit.{‵, raw, ◌⊛◌, some, given, ◌$◌, ◌∵◌, !, qed, by, move, keep, drop, split, split3, join, fsplit, fjoin, fjoin3, fpick, fpack, pick, learn, show, check, frame, each, assume, suffices, settle, done, rewrite, use1, use2, use3}
+use types.Kit.{‵, raw, ◌⊛◌, some, given, ◌$◌, ◌∵◌, !, qed, by, move, keep, drop, split, split3, join, fsplit, fjoin, fpick, fpack, pick, learn, show, check, frame, each, assume, suffices, settle, done, rewrite, use1, use2, use3}
 use denote.RawPtr.{block_ptr}
 use denote.Steps.{nothing}
 use Rattle.core.specs.Sync.RawAtomic.{word, asks, always}
 use Rattle.core.proofs.raw_atomic.Asked.{borrowed_with, LiesWith, AgainWith}
 use Rattle.seize_machine.specs.Machine.State.{State, link_at}
 use Rattle.seize_machine.proofs.Facts.{eq_true}
-use Rattle.seize_machine.specs.Machine.Event.{Event}
-use Rattle.seize_words.specs.Ledger.{fact, Held, right, rights, WithKinds, renewed, born}
+use Rattle.seize_words.specs.Ledger.{fact, Held, right, WithKinds, renewed, born}
 use Rattle.seize_words.specs.Entry.{Entry, entry_coded}
-use Rattle.seize_words.specs.Book.{Kind, ThePass, TheNumbers, TheSlot, TheHead, TheLink, TheBatch, TheValue, Nothing, after, rules, kinds, kind_of, births, values}
-use Rattle.seize_words.specs.Laws.{IsIn, ended, ended_by, life}
+use Rattle.seize_words.specs.Book.{Kind, ThePass, TheNumbers, TheSlot, TheHead, TheLink, TheBatch, TheValue, Nothing, after, kinds, kind_of, values}
+use Rattle.seize_words.specs.Laws.{ended}
 use Rattle.seize_words.specs.Fair.{Before}
 use Rattle.seize_words.specs.Private.{is_one}
-use Rattle.seize_words.specs.Stepping.{in_step, FoundAs, NoneEnded, EndsAmong, traded, IsStep, MayStep, Stepped}
-use Rattle.seize_words.specs.Tokens.{Name, Noted, rows, start, inside, knows, keys_own, over, beside, pass_holds, pass_owns}
-use Rattle.seize_words.specs.Words.{Site, Shows, ShowsOf, Stands, StandsOf, IsKeyOf, site_keys, word_knows, word_owns, word_lies, word_reading}
-
+use Rattle.seize_words.specs.Stepping.{in_step, FoundAs, NoneEnded, traded, IsStep, MayStep, Stepped}
+use Rattle.seize_words.specs.Tokens.{Name, rows, start, inside, knows, keys_own, over, pass_holds, pass_owns}
+use Rattle.seize_words.specs.Words.{Site, Shows, ShowsOf, Stands, StandsOf, IsKeyOf, word_knows, word_lies, word_reading}
 use Rattle.seize_words.proofs.Lives.{ends_those, living, none_over}
 use Rattle.seize_words.proofs.Notes.{knows_twice}
 use Rattle.seize_words.proofs.Passes.{IsDistinct, by_pass, keys_after, Made}

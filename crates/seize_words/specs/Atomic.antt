@@ -30,11 +30,13 @@ entries pass life event v log = record { pass = pass.id; size = pass.name.size; 
 
 abbrev pub MayTake : Site → Keys → Pass → List ℕ → List ℕ → (ℕ → ℕ) → ℕ → Events → (ℕ → Bool) → Type 0
 MayTake word keys pass alive lives f life event trades =
-    (word.name ≡ pass.name) × (keys.name ≡ pass.name) × MayStep word pass.id pass.seen keys.held alive lives f (entries pass life event) trades
+    (word.name ≡ pass.name) × (keys.name ≡ pass.name)
+    × MayStep word pass.id pass.seen keys.held alive lives f (entries pass life event) trades
 
 abbrev pub Takes : Site → Keys → Pass → Keys → Pass → List ℕ → (ℕ → ℕ) → ℕ → ℕ → Events → (ℕ → Bool) → Type 0
 Takes word keys pass keys' pass' alive f v life event trades =
-    IsSame pass pass' × (keys'.name ≡ keys.name) × Stepped word pass.id pass.seen pass'.seen keys.held keys'.held alive v (f v) (entries pass life event) trades
+    IsSame pass pass' × (keys'.name ≡ keys.name)
+    × Stepped word pass.id pass.seen pass'.seen keys.held keys'.held alive v (f v) (entries pass life event) trades
 
 -- the same where the activation has not ended
 
@@ -42,7 +44,8 @@ abbrev pub MayTakeIn : Site → Keys → Pass → Activation → (ℕ → ℕ) �
 MayTakeIn word keys pass activation f life event trades = MayTake word keys pass (activation.life ∷ []) [] f life event trades
 
 abbrev pub TakesIn : Site → Keys → Pass → Keys → Pass → Activation → (ℕ → ℕ) → ℕ → ℕ → Events → (ℕ → Bool) → Type 0
-TakesIn word keys pass keys' pass' activation f v life event trades = Takes word keys pass keys' pass' (activation.life ∷ []) f v life event trades
+TakesIn word keys pass keys' pass' activation f v life event trades =
+    Takes word keys pass keys' pass' (activation.life ∷ []) f v life event trades
 
 -- The word that some keys are of: the first is its own, and the others stand beside it.
 

@@ -4,7 +4,7 @@
 --     IsMade word list            the slot of the head is there
 --     IsTrying key m seen block   the slot's call is about to insert its batch at slot m, with this block, and saw this word there
 --     found_end seen v            whether an insertion is won that found this word
-use Rattle.std.specs.Prelude.{◌≡◌, ℕ, ◌<◌, ◌==◌, Bool, true, false, if◌then◌else◌, List, length, Option, Some, None, unwrap_or}
+use Rattle.std.specs.Prelude.{◌≡◌, ℕ, ◌<◌, ◌==◌, Bool, false, if◌then◌else◌, List, length, Option, Some, None, unwrap_or}
 use Rattle.seize_machine.specs.Machine.State.{State, Slot, Place, Mark, Look, Try, slot_at}
 use Rattle.seize_machine.specs.Machine.Next.{of_call, in_turn}
 use Rattle.seize_machine.specs.declared.machine.event.Try.{Try as Insertion}

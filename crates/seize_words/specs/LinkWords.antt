@@ -6,7 +6,7 @@
 --     IsNewFor link key new       the key is that of a value that was never named, or none, and this is its word
 --     HasNext left, IsNext left link left'     a link is left to make;  it was made
 --     Reads, Swaps, CompareExchanges     what the event is, in which state it was made, and what is had afterwards
-use Rattle.std.specs.Prelude.{◌≡◌, ◌≢◌, ℕ, suc, List, [], ◌∷◌, Option, None, drop}
+use Rattle.std.specs.Prelude.{◌≡◌, ◌≢◌, ℕ, suc, List, [], Option, None, drop}
 use Rattle.seize_machine.specs.Machine.State.{link_at}
 use Rattle.seize_machine.specs.Machine.Event.{Event, ReadLink, ExchangeLink}
 use Rattle.seize_machine.specs.declared.machine.event.Exchange.TheVariants.{Swap, Compare}
@@ -44,7 +44,8 @@ pub record IsIn (link : Link) (activation : Activation) (pass : Pass) : Type 0 w
   pub within : IsWithin pass.name activation.slot activation.life activation.since pass.seen (number link)
 
 abbrev pub IsNewFor : Link → MaybeKey → ℕ → Type 0
-IsNewFor link key new = (key.keys.name ≡ link.word.name) × IsNewIn (start link.word.name) (holds key) key.keys.held × (new ≡ link_word (holds key))
+IsNewFor link key new =
+    (key.keys.name ≡ link.word.name) × IsNewIn (start link.word.name) (holds key) key.keys.held × (new ≡ link_word (holds key))
 
 -- The pass added the event, where the link held this, and this was its word.
 pub record Takes (link : Link) (pass pass' : Pass) (event : Option ℕ → Event) (v : ℕ) : Type 0 where

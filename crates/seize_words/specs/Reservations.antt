@@ -88,7 +88,8 @@ abbrev pub IsFull : NumbersKey → Type 0
 IsFull numbers = (first_free (state_of numbers.keys).slots ≡ made_of numbers) × (made_of numbers < all_numbers)
 
 -- a new slot was made, inactive; its key and its head know all that the pass has seen
-pub record MakesSlot (numbers : NumbersKey) (pass : Pass) (numbers' : NumbersKey) (pass' : Pass) (key : SlotKey) (head : Head) : Type 0 where
+pub record MakesSlot (numbers : NumbersKey) (pass : Pass) (numbers' : NumbersKey) (pass' : Pass) (key : SlotKey) (head : Head)
+    : Type 0 where
   pub same : IsSame pass pass'
   pub noted : Noted pass.name pass.id pass.seen pass'.seen (private pass (Take (made_of numbers)))
   pub follows : Follows numbers.keys pass' numbers'.keys

@@ -17,15 +17,22 @@ use Rattle.seize_words.specs.Tokens.{start, Noted}
 use Rattle.seize_words.specs.Fair.{Before, Fair, pass_key}
 use Rattle.seize_words.specs.Words.{Site, Shows, Stands, site_keys}
 
+abbrev pub Keys : Type 0
+Keys = List (Held Entry)
+
+-- the list when the word last changed, and the keys that stand beside its own
+abbrev pub At : Type 0
+At = List Entry × Keys
+
 -- all keys that are there in the step, the word's first
-abbrev pub in_step : Site → List (Held Entry) → List Entry × List (Held Entry) → List (Held Entry)
+abbrev pub in_step : Site → List (Held Entry) → At → List (Held Entry)
 in_step site held t = site_keys site t.0 (t.1 ++ held)
 
 -- no activation with one of these lifetimes has ended
 abbrev pub NoneEnded : List ℕ → List Entry → Type 0
 NoneEnded alive log = (a : ℕ) → IsIn alive a → ¬ (IsIn (ended log) a)
 
-pub record FoundAs (site : Site) (v p : ℕ) (seen : List Entry) (held : List (Held Entry)) (alive : List ℕ) (t : List Entry × List (Held Entry)) (log : List Entry) : Type 0 where
+pub record FoundAs (site : Site) (v p : ℕ) (seen : List Entry) (held : Keys) (alive : List ℕ) (t : At) (log : List Entry) : Type 0 where
   pub shows : Shows site v t.0
   pub stands : Stands site t.0 t.1
   pub before : Before site.name p seen (in_step site held t) log
@@ -40,7 +47,8 @@ EndsAmong lives log event = (a : ℕ) → IsIn (ended_by (λ s. life s log) even
 abbrev pub traded : Bool → List (Held Entry) → List (Held Entry) → List (Held Entry)
 traded trades vs held = if trades then held else vs
 
-pub record IsStep (site : Site) (p : ℕ) (held : List (Held Entry)) (lives : List ℕ) (w : ℕ) (e : Entry) (trades : Bool) (t : List Entry × List (Held Entry)) (own log : List Entry) : Type 0 where
+pub record IsStep (site : Site) (p : ℕ) (held : Keys) (lives : List ℕ) (w : ℕ) (e : Entry) (trades : Bool) (t : At) (own log : List Entry)
+    : Type 0 where
   pub fair : Fair (start site.name) (pass_key p own ∷ in_step site held t) log e
   pub its : e.pass ≡ p
   pub no_births : births (after (start site.name) log) e.event ≡ []
@@ -51,14 +59,15 @@ pub record IsStep (site : Site) (p : ℕ) (held : List (Held Entry)) (lives : Li
 abbrev pub MayStep : Site → ℕ → List Entry → List (Held Entry) → List ℕ → List ℕ → (ℕ → ℕ) → (ℕ → List Entry → Entry) → (ℕ → Bool) → Type 0
 MayStep site p seen held alive lives f entry trades =
     WithKinds kinds held
-    × ((v : ℕ) (t : List Entry × List (Held Entry)) (own log : List Entry) → FoundAs site v p seen held alive t log
-      → IsStep site p held lives (f v) (entry v log) (trades v) t own log)
+    × ((v : ℕ) (t : At) (own log : List Entry) → FoundAs site v p seen held alive t log
+    → IsStep site p held lives (f v) (entry v log) (trades v) t own log)
 
-pub record Stepped (site : Site) (p : ℕ) (seen seen' : List Entry) (held held' : List (Held Entry)) (alive : List ℕ) (v w : ℕ) (entry : ℕ → List Entry → Entry) (trades : ℕ → Bool) : Type 0 where
+pub record Stepped (site : Site) (p : ℕ) (seen seen' : List Entry) (held held' : Keys) (alive : List ℕ) (v w : ℕ)
+    (entry : ℕ → List Entry → Entry) (trades : ℕ → Bool) : Type 0 where
   pub log : List Entry
   pub noted : Noted site.name p seen seen' (entry v log)
   pub is_log : noted.before ≡ log
-  pub since : List Entry × List (Held Entry)
+  pub since : At
   pub found : FoundAs site v p seen held alive since log
   pub left : Shows site w seen'
   pub keys : held' ≡ renewed (traded (trades v) held since.1) seen'

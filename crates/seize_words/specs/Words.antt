@@ -1,6 +1,6 @@
--- What a word of the book is. A word stands for one head or link: its value shows what the list says of it. The word's key stands beside it,
--- in the word's own invariant, so whoever takes an atomic step on the word may add the event that changes the head or the link in that very
--- step, and nobody else may.
+-- What a word of the book is. A word stands for one head or link: its value shows what the list says of it. The word's key stands beside
+-- it, in the word's own invariant, so whoever takes an atomic step on the word may add the event that changes the head or the link in that
+-- very step, and nobody else may.
 --     Site                   which word it is: its book, and the kind and number of what it stands for
 --     Shows site v log       the value v is what the list says
 --     Stands site log vs     these are the other keys that stand beside it: of a link that of the value in it
@@ -10,7 +10,7 @@ use Rattle.std.specs.Prelude.{◌≡◌, ℕ, true, List, [], ◌∷◌, Option,
 use Rattle.std.specs.Coded.{Coded, code_by, coded_ℕ, coded×}
 use mathlib.Core.Path.{refl}
 use base.Before.{before}
-use base.Fml.{Lft, Fml, ftrue, ffalse, fsep, fex, fbor, fnamed}
+use base.Fml.{Lft, Fml, ffalse, fsep, fex, fbor, fnamed}
 use denote.RawPtr.{Ptr, block_ptr, null_ptr}
 use Rattle.core.specs.Sync.RawAtomic.{word}
 use Rattle.seize_machine.specs.Machine.State.{State, link_at}

@@ -31,7 +31,9 @@ impl MaybeKey {
     pub fn none(pass: &mut Pass) -> MaybeKey
         ensures { IsNone result pass.old × (pass.new ≡ pass.old) }
     {
-        MaybeKey { keys: Keys::empty(pass) }
+        MaybeKey {
+            keys: Keys::empty(pass),
+        }
     }
 
     /// The key of this value.
@@ -66,23 +68,38 @@ impl Link {
         self.word.load_in::<Brand>(&mut keys, activation, pass)
     }
 
-    /// Puts a value that was never named into the link, or none: the event `ExchangeLink` of the activation's slot. It gives the word of what
-    /// the link held, and the key of that, in place of the value's.
-    pub fn swap(&self, new: u64, value: &mut MaybeKey, activation: &Activation, pass: &mut Pass) -> u64
+    /// Puts a value that was never named into the link, or none: the event `ExchangeLink` of the activation's slot. It gives the word of
+    /// what the link held, and the key of that, in place of the value's.
+    pub fn swap(
+        &self,
+        new: u64,
+        value: &mut MaybeKey,
+        activation: &Activation,
+        pass: &mut Pass,
+    ) -> u64
         requires within { IsIn self.now activation.now pass.old }
         requires new { IsNewFor self.now value.old new }
         ensures swaps { Swaps self.now activation.now value.old pass.old value.new pass.new result }
     {
-        self.word.swap_in::<Brand>(new, &mut value.keys, activation, pass)
+        self.word
+            .swap_in::<Brand>(new, &mut value.keys, activation, pass)
     }
 
     /// The same, but only if the link's word is what was seen. It gives the word of what the link held; the value's key comes back if that
     /// was something else.
-    pub fn compare_exchange(&self, seen: u64, new: u64, value: &mut MaybeKey, activation: &Activation, pass: &mut Pass) -> u64
+    pub fn compare_exchange(
+        &self,
+        seen: u64,
+        new: u64,
+        value: &mut MaybeKey,
+        activation: &Activation,
+        pass: &mut Pass,
+    ) -> u64
         requires within { IsIn self.now activation.now pass.old }
         requires new { IsNewFor self.now value.old new }
         ensures exchanges { CompareExchanges self.now activation.now value.old pass.old seen value.new pass.new result }
     {
-        self.word.exchange_in::<Brand>(seen, new, &mut value.keys, activation, pass)
+        self.word
+            .exchange_in::<Brand>(seen, new, &mut value.keys, activation, pass)
     }
 }

@@ -43,7 +43,9 @@ impl Head {
         requires { IsOfHead keys.old }
         ensures { IsHeadOf keys.old result }
     {
-        Head { word: Word::new(0, keys) }
+        Head {
+            word: Word::new(0, keys),
+        }
     }
 
     /// Reads the head: the event `ReadHead` of a slot whose call marks, or is about to insert its batch here.
@@ -64,7 +66,8 @@ impl Head {
         ensures noted { Notes key.old pass.old key.new pass.new (Insert (number_of key.old) (slot self.now) (found_end seen result)) }
         ensures found { FoundBefore self.now pass.new result }
     {
-        self.word.exchange::<Brand>(seen, block + 2, &mut key.keys, pass)
+        self.word
+            .exchange::<Brand>(seen, block + 2, &mut key.keys, pass)
     }
 
     /// The slot becomes active: the event `Enter`, which begins the activation.
@@ -94,8 +97,8 @@ impl Head {
         self.word.swap::<Brand>(0, &mut key.keys, &mut ended, pass)
     }
 
-    /// The slot refreshes: the event `SwapOut` of a refresh, which ends the activation and begins another one. It gives the word of the head
-    /// that comes out.
+    /// The slot refreshes: the event `SwapOut` of a refresh, which ends the activation and begins another one. It gives the word of the
+    /// head that comes out.
     pub fn refresh(&self, activation: &mut Activation, key: &mut SlotKey, pass: &mut Pass) -> u64
         requires book { IsOf key.old pass.old × IsOfBook self.now pass.old × IsOwn self.now key.old }
         requires refreshing { IsOut key.old true }

@@ -35,13 +35,17 @@ impl Move for Word {
 /// picks them; those below stand where none are picked.
 pub(crate) trait Finds {
     ghost event: { ℕ → List Entry → Event };
+
     ghost life: { ℕ };
+
     ghost trades: { ℕ → Bool };
 }
 
 impl Finds for Brand {
     ghost event = { λ v log. Return 0 };
+
     ghost life = { 0 };
+
     ghost trades = { λ v. false };
 }
 
@@ -65,7 +69,12 @@ impl Word {
     }
 
     /// Reads the word, where the activation has not ended.
-    pub(crate) fn load_in<P: Finds>(&self, keys: &mut Keys, activation: &Activation, pass: &mut Pass) -> u64
+    pub(crate) fn load_in<P: Finds>(
+        &self,
+        keys: &mut Keys,
+        activation: &Activation,
+        pass: &mut Pass,
+    ) -> u64
         requires { MayTakeIn self.now keys.old pass.old activation.now (λ v. v) P.life P.event P.trades }
         ensures { TakesIn self.now keys.old pass.old keys.new pass.new activation.now (λ v. v) result P.life P.event P.trades }
     {
@@ -73,7 +82,13 @@ impl Word {
     }
 
     /// Stores `new` and gives what the word held, where the activation has not ended.
-    pub(crate) fn swap_in<P: Finds>(&self, new: u64, keys: &mut Keys, activation: &Activation, pass: &mut Pass) -> u64
+    pub(crate) fn swap_in<P: Finds>(
+        &self,
+        new: u64,
+        keys: &mut Keys,
+        activation: &Activation,
+        pass: &mut Pass,
+    ) -> u64
         requires { MayTakeIn self.now keys.old pass.old activation.now (λ v. new) P.life P.event P.trades }
         ensures { TakesIn self.now keys.old pass.old keys.new pass.new activation.now (λ v. new) result P.life P.event P.trades }
     {
@@ -81,7 +96,14 @@ impl Word {
     }
 
     /// Stores `new` where the word holds `seen`, and gives what it held, where the activation has not ended.
-    pub(crate) fn exchange_in<P: Finds>(&self, seen: u64, new: u64, keys: &mut Keys, activation: &Activation, pass: &mut Pass) -> u64
+    pub(crate) fn exchange_in<P: Finds>(
+        &self,
+        seen: u64,
+        new: u64,
+        keys: &mut Keys,
+        activation: &Activation,
+        pass: &mut Pass,
+    ) -> u64
         requires { MayTakeIn self.now keys.old pass.old activation.now (exchanged seen new) P.life P.event P.trades }
         ensures { TakesIn self.now keys.old pass.old keys.new pass.new activation.now (exchanged seen new) result P.life P.event P.trades }
     {
@@ -89,7 +111,13 @@ impl Word {
     }
 
     /// Stores `new` and gives what the word held. It may end activations with these lifetimes.
-    pub(crate) fn swap<P: Finds>(&self, new: u64, keys: &mut Keys, ended: &mut Ended, pass: &mut Pass) -> u64
+    pub(crate) fn swap<P: Finds>(
+        &self,
+        new: u64,
+        keys: &mut Keys,
+        ended: &mut Ended,
+        pass: &mut Pass,
+    ) -> u64
         requires { MayTake self.now keys.old pass.old [] ended.old.lives (λ v. new) P.life P.event P.trades }
         ensures { Takes self.now keys.old pass.old keys.new pass.new [] (λ v. new) result P.life P.event P.trades }
     {
@@ -97,7 +125,13 @@ impl Word {
     }
 
     /// Stores `new` where the word holds `seen`, and gives what it held.
-    pub(crate) fn exchange<P: Finds>(&self, seen: u64, new: u64, keys: &mut Keys, pass: &mut Pass) -> u64
+    pub(crate) fn exchange<P: Finds>(
+        &self,
+        seen: u64,
+        new: u64,
+        keys: &mut Keys,
+        pass: &mut Pass,
+    ) -> u64
         requires { MayTake self.now keys.old pass.old [] [] (exchanged seen new) P.life P.event P.trades }
         ensures { Takes self.now keys.old pass.old keys.new pass.new [] (exchanged seen new) result P.life P.event P.trades }
     {

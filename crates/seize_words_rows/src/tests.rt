@@ -1,5 +1,8 @@
 //! Books, passes and keys in hand.
-use seize_words::book::{BatchKey, Book, Keys, NumbersKey, Pass, SlotKey, ValueKey};
+use seize_words::activation::Activation;
+use seize_words::book::{BatchKey, Book, Keys, LinkKeys, NumbersKey, Pass, SlotKey, ValueKey};
+use seize_words::link::{Link, MaybeKey};
+use seize_words::reservation::Head;
 use std::mem::size_of;
 use std::test::*;
 use std::thread;
@@ -7,14 +10,14 @@ use std::thread;
 // Two passes meet, go to threads, come back and meet again.
 #[test]
 fn passes_go_to_threads_and_meet(rt: HostRuntime) {
-    let (mut book, keys) = Book::open(2, 32);
+    let (mut book, numbers, links) = Book::open(2, 32);
     let mut copy = book.again();
     let (mut one, mut two) = (book.pass(), copy.pass());
     one.meet(&mut two);
     let (one, two) = thread::join(&rt, move || one, move || two);
     let (mut one, mut two) = (one, two);
     two.meet(&mut one);
-    drop((keys, one, two));
+    drop((numbers, links, one, two));
 }
 
 #[test]
@@ -27,7 +30,17 @@ fn tokens_have_no_bytes(rt: HostRuntime) {
         size_of::<SlotKey>()
             + size_of::<ValueKey>()
             + size_of::<BatchKey>()
-            + size_of::<NumbersKey>(),
+            + size_of::<NumbersKey>()
+            + size_of::<LinkKeys>()
+            + size_of::<MaybeKey>()
+            + size_of::<Activation>(),
         0
     );
+}
+
+// A head and a link are one word each.
+#[test]
+fn words_have_eight_bytes(rt: HostRuntime) {
+    assert_eq!(rt; size_of::<Head>(), 8);
+    assert_eq!(rt; size_of::<Link>(), 8);
 }

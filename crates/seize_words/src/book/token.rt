@@ -46,7 +46,12 @@ impl Book {
         let mut numbers = keys;
         let mut rest = numbers.none();
         numbers.part(&mut rest);
-        (book, pass, NumbersKey { keys: numbers }, LinkKeys { keys: rest })
+        (
+            book,
+            pass,
+            NumbersKey { keys: numbers },
+            LinkKeys { keys: rest },
+        )
     }
 
     // A new book with all its keys: that of the numbers and those of the links, in this order.
@@ -98,7 +103,8 @@ impl Book {
 
     /// The key of a value that was never named, and lies in the block with this number.
     pub fn value(&mut self, block: u64) -> ValueKey
-        ensures { (is_named result ≡ false) × (block_of (value_of result) ≡ block) × (book_of result ≡ self.old.name) × (self.new.name ≡ self.old.name) }
+        ensures new { (is_named result ≡ false) × (block_of (value_of result) ≡ block) }
+        ensures book { (book_of result ≡ self.old.name) × (self.new.name ≡ self.old.name) }
     {
         ValueKey {
             keys: self.value_keys(block),

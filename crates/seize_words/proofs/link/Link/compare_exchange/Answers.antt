@@ -1,10 +1,9 @@
-use Rattle.std.proofs.Common.{◌≡◌, ◌≢◌, ℕ, ◌==◌, List, [], ◌∷◌, Option, true, false, refl, sym, ap, ◌∙◌, subst, arith}
+use Rattle.std.proofs.Common.{◌≡◌, ◌≢◌, ℕ, ◌==◌, [], ◌∷◌, Option, true, false, sym, ◌∙◌, subst, arith}
 use Rattle.seize_machine.specs.Machine.State.{link_at}
 use Rattle.seize_machine.specs.Machine.Event.{Event, ExchangeLink}
 use Rattle.seize_machine.specs.declared.machine.event.Exchange.TheVariants.{Compare}
 use Rattle.seize_words.specs.Atomic.{Events, Takes as Took, exchanged}
 use Rattle.seize_words.specs.Book.{after}
-use Rattle.seize_words.specs.Entry.{Entry}
 use Rattle.seize_words.specs.LinkWords.{holds, number}
 use Rattle.seize_words.specs.Links.{IsNewIn, compared}
 use Rattle.seize_words.specs.Stepping.{MayStep}
@@ -35,7 +34,7 @@ exchange_in-requires c =
       in_.book.0,
       c.requires.new.0 ∙ in_.book.0,
       subst (λ (t : Site). MayStep t pass.id pass.seen held (a.life ∷ []) [] (exchanged c.args.seen c.args.new)
-            (λ v log. record { pass = pass.id; size = pass.name.size; event = events pass.name a.slot l c.args.seen (holds value) v log; life = 0 }) (λ v. v == c.args.seen))
+          (λ v log. record { pass = pass.id; size = pass.name.size; event = events pass.name a.slot l c.args.seen (holds value) v log; life = 0 }) (λ v. v == c.args.seen))
           (sym (is_at link.word pass.name in_.book.0 link.link)) may,
     )
 

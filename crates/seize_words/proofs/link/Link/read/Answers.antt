@@ -1,8 +1,7 @@
-use Rattle.std.proofs.Common.{ℕ, List, [], ◌∷◌, false, refl, sym, ap, ◌∙◌, subst}
+use Rattle.std.proofs.Common.{List, [], ◌∷◌, false, sym, subst}
 use Rattle.seize_machine.specs.Machine.Event.{ReadLink}
 use Rattle.seize_words.specs.Atomic.{MayTake, Takes as Took}
 use Rattle.seize_words.specs.LinkWords.{number}
-use Rattle.seize_words.specs.Links.{at_link}
 use Rattle.seize_words.specs.Words.{Site}
 use Rattle.seize_words.specs.Ledger.{Held}
 use Rattle.seize_words.specs.Entry.{Entry}

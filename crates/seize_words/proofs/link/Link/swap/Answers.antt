@@ -1,4 +1,4 @@
-use Rattle.std.proofs.Common.{ℕ, List, [], ◌∷◌, Option, true, refl, sym, ap, ◌∙◌, subst}
+use Rattle.std.proofs.Common.{ℕ, [], ◌∷◌, Option, true, refl, sym, ◌∙◌, subst}
 use Rattle.seize_machine.specs.Machine.Event.{ExchangeLink}
 use Rattle.seize_machine.specs.declared.machine.event.Exchange.TheVariants.{Swap}
 use Rattle.seize_words.specs.Atomic.{Takes as Took}
@@ -27,7 +27,7 @@ returns c =
     let link = c.args.self.now in let a = c.args.activation.now in let pass = c.args.pass.now in let in_ = c.requires.within in let l = number link in let value = c.args.value.now in
     let ev = λ (o : Option ℕ). ExchangeLink a.slot l (Swap (holds value)) in
     let told = subst (λ (t : Site). Took t value.keys pass c.swap_in.new.keys c.swap_in.new.pass (a.life ∷ []) (λ v. c.args.new) c.swap_in.result 0 (λ v log. ExchangeLink a.slot l (Swap (holds value))) (λ v. true))
-        (is_at link.word pass.name in_.book.0 link.link) c.swap_in.ensures in
+    (is_at link.word pass.name in_.book.0 link.link) c.swap_in.ensures in
     record {
       swaps = (
         taken link pass c.swap_in.new.pass value.keys c.swap_in.new.keys (a.life ∷ []) (λ v. c.args.new) c.swap_in.result ev (λ v. true) told,
@@ -42,5 +42,5 @@ invariant_of-value c =
     let link = c.args.self.now in let a = c.args.activation.now in let pass = c.args.pass.now in let in_ = c.requires.within in let l = number link in let value = c.args.value.now in
     let ev = λ (o : Option ℕ). ExchangeLink a.slot l (Swap (holds value)) in
     let told = subst (λ (t : Site). Took t value.keys pass c.swap_in.new.keys c.swap_in.new.pass (a.life ∷ []) (λ v. c.args.new) c.swap_in.result 0 (λ v log. ExchangeLink a.slot l (Swap (holds value))) (λ v. true))
-        (is_at link.word pass.name in_.book.0 link.link) c.swap_in.ensures in
+    (is_at link.word pass.name in_.book.0 link.link) c.swap_in.ensures in
     record { value = still_one link pass c.swap_in.new.pass value.keys c.swap_in.new.keys (a.life ∷ []) (λ v. c.args.new) c.swap_in.result ev (λ v. true) told value.value }

@@ -1,4 +1,4 @@
-use Rattle.std.proofs.Common.{◌≡◌, ℕ, ◌==◌, true, false, List, [], refl, sym, ap, ◌∙◌, subst, arith}
+use Rattle.std.proofs.Common.{◌≡◌, ℕ, ◌==◌, true, false, [], refl, sym, ap, ◌∙◌, subst, arith}
 use Rattle.seize_machine.specs.Machine.State.{head_at, is_active, is_idle, slot_at}
 use Rattle.seize_machine.specs.Machine.Event.{Enter}
 use Rattle.seize_words.specs.Atomic.{MayTake, Takes}
@@ -41,13 +41,13 @@ returns-clause-noted c =
     let head = c.args.self.now in let key = c.args.key.now in let pass = c.args.pass.now in let s = key_of key.keys.held in let m = slot head in let life = c.begun.new.self.life in
     noted_by m key _ pass c.swap.new.pass (λ v. 1) c.swap.result life (λ v log. Enter s)
     (told head.word m pass c.swap.new.pass c.new-activation.new.keys c.swap.new.keys key.keys c.begun.new.keys c.swap.result c.renew-ended.result.next life (is_at_head head.word pass.name c.requires.book.1 head.head)
-      c.new-activation.ensures.1 (sym c.begun.ensures.1) (c.renew-ended.ensures.3 ∙ sym c.begun.ensures.0.2) c.swap.ensures) c.requires.book.0
+    c.new-activation.ensures.1 (sym c.begun.ensures.1) (c.renew-ended.ensures.3 ∙ sym c.begun.ensures.0.2) c.swap.ensures) c.requires.book.0
 
 pub returns-clause-activation : goal.returns-clause-activation
 returns-clause-activation c =
     let head = c.args.self.now in let key = c.args.key.now in let pass = c.args.pass.now in let s = key_of key.keys.held in let m = slot head in let a = c.begun.new.self in let b = c.begun.ensures.0 in
     let new = c.new-activation.ensures in let then_ = c.renew-ended.ensures in let pass' = c.swap.new.pass in
     let t = told head.word m pass pass' c.new-activation.new.keys c.swap.new.keys key.keys c.begun.new.keys c.swap.result c.renew-ended.result.next a.life (is_at_head head.word pass.name c.requires.book.1 head.head)
-        new.1 (sym c.begun.ensures.1) (then_.3 ∙ sym b.2) c.swap.ensures in
+    new.1 (sym c.begun.ensures.1) (then_.3 ∙ sym b.2) c.swap.ensures in
     activation_is m pass pass' key.keys c.begun.new.keys (λ v. 1) c.swap.result a.life (λ v log. Enter s) t refl (equal s m (sym c.requires.book.2)) key.one c.requires.book.0 (sym c.requires.book.2)
     _ a refl (b.0 ∙ then_.0 ∙ new.0.0) (b.1 ∙ then_.1 ∙ new.0.1) (b.3 ∙ ap (λ (k : Keys). own_of k.held) (sym c.begun.ensures.1)) refl

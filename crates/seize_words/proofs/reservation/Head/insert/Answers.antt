@@ -1,4 +1,4 @@
-use Rattle.std.proofs.Common.{◌≡◌, ℕ, ◌+◌, false, List, [], ◌∷◌, ◌++◌, sym, subst}
+use Rattle.std.proofs.Common.{◌≡◌, ◌+◌, false, List, [], ◌∷◌, ◌++◌, sym, subst}
 use Rattle.seize_machine.specs.Machine.Event.{Insert}
 use Rattle.seize_words.specs.Atomic.{Takes, exchanged}
 use Rattle.seize_words.specs.Blocks.{head_word}

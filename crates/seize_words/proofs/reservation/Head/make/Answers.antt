@@ -1,13 +1,12 @@
-use Rattle.std.proofs.Common.{◌≡◌, ℕ, ◌++◌, ◌∷◌, [], List, Bool, true, length, refl, sym, ap, ◌∙◌, subst}
+use Rattle.std.proofs.Common.{◌≡◌, ◌∷◌, [], List, length, sym, ap, ◌∙◌, subst}
 use Rattle.std.specs.Prelude.{drop, take}
-use Rattle.seize_machine.specs.Machine.State.{State, Inactive, head_at}
+use Rattle.seize_machine.specs.Machine.State.{State, head_at}
 use Rattle.seize_machine.specs.Machine.Event.{Take}
-use Rattle.seize_machine.proofs.Facts.{opening_reached, reached_by}
 use Rattle.seize_words.specs.Adding.{Adds, Asks, private}
-use Rattle.seize_words.specs.Book.{after, births, heads, numbers, slots}
+use Rattle.seize_words.specs.Book.{after, heads, numbers, slots}
 use Rattle.seize_words.specs.Entry.{Entry}
 use Rattle.seize_words.specs.Fair.{Added, MayAdd}
-use Rattle.seize_words.specs.Ledger.{Held, born, renewed}
+use Rattle.seize_words.specs.Ledger.{Held, renewed}
 use Rattle.seize_words.specs.Others.{state_of}
 use Rattle.seize_words.specs.Private.{is_one, key_of, own_of}
 use Rattle.seize_words.specs.Reservations.{made_of}
@@ -24,9 +23,11 @@ use Rattle.seize_words.proofs.reservation.Head.make.Goals as goal
 pub note-requires : goal.note-requires
 note-requires c =
     let number = c.args.numbers.now in let keys = number.keys in let pass = c.args.pass.now in
-    subst (λ (k : Keys). Asks k pass (Take (length (state_of k).slots))) (sym (c.none-head.ensures.0 ∙ c.none-key.ensures.0))
-    (c.requires.book, subst (λ (n : Name). MayAdd n pass.id pass.seen keys.held (private pass (Take (made_of number)))) c.requires.book
-    (may_make keys.name keys.held pass.id pass.name.size pass.seen number.one number.zero c.requires.full.0 c.requires.full.1))
+    subst (λ (k : Keys). Asks k pass (Take (length (state_of k).slots))) (sym (c.none-head.ensures.0 ∙ c.none-key.ensures.0)) (
+      c.requires.book,
+      subst (λ (n : Name). MayAdd n pass.id pass.seen keys.held (private pass (Take (made_of number)))) c.requires.book
+          (may_make keys.name keys.held pass.id pass.name.size pass.seen number.one number.zero c.requires.full.0 c.requires.full.1),
+    )
 
 -- what is known after the event, said of the key's own book
 record Told (number : NumbersKey) (pass : Pass) (keys' : Keys) (pass' : Pass) : Type 0 where
@@ -52,7 +53,7 @@ of-requires c =
           ∙ ap (λ (hs : List (Held Entry)). head_at (after (start k.name) (own_of hs)) (key_of hs)) is
           ∙ ap (λ (st : State). head_at st (made_of number)) noted.leads
           ∙ new_head k.name k.held pass.id pass.name.size pass.seen noted.before (noted.later, noted.answer) number.one c.requires.full.0 c.requires.full.1 t.added.before
-              (reached_after k.name noted.before noted.distinct t.added.before.legal) noted.does,
+          (reached_after k.name noted.before noted.distinct t.added.before.legal) noted.does,
     )
 
 pub invariant_of-result : goal.invariant_of-result

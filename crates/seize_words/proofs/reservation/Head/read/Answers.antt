@@ -1,4 +1,4 @@
-use Rattle.std.proofs.Common.{◌≡◌, ℕ, ◌<◌, true, false, List, [], length, sym, subst}
+use Rattle.std.proofs.Common.{◌≡◌, ◌<◌, true, false, [], length, sym, subst}
 use Rattle.seize_machine.specs.Machine.State.{slot_at}
 use Rattle.seize_machine.specs.Machine.Event.{ReadHead}
 use Rattle.seize_words.specs.Atomic.{Takes}

@@ -1,5 +1,5 @@
 use Rattle.std.proofs.Common.{◌≡◌, ℕ, ◌==◌, true, false, List, [], ◌∷◌, ◌++◌, inl, refl, sym, ap, ◌∙◌, subst, arith}
-use Rattle.seize_machine.specs.Machine.State.{Out, slot_at}
+use Rattle.seize_machine.specs.Machine.State.{Out}
 use Rattle.seize_machine.specs.Machine.Event.{SwapOut}
 use Rattle.seize_machine.proofs.Facts.{Stands}
 use Rattle.seize_words.specs.Atomic.{Takes}
@@ -44,14 +44,14 @@ returns-clause-noted c =
     let head = c.args.self.now in let key = c.args.key.now in let pass = c.args.pass.now in let s = key_of key.keys.held in let m = slot head in let life = c.begun.new.self.life in
     noted_by m key _ pass c.swap-word.new.pass (λ v. 1) c.swap-word.result life (λ v log. SwapOut s)
     (told head.word m s pass c.swap-word.new.pass key.keys c.swap-word.new.keys c.begun.new.keys c.swap-word.result c.renew-ended.result.next life (is_at_head head.word pass.name c.requires.book.1 head.head)
-      (sym c.begun.ensures.1) (c.renew-ended.ensures.3 ∙ sym c.begun.ensures.0.2) c.swap-word.ensures) c.requires.book.0
+    (sym c.begun.ensures.1) (c.renew-ended.ensures.3 ∙ sym c.begun.ensures.0.2) c.swap-word.ensures) c.requires.book.0
 
 pub returns-clause-activation : goal.returns-clause-activation
 returns-clause-activation c =
     let head = c.args.self.now in let key = c.args.key.now in let pass = c.args.pass.now in let s = key_of key.keys.held in let m = slot head in let a = c.begun.new.self in let b = c.begun.ensures.0 in
     let then_ = c.renew-ended.ensures in let pass' = c.swap-word.new.pass in
     let t = told head.word m s pass pass' key.keys c.swap-word.new.keys c.begun.new.keys c.swap-word.result c.renew-ended.result.next a.life (is_at_head head.word pass.name c.requires.book.1 head.head)
-        (sym c.begun.ensures.1) (then_.3 ∙ sym b.2) c.swap-word.ensures in
+    (sym c.begun.ensures.1) (then_.3 ∙ sym b.2) c.swap-word.ensures in
     activation_is m pass pass' key.keys c.begun.new.keys (λ v. 1) c.swap-word.result a.life (λ v log. SwapOut s) t refl (equal s m (sym c.requires.book.2)) key.one c.requires.book.0 (sym c.requires.book.2)
     _ a refl (b.0 ∙ then_.0 ∙ c.requires.last.0) (b.1 ∙ then_.1 ∙ c.requires.last.1) (b.3 ∙ ap (λ (k : Keys). own_of k.held) (sym c.begun.ensures.1)) refl
 

@@ -21,8 +21,6 @@ use denote.Struct.Parts.{shape_of, Struct-left, left_Struct}
 use Rattle.core.specs.Sync.RawAtomic.{word}
 use Rattle.core.proofs.cell.Borrows.{flag, by_one}
 use Rattle.core.proofs.tally.Steps.{word_in, word_out}
-use Rattle.seize_words.specs.Ledger.{fact}
-
 use Rattle.seize_words.specs.Words.{Site, word_owns, word_lies, word_reading, word_lent}
 use Rattle.seize_words.specs.contracts.word.Word as C
 use Rattle.seize_words.proofs.word.Word.TheLaw.Statement.{statement}

@@ -1,6 +1,6 @@
 use Rattle.std.proofs.Common.{◌≡◌, refl, subst, true, false, ◌⊎◌}
 use Rattle.seize_machine.specs.Machine.State.{slot_at, is_idle, has}
-use Rattle.seize_words.specs.Book.{after, values}
+use Rattle.seize_words.specs.Book.{after}
 use Rattle.seize_words.specs.Private.{key_of, own_of}
 use Rattle.seize_words.specs.Tokens.{Name, start}
 use Rattle.seize_words.proofs.Retires.{may_retire, spent}
