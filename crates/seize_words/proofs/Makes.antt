@@ -1,7 +1,7 @@
 -- The key of the numbers is enough to make the next slot, where all numbers are in use.
 use Rattle.std.proofs.Common.{◌≡◌, ℕ, zero, suc, ◌<◌, ◌==◌, true, List, [], ◌∷◌, ◌++◌, length, get_or, Bool, refl, sym, ◌∙◌, ap, subst, arith, nat_lt, ◌&&◌, if◌then◌else◌, Some, None}
 use Rattle.std.proofs.lemmas.List.{length-map}
-use Rattle.seize_machine.specs.Machine.State.{State, Slot, Head, Inactive, head_at}
+use Rattle.seize_machine.specs.Machine.State.{State, Slot, Head, Inactive, head_at, no_slot, slot_at}
 use Rattle.seize_machine.specs.Machine.Event.{Take}
 use Rattle.seize_machine.specs.Machine.Next.{taken, first_free, next}
 use Rattle.seize_machine.specs.Machine.Frames.{used}
@@ -101,6 +101,17 @@ module _ (n : Name) (b : List (Held Entry)) where
       let many : s ≡ length st.slots = as_many old st same in
       let is : d ≡ made_by st s = some_is _ _ (sym done ∙ does size st s many (sym full ∙ as_free old st same) few) in
       ap (λ (x : State × Answer). head_at x.0 s) is ∙ ap (λ (k : ℕ). get_or (st.heads ++ Inactive ∷ []) k Inactive) (many ∙ sym (heads_length st reached)) ∙ last st.heads Inactive Inactive
+
+  -- it is in use, with no call, and has retired nothing
+  pub new_slot : (p size : ℕ) (seen log : List Entry) (d : State × Answer) → is_one numbers b ≡ true → first_free old.slots ≡ s → s < all_numbers → Before n p seen b log
+      → next size (after (start n) log) (Take s) ≡ Some d → slot_at d.0 s ≡ record { used = true; batch = []; call = None }
+  unfolding made_by
+  new_slot p size seen log d one full few before done =
+      let st : State = after (start n) log in
+      let same : used old ≡ used st = (subst (λ (hs : List (Held Entry)). Before n p seen hs log) (only_is numbers b one) before).kept.0.1 in
+      let many : s ≡ length st.slots = as_many old st same in
+      let is : d ≡ made_by st s = some_is _ _ (sym done ∙ does size st s many (sym full ∙ as_free old st same) few) in
+      ap (λ (x : State × Answer). slot_at x.0 s) is ∙ ap (λ (k : ℕ). get_or (st.slots ++ record { used = true; batch = []; call = None } ∷ []) k no_slot) many ∙ last st.slots (record { used = true; batch = []; call = None }) no_slot
 
   -- all keys then
   pub all_keys : (p : ℕ) (seen log log' : List Entry) → is_one numbers b ≡ true → Before n p seen b log

@@ -9,7 +9,7 @@
 --     IsActivationOf key a                it has begun with what the key knows last
 --     made_of numbers, IsFull numbers     how many slots there are, as the key knows;  all of their numbers are in use
 --     MakesSlot numbers pass numbers' pass' key head     the next slot was made, with this key and this head
-use Rattle.std.specs.Prelude.{◌≡◌, ℕ, ◌+◌, ◌<◌, ◌^◌, Bool, true, List, [], ◌∷◌, ◌++◌, length, Some}
+use Rattle.std.specs.Prelude.{◌≡◌, ℕ, ◌+◌, ◌<◌, ◌^◌, Bool, true, false, List, [], ◌∷◌, ◌++◌, length, Some, None}
 use Rattle.seize_machine.specs.Machine.Event.{Event, Take}
 use Rattle.seize_machine.specs.Machine.Next.{first_free}
 use Rattle.seize_table.specs.Place.{all_numbers}
@@ -23,7 +23,7 @@ use Rattle.seize_words.specs.Laws.{life}
 use Rattle.seize_words.specs.Others.{Follows, state_of}
 use Rattle.seize_words.specs.Passes.{IsSame}
 use Rattle.seize_words.specs.Private.{is_one, key_of}
-use Rattle.seize_words.specs.Slots.{number_of, own_list, slot_of, start_of}
+use Rattle.seize_words.specs.Slots.{active_of, number_of, own_list, slot_of, start_of}
 use Rattle.seize_words.specs.Tokens.{Noted, start}
 use Rattle.seize_words.specs.declared.activation.Activation.{Activation}
 use Rattle.seize_words.specs.declared.book.keys.Keys.{Keys}
@@ -96,6 +96,8 @@ pub record MakesSlot (numbers : NumbersKey) (pass : Pass) (numbers' : NumbersKey
   pub book : (key.keys.name ≡ pass.name) × (head.word.name ≡ pass.name)
   pub number : (number_of key ≡ made_of numbers) × (slot head ≡ made_of numbers)
   pub own : own_list key ≡ pass'.seen
+  pub idle : slot_of key ≡ record { used = true; batch = []; call = None }
+  pub inactive : active_of key ≡ false
 
 abbrev pub NumbersOf : NumbersKey → Pass → Type 0
 NumbersOf numbers pass = numbers.keys.name ≡ pass.name

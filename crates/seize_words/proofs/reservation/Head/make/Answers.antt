@@ -1,6 +1,6 @@
-use Rattle.std.proofs.Common.{◌≡◌, ◌∷◌, [], List, length, sym, ap, ◌∙◌, subst}
+use Rattle.std.proofs.Common.{◌≡◌, ℕ, ◌∷◌, [], List, length, sym, ap, ◌∙◌, subst}
 use Rattle.std.specs.Prelude.{drop, take}
-use Rattle.seize_machine.specs.Machine.State.{State, head_at}
+use Rattle.seize_machine.specs.Machine.State.{State, Inactive, head_at, is_active, slot_at}
 use Rattle.seize_machine.specs.Machine.Event.{Take}
 use Rattle.seize_words.specs.Adding.{Adds, Asks, private}
 use Rattle.seize_words.specs.Book.{after, heads, numbers, slots}
@@ -16,7 +16,7 @@ use Rattle.seize_words.specs.declared.book.keys.Keys.{Keys}
 use Rattle.seize_words.specs.declared.book.numbers_key.NumbersKey.{NumbersKey}
 use Rattle.seize_words.specs.declared.book.pass.Pass.{Pass}
 use Rattle.seize_words.proofs.Lists.{reached_after}
-use Rattle.seize_words.proofs.Makes.{all_keys, may_make, new_head}
+use Rattle.seize_words.proofs.Makes.{all_keys, may_make, new_head, new_slot}
 use Rattle.seize_words.proofs.Private.{only_is}
 use Rattle.seize_words.proofs.reservation.Head.make.Goals as goal
 
@@ -42,6 +42,15 @@ told number pass keys keys' pass' book same adds =
     let added = subst (λ (n : Name). Added n pass.id pass.seen pass'.seen k.held keys'.held (private pass (Take (made_of number)))) (sym book) at.2 in
     record { same = at.0; name = at.1; added = added; held = added.keys ∙ all_keys k.name k.held pass.id pass.seen added.noted.before pass'.seen number.one added.before }
 
+-- what a key knows, of the state that its list leads to
+now_at : {X : Type 0} (keys : Keys) (n : Name) (seen : List Entry) (later : State) (s : ℕ) → keys.name ≡ n → own_of keys.held ≡ seen → key_of keys.held ≡ s → after (start n) seen ≡ later
+    → (f : State → ℕ → X) → f (after (start keys.name) (own_of keys.held)) (key_of keys.held) ≡ f later s
+now_at keys n seen later s name own number leads f =
+    ap (λ (m : Name). f (after (start m) (own_of keys.held)) (key_of keys.held)) name
+    ∙ ap (λ (l : List Entry). f (after (start n) l) (key_of keys.held)) own
+    ∙ ap (λ (st : State). f st (key_of keys.held)) leads
+    ∙ ap (λ (j : ℕ). f later j) number
+
 pub of-requires : goal.of-requires
 of-requires c =
     let number = c.args.numbers.now in let k = number.keys in let pass = c.args.pass.now in let seen = c.note.new.pass.seen in
@@ -66,7 +75,10 @@ returns c =
     let number = c.args.numbers.now in let k = number.keys in let pass = c.args.pass.now in
     let t = told number pass c.none-head.new.self c.note.new.self c.note.new.pass c.requires.book (c.none-head.ensures.0 ∙ c.none-key.ensures.0) c.note.ensures in
     let first = c.part.ensures.2 ∙ ap (take 1) t.held in let rest = c.part.ensures.3 ∙ ap (drop 1) t.held in
-    let key = c.part-2.ensures.2 ∙ ap (take 1) rest in let head = c.part-2.ensures.3 ∙ ap (drop 1) rest in
+    let key = c.part-2.ensures.2 ∙ ap (take 1) rest in let head = c.part-2.ensures.3 ∙ ap (drop 1) rest in let noted = t.added.noted in
+    let name = c.part-2.ensures.0 ∙ c.part.ensures.1 ∙ t.name in
+    let slot_now = now_at c.part-2.new.self k.name c.note.new.pass.seen noted.later (made_of number) name (ap own_of key) (ap key_of key) noted.leads (λ st s. slot_at st s) in
+    let active_now = now_at c.part-2.new.self k.name c.note.new.pass.seen noted.later (made_of number) name (ap own_of key) (ap key_of key) noted.leads (λ st s. is_active (head_at st s)) in
     record {
       made = record {
         same = t.same;
@@ -75,5 +87,10 @@ returns c =
         book = (c.part-2.ensures.0 ∙ c.part.ensures.1 ∙ t.name ∙ c.requires.book, c.of.ensures.0 ∙ c.part-2.ensures.1 ∙ c.part.ensures.1 ∙ t.name ∙ c.requires.book);
         number = (ap key_of key, c.of.ensures.1 ∙ ap key_of head);
         own = ap own_of key;
+        idle = slot_now ∙ new_slot k.name k.held pass.id pass.name.size pass.seen noted.before (noted.later, noted.answer) number.one c.requires.full.0 c.requires.full.1 t.added.before noted.does;
+        inactive =
+        active_now
+            ∙ ap is_active (new_head k.name k.held pass.id pass.name.size pass.seen noted.before (noted.later, noted.answer) number.one c.requires.full.0 c.requires.full.1 t.added.before
+              (reached_after k.name noted.before noted.distinct t.added.before.legal) noted.does);
       };
     }
