@@ -27,7 +27,7 @@ use Rattle.seize_words.specs.Private.{is_one, key_of, own_of}
 use Rattle.seize_words.specs.Stepping.{EndsAmong, FoundAs, IsStep, MayStep, in_step}
 use Rattle.seize_words.specs.Tokens.{Name, start}
 use Rattle.seize_words.specs.Words.{Site}
-use Rattle.seize_words.proofs.Lives.{legal_first}
+use Rattle.seize_words.proofs.Lives.{legal_first, life_kept}
 use Rattle.seize_words.proofs.Lists.{after_push, legal_push, reached_after}
 use Rattle.seize_words.proofs.Plans.{AllLess, block_stays, blocks_stay, head_stays, legal_prefix, plans_long, saw_there, tried_there}
 use Rattle.seize_words.proofs.Private.{differ, only_is}
@@ -66,40 +66,6 @@ slots_grow st a b p l = subst (λ (z : List Entry). length (after st a).slots �
     from : (st : State) (a more_ : List Entry) → IsLegalList st (a ++ more_) → length (after st a).slots ≤ length (after st (a ++ more_)).slots
     from st [] more_ l = more st more_ l
     from st (e ∷ a) more_ l = from (done_by next st (timed e)).0 a more_ (and_true _ _ l).1
-
--- The lifetime of a slot's last activation follows from the slot's own events.
-
-lives_in : ℕ → ℕ → List (Entry × Answer) → ℕ
-lives_in a s [] = a
-lives_in a s (x ∷ xs) = lives_in (if starts s x.0.event then x.0.life else a) s xs
-
-life_in : ℕ → List (Entry × Answer) → ℕ
-life_in s xs = lives_in 0 s xs
-
--- who begins an activation of the slot makes an event of it
-starts_own : (s : ℕ) (event : Event) → changes_slot s event ≡ false → starts s event ≡ false
-starts_own s (Event.Enter t) h = h
-starts_own s (Event.SwapOut t) h = h
-starts_own s _ h = refl
-
-life_by_slot : (st : State) (s : ℕ) (log : List Entry) → life s log ≡ life_in s (by_slot st s log)
-unfolding life_in lives_in
-life_by_slot st s log = from st 0 log
-  where
-    from : (st : State) (a : ℕ) (log : List Entry) → life_from a s log ≡ lives_in a s (by_slot st s log)
-    from st a [] = refl
-    from st a (e ∷ log) = go (changes_slot s e.event) refl (λ b. from (done_by next st (timed e)).0 b log)
-      where
-        rest : List (Entry × Answer)
-        rest = by_slot (done_by next st (timed e)).0 s log
-
-        x : Entry × Answer
-        x = (e, (done_by next st (timed e)).1)
-
-        go : (c : Bool) → changes_slot s e.event ≡ c → ((b : ℕ) → life_from b s log ≡ lives_in b s (by_slot (done_by next st (timed e)).0 s log))
-            → life_from (if starts s e.event then e.life else a) s log ≡ lives_in a s (cond (changes_slot s e.event) (x ∷ by_slot (done_by next st (timed e)).0 s log) (by_slot (done_by next st (timed e)).0 s log))
-        go true h ih = ih (if starts s e.event then e.life else a) ∙ ap (λ (c : Bool). lives_in a s (cond c (x ∷ rest) rest)) (sym h)
-        go false h ih = ap (λ (b : Bool). life_from (if b then e.life else a) s log) (starts_own s e.event h) ∙ ih a ∙ ap (λ (c : Bool). lives_in a s (cond c (x ∷ rest) rest)) (sym h)
 
 prefix_push : (log : List Entry) (e : Entry) → IsPrefix log (log ++ e ∷ [])
 prefix_push log e = (e ∷ [], refl)
@@ -256,7 +222,7 @@ module _ (n : Name) (m : ℕ) where
       let does : Does st log e d = next_of size now (SwapOut s) d (Step.swapped_out s stays queue stands_now) in
       let there : s < length now.heads = head_there log s found.distinct found.before.legal (λ x. let y : Option.None ≡ (slot_at now s).call = sym (ap (λ (z : Slot). z.call) x) in let z : Option.None ≡ Some (record { place = Out stays; queue = queue }) = y ∙ stands_now in cc) in
       let head = set_word log e d h now.heads found.before.legal does (ap (λ (k : ℕ). set now.heads k h) is) (subst (λ (k : ℕ). k < length now.heads) is there) in
-      let its : life s (own_of held) ≡ life s log = life_kept s (own_of held) log kept in
+      let its : life s (own_of held) ≡ life s log = life_kept st s (own_of held) log kept in
       made p s (own_of held) own t.0 log lives (if stays then 1 else 0) e refl (leave_touches s is) d does (λ b i. subst (IsIn lives) (its ∙ only_that (life s log) b i) among)
       (left_word stays (λ b. block_for st (log ++ e ∷ []) b m) ∙ sym (ap (word_of (λ b. block_for st (log ++ e ∷ []) b m)) head)))
     where
@@ -264,8 +230,6 @@ module _ (n : Name) (m : ℕ) where
       only_that x b (inl e) = e
       only_that x b (inr t) = absurd t
 
-      life_kept : (s : ℕ) (a b : List Entry) → Kept st TheSlot s a b → life s a ≡ life s b
-      life_kept s a b kept = life_by_slot st s a ∙ ap (life_in s) kept.1.0 ∙ sym (life_by_slot st s b)
 
   -- An insertion, won or lost.
 

@@ -1,5 +1,5 @@
 -- The activations in which a value was found are over when it goes to its reclaimer. Assumes `Logic`.
-use Rattle.std.proofs.Common.{◌≡◌, ℕ, zero, suc, ◌<◌, ◌≤◌, Bool, true, false, ◌==◌, if◌then◌else◌, List, [], ◌∷◌, ◌++◌, length, take, slice_get, get_or, set, Option, Some, refl, sym, ◌∙◌, ap, subst, ◌⊎◌, inl, inr, ⊎_elim, arith, append_assoc, append-nil}
+use Rattle.std.proofs.Common.{◌≡◌, ℕ, zero, suc, ◌<◌, ◌≤◌, Bool, true, false, cond, ◌==◌, if◌then◌else◌, List, [], ◌∷◌, ◌++◌, length, take, slice_get, get_or, set, Option, Some, refl, sym, ◌∙◌, ap, subst, ◌⊎◌, inl, inr, ⊎_elim, arith, append_assoc, append-nil}
 use Rattle.std.proofs.lemmas.List.{get_or-set_other, get_or-set_same, get_or_past}
 use Rattle.std.proofs.lemmas.Bool.{cases_lt}
 use mathlib.Core.List.{IsPrefix}
@@ -14,11 +14,11 @@ use Rattle.seize_machine.specs.Machine.State.{State, Head, Inactive, Active, hea
 use Rattle.seize_machine.specs.Machine.Event.{Event, SwapOut}
 use Rattle.seize_machine.specs.Machine.Next.{next, can_link}
 use Rattle.seize_machine.specs.Machine.History.{Moment, done_by, or_illegal, is_legal, linked_value, is_link_event, is_swap_out, Found}
-use Rattle.seize_machine.specs.Machine.Frames.{changes_head_of}
+use Rattle.seize_machine.specs.Machine.Frames.{changes_head_of, changes_slot}
 use Rattle.seize_machine.specs.declared.machine.event.Answer.{Answer}
 use Rattle.seize_machine.proofs.Facts.{Step, step_of, head_frame, is_true, eq_true, and_true, some_is}
 use Rattle.seize_words.specs.Entry.{Entry, timed}
-use Rattle.seize_words.specs.Book.{moments, after, IsLegalList}
+use Rattle.seize_words.specs.Book.{Kept, TheSlot, by_slot, moments, after, IsLegalList}
 use Rattle.seize_words.specs.Laws.{AllParted, starts, life_from, life, lives_after, ended_by, ended_from, ended, none_alive, IsIn, AllOver}
 use Rattle.seize_words.specs.Fair.{EndsNone}
 use Rattle.seize_words.specs.Tokens.{over}
@@ -193,6 +193,43 @@ is_in (y ∷ xs) x = go (ℕ_discrete y x) (is_in xs x)
     go : Dec (y ≡ x) → IsIn xs x ⊎ ¬ (IsIn xs x) → IsIn (y ∷ xs) x ⊎ ¬ (IsIn (y ∷ xs) x)
     go (yes e) rest = inl (inl e)
     go (no n) rest = ⊎_elim (λ t. inl (inr t)) (λ m. inr (⊎_elim n m)) rest
+
+-- The lifetime of a slot's last activation follows from the slot's own events.
+
+lives_in : ℕ → ℕ → List (Entry × Answer) → ℕ
+lives_in a s [] = a
+lives_in a s (x ∷ xs) = lives_in (if starts s x.0.event then x.0.life else a) s xs
+
+life_in : ℕ → List (Entry × Answer) → ℕ
+life_in s xs = lives_in 0 s xs
+
+-- who begins an activation of the slot makes an event of it
+starts_own : (s : ℕ) (event : Event) → changes_slot s event ≡ false → starts s event ≡ false
+starts_own s (Event.Enter t) h = h
+starts_own s (Event.SwapOut t) h = h
+starts_own s _ h = refl
+
+life_by_slot : (st : State) (s : ℕ) (log : List Entry) → life s log ≡ life_in s (by_slot st s log)
+unfolding life_in lives_in
+life_by_slot st s log = from st 0 log
+  where
+    from : (st : State) (a : ℕ) (log : List Entry) → life_from a s log ≡ lives_in a s (by_slot st s log)
+    from st a [] = refl
+    from st a (e ∷ log) = go (changes_slot s e.event) refl (λ b. from (done_by next st (timed e)).0 b log)
+      where
+        rest : List (Entry × Answer)
+        rest = by_slot (done_by next st (timed e)).0 s log
+
+        x : Entry × Answer
+        x = (e, (done_by next st (timed e)).1)
+
+        go : (c : Bool) → changes_slot s e.event ≡ c → ((b : ℕ) → life_from b s log ≡ lives_in b s (by_slot (done_by next st (timed e)).0 s log))
+            → life_from (if starts s e.event then e.life else a) s log ≡ lives_in a s (cond (changes_slot s e.event) (x ∷ by_slot (done_by next st (timed e)).0 s log) (by_slot (done_by next st (timed e)).0 s log))
+        go true h ih = ih (if starts s e.event then e.life else a) ∙ ap (λ (c : Bool). lives_in a s (cond c (x ∷ rest) rest)) (sym h)
+        go false h ih = ap (λ (b : Bool). life_from (if b then e.life else a) s log) (starts_own s e.event h) ∙ ih a ∙ ap (λ (c : Bool). lives_in a s (cond c (x ∷ rest) rest)) (sym h)
+
+pub life_kept : (st : State) (s : ℕ) (a b : List Entry) → Kept st TheSlot s a b → life s a ≡ life s b
+life_kept st s a b kept = life_by_slot st s a ∙ ap (life_in s) kept.1.0 ∙ sym (life_by_slot st s b)
 
 -- As resources.
 module _ {M : Type 1} {𝓤 : Ura M} (𝓛 : Logic 𝓤) where

@@ -14,6 +14,7 @@ use Rattle.seize_words.specs.declared.book.keys.Keys.{Keys}
 use Rattle.seize_words.specs.declared.book.pass.Pass.{Pass}
 use Rattle.seize_words.specs.declared.book.slot_key.SlotKey.{SlotKey}
 use Rattle.seize_words.proofs.Lists.{after_push}
+use Rattle.seize_words.proofs.Lives.{life_kept}
 use Rattle.seize_words.proofs.Private.{one_kept}
 
 -- what a key knows, of the state that its list ends with
@@ -34,6 +35,8 @@ pub moves : (key key' : SlotKey) (n : Name) (e : Entry) (log : List Entry) (d : 
 moves key key' n e log d name name' size legal does kept number own =
     let k = number_of key in let same = kept.1 in let push = after_push (start n) log e d legal does in
     record {
+      knew = kept.0;
+      lived = sym (life_kept (start n) k (own_list key) log kept);
       was = in_book name log (λ s. slot_at s k) ∙ sym same.1 ∙ sym (in_book name (own_list key) (λ s. slot_at s k));
       was_active = in_book name log (λ s. is_active (head_at s k)) ∙ sym same.2 ∙ sym (in_book name (own_list key) (λ s. is_active (head_at s k)));
       legal = ap (λ (m : Name). next m.size (after (start m) log) e.event) name ∙ ap (λ (s : ℕ). next s (after (start n) log) e.event) (sym size) ∙ does;
@@ -54,6 +57,7 @@ stays key key' pass pass' book same is before one =
       knows = kept_all.0;
       alone = before.alone;
       legal = subst (λ (m : Name). IsLegalList (start m) pass'.seen) (sym book) before.legal;
+      lives = sym (life_kept (start pass.name) k (own_list key) pass'.seen kept_all);
       slot = in_book book pass'.seen (λ s. slot_at s k) ∙ sym kept.1 ∙ sym (in_book book (own_list key) (λ s. slot_at s k));
       active = in_book book pass'.seen (λ s. is_active (head_at s k)) ∙ sym kept.2 ∙ sym (in_book book (own_list key) (λ s. is_active (head_at s k)));
     }

@@ -1,4 +1,4 @@
--- How words show what the machine has: they hold numbers of blocks. A number names one block that stands, and is used again after its end.
+-- How words show what the machine has: they hold numbers of blocks.
 --     block_of v             the number of the block that a value lies in: its name says it
 --     Plan, plans st log     each batch as it was detached, in order: the slots where it is to be inserted, and its values
 --     block_for log b m      the block with which batch b is inserted at slot m: that of the value with the slot's place

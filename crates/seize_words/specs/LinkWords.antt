@@ -1,12 +1,12 @@
 -- The words in which the contracts of links speak.
 --     IsNone key pass, IsKeyIn value key     it is none, of the pass's book;  it is the value's
 --     number link                 which link it is
---     holds key                   the value whose key it is, if it is one
+--     holds key, IsSomeKey key    the value whose key it is, if it is one;  and it is one
 --     IsIn link activation pass   all are of one book, the activation has begun, as the pass has seen, and the link is one of the book's
 --     IsNewFor link key new       the key is that of a value that was never named, or none, and this is its word
 --     HasNext left, IsNext left link left'     a link is left to make;  it was made
 --     Reads, Swaps, CompareExchanges     what the event is, in which state it was made, and what is had afterwards
-use Rattle.std.specs.Prelude.{◌≡◌, ◌≢◌, ℕ, suc, List, [], Option, None, drop}
+use Rattle.std.specs.Prelude.{◌≡◌, ◌≢◌, ℕ, suc, List, [], Option, None, true, is_some, drop}
 use Rattle.seize_machine.specs.Machine.State.{link_at}
 use Rattle.seize_machine.specs.Machine.Event.{Event, ReadLink, ExchangeLink}
 use Rattle.seize_machine.specs.declared.machine.event.Exchange.TheVariants.{Swap, Compare}
@@ -46,6 +46,9 @@ pub record IsIn (link : Link) (activation : Activation) (pass : Pass) : Type 0 w
 abbrev pub IsNewFor : Link → MaybeKey → ℕ → Type 0
 IsNewFor link key new =
     (key.keys.name ≡ link.word.name) × IsNewIn (start link.word.name) (holds key) key.keys.held × (new ≡ link_word (holds key))
+
+abbrev pub IsSomeKey : MaybeKey → Type 0
+IsSomeKey key = is_some (holds key) ≡ true
 
 -- The pass added the event, where the link held this, and this was its word.
 pub record Takes (link : Link) (pass pass' : Pass) (event : Option ℕ → Event) (v : ℕ) : Type 0 where

@@ -5,7 +5,7 @@
 --     FoundBefore head pass' v    all that the pass has seen shows v, without its last event
 --     TriesAt key head seen block     the slot's call is about to insert its batch here: see IsTrying. The block's number fits beside 2
 --     IsOwn head key, IsOut key stays     it is the slot's own head;  the slot's call is about to swap it out
---     life_of key, IsLastOf key a         the lifetime of the slot's last activation;  and this is that one
+--     IsLastOf key a                      it is the slot's last activation
 --     IsActivationOf key a                it has begun with what the key knows last
 --     made_of numbers, IsFull numbers     how many slots there are, as the key knows;  all of their numbers are in use
 --     MakesSlot numbers pass numbers' pass' key head     the next slot was made, with this key and this head
@@ -23,7 +23,7 @@ use Rattle.seize_words.specs.Laws.{life}
 use Rattle.seize_words.specs.Others.{Follows, state_of}
 use Rattle.seize_words.specs.Passes.{IsSame}
 use Rattle.seize_words.specs.Private.{is_one, key_of}
-use Rattle.seize_words.specs.Slots.{active_of, number_of, own_list, slot_of, start_of}
+use Rattle.seize_words.specs.Slots.{active_of, life_of, number_of, own_list, slot_of, start_of}
 use Rattle.seize_words.specs.Tokens.{Noted, start}
 use Rattle.seize_words.specs.declared.activation.Activation.{Activation}
 use Rattle.seize_words.specs.declared.book.keys.Keys.{Keys}
@@ -59,10 +59,6 @@ IsOwn head key = slot head ≡ number_of key
 abbrev pub IsOut : SlotKey → Bool → Type 0
 IsOut key stays = (queue : List ℕ) × ((slot_of key).call ≡ Some (record { place = Out stays; queue = queue }))
 
--- the lifetime of the slot's last activation, as its key knows
-abbrev pub life_of : SlotKey → ℕ
-life_of key = life (number_of key) (own_list key)
-
 abbrev pub IsLastOf : SlotKey → Activation → Type 0
 IsLastOf key a = (a.name ≡ key.keys.name) × (a.slot ≡ number_of key) × (a.life ≡ life_of key)
 
@@ -87,7 +83,7 @@ made_of numbers = length (state_of numbers.keys).slots
 abbrev pub IsFull : NumbersKey → Type 0
 IsFull numbers = (first_free (state_of numbers.keys).slots ≡ made_of numbers) × (made_of numbers < all_numbers)
 
--- a new slot was made, inactive; its key and its head know all that the pass has seen
+-- a new slot was made, with no call, nothing retired and inactive; its key knows all that the pass has seen
 pub record MakesSlot (numbers : NumbersKey) (pass : Pass) (numbers' : NumbersKey) (pass' : Pass) (key : SlotKey) (head : Head)
     : Type 0 where
   pub same : IsSame pass pass'

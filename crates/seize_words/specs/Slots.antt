@@ -4,8 +4,9 @@
 --     own_list key         the list at the slot's last event;  start_of key, size_of key     its book's opening and batch size
 --     IsAfter key pass' key'     it is the same key, and knows all that the pass has seen
 --     slot_of key, active_of key     the slot's record as its key knows it, and whether it is active
---     Moves key key' log event later answer     after this list, the event took the slot from where its key knew it to where it knows
---                          it now
+--     life_of key          the lifetime of the slot's last activation, as its key knows
+--     Moves key key' log event later answer     after this list, which goes on from what the key knew, with the same last activation of
+--                          the slot, the event took the slot from where its key knew it to where it knows it now
 --     NotesAs key pass key' pass' e     the slot's holder added this one entry with the pass: see Noted and Moves
 --     Notes key pass key' pass' event     and it is one of an event that begins no activation
 --     IsKept key key'      it is the same key, and knows the same
@@ -23,7 +24,7 @@ use Rattle.seize_machine.specs.declared.machine.event.Answer.{Answer}
 use Rattle.seize_machine.specs.Machine.History.{done_by, handed_value}
 use Rattle.seize_words.specs.Entry.{Entry, timed}
 use Rattle.seize_words.specs.Book.{after, IsLegalList}
-use Rattle.seize_words.specs.Laws.{NotHanded, AllParted, AllOver}
+use Rattle.seize_words.specs.Laws.{NotHanded, AllParted, AllOver, life}
 use Rattle.seize_words.specs.Tokens.{IsSole, Noted, start}
 use Rattle.seize_words.specs.Private.{key_of, own_of}
 use Rattle.seize_words.specs.Passes.{IsSame, MadeNone}
@@ -52,6 +53,10 @@ slot_of key = slot_at (after (start_of key) (own_list key)) (number_of key)
 abbrev pub active_of : SlotKey → Bool
 active_of key = is_active (head_at (after (start_of key) (own_list key)) (number_of key))
 
+-- the lifetime of the slot's last activation, as its key knows
+abbrev pub life_of : SlotKey → ℕ
+life_of key = life (number_of key) (own_list key)
+
 -- the key of the slot after its event, which all that the pass has seen ends with
 abbrev pub IsAfter : SlotKey → Pass → SlotKey → Type 0
 IsAfter key pass' key' = (key'.keys.name ≡ key.keys.name) × (number_of key' ≡ number_of key) × (own_list key' ≡ pass'.seen)
@@ -59,6 +64,8 @@ IsAfter key pass' key' = (key'.keys.name ≡ key.keys.name) × (number_of key' �
 -- After this list, the event took the machine to `later` with this answer, and the slot from where its key knew it to where it knows it
 -- now.
 pub record Moves (key key' : SlotKey) (log : List Entry) (event : Event) (later : State) (answer : Answer) : Type 0 where
+  pub knew : IsPrefix (own_list key) log
+  pub lived : life (number_of key) log ≡ life_of key
   pub was : slot_at (after (start_of key) log) (number_of key) ≡ slot_of key
   pub was_active : is_active (head_at (after (start_of key) log) (number_of key)) ≡ active_of key
   pub legal : next (size_of key) (after (start_of key) log) event ≡ Some (later, answer)
@@ -84,6 +91,7 @@ pub record Looks (key : SlotKey) (pass : Pass) (key' : SlotKey) (pass' : Pass) :
   pub knows : IsPrefix (own_list key) pass'.seen
   pub alone : IsSole pass.name.gate → pass'.seen ≡ pass.seen
   pub legal : IsLegalList (start_of key) pass'.seen
+  pub lives : life (number_of key) pass'.seen ≡ life_of key
   pub slot : slot_at (after (start_of key) pass'.seen) (number_of key) ≡ slot_of key
   pub active : is_active (head_at (after (start_of key) pass'.seen) (number_of key)) ≡ active_of key
 

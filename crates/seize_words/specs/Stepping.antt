@@ -1,6 +1,6 @@
 -- What an atomic step on a word has to be, so that the holder of a pass and of some keys may add the event that it is.
---     FoundAs site v p seen held alive t log     the step finds v in the word; the list is `log` then; t has the list at the word's last
---                              change, and the keys beside the word's own; the activations with the lifetimes `alive` have not ended
+--     FoundAs site v p seen held alive t log     the step finds v in the word; the list is `log` then; t has the list at the last step
+--                              on the word, and the keys beside its own; the activations with the lifetimes `alive` have not ended
 --     MayStep site p seen held alive lives f entry trades     whatever it finds in the word, and whatever the list is by then: with f of
 --                              it in the word, and this entry added, all is as it has to be (IsStep). It ends no activation but those
 --                              that have the lifetimes `lives`. Where it trades, the holder's keys stay with the word, for those that
@@ -20,7 +20,7 @@ use Rattle.seize_words.specs.Words.{Site, Shows, Stands, site_keys}
 abbrev pub Keys : Type 0
 Keys = List (Held Entry)
 
--- the list when the word last changed, and the keys that stand beside its own
+-- the list at the last step on the word, and the keys that stand beside its own
 abbrev pub At : Type 0
 At = List Entry × Keys
 

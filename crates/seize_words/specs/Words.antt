@@ -4,7 +4,7 @@
 --     Site                   which word it is: its book, and the kind and number of what it stands for
 --     Shows site v log       the value v is what the list says
 --     Stands site log vs     these are the other keys that stand beside it: of a link that of the value in it
---     site_keys site since vs     its keys, its own first, which knows the list as it was when the word last changed
+--     site_keys site since vs     its keys, its own first, which knows the list as it was at the last step on the word
 --     word_owns site v       what stands beside the memory of a word with this value;  word_shares    what a `&` to it is
 use Rattle.std.specs.Prelude.{◌≡◌, ℕ, true, List, [], ◌∷◌, Option, Some, None}
 use Rattle.std.specs.Coded.{Coded, code_by, coded_ℕ, coded×}
@@ -54,7 +54,7 @@ Stands site log vs = StandsOf (start site.name) (kind_of site.kind) site.number 
 abbrev pub site_keys : Site → List Entry → List (Held Entry) → List (Held Entry)
 site_keys site since vs = record { kind = site.kind; key = site.number; own = since } ∷ vs
 
--- the list was `since` when the word last changed
+-- the list was `since` at the last step on the word
 abbrev pub word_knows : Site → ℕ → List Entry × List (Held Entry) → Fml
 word_knows site v t = fsep (fact (Shows site v t.0 × Stands site t.0 t.1)) (keys_own site.name (site_keys site t.0 t.1))
 

@@ -44,6 +44,18 @@ impl MaybeKey {
     }
 }
 
+impl MaybeKey {
+    ghost use Rattle.seize_words.specs.LinkWords.{IsSomeKey};
+
+    /// The key of the value, where it is one.
+    pub fn value(self) -> ValueKey
+        requires { IsSomeKey self }
+        ensures { result.keys ≡ self.keys }
+    {
+        ValueKey { keys: self.keys }
+    }
+}
+
 impl Link {
     ghost use Rattle.seize_words.specs.LinkWords.{CompareExchanges, HasNext, IsIn, IsNext, IsNewFor, Reads, Swaps};
 

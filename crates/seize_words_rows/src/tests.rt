@@ -44,3 +44,15 @@ fn words_have_eight_bytes(rt: HostRuntime) {
     assert_eq!(rt; size_of::<Head>(), 8);
     assert_eq!(rt; size_of::<Link>(), 8);
 }
+
+// One slot enters and reads a link, which is empty.
+#[test]
+fn an_empty_link_is_read(rt: HostRuntime) {
+    let (mut book, mut numbers, mut links) = Book::open(1, 32);
+    let mut pass = book.pass();
+    let link = Link::next(&mut links);
+    let (mut key, head) = Head::make(&mut numbers, &mut pass);
+    let activation = head.enter(&mut key, &mut pass);
+    assert_eq!(rt; link.read(&activation, &mut pass), 0);
+    drop((links, numbers, key));
+}

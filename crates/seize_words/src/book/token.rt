@@ -1,5 +1,5 @@
 //! Books: how one begins, and the passes and keys that are made of it later. It uses the passes and keys beside it.
-ghost use Rattle.std.specs.Prelude.{◌≡◌, false};
+ghost use Rattle.std.specs.Prelude.{◌≡◌, ◌+◌, ◌<◌, ◌^◌, false};
 ghost use Rattle.seize_words.specs.Begin.{book_owns};
 ghost use Rattle.seize_words.specs.Tokens.{Name, many, name_coded};
 
@@ -101,8 +101,9 @@ impl Book {
         }
     }
 
-    /// The key of a value that was never named, and lies in the block with this number.
+    /// The key of a value that was never named, and lies in the block with this number. The number fits beside the 2 of a head's word.
     pub fn value(&mut self, block: u64) -> ValueKey
+        requires { block + 2 < 2 ^ 64 }
         ensures new { (is_named result ≡ false) × (block_of (value_of result) ≡ block) }
         ensures book { (book_of result ≡ self.old.name) × (self.new.name ≡ self.old.name) }
     {
