@@ -1,5 +1,5 @@
 -- Steps on a head's word by a slot's holder meet what is asked of a step.
-use Rattle.std.proofs.Common.{◌≡◌, ◌≢◌, ℕ, zero, suc, ◌+◌, ◌<◌, ◌≤◌, Bool, true, false, cond, ◌==◌, ◌&&◌, ◌||◌, nat_le, nat_lt, unwrap_or, if◌then◌else◌, List, [], ◌∷◌, ◌++◌, length, get_or, set, Option, Some, None, refl, sym, ◌∙◌, ap, subst, ◌⊎◌, inl, inr, arith}
+use Rattle.std.proofs.Common.{◌≡◌, ◌≢◌, ℕ, zero, suc, ◌+◌, ◌<◌, ◌≤◌, Bool, true, false, ◌==◌, ◌&&◌, ◌||◌, nat_le, nat_lt, unwrap_or, if◌then◌else◌, List, [], ◌∷◌, ◌++◌, length, get_or, set, Option, Some, None, refl, sym, ◌∙◌, ap, subst, ◌⊎◌, inl, inr, arith}
 use Rattle.std.proofs.lemmas.List.{get_or-set_same, get_or_past}
 use Rattle.std.proofs.lemmas.Bool.{cases_lt}
 use mathlib.Core.List.{IsPrefix}
@@ -17,11 +17,11 @@ use Rattle.seize_machine.specs.declared.machine.event.Try.TheVariants.{Won, Lost
 use Rattle.seize_machine.proofs.Facts.{Step, Stands, and_true, eq_true, go_on, head_frame, heads_length, is_true, next_of, slots_length, step_of}
 use Rattle.seize_words.specs.Atomic.{exchanged}
 use Rattle.seize_words.specs.Blocks.{block_for, head_word, list_word, plans, word_of}
-use Rattle.seize_words.specs.Book.{Kept, TheSlot, Does, IsLegalList, after, births, by_slot, heads, rules, slots}
+use Rattle.seize_words.specs.Book.{Kept, TheSlot, Does, IsLegalList, after, births, heads, rules, slots}
 use Rattle.seize_words.specs.Entry.{Entry, timed}
 use Rattle.seize_words.specs.Fair.{Covers, pass_key}
 use Rattle.seize_words.specs.Heads.{IsTrying, found_end, reads, reads_at}
-use Rattle.seize_words.specs.Laws.{IsIn, life, life_from, starts}
+use Rattle.seize_words.specs.Laws.{IsIn, life}
 use Rattle.seize_words.specs.Ledger.{Held, AllKept}
 use Rattle.seize_words.specs.Private.{is_one, key_of, own_of}
 use Rattle.seize_words.specs.Stepping.{EndsAmong, FoundAs, IsStep, MayStep, in_step}
@@ -229,7 +229,6 @@ module _ (n : Name) (m : ℕ) where
       only_that : (x b : ℕ) → IsIn (x ∷ []) b → x ≡ b
       only_that x b (inl e) = e
       only_that x b (inr t) = absurd t
-
 
   -- An insertion, won or lost.
 

@@ -1,5 +1,5 @@
 -- The key of the numbers is enough to make the next slot, where all numbers are in use.
-use Rattle.std.proofs.Common.{◌≡◌, ℕ, zero, suc, ◌<◌, ◌==◌, true, List, [], ◌∷◌, ◌++◌, length, get_or, Bool, refl, sym, ◌∙◌, ap, subst, arith, nat_lt, ◌&&◌, if◌then◌else◌, Some, None}
+use Rattle.std.proofs.Common.{◌≡◌, ℕ, zero, suc, ◌+◌, ◌<◌, ◌==◌, true, false, List, [], ◌∷◌, ◌++◌, length, get_or, Bool, refl, sym, ◌∙◌, ap, subst, arith, not, nat_lt, ◌&&◌, if◌then◌else◌, Some, None}
 use Rattle.std.proofs.lemmas.List.{length-map}
 use Rattle.seize_machine.specs.Machine.State.{State, Slot, Head, Inactive, head_at, no_slot, slot_at}
 use Rattle.seize_machine.specs.Machine.Event.{Take}
@@ -57,6 +57,22 @@ does size st s is least few =
     below : (x y : ℕ) → x < y → nat_lt x y ≡ true
     below x y l = grind arith
 
+pushed_length : {X : Type 0} (xs : List X) (x : X) → length (xs ++ x ∷ []) ≡ suc (length xs)
+pushed_length [] x = refl
+pushed_length (y ∷ xs) x = ap suc (pushed_length xs x)
+
+pushed_free : (all : List Slot) (x : Slot) → first_free all ≡ length all → x.used ≡ true → first_free (all ++ x ∷ []) ≡ suc (length all)
+pushed_free [] x h u = ap (λ (c : Bool). if not (not c) then 1 else 0) u
+pushed_free (y ∷ all) x h u = go y.used refl h (λ k. pushed_free all x k u)
+  where
+    go : (c : Bool) → y.used ≡ c → (if not (not y.used) then 1 + first_free all else 0) ≡ suc (length all) → (first_free all ≡ length all → first_free (all ++ x ∷ []) ≡ suc (length all))
+        → (if not (not y.used) then 1 + first_free (all ++ x ∷ []) else 0) ≡ suc (suc (length all))
+    go true is h ih =
+        let was : 1 + first_free all ≡ suc (length all) = sym (ap (λ (c : Bool). if not (not c) then 1 + first_free all else 0) is) ∙ h in
+        let now : first_free (all ++ x ∷ []) ≡ suc (length all) = ih (omega (arith, was)) in
+        ap (λ (c : Bool). if not (not c) then 1 + first_free (all ++ x ∷ []) else 0) is ∙ omega (arith, now)
+    go false is h ih = absurd (let z : 0 ≡ suc (length all) = sym (ap (λ (c : Bool). if not (not c) then 1 + first_free all else 0) is) ∙ h in omega (arith, z))
+
 module _ (n : Name) (b : List (Held Entry)) where
   abbrev old : State
   old = after (start n) (own_of b)
@@ -112,6 +128,20 @@ module _ (n : Name) (b : List (Held Entry)) where
       let many : s ≡ length st.slots = as_many old st same in
       let is : d ≡ made_by st s = some_is _ _ (sym done ∙ does size st s many (sym full ∙ as_free old st same) few) in
       ap (λ (x : State × Answer). slot_at x.0 s) is ∙ ap (λ (k : ℕ). get_or (st.slots ++ record { used = true; batch = []; call = None } ∷ []) k no_slot) many ∙ last st.slots (record { used = true; batch = []; call = None }) no_slot
+
+  -- and all numbers are in use still
+  pub new_full : (p size : ℕ) (seen log : List Entry) (d : State × Answer) → is_one numbers b ≡ true → first_free old.slots ≡ s → s < all_numbers → Before n p seen b log
+      → next size (after (start n) log) (Take s) ≡ Some d → (length d.0.slots ≡ suc s) × (first_free d.0.slots ≡ suc s)
+  unfolding made_by
+  new_full p size seen log d one full few before done =
+      let st : State = after (start n) log in
+      let same : used old ≡ used st = (subst (λ (hs : List (Held Entry)). Before n p seen hs log) (only_is numbers b one) before).kept.0.1 in
+      let many : s ≡ length st.slots = as_many old st same in let free : first_free st.slots ≡ length st.slots = sym (as_free old st same) ∙ full ∙ many in
+      let is : d ≡ made_by st s = some_is _ _ (sym done ∙ does size st s many (sym full ∙ as_free old st same) few) in
+      let new : Slot = record { used = true; batch = []; call = None } in (
+        ap (λ (x : State × Answer). length x.0.slots) is ∙ pushed_length st.slots new ∙ ap suc (sym many),
+        ap (λ (x : State × Answer). first_free x.0.slots) is ∙ pushed_free st.slots new free refl ∙ ap suc (sym many),
+      )
 
   -- all keys then
   pub all_keys : (p : ℕ) (seen log log' : List Entry) → is_one numbers b ≡ true → Before n p seen b log

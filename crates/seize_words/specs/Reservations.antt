@@ -9,7 +9,7 @@
 --     IsActivationOf key a                it has begun with what the key knows last
 --     made_of numbers, IsFull numbers     how many slots there are, as the key knows;  all of their numbers are in use
 --     MakesSlot numbers pass numbers' pass' key head     the next slot was made, with this key and this head
-use Rattle.std.specs.Prelude.{◌≡◌, ℕ, ◌+◌, ◌<◌, ◌^◌, Bool, true, false, List, [], ◌∷◌, ◌++◌, length, Some, None}
+use Rattle.std.specs.Prelude.{◌≡◌, ℕ, suc, ◌+◌, ◌<◌, ◌^◌, Bool, true, false, List, [], ◌∷◌, ◌++◌, length, Some, None}
 use Rattle.seize_machine.specs.Machine.Event.{Event, Take}
 use Rattle.seize_machine.specs.Machine.Next.{first_free}
 use Rattle.seize_table.specs.Place.{all_numbers}
@@ -94,6 +94,8 @@ pub record MakesSlot (numbers : NumbersKey) (pass : Pass) (numbers' : NumbersKey
   pub own : own_list key ≡ pass'.seen
   pub idle : slot_of key ≡ record { used = true; batch = []; call = None }
   pub inactive : active_of key ≡ false
+  -- there is one more, and all numbers are in use still
+  pub next : (made_of numbers' ≡ suc (made_of numbers)) × (first_free (state_of numbers'.keys).slots ≡ made_of numbers')
 
 abbrev pub NumbersOf : NumbersKey → Pass → Type 0
 NumbersOf numbers pass = numbers.keys.name ≡ pass.name

@@ -1,7 +1,8 @@
-use Rattle.std.proofs.Common.{◌≡◌, ℕ, ◌∷◌, [], List, length, sym, ap, ◌∙◌, subst}
+use Rattle.std.proofs.Common.{◌≡◌, ℕ, ◌∷◌, [], List, length, refl, sym, ap, ◌∙◌, subst}
 use Rattle.std.specs.Prelude.{drop, take}
-use Rattle.seize_machine.specs.Machine.State.{State, Inactive, head_at, is_active, slot_at}
+use Rattle.seize_machine.specs.Machine.State.{State, head_at, is_active, slot_at}
 use Rattle.seize_machine.specs.Machine.Event.{Take}
+use Rattle.seize_machine.specs.Machine.Next.{first_free}
 use Rattle.seize_words.specs.Adding.{Adds, Asks, private}
 use Rattle.seize_words.specs.Book.{after, heads, numbers, slots}
 use Rattle.seize_words.specs.Entry.{Entry}
@@ -16,7 +17,7 @@ use Rattle.seize_words.specs.declared.book.keys.Keys.{Keys}
 use Rattle.seize_words.specs.declared.book.numbers_key.NumbersKey.{NumbersKey}
 use Rattle.seize_words.specs.declared.book.pass.Pass.{Pass}
 use Rattle.seize_words.proofs.Lists.{reached_after}
-use Rattle.seize_words.proofs.Makes.{all_keys, may_make, new_head, new_slot}
+use Rattle.seize_words.proofs.Makes.{all_keys, may_make, new_full, new_head, new_slot}
 use Rattle.seize_words.proofs.Private.{only_is}
 use Rattle.seize_words.proofs.reservation.Head.make.Goals as goal
 
@@ -79,6 +80,8 @@ returns c =
     let name = c.part-2.ensures.0 ∙ c.part.ensures.1 ∙ t.name in
     let slot_now = now_at c.part-2.new.self k.name c.note.new.pass.seen noted.later (made_of number) name (ap own_of key) (ap key_of key) noted.leads (λ st s. slot_at st s) in
     let active_now = now_at c.part-2.new.self k.name c.note.new.pass.seen noted.later (made_of number) name (ap own_of key) (ap key_of key) noted.leads (λ st s. is_active (head_at st s)) in
+    let after_it = new_full k.name k.held pass.id pass.name.size pass.seen noted.before (noted.later, noted.answer) number.one c.requires.full.0 c.requires.full.1 t.added.before noted.does in
+    let all_now = λ (f : State → ℕ). now_at c.part.new.self k.name c.note.new.pass.seen noted.later (key_of c.part.new.self.held) (c.part.ensures.0 ∙ t.name) (ap own_of first) refl noted.leads (λ st s. f st) in
     record {
       made = record {
         same = t.same;
@@ -87,10 +90,14 @@ returns c =
         book = (c.part-2.ensures.0 ∙ c.part.ensures.1 ∙ t.name ∙ c.requires.book, c.of.ensures.0 ∙ c.part-2.ensures.1 ∙ c.part.ensures.1 ∙ t.name ∙ c.requires.book);
         number = (ap key_of key, c.of.ensures.1 ∙ ap key_of head);
         own = ap own_of key;
+        next = (
+          all_now (λ st. length st.slots) ∙ after_it.0,
+          all_now (λ st. first_free st.slots) ∙ after_it.1 ∙ sym (all_now (λ st. length st.slots) ∙ after_it.0),
+        );
         idle = slot_now ∙ new_slot k.name k.held pass.id pass.name.size pass.seen noted.before (noted.later, noted.answer) number.one c.requires.full.0 c.requires.full.1 t.added.before noted.does;
         inactive =
-        active_now
+            active_now
             ∙ ap is_active (new_head k.name k.held pass.id pass.name.size pass.seen noted.before (noted.later, noted.answer) number.one c.requires.full.0 c.requires.full.1 t.added.before
-              (reached_after k.name noted.before noted.distinct t.added.before.legal) noted.does);
+            (reached_after k.name noted.before noted.distinct t.added.before.legal) noted.does);
       };
     }
