@@ -1,5 +1,7 @@
 -- What other crates may build on. All else in `proofs` is no interface, and may change.
-use Rattle.std.proofs.Common.{◌≡◌, ℕ, List, [], ◌∷◌, ◌++◌, Some, sym, ap, ◌∙◌}
+use Rattle.std.proofs.Common.{◌≡◌, ℕ, List, [], ◌∷◌, ◌++◌, Option, Some, sym, ap, ◌∙◌, subst, inl, inr}
+use Rattle.std.proofs.lemmas.List.{append_assoc, append-nil}
+use mathlib.Core.List.{IsPrefix}
 use Rattle.seize_machine.specs.Machine.State.{State, slot_at}
 use Rattle.seize_machine.specs.Machine.Event.{Event}
 use Rattle.seize_machine.specs.Machine.Next.{next}
@@ -8,11 +10,15 @@ use Rattle.seize_machine.proofs.Facts.{some_is}
 use Rattle.seize_words.specs.Adding.{private}
 use Rattle.seize_words.specs.Book.{after, mine}
 use Rattle.seize_words.specs.Entry.{Entry}
-use Rattle.seize_words.specs.Passes.{IsSame, mine_of}
+use Rattle.seize_words.specs.LinkWords.{IsIn, Takes, number}
+use Rattle.seize_words.specs.Links.{IsWithin}
+use Rattle.seize_words.specs.Passes.{IsSame, Longer, Meets, mine_of}
 use Rattle.seize_words.specs.Slots.{Moves, number_of, size_of, slot_of, start_of}
 use Rattle.seize_words.specs.Tokens.{Name, Noted, start}
+use Rattle.seize_words.specs.declared.activation.Activation.{Activation}
 use Rattle.seize_words.specs.declared.book.pass.Pass.{Pass}
 use Rattle.seize_words.specs.declared.book.slot_key.SlotKey.{SlotKey}
+use Rattle.seize_words.specs.declared.link.Link.{Link}
 
 -- what was made with a pass has grown by the event and its answer
 pub grew : (pass pass' : Pass) (event : Event) → IsSame pass pass' → (noted : Noted pass.name pass.id pass.seen pass'.seen (private pass event))
@@ -29,3 +35,37 @@ moved key key' log event later answer moves d is = moves.is ∙ ap (λ (x : Stat
 pub answered : (key key' : SlotKey) (log : List Entry) (event : Event) (later : State) (answer : Answer) → Moves key key' log event later answer
     → (d : State × Answer) → next (size_of key) (after (start_of key) log) event ≡ Some d → answer ≡ d.1
 answered key key' log event later answer moves d is = ap (λ (x : State × Answer). x.1) (some_is _ _ (sym moves.legal ∙ is))
+
+prefix_on : (a b c : List Entry) → IsPrefix a b → IsPrefix b c → IsPrefix a c
+prefix_on a b c h k = (h.0 ++ k.0, sym (append_assoc a h.0 k.0) ∙ ap (λ (l : List Entry). l ++ k.0) h.1 ∙ k.1)
+
+-- what a pass has seen begins with what it had seen before an event
+pub seen_grows : (n : Name) (p : ℕ) (seen seen' : List Entry) (e : Entry) → Noted n p seen seen' e → IsPrefix seen seen'
+seen_grows n p seen seen' e noted = prefix_on seen noted.before seen' noted.grows (e ∷ [], sym noted.appended)
+
+-- an activation that a pass has seen to begin stays seen
+pub known_in : (link : Link) (a : Activation) (pass pass' : Pass) → IsIn link a pass → pass'.name ≡ pass.name → IsPrefix pass.seen pass'.seen → IsIn link a pass'
+known_in link a pass pass' in_ name grows = record {
+  book = (in_.book.0 ∙ sym name, in_.book.1 ∙ sym name);
+  within = subst (λ (n : Name). IsWithin n a.slot a.life a.since pass'.seen (number link)) (sym name) (record {
+    active = in_.within.active;
+    its = in_.within.its;
+    known = prefix_on a.since pass.seen pass'.seen in_.within.known grows;
+    is_link = in_.within.is_link;
+  });
+}
+
+-- after a step on a link the same activation may make the next, on this link or on another one
+pub still_in : (link other : Link) (a : Activation) (pass pass' : Pass) (event : Option ℕ → Event) (v : ℕ) → IsIn other a pass → Takes link pass pass' event v → IsIn other a pass'
+still_in link other a pass pass' event v in_ t = known_in other a pass pass' in_ t.same.0 (seen_grows pass.name pass.id pass.seen pass'.seen _ t.noted)
+
+-- what either of two passes has seen, both have when they have met
+pub met_in : (link : Link) (a : Activation) (pass other pass' other' : Pass) → IsIn link a other → pass.name ≡ other.name → Meets pass other pass' other' → IsIn link a pass' × IsIn link a other'
+met_in link a pass other pass' other' in_ name m = (known_in link a other pass' in_ (m.0.0 ∙ name) known, known_in link a other other' in_ m.1.0 (subst (IsPrefix other.seen) (sym m.4) known))
+  where
+    known : IsPrefix other.seen pass'.seen
+    known = go m.5
+      where
+        go : Longer pass.seen other.seen pass'.seen → IsPrefix other.seen pass'.seen
+        go (inl l) = ([], append-nil other.seen ∙ sym l.1)
+        go (inr l) = subst (IsPrefix other.seen) (sym l.1) l.0

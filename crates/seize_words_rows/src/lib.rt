@@ -3,5 +3,6 @@
 #![tactic(auto)]
 
 pub mod calls;
+pub mod exchanges;
 #[cfg(test)]
 mod tests;

@@ -1,4 +1,7 @@
 //! Books, passes and keys in hand.
+ghost use Rattle.seize_words_rows.specs.Exchanges.{MaySwap};
+
+use crate::exchanges::Swapper;
 use seize_words::activation::Activation;
 use seize_words::book::{BatchKey, Book, Keys, LinkKeys, NumbersKey, Pass, SlotKey, ValueKey};
 use seize_words::link::{Link, MaybeKey};
@@ -55,4 +58,64 @@ fn an_empty_link_is_read(rt: HostRuntime) {
     let activation = head.enter(&mut key, &mut pass);
     assert_eq!(rt; link.read(&activation, &mut pass), 0);
     drop((links, numbers, key));
+}
+
+// A value that is put into a link comes out of it, with its key.
+#[test]
+fn a_swapped_value_comes_out(rt: HostRuntime) {
+    let (mut book, mut numbers, mut links) = Book::open(1, 32);
+    let mut pass = book.pass();
+    let link = Link::next(&mut links);
+    let (mut key, head) = Head::make(&mut numbers, &mut pass);
+    let activation = head.enter(&mut key, &mut pass);
+    let mut value = MaybeKey::some(book.value(5));
+    assert_eq!(rt; link.swap(6, &mut value, &activation, &mut pass), 0);
+    let mut none = MaybeKey::none(&mut pass);
+    assert_eq!(rt; link.swap(0, &mut none, &activation, &mut pass), 6);
+    drop((links, numbers, key, value, none));
+}
+
+// Two threads swap values of their own into one link: each comes out once, or is there in the end.
+#[test]
+fn swaps_lose_and_invent_no_value(rt: HostRuntime) {
+    let (mut book, mut numbers, mut links) = Book::open(1, 32);
+    let link = Link::next(&mut links);
+    let one = Swapper::enter(&mut book, &mut numbers, &link);
+    let two = Swapper::enter(&mut book, &mut numbers, &link);
+    let mut last = Swapper::enter(&mut book, &mut numbers, &link);
+    let shared = &link;
+    let (left_1, left_2) = thread::join(
+        &rt,
+        move || -> u64
+            requires { MaySwap shared.now one }
+        { one.swap_many(shared, 1_000_000) },
+        move || -> u64
+            requires { MaySwap shared.now two }
+        { two.swap_many(shared, 2_000_000) },
+    );
+    let mut none = MaybeKey::none(&mut last.pass);
+    let word = link.swap(0, &mut none, &last.activation, &mut last.pass);
+    assert_eq!(rt; left_1.wrapping_add(left_2), word);
+    drop((links, numbers, last, none));
+}
+
+// Each of two threads swaps a value into one link and then waits for that of the other: it ends only where both run.
+#[test]
+fn each_thread_sees_what_the_other_put_in(rt: HostRuntime) {
+    let (mut book, mut numbers, mut links) = Book::open(2, 32);
+    let (first, second) = (Link::next(&mut links), Link::next(&mut links));
+    let one = Swapper::enter(&mut book, &mut numbers, &first);
+    let two = Swapper::enter(&mut book, &mut numbers, &second);
+    let (first, second) = (&first, &second);
+    let (saw_1, saw_2) = thread::join(
+        &rt,
+        move || -> bool
+            requires { MaySwap first.now one × MaySwap second.now one }
+        { one.swap_and_wait(first, second, 1) },
+        move || -> bool
+            requires { MaySwap second.now two × MaySwap first.now two }
+        { two.swap_and_wait(second, first, 2) },
+    );
+    assert!(rt; saw_1 && saw_2);
+    drop((links, numbers));
 }

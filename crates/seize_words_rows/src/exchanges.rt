@@ -1,0 +1,93 @@
+//! Swaps of many new values into one link, as each of several threads makes them.
+ghost use Rattle.std.specs.Prelude.{◌≡◌, ◌<◌, ◌^◌};
+ghost use Rattle.seize_words.specs.Reservations.{IsFull};
+ghost use Rattle.seize_words_rows.specs.Exchanges.{HasOneMore, IsLinkOf, MaySwap, TakesPart};
+
+use seize_words::activation::Activation;
+use seize_words::book::{Book, NumbersKey, Pass, SlotKey};
+use seize_words::link::{Link, MaybeKey};
+use seize_words::reservation::Head;
+use std::thread;
+
+/// How many values each thread puts in.
+pub const EACH: u64 = 20_000;
+
+/// How often a thread reads a link at most, before it gives up.
+pub const TURNS: u64 = 10_000_000;
+
+/// What a thread swaps with: a slot of its own, which is active, and a pass.
+#[derive(Drop)]
+pub struct Swapper {
+    pub key: SlotKey,
+    pub head: Head,
+    pub activation: Activation,
+    pub book: Book,
+    pub pass: Pass,
+}
+
+impl Swapper {
+    /// Makes the next slot, which enters.
+    pub fn enter(book: &mut Book, numbers: &mut NumbersKey, link: &Link) -> Swapper
+        requires book { TakesPart book.old numbers.old × IsLinkOf link.now book.old }
+        requires full { IsFull numbers.old }
+        ensures book { book.new.name ≡ book.old.name }
+        ensures may { MaySwap link.now result }
+        ensures numbers { HasOneMore numbers.old numbers.new }
+    {
+        let mut pass = book.pass();
+        let (mut key, head) = Head::make(numbers, &mut pass);
+        let activation = head.enter(&mut key, &mut pass);
+        Swapper {
+            key,
+            head,
+            activation,
+            book: book.again(),
+            pass,
+        }
+    }
+
+    /// Swaps the values of the blocks from this one on into the link. It gives the sum of the words that it put in, less those that came
+    /// out, modulo 2^64.
+    pub fn swap_many(self, link: &Link, first: u64) -> u64
+        requires may { MaySwap link.now self }
+        requires small { first < 2 ^ 32 }
+    {
+        let Swapper {
+            key: _,
+            head: _,
+            activation,
+            mut book,
+            mut pass,
+        } = self;
+        let mut left: u64 = 0;
+        for block in first..first + EACH {
+            let mut value = MaybeKey::some(book.value(block));
+            let old = link.swap(block + 1, &mut value, &activation, &mut pass);
+            left = left.wrapping_add(block + 1).wrapping_sub(old);
+        }
+        left
+    }
+
+    /// Swaps the value of this block into one link, and then reads the other until that holds something. It says whether it ever did.
+    pub fn swap_and_wait(self, into: &Link, from: &Link, block: u64) -> bool
+        requires may { MaySwap into.now self × MaySwap from.now self }
+        requires small { block < 2 ^ 32 }
+    {
+        let Swapper {
+            key: _,
+            head: _,
+            activation,
+            mut book,
+            mut pass,
+        } = self;
+        let mut value = MaybeKey::some(book.value(block));
+        into.swap(block + 1, &mut value, &activation, &mut pass);
+        for _ in 0..TURNS {
+            if from.read(&activation, &mut pass) != 0 {
+                return true;
+            }
+            thread::yield_now();
+        }
+        false
+    }
+}
