@@ -68,6 +68,30 @@ impl Swapper {
         left
     }
 
+    /// The same, but each value goes in only if the link still holds what was read there just before.
+    pub fn exchange_many(self, link: &Link, first: u64) -> u64
+        requires may { MaySwap link.now self }
+        requires small { first < 2 ^ 32 }
+    {
+        let Swapper {
+            key: _,
+            head: _,
+            activation,
+            mut book,
+            mut pass,
+        } = self;
+        let mut left: u64 = 0;
+        for block in first..first + EACH {
+            let seen = link.read(&activation, &mut pass);
+            let mut value = MaybeKey::some(book.value(block));
+            let old = link.compare_exchange(seen, block + 1, &mut value, &activation, &mut pass);
+            if old == seen {
+                left = left.wrapping_add(block + 1).wrapping_sub(old);
+            }
+        }
+        left
+    }
+
     /// Swaps the value of this block into one link, and then reads the other until that holds something. It says whether it ever did.
     pub fn swap_and_wait(self, into: &Link, from: &Link, block: u64) -> bool
         requires may { MaySwap into.now self × MaySwap from.now self }

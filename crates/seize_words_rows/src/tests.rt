@@ -7,8 +7,10 @@ use seize_words::book::{BatchKey, Book, Keys, LinkKeys, NumbersKey, Pass, SlotKe
 use seize_words::link::{Link, MaybeKey};
 use seize_words::reservation::Head;
 use std::mem::size_of;
+use std::sync::Wait;
 use std::test::*;
 use std::thread;
+use std::thread::Threads;
 
 // Two passes meet, go to threads, come back and meet again.
 #[test]
@@ -96,6 +98,68 @@ fn swaps_lose_and_invent_no_value(rt: HostRuntime) {
     let mut none = MaybeKey::none(&mut last.pass);
     let word = link.swap(0, &mut none, &last.activation, &mut last.pass);
     assert_eq!(rt; left_1.wrapping_add(left_2), word);
+    drop((links, numbers, last, none));
+}
+
+// Two of them swap, and two exchange with what they read just before.
+fn four<R: Threads + Wait + Sync>(
+    rt: &R,
+    link: &Link,
+    swapping: (Swapper, Swapper),
+    exchanging: (Swapper, Swapper),
+) -> u64
+    requires { MaySwap link.now swapping.0 × MaySwap link.now swapping.1 × MaySwap link.now exchanging.0 × MaySwap link.now exchanging.1 }
+{
+    let (a, b) = swapping;
+    let (c, d) = exchanging;
+    let (one, two) = thread::join(
+        rt,
+        move || -> (u64, u64)
+            requires { MaySwap link.now a × MaySwap link.now b }
+        {
+            thread::join(
+                rt,
+                move || -> u64
+                    requires { MaySwap link.now a }
+                { a.swap_many(link, 1_000_000) },
+                move || -> u64
+                    requires { MaySwap link.now b }
+                { b.swap_many(link, 2_000_000) },
+            )
+        },
+        move || -> (u64, u64)
+            requires { MaySwap link.now c × MaySwap link.now d }
+        {
+            thread::join(
+                rt,
+                move || -> u64
+                    requires { MaySwap link.now c }
+                { c.exchange_many(link, 3_000_000) },
+                move || -> u64
+                    requires { MaySwap link.now d }
+                { d.exchange_many(link, 4_000_000) },
+            )
+        },
+    );
+    one.0
+        .wrapping_add(one.1)
+        .wrapping_add(two.0)
+        .wrapping_add(two.1)
+}
+
+#[test]
+fn four_threads_lose_and_invent_no_value(rt: HostRuntime) {
+    let (mut book, mut numbers, mut links) = Book::open(1, 32);
+    let link = Link::next(&mut links);
+    let a = Swapper::enter(&mut book, &mut numbers, &link);
+    let b = Swapper::enter(&mut book, &mut numbers, &link);
+    let c = Swapper::enter(&mut book, &mut numbers, &link);
+    let d = Swapper::enter(&mut book, &mut numbers, &link);
+    let mut last = Swapper::enter(&mut book, &mut numbers, &link);
+    let left = four(&rt, &link, (a, b), (c, d));
+    let mut none = MaybeKey::none(&mut last.pass);
+    let word = link.swap(0, &mut none, &last.activation, &mut last.pass);
+    assert_eq!(rt; left, word);
     drop((links, numbers, last, none));
 }
 
