@@ -8,14 +8,16 @@ use Rattle.seize_words.specs.Blocks.{link_word}
 use Rattle.seize_words.specs.Book.{after, links}
 use Rattle.seize_words.specs.Entry.{Entry}
 use Rattle.seize_words.specs.Ledger.{Held, renewed}
-use Rattle.seize_words.specs.LinkWords.{Takes, held_before, number}
+use Rattle.seize_words.specs.LinkWords.{IsIn, Takes, held_before, number}
 use Rattle.seize_words.specs.Links.{at_link, is_at_most_one, value_in}
 use Rattle.seize_words.specs.Stepping.{Stepped, traded}
 use Rattle.seize_words.specs.Tokens.{Name, start}
 use Rattle.seize_words.specs.Words.{IsKeyOf, Site}
+use Rattle.seize_words.specs.declared.activation.Activation.{Activation}
 use Rattle.seize_words.specs.declared.book.keys.Keys.{Keys}
 use Rattle.seize_words.specs.declared.book.pass.Pass.{Pass}
 use Rattle.seize_words.specs.declared.link.Link.{Link}
+use Rattle.seize_words.proofs.Exchanges.{within}
 use Rattle.seize_words.proofs.Links.{same}
 
 -- the word of a link, named by the pass's book
@@ -47,20 +49,22 @@ renewed_twice : (vs : List (Held Entry)) (log : List Entry) → renewed vs log �
 renewed_twice [] log = refl
 renewed_twice (x ∷ vs) log = ap (λ (hs : List (Held Entry)). record { kind = x.kind; key = x.key; own = log } ∷ hs) (renewed_twice vs log)
 
-module _ (link : Link) (pass pass' : Pass) (keys keys' : Keys) (alive : List ℕ) (f : ℕ → ℕ) (v : ℕ) (ev : Option ℕ → Event) (trades : ℕ → Bool)
-    (told : Took (at_link pass.name (number link)) keys pass keys' pass' alive f v 0 (λ v log. ev (link_at (after (start pass.name) log) (number link))) trades) where
+module _ (link : Link) (a : Activation) (pass pass' : Pass) (in_ : IsIn link a pass) (keys keys' : Keys) (f : ℕ → ℕ) (v : ℕ) (ev : Option ℕ → Event) (trades : ℕ → Bool)
+    (told : Took (at_link pass.name (number link)) keys pass keys' pass' (a.life ∷ []) f v 0 (λ v log. ev (link_at (after (start pass.name) log) (number link))) trades) where
   abbrev event : ℕ → List Entry → Event
   event v log = ev (link_at (after (start pass.name) log) (number link))
 
-  abbrev step : Stepped (at_link pass.name (number link)) pass.id pass.seen pass'.seen keys.held keys'.held alive v (f v) (entries pass 0 event) trades
+  abbrev step : Stepped (at_link pass.name (number link)) pass.id pass.seen pass'.seen keys.held keys'.held (a.life ∷ []) v (f v) (entries pass 0 event) trades
   step = told.2
 
   -- what the link held, as its word's keys know
   held : link_at (after (start pass.name) step.since.0) (number link) ≡ link_at (after (start pass.name) step.log) (number link)
-  held = same pass.name (number link) v pass.id pass.seen keys.held alive step.since step.log step.found
+  held = same pass.name (number link) v pass.id pass.seen keys.held (a.life ∷ []) step.since step.log step.found
 
-  pub taken : Takes link pass pass' ev v
-  taken = record { same = told.0; before = step.log; noted = step.noted; is_before = step.is_log; found = step.found.shows ∙ ap link_word held }
+  pub taken : Takes link a pass pass' ev v
+  taken =
+      let w = within pass.name a.slot a.life (number link) a.since pass.seen in_.within v pass.id keys.held step.since step.log step.found in
+      record { same = told.0; before = step.log; noted = step.noted; is_before = step.is_log; during = (w.0, w.2); found = step.found.shows ∙ ap link_word held }
 
   its_key : IsKeyOf (link_at (after (start pass.name) step.log) (number link)) step.since.1
   its_key = subst (λ (o : Option ℕ). IsKeyOf o step.since.1) held step.found.stands

@@ -35,18 +35,23 @@ module _ (n : Name) (s a l : ℕ) (since seen : List Entry) (in_ : IsWithin n s 
   abbrev At : Type 0
   At = List Entry × List (Held Entry)
 
-  -- whoever has the activation knows that the slot is active, and that the link is there
-  within : (v p : ℕ) (held : List (Held Entry)) (t : At) (log : List Entry) → FoundAs (at_link n l) v p seen held (a ∷ []) t log
-      → (is_active (head_at (after st log) s) ≡ true) × (l < length (after st log).links)
-  within v p held t log found = (active (now (prefix_trans since seen log in_.known found.before.grows)), subst (λ (k : ℕ). l < k) (sym (links_stay st log found.before.legal)) in_.is_link)
+  -- whoever has the activation knows that the slot is active, in this activation, and that the link is there
+  pub within : (v p : ℕ) (held : List (Held Entry)) (t : At) (log : List Entry) → FoundAs (at_link n l) v p seen held (a ∷ []) t log
+      → (is_active (head_at (after st log) s) ≡ true) × (l < length (after st log).links) × (life s log ≡ a)
+  within v p held t log found =
+      let on = active (now (prefix_trans since seen log in_.known found.before.grows)) in
+      (on.0, subst (λ (k : ℕ). l < k) (sym (links_stay st log found.before.legal)) in_.is_link, on.1)
     where
-      now : IsPrefix since log → (is_active (head_at (after st log) s) ≡ true) ⊎ IsIn (ended log) a
+      During : List Entry → ℕ → Type 0
+      During z b = ((is_active (head_at (after st z) s) ≡ true) × (life s z ≡ b)) ⊎ IsIn (ended z) b
+
+      now : IsPrefix since log → During log a
       now grows =
-          subst (λ (b : ℕ). (is_active (head_at (after st log) s) ≡ true) ⊎ IsIn (ended log) b) in_.its
-          (subst (λ (z : List Entry). (is_active (head_at (after st z) s) ≡ true) ⊎ IsIn (ended z) (life s since)) grows.1
+          subst (During log) in_.its
+          (subst (λ (z : List Entry). During z (life s since)) grows.1
           (still st since grows.0 s (subst (IsLegalList st) (sym grows.1) found.before.legal) in_.active))
 
-      active : (is_active (head_at (after st log) s) ≡ true) ⊎ IsIn (ended log) a → is_active (head_at (after st log) s) ≡ true
+      active : During log a → (is_active (head_at (after st log) s) ≡ true) × (life s log ≡ a)
       active (inl on) = on
       active (inr over) = absurd (found.none_ended a (inl refl) over)
 

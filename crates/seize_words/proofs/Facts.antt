@@ -56,7 +56,7 @@ known_in link a pass pass' in_ name grows = record {
 }
 
 -- after a step on a link the same activation may make the next, on this link or on another one
-pub still_in : (link other : Link) (a : Activation) (pass pass' : Pass) (event : Option ℕ → Event) (v : ℕ) → IsIn other a pass → Takes link pass pass' event v → IsIn other a pass'
+pub still_in : (link other : Link) (a : Activation) (pass pass' : Pass) (event : Option ℕ → Event) (v : ℕ) → IsIn other a pass → Takes link a pass pass' event v → IsIn other a pass'
 still_in link other a pass pass' event v in_ t = known_in other a pass pass' in_ t.same.0 (seen_grows pass.name pass.id pass.seen pass'.seen _ t.noted)
 
 -- what either of two passes has seen, both have when they have met

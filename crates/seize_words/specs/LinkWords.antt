@@ -5,9 +5,10 @@
 --     IsIn link activation pass   all are of one book, the activation has begun, as the pass has seen, and the link is one of the book's
 --     IsNewFor link key new       the key is that of a value that was never named, or none, and this is its word
 --     HasNext left, IsNext left link left'     a link is left to make;  it was made
+--     Takes                       the event was made with the pass, during the activation;  IsDuring activation name list
 --     Reads, Swaps, CompareExchanges     what the event is, in which state it was made, and what is had afterwards
 use Rattle.std.specs.Prelude.{◌≡◌, ◌≢◌, ℕ, suc, List, [], Option, None, true, is_some, drop}
-use Rattle.seize_machine.specs.Machine.State.{link_at}
+use Rattle.seize_machine.specs.Machine.State.{head_at, is_active, link_at}
 use Rattle.seize_machine.specs.Machine.Event.{Event, ReadLink, ExchangeLink}
 use Rattle.seize_machine.specs.declared.machine.event.Exchange.TheVariants.{Swap, Compare}
 use Rattle.seize_words.specs.Adding.{private}
@@ -15,11 +16,12 @@ use Rattle.seize_words.specs.Begin.{first_links}
 use Rattle.seize_words.specs.Blocks.{link_word}
 use Rattle.seize_words.specs.Book.{after}
 use Rattle.seize_words.specs.Entry.{Entry}
+use Rattle.seize_words.specs.Laws.{life}
 use Rattle.seize_words.specs.Ledger.{renewed}
 use Rattle.seize_words.specs.Links.{IsNewIn, IsWithin, compared, value_in}
 use Rattle.seize_words.specs.Passes.{IsSame}
 use Rattle.seize_words.specs.Private.{key_of}
-use Rattle.seize_words.specs.Tokens.{Noted, start}
+use Rattle.seize_words.specs.Tokens.{Name, Noted, start}
 use Rattle.seize_words.specs.declared.activation.Activation.{Activation}
 use Rattle.seize_words.specs.declared.book.link_keys.LinkKeys.{LinkKeys}
 use Rattle.seize_words.specs.declared.book.pass.Pass.{Pass}
@@ -50,20 +52,26 @@ IsNewFor link key new =
 abbrev pub IsSomeKey : MaybeKey → Type 0
 IsSomeKey key = is_some (holds key) ≡ true
 
--- The pass added the event, where the link held this, and this was its word.
-pub record Takes (link : Link) (pass pass' : Pass) (event : Option ℕ → Event) (v : ℕ) : Type 0 where
+-- the activation's slot was active when the list was this, and in this activation
+abbrev pub IsDuring : Activation → Name → List Entry → Type 0
+IsDuring a n list = (is_active (head_at (after (start n) list) a.slot) ≡ true) × (life a.slot list ≡ a.life)
+
+-- The pass added the event, during the activation, where the link held this, and this was its word.
+pub record Takes (link : Link) (a : Activation) (pass pass' : Pass) (event : Option ℕ → Event) (v : ℕ) : Type 0 where
   pub same : IsSame pass pass'
   pub before : List Entry
   pub noted : Noted pass.name pass.id pass.seen pass'.seen (private pass (event (link_at (after (start pass.name) before) (number link))))
   pub is_before : noted.before ≡ before
+  pub during : IsDuring a pass.name before
   pub found : v ≡ link_word (link_at (after (start pass.name) before) (number link))
 
 -- what the link held
-abbrev pub held_before : {link : Link} {pass pass' : Pass} {event : Option ℕ → Event} {v : ℕ} → Takes link pass pass' event v → Option ℕ
-held_before {link} {pass} t = link_at (after (start pass.name) t.before) (number link)
+abbrev pub held_before : {link : Link} {a : Activation} {pass pass' : Pass} {event : Option ℕ → Event} {v : ℕ}
+    → Takes link a pass pass' event v → Option ℕ
+held_before {link} {a} {pass} t = link_at (after (start pass.name) t.before) (number link)
 
 abbrev pub Reads : Link → Activation → Pass → Pass → ℕ → Type 0
-Reads link activation pass pass' v = Takes link pass pass' (λ _. ReadLink activation.slot (number link)) v
+Reads link activation pass pass' v = Takes link activation pass pass' (λ _. ReadLink activation.slot (number link)) v
 
 -- the key knows all that the pass has seen
 abbrev pub KnowsAll : MaybeKey → Pass → Type 0
@@ -72,13 +80,13 @@ KnowsAll key pass = key.keys.held ≡ renewed key.keys.held pass.seen
 -- the key of what the link held came out
 abbrev pub Swaps : Link → Activation → MaybeKey → Pass → MaybeKey → Pass → ℕ → Type 0
 Swaps link activation key pass key' pass' v =
-    (t : Takes link pass pass' (λ _. ExchangeLink activation.slot (number link) (Swap (holds key))) v)
+    (t : Takes link activation pass pass' (λ _. ExchangeLink activation.slot (number link) (Swap (holds key))) v)
     × (key'.keys.name ≡ key.keys.name) × (holds key' ≡ held_before t) × KnowsAll key' pass'
 
 -- and here where it was what was seen; else it is the same key
 abbrev pub CompareExchanges : Link → Activation → MaybeKey → Pass → ℕ → MaybeKey → Pass → ℕ → Type 0
 CompareExchanges link activation key pass seen key' pass' v =
-    (t : Takes link pass pass' (λ old. ExchangeLink activation.slot (number link) (Compare (compared seen old) (holds key))) v)
+    (t : Takes link activation pass pass' (λ old. ExchangeLink activation.slot (number link) (Compare (compared seen old) (holds key))) v)
     × (key'.keys.name ≡ key.keys.name)
     × (v ≡ seen → holds key' ≡ held_before t) × (v ≢ seen → holds key' ≡ holds key) × KnowsAll key' pass'
 

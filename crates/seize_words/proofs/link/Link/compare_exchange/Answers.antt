@@ -45,11 +45,11 @@ returns c =
     let told = subst (λ (t : Site). Took t value.keys pass keys' pass' (a.life ∷ []) f v 0 (events pass.name a.slot l seen (holds value)) (λ v. v == seen)) (is_at link.word pass.name in_.book.0 link.link) c.exchange_in.ensures in
     record {
       exchanges = (
-        taken link pass pass' value.keys keys' (a.life ∷ []) f v ev (λ v. v == seen) told,
+        taken link a pass pass' in_ value.keys keys' f v ev (λ v. v == seen) told,
         told.1,
-        (λ e. came_out link pass pass' value.keys keys' (a.life ∷ []) f v ev (λ v. v == seen) told (equal v seen e)),
-        (λ differs. stayed link pass pass' value.keys keys' (a.life ∷ []) f v ev (λ v. v == seen) told (unequal v seen differs)),
-        knows_all link pass pass' value.keys keys' (a.life ∷ []) f v ev (λ v. v == seen) told,
+        (λ e. came_out link a pass pass' in_ value.keys keys' f v ev (λ v. v == seen) told (equal v seen e)),
+        (λ differs. stayed link a pass pass' in_ value.keys keys' f v ev (λ v. v == seen) told (unequal v seen differs)),
+        knows_all link a pass pass' in_ value.keys keys' f v ev (λ v. v == seen) told,
       );
     }
 
@@ -58,4 +58,4 @@ invariant_of-value c =
     let link = c.args.self.now in let a = c.args.activation.now in let pass = c.args.pass.now in let in_ = c.requires.within in let l = number link in let value = c.args.value.now in let seen = c.args.seen in
     let pass' = c.exchange_in.new.pass in let keys' = c.exchange_in.new.keys in let v = c.exchange_in.result in let f = exchanged seen c.args.new in let ev = by_held a.slot l seen (holds value) in
     let told = subst (λ (t : Site). Took t value.keys pass keys' pass' (a.life ∷ []) f v 0 (events pass.name a.slot l seen (holds value)) (λ v. v == seen)) (is_at link.word pass.name in_.book.0 link.link) c.exchange_in.ensures in
-    record { value = still_one link pass pass' value.keys keys' (a.life ∷ []) f v ev (λ v. v == seen) told value.value }
+    record { value = still_one link a pass pass' in_ value.keys keys' f v ev (λ v. v == seen) told value.value }

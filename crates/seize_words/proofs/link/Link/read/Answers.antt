@@ -27,7 +27,7 @@ pub returns : goal.returns
 returns c =
     let link = c.args.self.now in let a = c.args.activation.now in let pass = c.args.pass.now in let in_ = c.requires.within in let l = number link in
     record {
-      reads = taken link pass c.load_in.new.pass c.empty-keys.result c.load_in.new.keys (a.life ∷ []) (λ v. v) c.load_in.result (λ _. ReadLink a.slot l) (λ v. false)
+      reads = taken link a pass c.load_in.new.pass in_ c.empty-keys.result c.load_in.new.keys (λ v. v) c.load_in.result (λ _. ReadLink a.slot l) (λ v. false)
           (subst (λ (t : Site × Pass). Took t.0 c.empty-keys.result t.1 c.load_in.new.keys c.load_in.new.pass (a.life ∷ []) (λ v. v) c.load_in.result 0 (λ v log. ReadLink a.slot l) (λ v. false))
           (λ j. (is_at link.word pass.name in_.book.0 link.link j, c.empty-keys.ensures.2 j)) c.load_in.ensures);
     }

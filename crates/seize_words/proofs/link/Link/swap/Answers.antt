@@ -30,10 +30,10 @@ returns c =
     (is_at link.word pass.name in_.book.0 link.link) c.swap_in.ensures in
     record {
       swaps = (
-        taken link pass c.swap_in.new.pass value.keys c.swap_in.new.keys (a.life ∷ []) (λ v. c.args.new) c.swap_in.result ev (λ v. true) told,
+        taken link a pass c.swap_in.new.pass in_ value.keys c.swap_in.new.keys (λ v. c.args.new) c.swap_in.result ev (λ v. true) told,
         told.1,
-        came_out link pass c.swap_in.new.pass value.keys c.swap_in.new.keys (a.life ∷ []) (λ v. c.args.new) c.swap_in.result ev (λ v. true) told refl,
-        knows_all link pass c.swap_in.new.pass value.keys c.swap_in.new.keys (a.life ∷ []) (λ v. c.args.new) c.swap_in.result ev (λ v. true) told,
+        came_out link a pass c.swap_in.new.pass in_ value.keys c.swap_in.new.keys (λ v. c.args.new) c.swap_in.result ev (λ v. true) told refl,
+        knows_all link a pass c.swap_in.new.pass in_ value.keys c.swap_in.new.keys (λ v. c.args.new) c.swap_in.result ev (λ v. true) told,
       );
     }
 
@@ -43,4 +43,4 @@ invariant_of-value c =
     let ev = λ (o : Option ℕ). ExchangeLink a.slot l (Swap (holds value)) in
     let told = subst (λ (t : Site). Took t value.keys pass c.swap_in.new.keys c.swap_in.new.pass (a.life ∷ []) (λ v. c.args.new) c.swap_in.result 0 (λ v log. ExchangeLink a.slot l (Swap (holds value))) (λ v. true))
     (is_at link.word pass.name in_.book.0 link.link) c.swap_in.ensures in
-    record { value = still_one link pass c.swap_in.new.pass value.keys c.swap_in.new.keys (a.life ∷ []) (λ v. c.args.new) c.swap_in.result ev (λ v. true) told value.value }
+    record { value = still_one link a pass c.swap_in.new.pass in_ value.keys c.swap_in.new.keys (λ v. c.args.new) c.swap_in.result ev (λ v. true) told value.value }
