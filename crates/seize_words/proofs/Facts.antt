@@ -1,5 +1,5 @@
 -- What other crates may build on. All else in `proofs` is no interface, and may change.
-use Rattle.std.proofs.Common.{◌≡◌, ℕ, List, [], ◌∷◌, ◌++◌, Option, Some, sym, ap, ◌∙◌, subst, inl, inr}
+use Rattle.std.proofs.Common.{◌≡◌, ℕ, Bool, false, if◌then◌else◌, List, [], ◌∷◌, ◌++◌, Option, Some, sym, ap, ◌∙◌, subst, inl, inr}
 use Rattle.std.proofs.lemmas.List.{append_assoc, append-nil}
 use mathlib.Core.List.{IsPrefix}
 use Rattle.seize_machine.specs.Machine.State.{State, slot_at}
@@ -10,11 +10,13 @@ use Rattle.seize_machine.proofs.Facts.{some_is}
 use Rattle.seize_words.specs.Adding.{private}
 use Rattle.seize_words.specs.Book.{after, mine}
 use Rattle.seize_words.specs.Entry.{Entry}
+use Rattle.seize_words.specs.Laws.{life, starts}
 use Rattle.seize_words.specs.LinkWords.{IsIn, Takes, number}
 use Rattle.seize_words.specs.Links.{IsWithin}
 use Rattle.seize_words.specs.Passes.{IsSame, Longer, Meets, mine_of}
-use Rattle.seize_words.specs.Slots.{Moves, number_of, size_of, slot_of, start_of}
+use Rattle.seize_words.specs.Slots.{Moves, NotesAs, life_of, number_of, own_list, size_of, slot_of, start_of}
 use Rattle.seize_words.specs.Tokens.{Name, Noted, start}
+use Rattle.seize_words.proofs.Stepped.{life_push}
 use Rattle.seize_words.specs.declared.activation.Activation.{Activation}
 use Rattle.seize_words.specs.declared.book.pass.Pass.{Pass}
 use Rattle.seize_words.specs.declared.book.slot_key.SlotKey.{SlotKey}
@@ -35,6 +37,12 @@ moved key key' log event later answer moves d is = moves.is ∙ ap (λ (x : Stat
 pub answered : (key key' : SlotKey) (log : List Entry) (event : Event) (later : State) (answer : Answer) → Moves key key' log event later answer
     → (d : State × Answer) → next (size_of key) (after (start_of key) log) event ≡ Some d → answer ≡ d.1
 answered key key' log event later answer moves d is = ap (λ (x : State × Answer). x.1) (some_is _ _ (sym moves.legal ∙ is))
+
+-- an event that begins no activation leaves the slot's last one as it was
+pub life_kept : (key key' : SlotKey) (pass pass' : Pass) (e : Entry) → NotesAs key pass key' pass' e → starts (number_of key) e.event ≡ false → life_of key' ≡ life_of key
+life_kept key key' pass pass' e noted none =
+    let n = noted.2.0 in
+    ap (λ (k : ℕ). life k (own_list key')) noted.1.1 ∙ ap (life (number_of key)) (noted.1.2 ∙ n.appended) ∙ life_push 0 (number_of key) n.before e ∙ ap (λ (b : Bool). if b then e.life else life (number_of key) n.before) none ∙ noted.2.1.lived
 
 prefix_on : (a b c : List Entry) → IsPrefix a b → IsPrefix b c → IsPrefix a c
 prefix_on a b c h k = (h.0 ++ k.0, sym (append_assoc a h.0 k.0) ∙ ap (λ (l : List Entry). l ++ k.0) h.1 ∙ k.1)

@@ -64,7 +64,7 @@ module _ (m : ℕ) (pass pass' : Pass) (keys keys' : Keys) (f : ℕ → ℕ) (v 
 
 -- An activation has begun with the last event.
 
-life_push : (a s : ℕ) (log : List Entry) (e : Entry) → life_from a s (log ++ e ∷ []) ≡ (if starts s e.event then e.life else life_from a s log)
+pub life_push : (a s : ℕ) (log : List Entry) (e : Entry) → life_from a s (log ++ e ∷ []) ≡ (if starts s e.event then e.life else life_from a s log)
 life_push a s [] e = refl
 life_push a s (x ∷ log) e = life_push (if starts s x.event then x.life else a) s log e
 

@@ -4,5 +4,6 @@
 
 pub mod calls;
 pub mod exchanges;
+pub mod leaving;
 #[cfg(test)]
 mod tests;

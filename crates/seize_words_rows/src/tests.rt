@@ -2,6 +2,7 @@
 ghost use Rattle.seize_words_rows.specs.Exchanges.{MaySwap};
 
 use crate::exchanges::Swapper;
+use crate::leaving::leave_head;
 use seize_words::activation::Activation;
 use seize_words::book::{BatchKey, Book, Keys, LinkKeys, NumbersKey, Pass, SlotKey, ValueKey};
 use seize_words::link::{Link, MaybeKey};
@@ -59,6 +60,17 @@ fn an_empty_link_is_read(rt: HostRuntime) {
     let (mut key, head) = Head::make(&mut numbers, &mut pass);
     let activation = head.enter(&mut key, &mut pass);
     assert_eq!(rt; link.read(&activation, &mut pass), 0);
+    drop((links, numbers, key));
+}
+
+// A slot leaves; its head's word says that it was active, and that nothing waited.
+#[test]
+fn a_head_comes_out_with_nothing_waiting(rt: HostRuntime) {
+    let (mut book, mut numbers, links) = Book::open(0, 32);
+    let mut pass = book.pass();
+    let (mut key, head) = Head::make(&mut numbers, &mut pass);
+    let activation = head.enter(&mut key, &mut pass);
+    assert_eq!(rt; leave_head(&head, activation, &mut key, &mut pass), 1);
     drop((links, numbers, key));
 }
 
