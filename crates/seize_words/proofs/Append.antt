@@ -269,9 +269,6 @@ module _ {E : Type 0} (c : Coded E) (rules : Rules E) (extra : List E → Fml) (
   abbrev KeptNow : Type 0
   KeptNow = (r k : ℕ) (log : List E) → rules.Kept r k log log
 
-  sized_by : (rows rows' : Rows) (log : List E) → ((r : ℕ) → sizes rows r ≡ sizes rows' r) → ((r : ℕ) → rules.Sized r (sizes rows r) log) → (r : ℕ) → rules.Sized r (sizes rows' r) log
-  sized_by rows rows' log e h r = subst (λ (j : ℕ). rules.Sized r j log) (e r) (h r)
-
   holds_more : (rows : Rows) (held : List (Held E)) (seen log : List E) (ev : List E → E) (births : List E → List (ℕ × ℕ)) (Told : List E → Type 0) → KeptNow → Goes rules held seen ev births Told → Holds rules rows log → Known rules held seen log → AllThere (sizes rows) held → Told log
       → Holds rules (grown (puts rows held (log ++ ev log ∷ [])) (births log) (log ++ ev log ∷ [])) (log ++ ev log ∷ [])
   holds_more rows held seen log ev births Told same goes so known there told = let log' : List E = log ++ ev log ∷ [] in let g = goes log known told in let mid : Rows = puts rows held log' in

@@ -17,6 +17,7 @@ use Rattle.seize_words.specs.Ledger.{Held, WithKinds}
 use Rattle.seize_words.specs.Links.{IsNewIn, IsWithin, at_link, compared, is_at_most_one, value_in, value_with}
 use Rattle.seize_words.specs.Stepping.{FoundAs, IsStep, MayStep}
 use Rattle.seize_words.specs.Tokens.{Name, start}
+use Rattle.seize_words.proofs.Lists.{equal, unequal}
 use Rattle.seize_words.proofs.Activations.{still}
 use Rattle.seize_words.proofs.Links.{miss_step, read_step, same, store_step}
 use Rattle.seize_words.proofs.Lives.{legal_first}
@@ -79,12 +80,6 @@ module _ (n : Name) (s a l : ℕ) (since seen : List Entry) (in_ : IsWithin n s 
   same_words (Some v) (Some w) h = ap (λ (k : ℕ). link_word (Some k)) (eq_true v w h)
   same_words None (Some w) h = absurd (cc)
   same_words (Some v) None h = absurd (cc)
-
-  equal : (x y : ℕ) → x ≡ y → (x == y) ≡ true
-  equal x y e = grind arith
-
-  unequal : (x y : ℕ) → x ≢ y → (x == y) ≡ false
-  unequal x y n = grind arith
 
   hit : (seen_word : ℕ) (old o : Option ℕ) → link_word old ≡ seen_word → is_stored old (Compare (compared seen_word old) o) ≡ true
   hit seen_word old o e = ap (λ (b : Bool). same_link old (if b then old else value_with seen_word)) (equal (link_word old) seen_word e) ∙ is_same old

@@ -1,6 +1,6 @@
 -- What other crates may build on. All else in `proofs` is no interface, and may change.
-use Rattle.std.proofs.Common.{◌≡◌, ℕ, Bool, false, if◌then◌else◌, List, [], ◌∷◌, ◌++◌, Option, Some, sym, ap, ◌∙◌, subst, inl, inr}
-use Rattle.std.proofs.lemmas.List.{append_assoc, append-nil}
+use Rattle.std.proofs.Common.{◌≡◌, ℕ, Bool, false, if◌then◌else◌, List, [], ◌∷◌, ◌++◌, Option, Some, sym, ap, ◌∙◌, subst}
+use base.Growing.{prefix_trans}
 use mathlib.Core.List.{IsPrefix}
 use Rattle.seize_machine.specs.Machine.State.{State, slot_at}
 use Rattle.seize_machine.specs.Machine.Event.{Event}
@@ -13,7 +13,7 @@ use Rattle.seize_words.specs.Entry.{Entry}
 use Rattle.seize_words.specs.Laws.{life, starts}
 use Rattle.seize_words.specs.LinkWords.{IsIn, Takes, number}
 use Rattle.seize_words.specs.Links.{IsWithin}
-use Rattle.seize_words.specs.Passes.{IsSame, Longer, Meets, mine_of}
+use Rattle.seize_words.specs.Passes.{IsSame, mine_of}
 use Rattle.seize_words.specs.Slots.{Moves, NotesAs, life_of, number_of, own_list, size_of, slot_of, start_of}
 use Rattle.seize_words.specs.Tokens.{Name, Noted, start}
 use Rattle.seize_words.proofs.Stepped.{life_push}
@@ -44,12 +44,9 @@ life_kept key key' pass pass' e noted none =
     let n = noted.2.0 in
     ap (λ (k : ℕ). life k (own_list key')) noted.1.1 ∙ ap (life (number_of key)) (noted.1.2 ∙ n.appended) ∙ life_push 0 (number_of key) n.before e ∙ ap (λ (b : Bool). if b then e.life else life (number_of key) n.before) none ∙ noted.2.1.lived
 
-prefix_on : (a b c : List Entry) → IsPrefix a b → IsPrefix b c → IsPrefix a c
-prefix_on a b c h k = (h.0 ++ k.0, sym (append_assoc a h.0 k.0) ∙ ap (λ (l : List Entry). l ++ k.0) h.1 ∙ k.1)
-
 -- what a pass has seen begins with what it had seen before an event
 pub seen_grows : (n : Name) (p : ℕ) (seen seen' : List Entry) (e : Entry) → Noted n p seen seen' e → IsPrefix seen seen'
-seen_grows n p seen seen' e noted = prefix_on seen noted.before seen' noted.grows (e ∷ [], sym noted.appended)
+seen_grows n p seen seen' e noted = prefix_trans seen noted.before seen' noted.grows (e ∷ [], sym noted.appended)
 
 -- an activation that a pass has seen to begin stays seen
 pub known_in : (link : Link) (a : Activation) (pass pass' : Pass) → IsIn link a pass → pass'.name ≡ pass.name → IsPrefix pass.seen pass'.seen → IsIn link a pass'
@@ -58,7 +55,7 @@ known_in link a pass pass' in_ name grows = record {
   within = subst (λ (n : Name). IsWithin n a.slot a.life a.since pass'.seen (number link)) (sym name) (record {
     active = in_.within.active;
     its = in_.within.its;
-    known = prefix_on a.since pass.seen pass'.seen in_.within.known grows;
+    known = prefix_trans a.since pass.seen pass'.seen in_.within.known grows;
     is_link = in_.within.is_link;
   });
 }
@@ -66,14 +63,3 @@ known_in link a pass pass' in_ name grows = record {
 -- after a step on a link the same activation may make the next, on this link or on another one
 pub still_in : (link other : Link) (a : Activation) (pass pass' : Pass) (event : Option ℕ → Event) (v : ℕ) → IsIn other a pass → Takes link a pass pass' event v → IsIn other a pass'
 still_in link other a pass pass' event v in_ t = known_in other a pass pass' in_ t.same.0 (seen_grows pass.name pass.id pass.seen pass'.seen _ t.noted)
-
--- what either of two passes has seen, both have when they have met
-pub met_in : (link : Link) (a : Activation) (pass other pass' other' : Pass) → IsIn link a other → pass.name ≡ other.name → Meets pass other pass' other' → IsIn link a pass' × IsIn link a other'
-met_in link a pass other pass' other' in_ name m = (known_in link a other pass' in_ (m.0.0 ∙ name) known, known_in link a other other' in_ m.1.0 (subst (IsPrefix other.seen) (sym m.4) known))
-  where
-    known : IsPrefix other.seen pass'.seen
-    known = go m.5
-      where
-        go : Longer pass.seen other.seen pass'.seen → IsPrefix other.seen pass'.seen
-        go (inl l) = ([], append-nil other.seen ∙ sym l.1)
-        go (inr l) = subst (IsPrefix other.seen) (sym l.1) l.0

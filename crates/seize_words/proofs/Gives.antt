@@ -17,6 +17,7 @@ use Rattle.seize_words.specs.Fair.{Before, Covers, Fair, MayAdd, EndsNone, Start
 use Rattle.seize_words.specs.Others.{IsLeast}
 use Rattle.seize_words.specs.Private.{is_one, key_of, own_of}
 use Rattle.seize_words.specs.Tokens.{Name, start}
+use Rattle.seize_words.proofs.Lists.{equal}
 use Rattle.seize_words.proofs.Private.{only, only_is, differ}
 
 -- the event changes which numbers are in use and the record of slot s, and nothing else
@@ -90,9 +91,6 @@ module _ (n : Name) (a b : List (Held Entry)) where
   still log same least =
       let st : State = after (start n) log in
       (least.0 ∙ free_by old.slots ∙ ap free_of same ∙ sym (free_by st.slots), subst (λ (z : ℕ). key_of a < z) (sym (length-map old.slots (λ slot. slot.used)) ∙ ap (λ (us : List Bool). length us) same ∙ length-map st.slots (λ slot. slot.used)) least.1)
-
-  equal : (x y : ℕ) → x ≡ y → (x == y) ≡ true
-  equal x y e = grind arith
 
   unequal : (x y : ℕ) → x < y → (x == y) ≡ false
   unequal x y l = grind arith

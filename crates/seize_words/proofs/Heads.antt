@@ -28,7 +28,7 @@ use Rattle.seize_words.specs.Stepping.{EndsAmong, FoundAs, IsStep, MayStep, in_s
 use Rattle.seize_words.specs.Tokens.{Name, start}
 use Rattle.seize_words.specs.Words.{Site}
 use Rattle.seize_words.proofs.Lives.{legal_first, life_kept}
-use Rattle.seize_words.proofs.Lists.{after_push, legal_push, reached_after}
+use Rattle.seize_words.proofs.Lists.{equal, unequal, after_push, legal_push, reached_after}
 use Rattle.seize_words.proofs.Plans.{AllLess, block_stays, blocks_stay, head_stays, legal_prefix, plans_long, saw_there, tried_there}
 use Rattle.seize_words.proofs.Private.{differ, only_is}
 
@@ -308,12 +308,6 @@ module _ (n : Name) (m : ℕ) where
     either_way = kit.exchanged v seen_word (block + 2) (λ x. Step_ x (found_end seen_word v))
         (λ same. subst (Step_ (block + 2)) (sym (ap (λ (c : Bool). if c then Won else Lost) (equal v seen_word same))) (won same))
         (λ differs. subst (Step_ v) (sym (ap (λ (c : Bool). if c then Won else Lost) (unequal v seen_word differs))) (lost differs))
-      where
-        equal : (x y : ℕ) → x ≡ y → (x == y) ≡ true
-        equal x y e = grind arith
-
-        unequal : (x y : ℕ) → x ≢ y → (x == y) ≡ false
-        unequal x y n = grind arith
 
   pub may_insert : (p size seen_word block : ℕ) (seen : List Entry) (held : List (Held Entry)) → is_one slots held ≡ true → IsTrying st (key_of held) (own_of held) m seen_word block
       → MayStep (at_head n m) p seen held [] [] (exchanged seen_word (block + 2)) (λ v log. record { pass = p; size = size; event = Insert (key_of held) m (found_end seen_word v); life = 0 }) (λ v. false)

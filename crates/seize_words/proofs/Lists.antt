@@ -1,5 +1,5 @@
 -- The book, with one entry more.
-use Rattle.std.proofs.Common.{◌≡◌, ℕ, Bool, true, false, cond, ◌==◌, List, [], ◌∷◌, ◌++◌, filter, refl, sym, ◌∙◌, ap, subst, append_assoc, append-nil}
+use Rattle.std.proofs.Common.{◌≢◌, arith, ◌≡◌, ℕ, Bool, true, false, cond, ◌==◌, List, [], ◌∷◌, ◌++◌, filter, refl, sym, ◌∙◌, ap, subst, append_assoc, append-nil}
 use mathlib.Core.List.{IsPrefix, append_cancel_left, cons≢nil}
 use Rattle.std.proofs.lemmas.List.{map-append}
 use Rattle.std.proofs.lemmas.List.Elements.{filter-append}
@@ -83,3 +83,11 @@ between st p a b c h k e =
     ap (mine st p) (sym k.1) ∙ mine_append st p b k.0 ∙ ap (λ (l : List (Entry × Answer)). l ++ y) more ∙ append_assoc (mine st p a) x y in
     let none : x ≡ [] = no_front x y (append_cancel_left (mine st p a) (x ++ y) [] (sym all ∙ sym e ∙ sym (append-nil (mine st p a)))) in
     more ∙ ap (λ (l : List (Entry × Answer)). mine st p a ++ l) none ∙ append-nil (mine st p a)
+
+-- Equality of numbers as a test.
+
+pub equal : (x y : ℕ) → x ≡ y → (x == y) ≡ true
+equal x y e = grind arith
+
+pub unequal : (x y : ℕ) → x ≢ y → (x == y) ≡ false
+unequal x y n = grind arith

@@ -33,9 +33,6 @@ legal_first st e log l = go (next e.size st e.event) refl
     go Option.None n = let none : is_legal (done_by next st (timed e)).1 ≡ false = ap (λ o. is_legal (or_illegal st o).1) n in absurd (let x : true ≡ false = sym (and_true _ _ l).0 ∙ none in cc)
     go (Some d) n = let is : done_by next st (timed e) ≡ d = ap (or_illegal st) n in (d, n, is, subst (λ (x : State × Answer). IsLegalList x.0 log) is (and_true _ _ l).1)
 
-not_same : (a k : ℕ) → (a == k) ≡ false → ¬ (k ≡ a)
-not_same a k h e = grind arith
-
 -- a head that was active, where something else is put that is active
 still_active : (heads : List Head) (m t : ℕ) (waiting : List ℕ) → is_active (get_or heads t Inactive) ≡ true → is_active (get_or (set heads m (Active waiting)) t Inactive) ≡ true
 still_active heads m t waiting a = go (ℕ_discrete t m)

@@ -1,5 +1,5 @@
 -- The key of the numbers is enough to make the next slot, where all numbers are in use.
-use Rattle.std.proofs.Common.{◌≡◌, ℕ, zero, suc, ◌+◌, ◌<◌, ◌==◌, true, false, List, [], ◌∷◌, ◌++◌, length, get_or, Bool, refl, sym, ◌∙◌, ap, subst, arith, not, nat_lt, ◌&&◌, if◌then◌else◌, Some, None}
+use Rattle.std.proofs.Common.{◌≡◌, ℕ, zero, suc, ◌+◌, ◌<◌, true, false, List, [], ◌∷◌, ◌++◌, length, get_or, Bool, refl, sym, ◌∙◌, ap, subst, arith, not, nat_lt, ◌&&◌, if◌then◌else◌, Some, None}
 use Rattle.std.proofs.lemmas.List.{length-map}
 use Rattle.seize_machine.specs.Machine.State.{State, Slot, Head, Inactive, head_at, no_slot, slot_at}
 use Rattle.seize_machine.specs.Machine.Event.{Take}
@@ -16,6 +16,7 @@ use Rattle.seize_words.specs.Book.{after, births, slots, heads, numbers, of_new_
 use Rattle.seize_words.specs.Fair.{Before, Covers, Fair, MayAdd, pass_key}
 use Rattle.seize_words.specs.Private.{is_one, key_of, own_of}
 use Rattle.seize_words.specs.Tokens.{Name, start}
+use Rattle.seize_words.proofs.Lists.{equal}
 use Rattle.seize_words.proofs.Gives.{free_by, free_of, the_only}
 use Rattle.seize_words.proofs.Private.{only, only_is, differ}
 
@@ -33,9 +34,6 @@ covers st log p size s j mine own is z (suc (suc (suc (suc zero)))) k b there = 
 covers st log p size s j mine own is z (suc (suc (suc (suc (suc zero))))) k b there = refl
 covers st log p size s j mine own is z (suc (suc (suc (suc (suc (suc zero)))))) k b there = refl
 covers st log p size s j mine own is z (suc (suc (suc (suc (suc (suc (suc r))))))) k b there = refl
-
-equal : (x y : ℕ) → x ≡ y → (x == y) ≡ true
-equal x y e = grind arith
 
 -- how many slots there are, and which number is free, follows from which are in use
 as_many : (a b : State) → used a ≡ used b → length a.slots ≡ length b.slots

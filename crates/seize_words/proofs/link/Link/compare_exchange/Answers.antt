@@ -1,4 +1,4 @@
-use Rattle.std.proofs.Common.{◌≡◌, ◌≢◌, ℕ, ◌==◌, [], ◌∷◌, Option, true, false, sym, ◌∙◌, subst, arith}
+use Rattle.std.proofs.Common.{ℕ, ◌==◌, [], ◌∷◌, Option, sym, ◌∙◌, subst}
 use Rattle.seize_machine.specs.Machine.State.{link_at}
 use Rattle.seize_machine.specs.Machine.Event.{Event, ExchangeLink}
 use Rattle.seize_machine.specs.declared.machine.event.Exchange.TheVariants.{Compare}
@@ -9,6 +9,7 @@ use Rattle.seize_words.specs.Links.{IsNewIn, compared}
 use Rattle.seize_words.specs.Stepping.{MayStep}
 use Rattle.seize_words.specs.Tokens.{Name, start}
 use Rattle.seize_words.specs.Words.{Site}
+use Rattle.seize_words.proofs.Lists.{equal, unequal}
 use Rattle.seize_words.proofs.Exchanged.{came_out, is_at, knows_all, stayed, still_one, taken}
 use Rattle.seize_words.proofs.Exchanges.{may_compare_link}
 use Rattle.seize_words.proofs.link.Link.compare_exchange.Goals as goal
@@ -19,12 +20,6 @@ by_held s l seen o old = ExchangeLink s l (Compare (compared seen old) o)
 
 abbrev events : Name → ℕ → ℕ → ℕ → Option ℕ → Events
 events n s l seen o v log = by_held s l seen o (link_at (after (start n) log) l)
-
-equal : (x y : ℕ) → x ≡ y → (x == y) ≡ true
-equal x y e = grind arith
-
-unequal : (x y : ℕ) → x ≢ y → (x == y) ≡ false
-unequal x y n = grind arith
 
 pub exchange_in-requires : goal.exchange_in-requires
 exchange_in-requires c =

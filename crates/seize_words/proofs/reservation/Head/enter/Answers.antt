@@ -1,4 +1,4 @@
-use Rattle.std.proofs.Common.{◌≡◌, ℕ, ◌==◌, true, false, [], refl, sym, ap, ◌∙◌, subst, arith}
+use Rattle.std.proofs.Common.{◌≡◌, ℕ, true, false, [], refl, sym, ap, ◌∙◌, subst}
 use Rattle.seize_machine.specs.Machine.State.{head_at, is_active, is_idle, slot_at}
 use Rattle.seize_machine.specs.Machine.Event.{Enter}
 use Rattle.seize_words.specs.Atomic.{MayTake, Takes}
@@ -10,6 +10,7 @@ use Rattle.seize_words.specs.Tokens.{Name, start}
 use Rattle.seize_words.specs.Words.{Site}
 use Rattle.seize_words.specs.declared.book.keys.Keys.{Keys}
 use Rattle.seize_words.specs.declared.book.pass.Pass.{Pass}
+use Rattle.seize_words.proofs.Lists.{equal}
 use Rattle.seize_words.proofs.Heads.{at_head, may_enter}
 use Rattle.seize_words.proofs.Stepped.{activation_is, is_at_head, noted_by}
 use Rattle.seize_words.proofs.reservation.Head.enter.Goals as goal
@@ -32,9 +33,6 @@ told : (word : Site) (m : ℕ) (pass pass' : Pass) (k k' old new : Keys) (v next
     → Takes word k pass k' pass' [] (λ v. 1) v next (λ v log. Enter (key_of k.held)) (λ v. false) → Takes (at_head pass.name m) old pass new pass' [] (λ v. 1) v life (λ v log. Enter (key_of old.held)) (λ v. false)
 told word m pass pass' k k' old new v next life w a b i =
     subst (λ (t : Site × (Keys × (Keys × ℕ))). Takes t.0 t.1.0 pass t.1.1.0 pass' [] (λ v. 1) v t.1.1.1 (λ v log. Enter (key_of t.1.0.held)) (λ v. false)) (λ j. (w j, (a j, (b j, i j))))
-
-equal : (x y : ℕ) → x ≡ y → (x == y) ≡ true
-equal x y e = grind arith
 
 pub returns-clause-noted : goal.returns-clause-noted
 returns-clause-noted c =

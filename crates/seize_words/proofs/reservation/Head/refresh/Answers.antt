@@ -1,4 +1,4 @@
-use Rattle.std.proofs.Common.{◌≡◌, ℕ, ◌==◌, true, false, List, [], ◌∷◌, ◌++◌, inl, refl, sym, ap, ◌∙◌, subst, arith}
+use Rattle.std.proofs.Common.{◌≡◌, ℕ, true, false, List, [], ◌∷◌, ◌++◌, inl, refl, sym, ap, ◌∙◌, subst}
 use Rattle.seize_machine.specs.Machine.State.{Out}
 use Rattle.seize_machine.specs.Machine.Event.{SwapOut}
 use Rattle.seize_machine.proofs.Facts.{Stands}
@@ -14,6 +14,7 @@ use Rattle.seize_words.specs.Tokens.{Name, start}
 use Rattle.seize_words.specs.Words.{Site}
 use Rattle.seize_words.specs.declared.book.keys.Keys.{Keys}
 use Rattle.seize_words.specs.declared.book.pass.Pass.{Pass}
+use Rattle.seize_words.proofs.Lists.{equal}
 use Rattle.seize_words.proofs.Heads.{at_head, may_leave}
 use Rattle.seize_words.proofs.Stepped.{activation_is, found_before, is_at_head, noted_by}
 use Rattle.seize_words.proofs.reservation.Head.refresh.Goals as goal
@@ -35,9 +36,6 @@ told : (word : Site) (m s : ℕ) (pass pass' : Pass) (old k' new : Keys) (v next
     → Takes word old pass k' pass' [] (λ v. 1) v next (λ v log. SwapOut s) (λ v. false) → Takes (at_head pass.name m) old pass new pass' [] (λ v. 1) v life (λ v log. SwapOut s) (λ v. false)
 told word m s pass pass' old k' new v next life w b i =
     subst (λ (t : Site × (Keys × ℕ)). Takes t.0 old pass t.1.0 pass' [] (λ v. 1) v t.1.1 (λ v log. SwapOut s) (λ v. false)) (λ j. (w j, (b j, i j)))
-
-equal : (x y : ℕ) → x ≡ y → (x == y) ≡ true
-equal x y e = grind arith
 
 pub returns-clause-noted : goal.returns-clause-noted
 returns-clause-noted c =
