@@ -12,7 +12,7 @@ use Rattle.seize_machine.specs.Machine.State.{State, Mark, Look, Try, Add, Out, 
 use Rattle.seize_machine.specs.Machine.Event.{Event, Put, SwapOut, slot_of}
 use Rattle.seize_machine.specs.Machine.Next.{next, set_slot, can_link}
 use Rattle.seize_machine.specs.Machine.History.{Timed, is_legal, Legal, IsReached, handed_value, is_link_event, history}
-use Rattle.seize_machine.specs.Machine.Laws.{HoldsOfAll, AtMostOnce, After, Quiet, Protection, Parts, Gone, Holders, NoLaterHolders, Tries, detached_by, Lists, Walks}
+use Rattle.seize_machine.specs.Machine.Laws.{HoldsOfAll, AtMostOnce, After, Quiet, Protection, Parts, Gone, Holders, NoLaterHolders, Tries, detached_by, Lists, Walks, IsHeld}
 use Rattle.seize_machine.specs.Machine.Frames.{changes_slot, used, changes_used, changes_head_of, changes_link, changes_batch, changes_value, slots_added, batches_added, begins_retiring}
 use Rattle.seize_machine.specs.Machine.Kept.{KeptIn}
 use Rattle.seize_machine.specs.declared.machine.event.Answer.{Answer}
@@ -26,6 +26,7 @@ use Rattle.seize_machine.proofs.Invariants.Reached as reached
 use Rattle.seize_machine.proofs.Invariants.States as states
 use Rattle.seize_machine.proofs.Invariants.Always as invariants
 use Rattle.seize_machine.proofs.Invariants.Kept as kept
+use Rattle.seize_machine.proofs.Invariants.Live as live
 use Rattle.seize_machine.proofs.Laws.AtMostOnce as at_most_once
 use Rattle.seize_machine.proofs.Laws.After as after
 use Rattle.seize_machine.proofs.Laws.Protection as protection
@@ -170,6 +171,11 @@ head_frame = frames.head_frame
 pub batch_frame : (b size : ℕ) (st : State) (event : Event) (d : State × Answer) → Step size st event d → b < length st.batches → changes_batch st b event ≡ false → batch_at d.0 b ≡ batch_at st b
 batch_frame = frames.batch_frame
 
+-- and the values of each, unless it is given up: then all leave it
+pub values_kept : (b size : ℕ) (st : State) (event : Event) (d : State × Answer) → Step size st event d → b < length st.batches
+    → ((batch_at d.0 b).values ≡ (batch_at st b).values) ⊎ ((batch_at d.0 b).values ≡ [])
+values_kept = live.values_kept
+
 -- all links but the one that is exchanged
 pub link_frame : (l size : ℕ) (st : State) (event : Event) (d : State × Answer) → Step size st event d → changes_link l event ≡ false → link_at d.0 l ≡ link_at st l
 link_frame = frames.link_frame
@@ -199,6 +205,10 @@ links_length = frames.links_length
 pub named_grows : (v size : ℕ) (st : State) (event : Event) (d : State × Answer) → Step size st event d → has v st.named ≡ true → has v (d.0).named ≡ true
 named_grows = frames.named_grows
 
+-- what was reclaimed stays so
+pub gone_grows : (v size : ℕ) (st : State) (event : Event) (d : State × Answer) → Step size st event d → has v st.gone ≡ true → has v (d.0).gone ≡ true
+gone_grows = live.gone_grows
+
 -- a value that came out of a link stays so until a call begins to retire it
 pub loose_stays : (v size : ℕ) (st : State) (event : Event) (d : State × Answer) → Step size st event d → begins_retiring v event ≡ false → has v st.loose ≡ true → has v (d.0).loose ≡ true
 loose_stays = frames.loose_stays
@@ -213,6 +223,10 @@ out_active = states.out_active
 pub marks_tidy : (st : State) (s next note : ℕ) (marks queue : List ℕ) → IsReached st → Stands st s (Mark next note marks) queue
     → (are_distinct marks ≡ true) × ((v : ℕ) → Contains marks v → v < next) × (length marks ≤ length (slot_at st s).batch)
 marks_tidy = states.marks_tidy
+
+-- a call that reads the heads has a batch that is not empty
+pub marking_full : (st : State) (s next note : ℕ) (marks queue : List ℕ) → IsReached st → Stands st s (Mark next note marks) queue → 1 ≤ length (slot_at st s).batch
+marking_full = live.marking_full
 
 -- the slots where a call has still to insert its batch are distinct, and with the insertions won they are no more than its values
 pub looks_tidy : (st : State) (s b won m : ℕ) (later queue : List ℕ) → IsReached st → Stands st s (Look b won m later) queue
@@ -244,6 +258,40 @@ zero_unheld = states.zero_unheld
 pub arrives_unheld : (size : ℕ) (st : State) (event : Event) (d : State × Answer) (b : ℕ) → IsReached st → Step size st event d → d.1 ≡ Count (pos 0) → changes_batch st b event ≡ true
     → (s : ℕ) → (Lists d.0 s b → ⊥) × (Walks d.0 s b → ⊥) × (detached_by (slot_at d.0 s).call ≢ Some b)
 arrives_unheld = states.arrives_unheld
+
+-- the count of a batch with no values is 0
+pub empty_zero : (st : State) → IsReached st → (b : ℕ) → (batch_at st b).values ≡ [] → (batch_at st b).count ≡ pos 0
+empty_zero = live.empty_zero
+
+-- Values in a reached state.
+
+-- a batch that is held has values
+pub held_full : (st : State) → IsReached st → (b : ℕ) → IsHeld st b → 1 ≤ length (batch_at st b).values
+held_full = live.held_full
+
+-- a value of a retired batch was named and is not gone
+pub batched_named : (st : State) → IsReached st → (b v : ℕ) → Contains (batch_at st b).values v → (has v st.named ≡ true) × (has v st.gone ≡ false)
+batched_named = live.batched_named
+
+-- and it is in no other retired batch
+pub batched_once : (st : State) → IsReached st → (b c v : ℕ) → Contains (batch_at st b).values v → Contains (batch_at st c).values v → b ≡ c
+batched_once = live.batched_once
+
+-- a value in a link was named and is not gone
+pub linked_named : (st : State) → IsReached st → (l v : ℕ) → link_at st l ≡ Some v → (has v st.named ≡ true) × (has v st.gone ≡ false)
+linked_named = live.linked_named
+
+-- and it is not loose
+pub linked_not_loose : (st : State) → IsReached st → (l v : ℕ) → link_at st l ≡ Some v → has v st.loose ≡ false
+linked_not_loose = live.linked_not_loose
+
+-- a value that came out of a link and that no call began to retire was named and is not gone
+pub loose_named : (st : State) → IsReached st → (v : ℕ) → has v st.loose ≡ true → (has v st.named ≡ true) × (has v st.gone ≡ false)
+loose_named = live.loose_named
+
+-- a value that is gone was named
+pub gone_named : (st : State) → IsReached st → (v : ℕ) → has v st.gone ≡ true → has v st.named ≡ true
+gone_named = live.gone_named
 
 -- Keeping back: `KeptIn s v st` holds from a link read on, every event but the slot's own swap keeps it, and while it holds v isn't
 -- handed.

@@ -7,3 +7,4 @@ pub mod Fits
 pub mod Always
 pub mod Reached
 pub mod States
+pub mod Live

@@ -11,8 +11,8 @@ use Rattle.seize_machine.specs.Machine.Frames.{changes_batch}
 use Rattle.seize_machine.specs.Machine.Kept.{KeptIn}
 use Rattle.seize_machine.specs.declared.machine.event.Answer.{Answer}
 use Rattle.seize_machine.specs.declared.machine.event.Answer.TheVariants.{Count, Handed}
-use Rattle.seize_machine.proofs.Facts.{Step, and_true, not_true, eq_true, is_true, step_of, next_of, no_event, one_event, one_more, joined, taken_apart, first_event, legal_unique, moment_of_event, legal_answer, opening_reached, reached_next, law_at_most_once, law_after, law_quiet, law_protection, law_parts, law_gone, law_holders, law_no_later_holders, law_tries, slot_frame, active_frame, head_frame, batch_frame, link_frame, used_frame, value_frame, slots_length, heads_length, batches_length, links_length, named_grows, loose_stays, out_active, marks_tidy, looks_tidy, tries_tidy, adds_tidy, counts_near, one_owner, zero_unheld, arrives_unheld, kept_from_link, kept_step, kept_not_handed, reached_by, reached_holds}
-use Rattle.seize_machine_rows.specs.Interface.{Unmoved, CallsTidy, Obeys, Handing}
+use Rattle.seize_machine.proofs.Facts.{Step, and_true, not_true, eq_true, is_true, step_of, next_of, no_event, one_event, one_more, joined, taken_apart, first_event, legal_unique, moment_of_event, legal_answer, opening_reached, reached_next, law_at_most_once, law_after, law_quiet, law_protection, law_parts, law_gone, law_holders, law_no_later_holders, law_tries, slot_frame, active_frame, head_frame, batch_frame, link_frame, used_frame, value_frame, slots_length, heads_length, batches_length, links_length, named_grows, loose_stays, out_active, marks_tidy, looks_tidy, tries_tidy, adds_tidy, counts_near, one_owner, zero_unheld, arrives_unheld, values_kept, gone_grows, marking_full, held_full, empty_zero, batched_named, batched_once, linked_named, linked_not_loose, loose_named, gone_named, kept_from_link, kept_step, kept_not_handed, reached_by, reached_holds}
+use Rattle.seize_machine_rows.specs.Interface.{Unmoved, CallsTidy, ValuesStand, Obeys, Handing}
 
 stays_in : (s : ℕ) (event : Event) → not (is_swap_out s event) ≡ true → event ≢ SwapOut s
 stays_in s event h e = (let k : (s == s) ≡ false = not_true (s == s) (ap (λ (event : Event). not (is_swap_out s event)) (sym e) ∙ h) in grind arith)
@@ -57,10 +57,12 @@ unmoved size st event d legal =
       slot = λ k n. (slot_frame k size st event d step n, active_frame k size st event d step n);
       head = λ m n. head_frame m size st event d step n;
       batch = λ b r n. batch_frame b size st event d step r n;
+      values = λ b r. values_kept b size st event d step r;
       link = λ l n. link_frame l size st event d step n;
       numbers = λ n. used_frame size st event d step n;
       value = λ v n. value_frame v size st event d step n;
       named = λ v h. named_grows v size st event d step h;
+      gone = λ v h. gone_grows v size st event d step h;
       loose = λ v n h. loose_stays v size st event d step n h;
       slots = slots_length size st event d step;
       batches = batches_length size st event d step;
@@ -77,12 +79,25 @@ tidy st r =
       heads = heads_length st r;
       out = λ s stays queue e. out_active st s stays queue r e;
       marks = λ s next note marks queue e. marks_tidy st s next note marks queue r e;
+      full = λ s next note marks queue e. marking_full st s next note marks queue r e;
       looks = λ s b won m later queue e. looks_tidy st s b won m later queue r e;
       tries = λ s b won m later saw queue e. tries_tidy st s b won m later saw queue r e;
       adds = λ s b won queue e. adds_tidy st s b won queue r e;
       counts = counts_near st r;
       owners = λ b i s e k. one_owner b i s st r e k;
       unheld = λ b none owners s. zero_unheld st r b none owners s;
+    }
+
+pub values : (st : State) → IsReached st → ValuesStand st
+values st r =
+    record {
+      held = held_full st r;
+      empty = empty_zero st r;
+      batched = batched_named st r;
+      in_one = batched_once st r;
+      linked = λ l v e. (let known : (has v st.named ≡ true) × (has v st.gone ≡ false) = linked_named st r l v e in (known.0, known.1, linked_not_loose st r l v e));
+      loose = loose_named st r;
+      gone = gone_named st r;
     }
 
 pub unheld : (size : ℕ) (st : State) (event : Event) (d : State × Answer) (b : ℕ) → IsReached st → next size st event ≡ Some d

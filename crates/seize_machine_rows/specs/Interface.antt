@@ -1,5 +1,5 @@
 -- What the tests of the machine's facts say.
-use Rattle.std.specs.Prelude.{◌≡◌, ◌≢◌, ℕ, ◌+◌, ◌<◌, ◌≤◌, pos, neg_ℤ, ◌+ℤ◌, ◌≤ℤ◌, Bool, true, false, List, ◌∷◌, length, Some, Option}
+use Rattle.std.specs.Prelude.{◌≡◌, ◌≢◌, ◌⊎◌, ℕ, ◌+◌, ◌<◌, ◌≤◌, pos, neg_ℤ, ◌+ℤ◌, ◌≤ℤ◌, Bool, true, false, List, [], ◌∷◌, length, Some, Option}
 use Rattle.std.specs.List.{Contains}
 use Rattle.seize_machine.specs.Machine.State.{State, Place, Active, Append, Mark, Look, Try, Add, Out, slot_at, is_idle, head_at, link_at, batch_at, is_active, has, are_distinct, opening}
 use Rattle.seize_machine.specs.Machine.Event.{Event, Begin, Put, Insert, AddCount, ExchangeLink, slot_of}
@@ -10,7 +10,7 @@ use Rattle.seize_machine.specs.declared.machine.event.Exchange.{Exchange}
 use Rattle.seize_machine.specs.declared.machine.event.Try.TheVariants.{Lost}
 use Rattle.seize_machine.specs.declared.machine.event.Job.TheVariants.{Leave}
 use Rattle.seize_machine.specs.Machine.History.{Timed, history, Legal, is_link_event}
-use Rattle.seize_machine.specs.Machine.Laws.{AtMostOnce, After, Quiet, Protection, Parts, Gone, Holders, NoLaterHolders, Tries, detached_by, Lists, Walks}
+use Rattle.seize_machine.specs.Machine.Laws.{AtMostOnce, After, Quiet, Protection, Parts, Gone, Holders, NoLaterHolders, Tries, detached_by, Lists, Walks, IsHeld}
 use Rattle.seize_machine.specs.Machine.Frames.{changes_slot, used, changes_used, changes_head_of, changes_link, changes_batch, changes_value, slots_added, batches_added, begins_retiring}
 
 -- what an event leaves as it was
@@ -19,10 +19,13 @@ pub record Unmoved (st : State) (event : Event) (later : State) : Type 0 where
       → (slot_at later k ≡ slot_at st k) × (is_active (head_at later k) ≡ is_active (head_at st k))
   pub head : (m : ℕ) → changes_head_of m event ≡ false → head_at later m ≡ head_at st m
   pub batch : (b : ℕ) → b < length st.batches → changes_batch st b event ≡ false → batch_at later b ≡ batch_at st b
+  pub values : (b : ℕ) → b < length st.batches
+      → ((batch_at later b).values ≡ (batch_at st b).values) ⊎ ((batch_at later b).values ≡ [])
   pub link : (l : ℕ) → changes_link l event ≡ false → link_at later l ≡ link_at st l
   pub numbers : changes_used event ≡ false → used later ≡ used st
   pub value : (v : ℕ) → changes_value st v event ≡ false → (has v later.named ≡ has v st.named) × (has v later.loose ≡ has v st.loose)
   pub named : (v : ℕ) → has v st.named ≡ true → has v later.named ≡ true
+  pub gone : (v : ℕ) → has v st.gone ≡ true → has v later.gone ≡ true
   pub loose : (v : ℕ) → begins_retiring v event ≡ false → has v st.loose ≡ true → has v later.loose ≡ true
   pub slots : length later.slots ≡ length st.slots + slots_added st event
   pub batches : length later.batches ≡ length st.batches + batches_added event
@@ -42,6 +45,7 @@ pub record CallsTidy (st : State) : Type 0 where
   pub out : (s : ℕ) (stays : Bool) (queue : List ℕ) → StandsAt st s (Out stays) queue → is_active (head_at st s) ≡ true
   pub marks : (s next note : ℕ) (marks queue : List ℕ) → StandsAt st s (Mark next note marks) queue
       → (are_distinct marks ≡ true) × ((v : ℕ) → Contains marks v → v < next) × (length marks ≤ length (slot_at st s).batch)
+  pub full : (s next note : ℕ) (marks queue : List ℕ) → StandsAt st s (Mark next note marks) queue → 1 ≤ length (slot_at st s).batch
   pub looks : (s b won m : ℕ) (later queue : List ℕ) → StandsAt st s (Look b won m later) queue
       → (are_distinct (m ∷ later) ≡ true) × (won + length (m ∷ later) ≤ length (batch_at st b).values)
   pub tries : (s b won m : ℕ) (later saw queue : List ℕ) → StandsAt st s (Try b won m later saw) queue
@@ -51,6 +55,16 @@ pub record CallsTidy (st : State) : Type 0 where
   pub owners : (b i s : ℕ) → detached_by (slot_at st i).call ≡ Some b → detached_by (slot_at st s).call ≡ Some b → i ≡ s
   pub unheld : (b : ℕ) → (batch_at st b).count ≡ pos 0 → ((s : ℕ) → detached_by (slot_at st s).call ≢ Some b)
       → (s : ℕ) → ¬ (Lists st s b) × ¬ (Walks st s b)
+
+-- where values stand
+pub record ValuesStand (st : State) : Type 0 where
+  pub held : (b : ℕ) → IsHeld st b → 1 ≤ length (batch_at st b).values
+  pub empty : (b : ℕ) → (batch_at st b).values ≡ [] → (batch_at st b).count ≡ pos 0
+  pub batched : (b v : ℕ) → Contains (batch_at st b).values v → (has v st.named ≡ true) × (has v st.gone ≡ false)
+  pub in_one : (b c v : ℕ) → Contains (batch_at st b).values v → Contains (batch_at st c).values v → b ≡ c
+  pub linked : (l v : ℕ) → link_at st l ≡ Some v → (has v st.named ≡ true) × (has v st.gone ≡ false) × (has v st.loose ≡ false)
+  pub loose : (v : ℕ) → has v st.loose ≡ true → (has v st.named ≡ true) × (has v st.gone ≡ false)
+  pub gone : (v : ℕ) → has v st.gone ≡ true → has v st.named ≡ true
 
 -- what a call under way does next, and what is legal for it
 pub record UnderWay (size : ℕ) (st : State) : Type 0 where

@@ -12,7 +12,7 @@ ghost use Rattle.seize_machine.specs.Machine.Frames.{changes_batch};
 ghost use Rattle.seize_machine.specs.declared.machine.event.Answer.{Answer};
 ghost use Rattle.seize_machine.specs.declared.machine.event.Answer.TheVariants.{Count};
 ghost use Rattle.seize_machine.specs.Machine.Kept.{occ};
-ghost use Rattle.seize_machine_rows.specs.Interface.{Unmoved, UnderWay, CallsTidy, Obeys, Handing};
+ghost use Rattle.seize_machine_rows.specs.Interface.{Unmoved, UnderWay, CallsTidy, ValuesStand, Obeys, Handing};
 
 /// From the middle of a list on: a value that a slot sees in a link is not handed while the slot neither leaves nor refreshes.
 pub fn kept_while_read()
@@ -27,12 +27,13 @@ pub fn beside_other_events()
     ensures answered { (size : ℕ) (st : State) (event : Event) (d : State × Answer) → next size st event ≡ Some d → is_legal d.1 ≡ true }
 {}
 
-/// Where calls stand and how counts are in each state that a legal list reaches from an opening.
+/// Where calls and values stand and how counts are in each state that a legal list reaches from an opening.
 pub fn in_reached_states()
     ensures reached { (slots : ℕ) (links : List (Option ℕ)) (events : List Timed) (answers : List Answer) (end : State)
         → are_distinct (linked links) ≡ true → Legal next (opening slots links) events answers end → IsReached end }
     ensures again { (st : State) → IsReached st → IsReached st }
     ensures tidy { (st : State) → IsReached st → CallsTidy st }
+    ensures values { (st : State) → IsReached st → ValuesStand st }
     ensures unheld { (size : ℕ) (st : State) (event : Event) (d : State × Answer) (b : ℕ) → IsReached st → next size st event ≡ Some d
         → d.1 ≡ Count (pos 0) → changes_batch st b event ≡ true
         → (s : ℕ) → ¬ (Lists d.0 s b) × ¬ (Walks d.0 s b) × (detached_by (slot_at d.0 s).call ≢ Some b) }

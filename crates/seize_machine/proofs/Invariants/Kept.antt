@@ -135,7 +135,7 @@ owns-left b s (Some call) e = go call.place e
     go (Try c won m later saw) e = grind arith
     go _ e = refl
 
-zero_is : (z : ℤ) → is_zero z ≡ true → z ≡ pos 0
+pub zero_is : (z : ℤ) → is_zero z ≡ true → z ≡ pos 0
 zero_is (pos n) e = ap (λ n. pos n) (eq_true n 0 e)
 zero_is (negsuc n) e = absurd (cc)
 

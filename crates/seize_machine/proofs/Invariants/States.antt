@@ -61,7 +61,7 @@ two_owners b i s st c r other mine too =
         let none : owns b (get_or (set st.slots i no_slot) s no_slot).call ≡ 0 = ap (λ (slot : Slot). owns b slot.call) (get_or_past (set st.slots i no_slot) s no_slot past) in
         omega arith
 
-owner_range : (b s : ℕ) (st : State) → 1 ≤ owns b (slot_at st s).call → s < length st.slots
+pub owner_range : (b s : ℕ) (st : State) → 1 ≤ owns b (slot_at st s).call → s < length st.slots
 owner_range b s st h = go (is_true (nat_lt s (length st.slots)))
   where
     go : (nat_lt s (length st.slots) ≡ true) ⊎ (nat_lt s (length st.slots) ≡ false) → s < length st.slots
@@ -71,7 +71,7 @@ owner_range b s st h = go (is_true (nat_lt s (length st.slots)))
         let none : owns b (slot_at st s).call ≡ 0 = ap (λ (slot : Slot). owns b slot.call) (get_or_past st.slots s no_slot past) in
         absurd (omega arith)
 
-owner_is : (b : ℕ) (call : Option Call) → detached_by call ≡ Some b → 1 ≤ owns b call
+pub owner_is : (b : ℕ) (call : Option Call) → detached_by call ≡ Some b → 1 ≤ owns b call
 owner_is b None e = absurd (cc)
 owner_is b (Some call) e = go call.place e
   where
@@ -365,7 +365,7 @@ counts_near st r b =
 
 -- Nobody holds a batch whose count is 0, unless a call has still to add to it.
 
-no_lists : (st : State) (b s : ℕ) → listed b st.heads ≡ 0 → Lists st s b → ⊥
+pub no_lists : (st : State) (b s : ℕ) → listed b st.heads ≡ 0 → Lists st s b → ⊥
 no_lists st b s none h = omega (arith, some_contained b (waiting_at (head_at st s)) h, at_most (is_true (nat_lt s (length st.heads))))
   where
     at_most : (nat_lt s (length st.heads) ≡ true) ⊎ (nat_lt s (length st.heads) ≡ false) → occ b (waiting_at (head_at st s)) ≤ listed b st.heads
@@ -375,7 +375,7 @@ no_lists st b s none h = omega (arith, some_contained b (waiting_at (head_at st 
         let empty : occ b (waiting_at (head_at st s)) ≡ 0 = ap (λ (head : Head). occ b (waiting_at head)) (get_or_past st.heads s Inactive past) in
         omega arith
 
-no_walks : (st : State) (b s : ℕ) → of_calls (walks b) st.slots ≡ 0 → Walks st s b → ⊥
+pub no_walks : (st : State) (b s : ℕ) → of_calls (walks b) st.slots ≡ 0 → Walks st s b → ⊥
 no_walks st b s none h = omega (arith, some_contained b (walk_of (slot_at st s).call) h, walk_is b (slot_at st s).call, at_most (is_true (nat_lt s (length st.slots))))
   where
     at_most : (nat_lt s (length st.slots) ≡ true) ⊎ (nat_lt s (length st.slots) ≡ false) → walks b (slot_at st s).call ≤ of_calls (walks b) st.slots

@@ -1,4 +1,4 @@
-use Rattle.seize_machine_rows.proofs.Facts.{reached, again, tidy, unheld}
+use Rattle.seize_machine_rows.proofs.Facts.{reached, again, tidy, values, unheld}
 use Rattle.seize_machine_rows.proofs.interface.in_reached_states.Goals as goal
 
 pub returns-clause-reached : goal.returns-clause-reached
@@ -9,6 +9,9 @@ returns-clause-again c = again
 
 pub returns-clause-tidy : goal.returns-clause-tidy
 returns-clause-tidy c = tidy
+
+pub returns-clause-values : goal.returns-clause-values
+returns-clause-values c = values
 
 pub returns-clause-unheld : goal.returns-clause-unheld
 returns-clause-unheld c = unheld
