@@ -1,5 +1,5 @@
 -- The step of the list, once for all events. Assumes `Logic`.
-use Rattle.std.proofs.Common.{◌≡◌, ℕ, zero, suc, ◌+◌, ◌<◌, Bool, true, false, ◌==◌, if◌then◌else◌, List, [], ◌∷◌, ◌++◌, length, get_or, set, length-set, sym, refl, ap, ◌∙◌, subst, ◌⊎◌, inl, inr, ⊎_elim, Some, slice_get, arith}
+use Rattle.std.proofs.Common.{◌≡◌, ℕ, zero, suc, ◌+◌, ◌-◌, ◌<◌, Bool, true, false, ◌==◌, if◌then◌else◌, List, [], ◌∷◌, ◌++◌, length, get_or, set, length-set, sym, refl, ap, ◌∙◌, subst, ◌⊎◌, inl, inr, ⊎_elim, Some, slice_get, arith}
 use Rattle.std.specs.Prelude.{take, drop as past}
 use mathlib.Core.List.{IsPrefix}
 use seplogic.Ra.Ura.{Ura}
@@ -138,6 +138,20 @@ bumps_same (b ∷ births) f g e r = bumps_same births (bumped b.0 f) (bumped b.0
 pub grown_sizes : {E : Type 0} (rows : List (List (List E))) (births : List (ℕ × ℕ)) (log : List E) (r : ℕ) → sizes (grown rows births log) r ≡ all_bumped births (sizes rows) r
 grown_sizes rows [] log r = refl
 grown_sizes rows (b ∷ births) log r = grown_sizes (one_more rows b.0 log) births log r ∙ bumps_same births (sizes (one_more rows b.0 log)) (bumped b.0 (sizes rows)) (more_sizes rows b.0 log) r
+
+-- the rows, with some new keys of one kind
+abbrev many_more : {E : Type 0} → ℕ → List (List (List E)) → ℕ → List E → List (List (List E))
+many_more zero rows r log = rows
+many_more (suc d) rows r log = one_more (many_more d rows r log) r log
+
+many_sizes : {E : Type 0} (d : ℕ) (rows : List (List (List E))) (r : ℕ) (log : List E) → sizes (many_more d rows r log) r ≡ sizes rows r + d
+many_sizes zero rows r log = omega arith
+many_sizes (suc d) rows r log = let before = many_more d rows r log in
+    let one : sizes (one_more before r log) r ≡ sizes before r + 1 = ap length (put_same before r (row before r ++ log ∷ [])) ∙ length_more (row before r) log in omega (arith, one, many_sizes d rows r log)
+
+many_others : {E : Type 0} (d : ℕ) (rows : List (List (List E))) (r q : ℕ) (log : List E) → ¬ (q ≡ r) → sizes (many_more d rows r log) q ≡ sizes rows q
+many_others zero rows r q log apart = refl
+many_others (suc d) rows r q log apart = let before = many_more d rows r log in ap length (put_other before r q (row before r ++ log ∷ []) apart) ∙ many_others d rows r q log apart
 
 module _ {E : Type 0} (c : Coded E) (rules : Rules E) (extra : List E → Fml) (η : ℕ) (δs : List ℕ) {M : Type 1} {𝓤 : Ura M} (𝓛 : Logic 𝓤) where
   open 𝓛 use {H, A}
@@ -344,41 +358,70 @@ module _ {E : Type 0} (c : Coded E) (rules : Rules E) (extra : List E → Fml) (
       go q (inl t) = let e : q ≡ r = eq_true q r t in subst (λ (y : Bool). rules.Sized q (if y then sizes rows q + 1 else sizes rows q) log) (sym t) (subst (λ (z : ℕ). rules.Sized z (sizes rows z + 1) log) (sym e) (more (sizes rows r) (so.sized r)))
       go q (inr t) = subst (λ (y : Bool). rules.Sized q (if y then sizes rows q + 1 else sizes rows q) log) (sym t) (so.sized q)
 
-  -- many keys more, which nobody holds
-  many_more : ℕ → Rows → ℕ → List E → Rows
-  many_more zero rows r log = rows
-  many_more (suc d) rows r log = many_more d (one_more rows r log) r log
-
-  skipped : (d : ℕ) (rows : Rows) (r : ℕ) (log : List E) → r < length δs → ⟦ rosters c δs rows ⟧ ⊢ upd 𝓤 ⟦ rosters c δs (many_more d rows r log) ⟧
-  unfolding many_more
-  skipped zero rows r log h = upd_i 𝓤 ⟦ rosters c δs rows ⟧
-  skipped (suc d) rows r log h = let Z : Pr = ⟦ rosters c δs (many_more d (one_more rows r log) r log) ⟧ in qed 𝓛 (‵ (rosters c δs rows) ∷ []) ∵
-      use1 𝓛 (raw (upd 𝓤 (⟦ rosters c δs (one_more rows r log) ⟧ ∗ ⟦ right c δs r (length (row rows r)) log ⟧))) (mints_right rows r log h) $
-      settle 𝓛 Z (‵ (rosters c δs (one_more rows r log)) ⊛ ‵ (right c δs r (length (row rows r)) log)) $ split ! $ keep ! (0 ∷ []) $ by ! (skipped d (one_more rows r log) r log h)
-
-  many_sizes : (d : ℕ) (rows : Rows) (r : ℕ) (log : List E) → length (row (many_more d rows r log) r) ≡ length (row rows r) + d
-  unfolding many_more
-  many_sizes zero rows r log = omega arith
-  many_sizes (suc d) rows r log =
-      let one : length (row (one_more rows r log) r) ≡ length (row rows r) + 1 = more_sizes rows r log r ∙ ap (λ (b : Bool). if b then length (row rows r) + 1 else length (row rows r)) (let same : (r == r) ≡ true = grind arith in same) in
-      let rest : length (row (many_more d (one_more rows r log) r log) r) ≡ length (row (one_more rows r log) r) + d = many_sizes d (one_more rows r log) r log in omega (arith, one, rest)
-
   holds_many : (d : ℕ) (rows : Rows) (r : ℕ) (log : List E) → KeptNow → ((j : ℕ) → rules.Sized r j log → rules.Sized r (j + 1) log) → Holds rules rows log → Holds rules (many_more d rows r log) log
-  unfolding many_more
   holds_many zero rows r log same more so = so
-  holds_many (suc d) rows r log same more so = holds_many d (one_more rows r log) r log same more (holds_minted rows r log same more so)
+  holds_many (suc d) rows r log same more so = holds_minted (many_more d rows r log) r log same more (holds_many d rows r log same more so)
 
-  -- A new key of a kind of which there may always be one more. Its number is past all of that kind, and `skips` picks how far.
-  abbrev pub Minted : ℕ → (ℕ → ℕ) → List E → ℕ × List E → Pr
-  Minted r skips seen t = guard 𝓤 (rules.Legal t.1 × IsPrefix seen t.1 × rules.Sized r t.0 t.1 × ((k : ℕ) × (t.0 ≡ k + skips k))) (⟦ J ⟧ ∗ ⟦ right c δs r t.0 t.1 ⟧ ∗ ⟦ had t.1 ⟧)
+  -- the right to the last of them: nobody holds the others
+  mints_last : (d : ℕ) (rows : Rows) (r : ℕ) (log : List E) → r < length δs → ⟦ rosters c δs rows ⟧ ⊢ upd 𝓤 (⟦ rosters c δs (many_more (suc d) rows r log) ⟧ ∗ ⟦ right c δs r (sizes (many_more d rows r log) r) log ⟧)
+  mints_last zero rows r log h = mints_right rows r log h
+  mints_last (suc d) rows r log h = let before : Rows = many_more (suc d) rows r log in let k : ℕ = sizes (many_more d rows r log) r in
+      let Z : Pr = ⟦ rosters c δs (many_more (suc (suc d)) rows r log) ⟧ ∗ ⟦ right c δs r (sizes before r) log ⟧ in qed 𝓛 (‵ (rosters c δs rows) ∷ []) ∵
+      use1 𝓛 (raw (upd 𝓤 (⟦ rosters c δs before ⟧ ∗ ⟦ right c δs r k log ⟧))) (mints_last d rows r log h) $ settle 𝓛 Z (‵ (rosters c δs before) ⊛ ‵ (right c δs r k log)) $ split ! $
+      keep ! (0 ∷ []) $ by ! (mints_right before r log h)
 
-  pub mint : (r : ℕ) (skips : ℕ → ℕ) (seen : List E) → r < length δs → KeptNow → ((log : List E) (j : ℕ) → rules.Sized r j log → rules.Sized r (j + 1) log) → ⟦ J ⟧ ∗ ⟦ had seen ⟧ ⊢ upd 𝓤 (ex 𝓤 (Minted r skips seen))
-  mint r skips seen h same more = let Z : Pr = ex 𝓤 (Minted r skips seen) in qed 𝓛 (‵ J ∷ ‵ (had seen) ∷ []) ∵ nothing ! $ move ! (1 ∷ 0 ∷ 2 ∷ []) $ use3 𝓛 (seeing [] seen) (looked [] seen tt) $ pick ! (λ s. learn ! (λ so. let log : List E = s.1 in let before : ℕ = length (row s.0 r) in
-      let rows : Rows = many_more (skips before) s.0 r log in let k : ℕ = length (row rows r) in let holds = holds_many (skips before) s.0 r log same (more log) so.0 in
-      split ! $ move ! (1 ∷ []) $ split3 ! $ move ! (3 ∷ []) $
-      use1 𝓛 (raw (upd 𝓤 ⟦ rosters c δs rows ⟧)) (skipped (skips before) s.0 r log h) $ settle 𝓛 Z (‵ (rosters c δs rows)) $
-      use1 𝓛 (raw (upd 𝓤 (⟦ rosters c δs (one_more rows r log) ⟧ ∗ ⟦ right c δs r k log ⟧))) (mints_right rows r log h) $ settle 𝓛 Z (‵ (rosters c δs (one_more rows r log)) ⊛ ‵ (right c δs r k log)) $ split ! $
-      -- [rosters; right; top; extra; nothing]
+  -- new keys, whatever keys there are, and no event: rows, the number, and what is told and had of them
+  abbrev Makes : (ℕ → List E → Type 0) → (ℕ → List E → Pr) → Type 1
+  Makes Told Y = (rows : Rows) (log : List E) → Holds rules rows log → (rows' : Rows) × (k : ℕ) × Holds rules rows' log × Told k log × (⟦ rosters c δs rows ⟧ ⊢ upd 𝓤 (⟦ rosters c δs rows' ⟧ ∗ Y k log))
+
+  abbrev Made : List E → (ℕ → List E → Type 0) → (ℕ → List E → Pr) → ℕ × List E → Pr
+  Made seen Told Y t = guard 𝓤 (rules.Legal t.1 × IsPrefix seen t.1 × Told t.0 t.1) (⟦ J ⟧ ∗ Y t.0 t.1 ∗ ⟦ had t.1 ⟧)
+
+  makes : (seen : List E) (Told : ℕ → List E → Type 0) (Y : ℕ → List E → Pr) → Makes Told Y → ⟦ J ⟧ ∗ ⟦ had seen ⟧ ⊢ upd 𝓤 (ex 𝓤 (Made seen Told Y))
+  makes seen Told Y may = let Z : Pr = ex 𝓤 (Made seen Told Y) in qed 𝓛 (‵ J ∷ ‵ (had seen) ∷ []) ∵ nothing ! $ move ! (1 ∷ 0 ∷ 2 ∷ []) $ use3 𝓛 (seeing [] seen) (looked [] seen tt) $ pick ! (λ s. learn ! (λ so.
+      let log : List E = s.1 in let made = may s.0 log so.0 in let rows : Rows = made.0 in let k : ℕ = made.1 in split ! $ move ! (1 ∷ []) $ split3 ! $ move ! (3 ∷ []) $
+      use1 𝓛 (raw (upd 𝓤 (⟦ rosters c δs rows ⟧ ∗ Y k log))) made.4 $ settle 𝓛 Z (‵ (rosters c δs rows) ⊛ raw (Y k log)) $ split ! $
+      -- [rosters; Y; top; extra; nothing]
       move ! (2 ∷ []) $ use1 𝓛 (‵ (top log) ⊛ ‵ (had log)) (latest_shows (logs c) 𝓛 full_share η log log ([], mathlib.Core.List.append-nil log)) $ split ! $
-      move ! (2 ∷ 0 ∷ 4 ∷ []) $ use3 𝓛 (‵ J) (shut (one_more rows r log) log (holds_minted rows r log same (more log) holds)) $ suffices ! _ (upd_i 𝓤 Z) $
-      show ! (Minted r skips seen) (k, log) $ check ! (so.1.0, so.1.1, holds.sized r, (before, many_sizes (skips before) s.0 r log)) $ keep ! (0 ∷ 2 ∷ 1 ∷ []) $ done !))
+      move ! (2 ∷ 0 ∷ 4 ∷ []) $ use3 𝓛 (‵ J) (shut rows log made.2) $ suffices ! _ (upd_i 𝓤 Z) $
+      show ! (Made seen Told Y) (k, log) $ check ! (so.1.0, so.1.1, made.3) $ keep ! (0 ∷ 2 ∷ 1 ∷ []) $ done !))
+
+  -- there may always be one more of the kind
+  abbrev OneMore : ℕ → Type 0
+  OneMore r = (log : List E) (j : ℕ) → rules.Sized r j log → rules.Sized r (j + 1) log
+
+  -- A new key of a kind of which there may always be one more: the next number.
+  abbrev pub Minted : ℕ → List E → ℕ × List E → Pr
+  Minted r seen t = guard 𝓤 (rules.Legal t.1 × IsPrefix seen t.1 × rules.Sized r t.0 t.1) (⟦ J ⟧ ∗ ⟦ right c δs r t.0 t.1 ⟧ ∗ ⟦ had t.1 ⟧)
+
+  pub mint : (r : ℕ) (seen : List E) → r < length δs → KeptNow → OneMore r → ⟦ J ⟧ ∗ ⟦ had seen ⟧ ⊢ upd 𝓤 (ex 𝓤 (Minted r seen))
+  mint r seen h same more = makes seen (rules.Sized r) (λ k log. ⟦ right c δs r k log ⟧) (λ rows log so. (one_more rows r log, sizes rows r, holds_minted rows r log same (more log) so, so.sized r, mints_right rows r log h))
+
+  -- Two new keys of two kinds, of which there may always be one more, with one number.
+  abbrev pub MintedBoth : ℕ → ℕ → List E → ℕ × List E → Pr
+  MintedBoth r q seen t = guard 𝓤 (rules.Legal t.1 × IsPrefix seen t.1 × rules.Sized r t.0 t.1 × rules.Sized q t.0 t.1) (⟦ J ⟧ ∗ ⟦ right c δs r t.0 t.1 ⟧ ∗ ⟦ right c δs q t.0 t.1 ⟧ ∗ ⟦ had t.1 ⟧)
+
+  pub mint_both : (r q : ℕ) (seen : List E) → ¬ (r ≡ q) → r < length δs → q < length δs → KeptNow → OneMore r → OneMore q
+      → ⟦ J ⟧ ∗ ⟦ had seen ⟧ ⊢ upd 𝓤 (ex 𝓤 (MintedBoth r q seen))
+  mint_both r q seen apart hr hq same more_r more_q = let Z : Pr = ex 𝓤 (MintedBoth r q seen) in qed 𝓛 (‵ J ∷ ‵ (had seen) ∷ []) ∵
+      use2 𝓛 (raw (upd 𝓤 (ex 𝓤 (Made seen Told Y)))) (makes seen Told Y both) $ settle 𝓛 Z (some (λ (t : ℕ × List E). given (rules.Legal t.1 × IsPrefix seen t.1 × Told t.0 t.1) (‵ J ⊛ (‵ (right c δs r t.0 t.1) ⊛ ‵ (right c δs q t.0 t.1)) ⊛ ‵ (had t.1)))) $
+      suffices ! _ (upd_i 𝓤 Z) $ pick ! (λ t. learn ! (λ so. split3 ! $ move ! (1 ∷ []) $ split ! $ show ! (MintedBoth r q seen) t $ check ! (so.0, so.1, so.2.0, so.2.1) $ keep ! (2 ∷ 0 ∷ 1 ∷ 3 ∷ []) $ done !))
+    where
+      Told : ℕ → List E → Type 0
+      Told k log = rules.Sized r k log × rules.Sized q k log
+
+      Y : ℕ → List E → Pr
+      Y k log = ⟦ right c δs r k log ⟧ ∗ ⟦ right c δs q k log ⟧
+
+      both : Makes Told Y
+      both rows log so = let d : ℕ = sizes rows q - sizes rows r in let e : ℕ = sizes rows r - sizes rows q in let mid : Rows = many_more (suc d) rows r log in let last : Rows = many_more (suc e) mid q log in
+          let k : ℕ = sizes (many_more d rows r log) r in let l : ℕ = sizes (many_more e mid q log) q in let one : l ≡ k = omega (arith, many_sizes d rows r log, many_sizes e mid q log, many_others (suc d) rows r q log (λ i. apart (sym i))) in
+          let holds = holds_many (suc d) rows r log same (more_r log) so in (
+            last,
+            k,
+            holds_many (suc e) mid q log same (more_q log) holds,
+            ((holds_many d rows r log same (more_r log) so).sized r, subst (λ (x : ℕ). rules.Sized q x log) one ((holds_many e mid q log same (more_q log) holds).sized q)),
+            qed 𝓛 (‵ (rosters c δs rows) ∷ []) ∵ use1 𝓛 (raw (upd 𝓤 (⟦ rosters c δs mid ⟧ ∗ ⟦ right c δs r k log ⟧))) (mints_last d rows r log hr) $ settle 𝓛 (⟦ rosters c δs last ⟧ ∗ Y k log) (‵ (rosters c δs mid) ⊛ ‵ (right c δs r k log)) $ split ! $
+                use1 𝓛 (raw (upd 𝓤 (⟦ rosters c δs last ⟧ ∗ ⟦ right c δs q l log ⟧))) (mints_last e mid q log hq) $ settle 𝓛 (⟦ rosters c δs last ⟧ ∗ Y k log) (‵ (rosters c δs last) ⊛ ‵ (right c δs q l log)) $ split ! $
+                rewrite ! 1 (λ (j : ℕ). ‵ (right c δs q j log)) one refl $ suffices ! _ (upd_i 𝓤 (⟦ rosters c δs last ⟧ ∗ Y k log)) $ frame ! $ move ! (1 ∷ 0 ∷ []) $ done !,
+          )

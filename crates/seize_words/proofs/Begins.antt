@@ -18,6 +18,7 @@ use Rattle.seize_machine.specs.Machine.State.{State, has, linked, are_distinct, 
 use Rattle.seize_words.specs.Ledger.{Held, logs, halved, roster, rosters, rights, reached, row, Holds, AllBelow, AreNext, all_bumped, bumped, born}
 use Rattle.seize_words.specs.Entry.{Entry, entry_coded}
 use Rattle.seize_words.specs.Book.{Kept, Sized, mine, kind_of, rules, passes, numbers, links, kinds}
+use Rattle.seize_words.specs.Homes.{IsSound}
 use Rattle.seize_words.specs.Tokens.{Name, Gate, many, sole, IsSole, rows, start, inside, beside, gate_keeps, gate_gives, keys_own, pass_at, pass_holds}
 use Rattle.seize_words.specs.Begin.{BeganWith, unused, first_links, first_keys, book_owns}
 use Rattle.seize_words.proofs.Append.{grown, borns, has_grown, shut, sizes, grown_sizes}
@@ -33,7 +34,7 @@ firsts n = (passes, 0) ∷ (numbers, 0) ∷ of_links 0 n
 
 born_links : (l n : ℕ) → born {E = Entry} (of_links l n) [] ≡ first_links l n
 born_links l zero = refl
-born_links l (suc n) = ap (λ hs. record { kind = links; key = l; own = [] } ∷ hs) (born_links (suc l) n)
+born_links l (suc n) = ap (λ hs. record { kind = links; key = l; own = []; label = 0 } ∷ hs) (born_links (suc l) n)
 
 below_links : (l n : ℕ) → AllBelow kinds (of_links l n)
 below_links l zero = tt
@@ -66,9 +67,13 @@ row_nil (suc r) = row_nil r
 abbrev sizes_before : ℕ → ℕ
 sizes_before = bumped numbers (bumped passes (sizes {E = Entry} []))
 
+-- no value was named
+sound_first : (n : ℕ) → IsSound (opening 0 (empty n))
+sound_first n = record { one = λ v w home a b c d. absurd (let x : has v [] ≡ true = ap (has v) (sym (none_linked n)) ∙ a in cc); few = omega arith }
+
 holds_first : (n : ℕ) → Holds (rules (opening 0 (empty n))) (grown [] (firsts n) []) []
 holds_first n = record {
-  legal = refl;
+  legal = (refl, sound_first n);
   kept = λ r k own h. ⊎_elim (λ (e : own ≡ []). subst (λ (x : List Entry). Kept (opening 0 (empty n)) (kind_of r) k x []) (sym e) (kept_now (opening 0 (empty n)) r k []))
       (λ t. absurd (let h' : slice_get {X = List Entry} [] k ≡ Some own = subst (λ (z : List (List Entry)). slice_get z k ≡ Some own) (row_nil r) t in let m : Option.None ≡ Some own = h' in cc)) (has_grown [] (firsts n) [] r k own h);
   sized = λ r. subst (λ (j : ℕ). Sized (opening 0 (empty n)) (kind_of r) j []) (sym (grown_sizes [] (firsts n) [] r)) (go r);
@@ -80,7 +85,7 @@ holds_first n = record {
     go (suc (suc zero)) = bumped_other 0 n sizes_before 2 refl
     go (suc (suc (suc zero))) = bumped_other 0 n sizes_before 3 refl
     go (suc (suc (suc (suc zero)))) = omega (arith, bumped_links 0 n sizes_before, length-replicate {A = Option ℕ} n Option.None)
-    go (suc (suc (suc (suc (suc zero))))) = bumped_other 0 n sizes_before 5 refl
+    go (suc (suc (suc (suc (suc zero))))) = λ k le. refl
     go (suc (suc (suc (suc (suc (suc zero)))))) = λ v le. ap (has v) (none_linked n)
     go (suc (suc (suc (suc (suc (suc (suc r))))))) = tt
 
@@ -136,8 +141,8 @@ module _ {M : Type 1} {𝓤 : Ura M} (𝓛 : Logic 𝓤) where
           slot_keys = d2;
           head_keys = d3;
           link_keys = d4;
-          batch_keys = d5;
-          value_keys = d6;
+          count_keys = d5;
+          block_keys = d6;
           gate = g;
           size = size;
           slots = 0;

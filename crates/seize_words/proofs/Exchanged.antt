@@ -1,15 +1,23 @@
 -- What is known after a step on a link's word.
-use Rattle.std.proofs.Common.{◌≡◌, ℕ, Bool, true, false, List, [], ◌∷◌, Option, Some, None, refl, sym, ◌∙◌, ap, subst, ◌⊎◌, inl, inr}
-use Rattle.seize_machine.specs.Machine.State.{link_at}
-use Rattle.seize_machine.specs.Machine.Event.{Event}
-use Rattle.seize_machine.proofs.Facts.{is_true}
+use Rattle.std.proofs.Common.{◌≡◌, ℕ, Bool, true, false, ◌&&◌, ◌==◌, List, [], ◌∷◌, ◌++◌, Option, Some, None, refl, sym, ◌∙◌, ap, subst, ◌⊎◌, inl, inr}
+use Rattle.std.specs.Prelude.{option_to_list}
+use Rattle.seize_machine.specs.Machine.State.{State, has, link_at}
+use Rattle.seize_machine.specs.Machine.Event.{Event, ExchangeLink}
+use Rattle.seize_machine.specs.Machine.Next.{is_stored, next}
+use Rattle.seize_machine.specs.declared.machine.event.Answer.{Answer}
+use Rattle.seize_machine.specs.declared.machine.event.Answer.TheVariants.{Link as Held_}
+use Rattle.seize_machine.specs.declared.machine.event.Exchange.{Exchange}
+use Rattle.seize_machine.proofs.Facts.{Step, is_true, linked_named, named_grows, step_of, swapped}
 use Rattle.seize_words.specs.Atomic.{Takes as Took, entries}
 use Rattle.seize_words.specs.Blocks.{link_word}
-use Rattle.seize_words.specs.Book.{after, links}
+use Rattle.seize_words.specs.Book.{after, blocks, links}
 use Rattle.seize_words.specs.Entry.{Entry}
+use Rattle.seize_words.specs.Homes.{home_of}
 use Rattle.seize_words.specs.Ledger.{Held, renewed}
 use Rattle.seize_words.specs.LinkWords.{IsIn, Takes, held_before, number}
 use Rattle.seize_words.specs.Links.{at_link, is_at_most_one, value_in}
+use Rattle.seize_words.specs.Others.{state_of}
+use Rattle.seize_words.specs.Private.{own_of}
 use Rattle.seize_words.specs.Stepping.{Stepped, traded}
 use Rattle.seize_words.specs.Tokens.{Name, start}
 use Rattle.seize_words.specs.Words.{IsKeyOf, Site}
@@ -19,6 +27,8 @@ use Rattle.seize_words.specs.declared.book.pass.Pass.{Pass}
 use Rattle.seize_words.specs.declared.link.Link.{Link}
 use Rattle.seize_words.proofs.Exchanges.{within}
 use Rattle.seize_words.proofs.Links.{same}
+use Rattle.seize_words.proofs.Lists.{equal, reached_after}
+use Rattle.seize_words.proofs.Sound.{has_last}
 
 -- the word of a link, named by the pass's book
 pub is_at : (word : Site) (n : Name) → word.name ≡ n → word.kind ≡ links → word ≡ at_link n word.number
@@ -28,13 +38,14 @@ value_of : (o : Option ℕ) (vs : List (Held Entry)) (log : List Entry) → IsKe
 value_of None vs log is = ap (λ (hs : List (Held Entry)). value_in (renewed hs log)) is
 value_of (Some v) [] log is = absurd (let x : false ≡ true = is.0 in cc)
 value_of (Some v) (x ∷ y ∷ vs) log is = absurd (let x : false ≡ true = is.0 in cc)
-value_of (Some v) (x ∷ []) log is = ap Some is.1
+value_of (Some v) (x ∷ []) log is = ap Some is.2
 
 one_of : (o : Option ℕ) (vs : List (Held Entry)) (log : List Entry) → IsKeyOf o vs → is_at_most_one (renewed vs log) ≡ true
 one_of None vs log is = ap (λ (hs : List (Held Entry)). is_at_most_one (renewed hs log)) is
 one_of (Some v) [] log is = absurd (let x : false ≡ true = is.0 in cc)
 one_of (Some v) (x ∷ y ∷ vs) log is = absurd (let x : false ≡ true = is.0 in cc)
-one_of (Some v) (x ∷ []) log is = is.0
+one_of (Some v) (x ∷ []) log is =
+    ap (λ (b : Bool). (x.kind == blocks) && b) (equal x.key (home_of x.label) (is.1 ∙ ap home_of (sym is.2))) ∙ ap (λ (b : Bool). b && true) is.0
 
 same_value : (vs : List (Held Entry)) (log : List Entry) → value_in (renewed vs log) ≡ value_in vs
 same_value [] log = refl
@@ -45,9 +56,22 @@ one_later [] log h = refl
 one_later (x ∷ []) log h = h
 one_later (x ∷ y ∷ vs) log h = absurd (cc)
 
+-- a value that comes out
+out_loose : (size : ℕ) (st : State) (s l : ℕ) (exchange : Exchange) (d : State × Answer) (w : ℕ) → Step size st (ExchangeLink s l exchange) d → is_stored (link_at st l) exchange ≡ true → link_at st l ≡ Some w → has w st.named ≡ true
+    → (has w (d.0).named ≡ true) × (has w (d.0).loose ≡ true)
+out_loose size st _ _ _ _ w (Step.exchanged s l exchange new can fresh stores) stored linked named = (
+  named_grows w size st (ExchangeLink s l exchange) (swapped st l new, Held_ (link_at st l)) (Step.exchanged s l exchange new can fresh stores) named,
+  subst (λ (o : Option ℕ). has w (st.loose ++ option_to_list o) ≡ true) (sym linked) (has_last w st.loose),
+)
+out_loose size st _ _ _ _ w (Step.compared s l exchange can misses) stored linked named = absurd (let x : true ≡ false = sym stored ∙ misses.1 in cc)
+
+renewed_own : (vs : List (Held Entry)) (log : List Entry) (w : ℕ) → value_in (renewed vs log) ≡ Some w → own_of (renewed vs log) ≡ log
+renewed_own [] log w h = absurd (cc)
+renewed_own (x ∷ vs) log w h = refl
+
 renewed_twice : (vs : List (Held Entry)) (log : List Entry) → renewed vs log ≡ renewed (renewed vs log) log
 renewed_twice [] log = refl
-renewed_twice (x ∷ vs) log = ap (λ (hs : List (Held Entry)). record { kind = x.kind; key = x.key; own = log } ∷ hs) (renewed_twice vs log)
+renewed_twice (x ∷ vs) log = ap (λ (hs : List (Held Entry)). record { kind = x.kind; key = x.key; own = log; label = x.label } ∷ hs) (renewed_twice vs log)
 
 module _ (link : Link) (a : Activation) (pass pass' : Pass) (in_ : IsIn link a pass) (keys keys' : Keys) (f : ℕ → ℕ) (v : ℕ) (ev : Option ℕ → Event) (trades : ℕ → Bool)
     (told : Took (at_link pass.name (number link)) keys pass keys' pass' (a.life ∷ []) f v 0 (λ v log. ev (link_at (after (start pass.name) log) (number link))) trades) where
@@ -76,6 +100,20 @@ module _ (link : Link) (a : Activation) (pass pass' : Pass) (in_ : IsIn link a p
   pub came_out : trades v ≡ true → value_in keys'.held ≡ held_before taken
   unfolding taken
   came_out e = ap value_in (had true e) ∙ value_of (link_at (after (start pass.name) step.log) (number link)) step.since.1 pass'.seen its_key
+
+  -- what came out was named, and is loose
+  pub is_out : (exchange : Option ℕ → Exchange) → keys.name ≡ pass.name → ((o : Option ℕ) → ev o ≡ ExchangeLink a.slot (number link) (exchange o)) → ((o : Option ℕ) → v ≡ link_word o → is_stored o (exchange o) ≡ true) → trades v ≡ true
+      → (w : ℕ) → value_in keys'.held ≡ Some w → (has w (state_of keys').named ≡ true) × (has w (state_of keys').loose ≡ true)
+  unfolding taken
+  is_out exchange book is stored e w out =
+      let now : State = after (start pass.name) step.log in let old : Option ℕ = link_at now (number link) in let linked : link_at now (number link) ≡ Some w = sym (came_out e) ∙ out in
+      let done : next pass.name.size now (event v step.log) ≡ Some (step.noted.later, step.noted.answer) = subst (λ (l : List Entry). next pass.name.size (after (start pass.name) l) (event v step.log) ≡ Some (step.noted.later, step.noted.answer)) step.is_log step.noted.does in
+      let st : Step pass.name.size now (ExchangeLink a.slot (number link) (exchange old)) (step.noted.later, step.noted.answer) = subst (λ (x : Event). Step pass.name.size now x (step.noted.later, step.noted.answer)) (is old) (step_of _ _ _ _ done) in
+      let named = (linked_named now (reached_after pass.name step.log step.found.distinct step.found.before.legal) (number link) w linked).0 in
+      subst (λ (z : State). (has w z.named ≡ true) × (has w z.loose ≡ true)) (sym (knows w out book ∙ step.noted.leads)) (out_loose pass.name.size now a.slot (number link) (exchange old) (step.noted.later, step.noted.answer) w st (stored old (step.found.shows ∙ ap link_word held)) linked named)
+    where
+      knows : (w : ℕ) → value_in keys'.held ≡ Some w → keys.name ≡ pass.name → state_of keys' ≡ after (start pass.name) pass'.seen
+      knows w out book = ap (λ (t : Name × List Entry). after (start t.0) t.1) (λ j. ((told.1 ∙ book) j, (ap own_of (step.keys) ∙ renewed_own (traded (trades v) keys.held step.since.1) pass'.seen w (sym (ap value_in step.keys) ∙ out)) j))
 
   pub stayed : trades v ≡ false → value_in keys'.held ≡ value_in keys.held
   stayed e = ap value_in (had false e) ∙ same_value keys.held pass'.seen

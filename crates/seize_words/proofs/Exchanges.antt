@@ -6,12 +6,13 @@ use Rattle.seize_machine.specs.Machine.State.{State, head_at, is_active, link_at
 use Rattle.seize_machine.specs.Machine.Event.{ReadLink, ExchangeLink}
 use Rattle.seize_machine.specs.Machine.Next.{is_stored, same_link}
 use Rattle.seize_machine.specs.declared.machine.event.Exchange.TheVariants.{Compare, Swap}
-use Rattle.seize_machine.proofs.Facts.{eq_true, is_true, links_length, step_of}
+use Rattle.seize_machine.proofs.Facts.{and_true, eq_true, is_true, links_length, step_of}
 use Rattle.atomic_table.proofs.Lists as kit
 use Rattle.seize_words.specs.Atomic.{exchanged}
 use Rattle.seize_words.specs.Blocks.{link_word}
-use Rattle.seize_words.specs.Book.{IsLegalList, after, kinds, values}
+use Rattle.seize_words.specs.Book.{IsLegalList, after, blocks, kinds}
 use Rattle.seize_words.specs.Entry.{Entry}
+use Rattle.seize_words.specs.Homes.{home_of}
 use Rattle.seize_words.specs.Laws.{IsIn, ended, life}
 use Rattle.seize_words.specs.Ledger.{Held, WithKinds}
 use Rattle.seize_words.specs.Links.{IsNewIn, IsWithin, at_link, compared, is_at_most_one, value_in, value_with}
@@ -59,15 +60,15 @@ module _ (n : Name) (s a l : ℕ) (since seen : List Entry) (in_ : IsWithin n s 
   pub may_read_link : (p size : ℕ) → MayStep (at_link n l) p seen [] (a ∷ []) [] (λ v. v) (λ v log. record { pass = p; size = size; event = ReadLink s l; life = 0 }) (λ v. false)
   may_read_link p size = (tt, (λ v t own log found. let w = within v p [] t log found in read_step n l v p size s seen [] (a ∷ []) t own log found w.0 w.1))
 
-  all_values : (held : List (Held Entry)) → is_at_most_one held ≡ true → WithKinds kinds held
-  all_values [] one = tt
-  all_values (x ∷ []) one = (let is : x.kind ≡ values = eq_true x.kind values one in omega arith, tt)
-  all_values (x ∷ y ∷ held) one = absurd (cc)
+  all_blocks : (held : List (Held Entry)) → is_at_most_one held ≡ true → WithKinds kinds held
+  all_blocks [] one = tt
+  all_blocks (x ∷ []) one = (let is : x.kind ≡ blocks = eq_true x.kind blocks (and_true (x.kind == blocks) (x.key == home_of x.label) one).0 in omega arith, tt)
+  all_blocks (x ∷ y ∷ held) one = absurd (cc)
 
   pub may_swap_link : (p size new : ℕ) (held : List (Held Entry)) → is_at_most_one held ≡ true → IsNewIn st (value_in held) held → new ≡ link_word (value_in held)
       → MayStep (at_link n l) p seen held (a ∷ []) [] (λ v. new) (λ v log. record { pass = p; size = size; event = ExchangeLink s l (Swap (value_in held)); life = 0 }) (λ v. true)
   may_swap_link p size new held one fresh word =
-      (all_values held one, (λ v t own log found. let w = within v p held t log found in store_step n l v p size s seen held (a ∷ []) t own log found w.0 w.1 (value_in held) (Swap (value_in held)) refl fresh new word refl))
+      (all_blocks held one, (λ v t own log found. let w = within v p held t log found in store_step n l v p size s seen held (a ∷ []) t own log found w.0 w.1 (value_in held) (Swap (value_in held)) refl fresh new word refl))
 
   -- Where the word is what was seen, the link holds what is compared; and else it doesn't.
 
@@ -81,7 +82,7 @@ module _ (n : Name) (s a l : ℕ) (since seen : List Entry) (in_ : IsWithin n s 
   same_words None (Some w) h = absurd (cc)
   same_words (Some v) None h = absurd (cc)
 
-  hit : (seen_word : ℕ) (old o : Option ℕ) → link_word old ≡ seen_word → is_stored old (Compare (compared seen_word old) o) ≡ true
+  pub hit : (seen_word : ℕ) (old o : Option ℕ) → link_word old ≡ seen_word → is_stored old (Compare (compared seen_word old) o) ≡ true
   hit seen_word old o e = ap (λ (b : Bool). same_link old (if b then old else value_with seen_word)) (equal (link_word old) seen_word e) ∙ is_same old
 
   missed : (seen_word : ℕ) (old o : Option ℕ) → seen_word < 2 ^ 64 → link_word old ≢ seen_word → is_stored old (Compare (compared seen_word old) o) ≡ false
@@ -98,7 +99,7 @@ module _ (n : Name) (s a l : ℕ) (since seen : List Entry) (in_ : IsWithin n s 
   pub may_compare_link : (p size seen_word new : ℕ) (held : List (Held Entry)) → seen_word < 2 ^ 64 → is_at_most_one held ≡ true → IsNewIn st (value_in held) held → new ≡ link_word (value_in held)
       → MayStep (at_link n l) p seen held (a ∷ []) [] (exchanged seen_word new)
       (λ v log. record { pass = p; size = size; event = ExchangeLink s l (Compare (compared seen_word (link_at (after st log) l)) (value_in held)); life = 0 }) (λ v. v == seen_word)
-  may_compare_link p size seen_word new held fits one fresh word = (all_values held one, step)
+  may_compare_link p size seen_word new held fits one fresh word = (all_blocks held one, step)
     where
       e : List Entry → Entry
       e log = record { pass = p; size = size; event = ExchangeLink s l (Compare (compared seen_word (link_at (after st log) l)) (value_in held)); life = 0 }

@@ -5,41 +5,43 @@ use Rattle.std.proofs.lemmas.List.{length-map}
 use Rattle.seize_machine.specs.Machine.State.{State, Slot, slot_at, head_at, is_idle, is_active}
 use Rattle.seize_machine.specs.Machine.Event.{Event, Give, Take}
 use Rattle.seize_machine.specs.Machine.Next.{set_slot, taken, first_free, next}
-use Rattle.seize_machine.specs.Machine.Frames.{used, changes_slot, changes_head_of, changes_link, changes_batch, changes_value}
+use Rattle.seize_machine.specs.Machine.Frames.{used, changes_slot, changes_head_of, changes_link}
 use Rattle.seize_machine.specs.declared.machine.event.Answer.{Answer}
 use Rattle.seize_machine.specs.declared.machine.event.Answer.TheVariants.{Done}
-use Rattle.seize_machine.proofs.Facts.{Step, next_of}
+use Rattle.seize_machine.proofs.Facts.{Step, next_of, step_of}
 use Rattle.seize_table.specs.Place.{all_numbers}
 use Rattle.seize_words.specs.Ledger.{Held}
 use Rattle.seize_words.specs.Entry.{Entry}
 use Rattle.seize_words.specs.Book.{after, births, Does, slots, numbers, of_new_slot}
 use Rattle.seize_words.specs.Fair.{Before, Covers, Fair, MayAdd, EndsNone, StartsNone, pass_key}
+use Rattle.seize_words.specs.Homes.{changes_count, changes_home}
 use Rattle.seize_words.specs.Others.{IsLeast}
-use Rattle.seize_words.specs.Private.{is_one, key_of, own_of}
+use Rattle.seize_words.specs.Private.{is_one, key_of, label_of, own_of}
 use Rattle.seize_words.specs.Tokens.{Name, start}
 use Rattle.seize_words.proofs.Lists.{equal}
 use Rattle.seize_words.proofs.Private.{only, only_is, differ}
+use Rattle.seize_words.proofs.Sound.{none_named}
 
 -- the event changes which numbers are in use and the record of slot s, and nothing else
 abbrev pub Turns : ℕ → Event → Type 0
 Turns s event =
     ((k : ℕ) → (changes_slot k event ≡ (s == k)) × (changes_head_of k event ≡ false) × (changes_link k event ≡ false))
-    × ((st : State) (k : ℕ) → (changes_batch st k event ≡ false) × (changes_value st k event ≡ false))
+    × ((st : State) (k : ℕ) → (changes_count st k event ≡ false) × (changes_home st k event ≡ false))
 
 -- of the numbers there is one key
 pub the_only : (k j m : ℕ) → m ≡ 1 → k < m → j < m → k ≡ j
 the_only k j m e l h = omega (arith, e, l, h)
 
-covers : (st : State) (log : List Entry) (e : Entry) (p s j : ℕ) (mine own own' : List Entry) → e.pass ≡ p → Turns s e.event → j ≡ 0
-    → Covers st (pass_key p mine ∷ record { kind = slots; key = s; own = own } ∷ record { kind = numbers; key = j; own = own' } ∷ []) log e
-covers st log e p s j mine own own' pe turns is zero k b there = differ e.pass k (λ i. b.0 (refl, i ∙ pe))
-covers st log e p s j mine own own' pe turns is (suc zero) k b there = absurd (b.1.1.0 (refl, the_only k j there.0 there.1 there.2 (let n : there.0 ≡ 1 = there.1 in omega (arith, is, n))))
-covers st log e p s j mine own own' pe turns is (suc (suc zero)) k b there = (turns.0 k).0 ∙ differ s k (λ i. b.1.0 (refl, i))
-covers st log e p s j mine own own' pe turns is (suc (suc (suc zero))) k b there = (turns.0 k).1
-covers st log e p s j mine own own' pe turns is (suc (suc (suc (suc zero)))) k b there = (turns.0 k).2
-covers st log e p s j mine own own' pe turns is (suc (suc (suc (suc (suc zero))))) k b there = (turns.1 (after st log) k).0
-covers st log e p s j mine own own' pe turns is (suc (suc (suc (suc (suc (suc zero)))))) k b there = (turns.1 (after st log) k).1
-covers st log e p s j mine own own' pe turns is (suc (suc (suc (suc (suc (suc (suc r))))))) k b there = refl
+covers : (st : State) (log : List Entry) (e : Entry) (p s j x y : ℕ) (mine own own' : List Entry) → e.pass ≡ p → Turns s e.event → j ≡ 0
+    → Covers st (pass_key p mine ∷ record { kind = slots; key = s; own = own; label = x } ∷ record { kind = numbers; key = j; own = own'; label = y } ∷ []) log e
+covers st log e p s j x y mine own own' pe turns is zero k b there = differ e.pass k (λ i. b.0 (refl, i ∙ pe))
+covers st log e p s j x y mine own own' pe turns is (suc zero) k b there = absurd (b.1.1.0 (refl, the_only k j there.0 there.1 there.2 (let n : there.0 ≡ 1 = there.1 in omega (arith, is, n))))
+covers st log e p s j x y mine own own' pe turns is (suc (suc zero)) k b there = (turns.0 k).0 ∙ differ s k (λ i. b.1.0 (refl, i))
+covers st log e p s j x y mine own own' pe turns is (suc (suc (suc zero))) k b there = (turns.0 k).1
+covers st log e p s j x y mine own own' pe turns is (suc (suc (suc (suc zero)))) k b there = (turns.0 k).2
+covers st log e p s j x y mine own own' pe turns is (suc (suc (suc (suc (suc zero))))) k b there = (turns.1 (after st log) k).0
+covers st log e p s j x y mine own own' pe turns is (suc (suc (suc (suc (suc (suc zero)))))) k b there = (turns.1 (after st log) k).1
+covers st log e p s j x y mine own own' pe turns is (suc (suc (suc (suc (suc (suc (suc r))))))) k b there = refl
 
 may_turn : (n : Name) (p : ℕ) (seen : List Entry) (a b : List (Held Entry)) (e : Entry) → is_one slots a ≡ true → is_one numbers b ≡ true → key_of b ≡ 0
     → e.pass ≡ p → Turns (key_of a) e.event → EndsNone e.event → StartsNone e.event
@@ -55,8 +57,9 @@ may_turn n p seen a b e one one' zero_is pe turns ends starts goes =
         record {
           done = does.0;
           legal = does.1;
-          covers = covers (start n) log e p (key_of a) (key_of b) mine (own_of a) (own_of b) pe turns zero_is;
-          names = λ many was there. (subst (λ (z : ℕ). z < many 0) (sym pe) there.0, λ v le. (turns.1 (after (start n) log) v).1);
+          covers = covers (start n) log e p (key_of a) (key_of b) (label_of a) (label_of b) mine (own_of a) (own_of b) pe turns zero_is;
+          names = λ many was there. (subst (λ (z : ℕ). z < many 0) (sym pe) there.0, (λ j le. (turns.1 (after (start n) log) j).0), λ j le. (turns.1 (after (start n) log) j).1);
+          one = none_named e.size (after (start n) log) e.event does.0 (step_of _ _ _ _ does.1) (λ j. (turns.1 (after (start n) log) j).1);
         }
 
 pub may_give : (n : Name) (p size : ℕ) (seen : List Entry) (a b : List (Held Entry)) → is_one slots a ≡ true → is_one numbers b ≡ true → key_of b ≡ 0

@@ -9,7 +9,7 @@ use Rattle.seize_machine.specs.Machine.State.{State, Slot, Call, Place, Head, In
 use Rattle.seize_machine.specs.Machine.Event.{Event, Enter, Insert, ReadHead, SwapOut}
 use Rattle.seize_machine.specs.Machine.Next.{in_turn, look, next, of_call, set_head}
 use Rattle.seize_machine.specs.Machine.History.{IsReached, done_by}
-use Rattle.seize_machine.specs.Machine.Frames.{changes_slot, changes_used, changes_head_of, changes_link, changes_batch, changes_value, slots_added}
+use Rattle.seize_machine.specs.Machine.Frames.{changes_slot, changes_used, changes_head_of, changes_link, slots_added}
 use Rattle.seize_machine.specs.declared.machine.event.Answer.{Answer}
 use Rattle.seize_machine.specs.declared.machine.event.Answer.TheVariants.{Done}
 use Rattle.seize_machine.specs.declared.machine.event.Try.{Try as Insertion}
@@ -21,9 +21,10 @@ use Rattle.seize_words.specs.Book.{Kept, TheSlot, Does, IsLegalList, after, birt
 use Rattle.seize_words.specs.Entry.{Entry, timed}
 use Rattle.seize_words.specs.Fair.{Covers, pass_key}
 use Rattle.seize_words.specs.Heads.{IsTrying, found_end, reads, reads_at}
+use Rattle.seize_words.specs.Homes.{changes_count, changes_home}
 use Rattle.seize_words.specs.Laws.{IsIn, life}
 use Rattle.seize_words.specs.Ledger.{Held, AllKept}
-use Rattle.seize_words.specs.Private.{is_one, key_of, own_of}
+use Rattle.seize_words.specs.Private.{is_one, key_of, label_of, own_of}
 use Rattle.seize_words.specs.Stepping.{EndsAmong, FoundAs, IsStep, MayStep, in_step}
 use Rattle.seize_words.specs.Tokens.{Name, start}
 use Rattle.seize_words.specs.Words.{Site}
@@ -31,6 +32,7 @@ use Rattle.seize_words.proofs.Lives.{legal_first, life_kept}
 use Rattle.seize_words.proofs.Lists.{equal, unequal, after_push, legal_push, reached_after}
 use Rattle.seize_words.proofs.Plans.{AllLess, block_stays, blocks_stay, head_stays, legal_prefix, plans_long, saw_there, tried_there}
 use Rattle.seize_words.proofs.Private.{differ, only_is}
+use Rattle.seize_words.proofs.Sound.{none_named}
 
 abbrev pub at_head : Name → ℕ → Site
 at_head n m = record { name = n; kind = heads; number = m }
@@ -41,7 +43,7 @@ record Touches (s m : ℕ) (event : Event) : Type 1 where
   pub used : changes_used event ≡ false
   pub head : (k : ℕ) → k ≢ m → changes_head_of k event ≡ false
   pub link : (k : ℕ) → changes_link k event ≡ false
-  pub others : (st : State) (k : ℕ) → (changes_batch st k event ≡ false) × (changes_value st k event ≡ false)
+  pub others : (st : State) (k : ℕ) → (changes_count st k event ≡ false) × (changes_home st k event ≡ false)
   pub births : (st : State) → births st event ≡ []
 
 in_use : (st : State) (s : ℕ) → (slot_at st s ≡ no_slot → ⊥) → s < length st.slots
@@ -88,12 +90,12 @@ module _ (n : Name) (m : ℕ) where
   shown : (v p : ℕ) (seen : List Entry) (held : List (Held Entry)) (t : At) (log : List Entry) → FoundAs (at_head n m) v p seen held [] t log → v ≡ head_word st log m
   shown v p seen held t log found = found.shows ∙ head_stays n m t.0 log found.distinct found.before.legal found.before.kept.0
 
-  abbrev key : ℕ → List Entry → List (Held Entry)
-  key s own = record { kind = slots; key = s; own = own } ∷ []
+  abbrev key : ℕ → ℕ → List Entry → List (Held Entry)
+  key s x own = record { kind = slots; key = s; own = own; label = x } ∷ []
 
   -- One event of the slot, with the slot's key.
-  module _ (p s : ℕ) (slots_own own since log : List Entry) (lives : List ℕ) (w : ℕ) (e : Entry) (pe : e.pass ≡ p) (t : Touches s m e.event) (d : State × Answer) where
-    covers : Covers st (pass_key p own ∷ in_step (at_head n m) (key s slots_own) (since, [])) log e
+  module _ (p s x : ℕ) (slots_own own since log : List Entry) (lives : List ℕ) (w : ℕ) (e : Entry) (pe : e.pass ≡ p) (t : Touches s m e.event) (d : State × Answer) where
+    covers : Covers st (pass_key p own ∷ in_step (at_head n m) (key s x slots_own) (since, [])) log e
     covers zero k b there = differ e.pass k (λ i. b.0 (refl, i ∙ pe))
     covers (suc zero) k b there = t.used
     covers (suc (suc zero)) k b there = t.slot k (λ i. b.1.1.0 (refl, i))
@@ -103,9 +105,9 @@ module _ (n : Name) (m : ℕ) where
     covers (suc (suc (suc (suc (suc (suc zero)))))) k b there = (t.others (after st log) k).1
     covers (suc (suc (suc (suc (suc (suc (suc r))))))) k b there = refl
 
-    made : Does st log e d → EndsAmong lives log e.event → w ≡ head_word st (log ++ e ∷ []) m → IsStep (at_head n m) p (key s slots_own) lives w e false (since, []) own log
+    made : Does st log e d → EndsAmong lives log e.event → w ≡ head_word st (log ++ e ∷ []) m → IsStep (at_head n m) p (key s x slots_own) lives w e false (since, []) own log
     made does ends shows = record {
-      fair = record { done = d; legal = does; covers = covers; names = λ many was there. (subst (λ (z : ℕ). z < many 0) (sym pe) there.0, λ v le. (t.others (after st log) v).1) };
+      fair = record { done = d; legal = does; covers = covers; names = λ many was there. (subst (λ (z : ℕ). z < many 0) (sym pe) there.0, (λ k le. (t.others (after st log) k).0), λ k le. (t.others (after st log) k).1); one = none_named e.size (after st log) e.event d (step_of _ _ _ _ does) (λ k. (t.others (after st log) k).1) };
       its = pe;
       no_births = t.births (after st log);
       ends = ends;
@@ -114,21 +116,21 @@ module _ (n : Name) (m : ℕ) where
     }
 
   -- it is enough to see it for the slot's key alone, and with no key beside the head's
-  MayStepAs : (p s : ℕ) (seen slots_own : List Entry) (lives : List ℕ) (f : ℕ → ℕ) (entry : ℕ → List Entry → Entry) → Type 0
-  MayStepAs p s seen slots_own lives f entry =
-      (v : ℕ) (t : At) (own log : List Entry) → FoundAs (at_head n m) v p seen (key s slots_own) [] t log → Kept st TheSlot s slots_own log → v ≡ head_word st log m
-      → IsStep (at_head n m) p (key s slots_own) lives (f v) (entry v log) false (t.0, []) own log
+  MayStepAs : (p s x : ℕ) (seen slots_own : List Entry) (lives : List ℕ) (f : ℕ → ℕ) (entry : ℕ → List Entry → Entry) → Type 0
+  MayStepAs p s x seen slots_own lives f entry =
+      (v : ℕ) (t : At) (own log : List Entry) → FoundAs (at_head n m) v p seen (key s x slots_own) [] t log → Kept st TheSlot s slots_own log → v ≡ head_word st log m
+      → IsStep (at_head n m) p (key s x slots_own) lives (f v) (entry v log) false (t.0, []) own log
 
   may_step : (p : ℕ) (seen : List Entry) (held : List (Held Entry)) (lives : List ℕ) (f : ℕ → ℕ) (entry : ℕ → List Entry → Entry) → is_one slots held ≡ true
-      → MayStepAs p (key_of held) seen (own_of held) lives f entry → MayStep (at_head n m) p seen held [] lives f entry (λ v. false)
+      → MayStepAs p (key_of held) (label_of held) seen (own_of held) lives f entry → MayStep (at_head n m) p seen held [] lives f entry (λ v. false)
   unfolding MayStepAs
   may_step p seen held lives f entry one steps =
       subst (λ (hs : List (Held Entry)). MayStep (at_head n m) p seen hs [] lives f entry (λ v. false)) (sym (only_is slots held one)) (
         (omega arith, tt),
         (λ v t own log found.
-            let kept = subst (λ (vs : List (Held Entry)). AllKept (rules st) (vs ++ key (key_of held) (own_of held)) log) found.stands found.before.kept.1 in
-            subst (λ (vs : List (Held Entry)). IsStep (at_head n m) p (key (key_of held) (own_of held)) lives (f v) (entry v log) false (t.0, vs) own log) (sym found.stands)
-            (steps v t own log found kept.0 (shown v p seen (key (key_of held) (own_of held)) t log found))),
+            let kept = subst (λ (vs : List (Held Entry)). AllKept (rules st) (vs ++ key (key_of held) (label_of held) (own_of held)) log) found.stands found.before.kept.1 in
+            subst (λ (vs : List (Held Entry)). IsStep (at_head n m) p (key (key_of held) (label_of held) (own_of held)) lives (f v) (entry v log) false (t.0, vs) own log) (sym found.stands)
+            (steps v t own log found kept.0 (shown v p seen (key (key_of held) (label_of held) (own_of held)) t log found))),
       )
 
   -- A read.
@@ -170,7 +172,7 @@ module _ (n : Name) (m : ℕ) where
       let s = key_of held in let le : length (after st seen).slots ≤ length (after st log).slots = slots_grow st seen log found.before.grows found.before.legal in
       let done = read_done size s (after st log) (ap (λ (x : Slot). reads x m) (sym kept.1.1) ∙ may) (omega (arith, le)) in
       let e : Entry = record { pass = p; size = size; event = ReadHead s m; life = 0 } in
-      made p s (own_of held) own t.0 log [] v e refl (read_touches s) done.0 done.1 (λ a i. absurd i) (word ∙ unchanged log e done.0 found.distinct found.before.legal done.1 refl))
+      made p s (label_of held) (own_of held) own t.0 log [] v e refl (read_touches s) done.0 done.1 (λ a i. absurd i) (word ∙ unchanged log e done.0 found.distinct found.before.legal done.1 refl))
 
   -- The slot becomes active.
 
@@ -199,7 +201,7 @@ module _ (n : Name) (m : ℕ) where
       let does : Does st log e d = next_of size now (Enter s) d (Step.entered s idle_now (sym kept.1.2 ∙ off)) in
       let there : s < length now.heads = head_there log s found.distinct found.before.legal (λ x. let y : true ≡ false = sym idle_now ∙ ap is_idle x in cc) in
       let head = set_word log e d (Active []) now.heads found.before.legal does (ap (λ (k : ℕ). set now.heads k (Active [])) is) (subst (λ (k : ℕ). k < length now.heads) is there) in
-      made p s (own_of held) own t.0 log lives 1 e refl (enter_touches s is) d does (λ a i. absurd i) (sym (ap (word_of (λ b. block_for st (log ++ e ∷ []) b m)) head)))
+      made p s (label_of held) (own_of held) own t.0 log lives 1 e refl (enter_touches s is) d does (λ a i. absurd i) (sym (ap (word_of (λ b. block_for st (log ++ e ∷ []) b m)) head)))
 
   -- The slot leaves or refreshes.
 
@@ -223,7 +225,7 @@ module _ (n : Name) (m : ℕ) where
       let there : s < length now.heads = head_there log s found.distinct found.before.legal (λ x. let y : Option.None ≡ (slot_at now s).call = sym (ap (λ (z : Slot). z.call) x) in let z : Option.None ≡ Some (record { place = Out stays; queue = queue }) = y ∙ stands_now in cc) in
       let head = set_word log e d h now.heads found.before.legal does (ap (λ (k : ℕ). set now.heads k h) is) (subst (λ (k : ℕ). k < length now.heads) is there) in
       let its : life s (own_of held) ≡ life s log = life_kept st s (own_of held) log kept in
-      made p s (own_of held) own t.0 log lives (if stays then 1 else 0) e refl (leave_touches s is) d does (λ b i. subst (IsIn lives) (its ∙ only_that (life s log) b i) among)
+      made p s (label_of held) (own_of held) own t.0 log lives (if stays then 1 else 0) e refl (leave_touches s is) d does (λ b i. subst (IsIn lives) (its ∙ only_that (life s log) b i) among)
       (left_word stays (λ b. block_for st (log ++ e ∷ []) b m) ∙ sym (ap (word_of (λ b. block_for st (log ++ e ∷ []) b m)) head)))
     where
       only_that : (x b : ℕ) → IsIn (x ∷ []) b → x ≡ b
@@ -243,7 +245,7 @@ module _ (n : Name) (m : ℕ) where
   word_active block Inactive x (b ∷ bs) other e = absurd (omega (arith, e))
 
   module _ (p size seen_word block : ℕ) (seen : List Entry) (held : List (Held Entry)) (tries : IsTrying st (key_of held) (own_of held) m seen_word block)
-      (v : ℕ) (t : At) (own log : List Entry) (found : FoundAs (at_head n m) v p seen (key (key_of held) (own_of held)) [] t log) (kept : Kept st TheSlot (key_of held) (own_of held) log) (word : v ≡ head_word st log m) where
+      (v : ℕ) (t : At) (own log : List Entry) (found : FoundAs (at_head n m) v p seen (key (key_of held) (label_of held) (own_of held)) [] t log) (kept : Kept st TheSlot (key_of held) (own_of held) log) (word : v ≡ head_word st log m) where
     abbrev s : ℕ
     s = key_of held
 
@@ -276,14 +278,14 @@ module _ (n : Name) (m : ℕ) where
     saw_word = tries.is_seen ∙ blocks_stay n then_own log m tries.saw kept.0 (planned tries.saw (saw_there (after st then_own) reached_own s tries.batch tries.won m tries.later tries.saw tries.queue stands_own))
 
     abbrev Step_ : ℕ → Insertion → Type 0
-    Step_ w end = IsStep (at_head n m) p (key s then_own) [] w (record { pass = p; size = size; event = Insert s m end; life = 0 }) false (t.0, []) own log
+    Step_ w end = IsStep (at_head n m) p (key s (label_of held) then_own) [] w (record { pass = p; size = size; event = Insert s m end; life = 0 }) false (t.0, []) own log
 
     lost : v ≢ seen_word → Step_ v Lost
     lost differs =
         let d : State × Answer = (go_on now s (record { place = Look tries.batch tries.won m tries.later; queue = tries.queue }), Done) in
         let other : head_at now m ≢ Active tries.saw = λ x. differs (word ∙ ap (word_of (λ b. block_for st log b m)) x ∙ sym saw_word) in
         let does : Does st log (inserts Lost) d = next_of size now (Insert s m Lost) d (Step.lost s m tries.batch tries.won tries.later tries.saw tries.queue stands_now other) in
-        made p s then_own own t.0 log [] v (inserts Lost) refl (insert_touches s Lost) d does (λ a i. absurd i) (word ∙ unchanged log (inserts Lost) d found.distinct found.before.legal does refl)
+        made p s (label_of held) then_own own t.0 log [] v (inserts Lost) refl (insert_touches s Lost) d does (λ a i. absurd i) (word ∙ unchanged log (inserts Lost) d found.distinct found.before.legal does refl)
 
     won : v ≡ seen_word → Step_ (block + 2) Won
     won same =
@@ -294,7 +296,7 @@ module _ (n : Name) (m : ℕ) where
         let head = set_word log (inserts Won) d (Active (b ∷ waiting)) now.heads found.before.legal does refl there in
         let its : b < length (plans st then_own) = subst (λ (k : ℕ). b < k) (sym (plans_long n then_own own_legal)) (tried_there (after st then_own) s b tries.won m tries.later tries.saw tries.queue reached_own stands_own) in
         let stays = block_stays st then_own (log ++ inserts Won ∷ []) b m (prefix_trans then_own log (log ++ inserts Won ∷ []) kept.0 (prefix_push log (inserts Won))) its in
-        made p s then_own own t.0 log [] (block + 2) (inserts Won) refl (insert_touches s Won) d does (λ a i. absurd i)
+        made p s (label_of held) then_own own t.0 log [] (block + 2) (inserts Won) refl (insert_touches s Won) d does (λ a i. absurd i)
         (ap (λ (k : ℕ). k + 2) (tries.is_block ∙ stays) ∙ sym (ap (word_of (λ b. block_for st (log ++ inserts Won ∷ []) b m)) head))
       where
         head_within : (waiting : List ℕ) → head_at now m ≡ Active waiting → m < length now.heads

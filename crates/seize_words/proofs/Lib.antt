@@ -3,6 +3,9 @@ pub mod Append
 pub mod Kit
 pub mod Fields
 pub mod Lists
+pub mod Homes
+pub mod Sound
+pub mod Counts
 pub mod Goes
 pub mod Handed
 pub mod Lives
@@ -23,6 +26,7 @@ pub mod Detaches
 pub mod Facts
 pub mod Steps
 pub mod Plans
+pub mod Fronts
 pub mod Heads
 pub mod Stepped
 pub mod Makes

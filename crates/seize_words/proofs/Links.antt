@@ -1,25 +1,26 @@
 -- Steps on a link's word by whoever has an activation of a slot meet what is asked of a step.
-use Rattle.std.proofs.Common.{◌≡◌, ℕ, zero, suc, ◌<◌, ◌≤◌, Bool, true, false, not, ◌&&◌, ◌||◌, nat_lt, List, [], ◌∷◌, ◌++◌, length, Option, Some, None, refl, sym, ◌∙◌, ap, subst, arith}
+use Rattle.std.proofs.Common.{◌≡◌, ℕ, zero, suc, ◌<◌, ◌≤◌, Bool, true, false, not, ◌&&◌, ◌||◌, nat_lt, List, [], ◌∷◌, ◌++◌, length, Option, Some, None, refl, sym, ◌∙◌, ap, subst, append-nil, arith}
 use Rattle.std.proofs.lemmas.List.{get_or-set_same}
 use Rattle.seize_machine.specs.Machine.State.{State, head_at, link_at, is_active, has}
 use Rattle.seize_machine.specs.Machine.Event.{ReadLink, ExchangeLink}
-use Rattle.seize_machine.specs.Machine.Frames.{is_number}
 use Rattle.seize_machine.specs.Machine.Next.{can_link, is_none_or_fresh, is_stored, new_link}
 use Rattle.seize_machine.specs.declared.machine.event.Answer.{Answer}
 use Rattle.seize_machine.specs.declared.machine.event.Answer.TheVariants.{Link as Held_}
 use Rattle.seize_machine.specs.declared.machine.event.Exchange.{Exchange}
 use Rattle.seize_machine.proofs.Facts.{Step, eq_true, next_of, swapped}
 use Rattle.seize_words.specs.Blocks.{link_word}
-use Rattle.seize_words.specs.Book.{Kept, after, rules, Does, kind_of, values}
+use Rattle.seize_words.specs.Book.{IsLegalList, Kept, TheBlock, after, blocks, rules, Does, kind_of}
 use Rattle.seize_words.specs.Entry.{Entry}
 use Rattle.seize_words.specs.Fair.{Covers, NamesHeld, pass_key}
 use Rattle.seize_words.specs.Ledger.{Held, AllKept, AllThere, Beside, renewed}
+use Rattle.seize_words.specs.Homes.{HasOne, IsVacant, home_of, is_home}
 use Rattle.seize_words.specs.Links.{at_link, IsNewIn}
 use Rattle.seize_words.specs.Stepping.{FoundAs, IsStep, in_step}
 use Rattle.seize_words.specs.Tokens.{Name, start}
 use Rattle.seize_words.specs.Words.{IsKeyOf}
 use Rattle.seize_words.proofs.Lists.{after_push}
 use Rattle.seize_words.proofs.Private.{differ}
+use Rattle.seize_words.proofs.Sound.{new_named, old_named, pushed, vacant_later}
 
 -- the keys of what a link holds, later
 key_later : (o : Option ℕ) (vs : List (Held Entry)) (log : List Entry) → IsKeyOf o vs → IsKeyOf o (renewed vs log)
@@ -50,22 +51,31 @@ kept_right : (st : State) (a b : List (Held Entry)) (log : List Entry) → AllKe
 kept_right st [] b log h = h
 kept_right st (x ∷ a) b log h = kept_right st a b log h.1
 
-other_value : (o : Option ℕ) (vs : List (Held Entry)) (k : ℕ) → IsKeyOf o vs → Beside vs values k → is_number k o ≡ false
+other_value : (o : Option ℕ) (vs : List (Held Entry)) (k : ℕ) → IsKeyOf o vs → Beside vs blocks k → is_home k o ≡ false
 other_value None vs k is b = refl
 other_value (Some v) [] k is b = absurd (let x : false ≡ true = is.0 in cc)
 other_value (Some v) (x ∷ y ∷ vs) k is b = absurd (let x : false ≡ true = is.0 in cc)
-other_value (Some v) (x ∷ []) k is b = differ v k (λ e. b.0 (sym (eq_true x.kind values is.0), e ∙ sym is.1))
+other_value (Some v) (x ∷ []) k is b = differ (home_of v) k (λ e. b.0 (sym (eq_true x.kind blocks is.0), e ∙ sym is.1))
 
-past_value : (many : ℕ → ℕ) (o : Option ℕ) (vs : List (Held Entry)) (k : ℕ) → IsKeyOf o vs → AllThere many vs → many values ≤ k → is_number k o ≡ false
+past_value : (many : ℕ → ℕ) (o : Option ℕ) (vs : List (Held Entry)) (k : ℕ) → IsKeyOf o vs → AllThere many vs → many blocks ≤ k → is_home k o ≡ false
 past_value many None vs k is there le = refl
 past_value many (Some v) [] k is there le = absurd (let x : false ≡ true = is.0 in cc)
 past_value many (Some v) (x ∷ y ∷ vs) k is there le = absurd (let x : false ≡ true = is.0 in cc)
 past_value many (Some v) (x ∷ []) k is there le =
-    let kind : x.kind ≡ values = eq_true x.kind values is.0 in let l : v < many values = subst (λ (z : ℕ). v < many z) kind (subst (λ (z : ℕ). z < many x.kind) is.1 there.0) in differ v k (λ e. omega (arith, e))
+    let kind : x.kind ≡ blocks = eq_true x.kind blocks is.0 in let l : home_of v < many blocks = subst (λ (z : ℕ). home_of v < many z) kind (subst (λ (z : ℕ). z < many x.kind) is.1 there.0) in
+    differ (home_of v) k (λ e. omega (arith, e, l, le))
 
 is_key : (st : State) (o : Option ℕ) (vs : List (Held Entry)) → IsNewIn st o vs → IsKeyOf o vs
 is_key st None vs new = new
 is_key st (Some v) vs new = new.0
+
+-- what the key of a value's block says
+block_kept : (st : State) (v : ℕ) (x : Held Entry) (log : List Entry) → IsKeyOf (Some v) (x ∷ []) → (rules st).Kept x.kind x.key x.own log → Kept st TheBlock (home_of v) x.own log
+block_kept st v x log is kept = subst (λ (t : ℕ × ℕ). Kept st (kind_of t.0) t.1 x.own log) (λ j. (eq_true x.kind blocks is.0 j, is.1 j)) kept
+
+value_kept : (st : State) (v : ℕ) (x : Held Entry) (log : List Entry) → IsKeyOf (Some v) (x ∷ []) → (rules st).Kept x.kind x.key x.own log
+    → (has v (after st x.own).named ≡ has v (after st log).named) × (has v (after st x.own).loose ≡ has v (after st log).loose)
+value_kept st v x log is kept = (block_kept st v x log is kept).1 v refl
 
 -- a value that its key knows to be new is new
 still_new : (st : State) (o : Option ℕ) (vs : List (Held Entry)) (log : List Entry) → IsNewIn st o vs → AllKept (rules st) vs log → is_none_or_fresh (after st log) o ≡ true
@@ -73,8 +83,13 @@ still_new st None vs log new kept = refl
 still_new st (Some v) [] log new kept = absurd (let x : false ≡ true = new.0.0 in cc)
 still_new st (Some v) (x ∷ y ∷ vs) log new kept = absurd (let x : false ≡ true = new.0.0 in cc)
 still_new st (Some v) (x ∷ []) log new kept =
-    let known = subst (λ (r : ℕ). Kept st (kind_of r) x.key x.own log) (eq_true x.kind values new.0.0) kept.0 in
-    ap not (ap (λ (w : ℕ). has w (after st log).named) (sym new.0.1) ∙ sym known.1.0 ∙ ap (λ (w : ℕ). has w (after st x.own).named) new.0.1 ∙ new.1)
+    ap not (sym (value_kept st v x log new.0 kept.0).0 ∙ new.1)
+
+-- and its block is vacant still
+still_vacant : (st : State) (v : ℕ) (vs : List (Held Entry)) (log : List Entry) → IsLegalList st log → IsNewIn st (Some v) vs → AllKept (rules st) vs log → IsVacant (after st log) (home_of v)
+still_vacant st v [] log l new kept = absurd (let x : false ≡ true = new.0.0 in cc)
+still_vacant st v (x ∷ y ∷ vs) log l new kept = absurd (let x : false ≡ true = new.0.0 in cc)
+still_vacant st v (x ∷ []) log l new kept = vacant_later st x.own log (home_of v) l (block_kept st v x log new.0 kept.0) new.2
 
 or_both : (a b : Bool) → a ≡ false → b ≡ false → (a || b) ≡ false
 or_both false b x y = y
@@ -105,7 +120,7 @@ module _ (n : Name) (l : ℕ) where
         let push : link_at (after st (log ++ reads ∷ [])) l ≡ link_at now l = ap (λ (z : State). link_at z l) (after_push st log reads d found.before.legal does) in
         let is : link_at (after st t.0) l ≡ link_at (after st (log ++ reads ∷ [])) l = same v p seen held alive t log found ∙ sym push in
         record {
-          fair = record { done = d; legal = does; covers = covers; names = λ many was there. (there.0, λ w le. refl) };
+          fair = record { done = d; legal = does; covers = covers; names = λ many was there. (there.0, (λ k le. refl), λ k le. refl); one = λ one. one };
           its = refl;
           no_births = refl;
           ends = λ a i. absurd i;
@@ -145,18 +160,25 @@ module _ (n : Name) (l : ℕ) where
       covers_exchange (suc (suc (suc zero))) k beside there = refl
       covers_exchange (suc (suc (suc (suc zero)))) k beside there = differ l k (λ i. beside.1.0 (refl, i))
       covers_exchange (suc (suc (suc (suc (suc zero))))) k beside there = refl
-      covers_exchange (suc (suc (suc (suc (suc (suc zero)))))) k beside there = let b = beside_both t.1 held values k beside.1.1 in
-          or_both (is_number k (new_link exchange)) (is_number k (link_at now l)) (ap (is_number k) for ∙ other_value o held k (is_key st o held new) b.1) (other_value (link_at now l) t.1 k here b.0)
+      covers_exchange (suc (suc (suc (suc (suc (suc zero)))))) k beside there = let b = beside_both t.1 held blocks k beside.1.1 in
+          or_both (is_home k (new_link exchange)) (is_home k (link_at now l)) (ap (is_home k) for ∙ other_value o held k (is_key st o held new) b.1) (other_value (link_at now l) t.1 k here b.0)
       covers_exchange (suc (suc (suc (suc (suc (suc (suc r))))))) k beside there = refl
 
       names_exchange : NamesHeld st all log (record { pass = p; size = size; event = ExchangeLink s l exchange; life = 0 })
       names_exchange many was there = let h = there_both many t.1 held there.1.1 in (
         there.0,
-        λ w le. or_both (is_number w (new_link exchange)) (is_number w (link_at now l)) (ap (is_number w) for ∙ past_value many o held w (is_key st o held new) h.1 le) (past_value many (link_at now l) t.1 w here h.0 le),
+        (λ w le. refl),
+        λ w le. or_both (is_home w (new_link exchange)) (is_home w (link_at now l)) (ap (is_home w) for ∙ past_value many o held w (is_key st o held new) h.1 le) (past_value many (link_at now l) t.1 w here h.0 le),
       )
 
       fresh : is_none_or_fresh now o ≡ true
       fresh = still_new st o held log new (kept_right st t.1 held log found.before.kept.1)
+
+      -- and what lay in its block before was reclaimed
+      one_stored : (o : Option ℕ) → IsNewIn st o held → Step size now (ExchangeLink s l exchange) (swapped now l o, Held_ (link_at now l)) → HasOne now → HasOne (swapped now l o)
+      one_stored None new step = old_named size now (ExchangeLink s l exchange) (swapped now l None, Held_ (link_at now l)) step (λ u h. subst (λ (vs : List ℕ). has u vs ≡ true) (append-nil now.named) h)
+      one_stored (Some w) new step =
+          new_named size now (ExchangeLink s l exchange) (swapped now l (Some w), Held_ (link_at now l)) w step (pushed w now.named) (still_vacant st w held log found.before.legal new (kept_right st t.1 held log found.before.kept.1))
 
       -- it stores the value
       pub store_step : (w : ℕ) → w ≡ link_word o → is_stored (link_at now l) exchange ≡ true
@@ -164,10 +186,11 @@ module _ (n : Name) (l : ℕ) where
       unfolding exchanges
       store_step w word stored =
           let d : State × Answer = (swapped now l o, Held_ (link_at now l)) in
-          let does : Does st log exchanges d = next_of size now (ExchangeLink s l exchange) d (Step.exchanged s l exchange o (legal_link now s l on within) fresh (sym for, stored)) in
+          let step : Step size now (ExchangeLink s l exchange) d = Step.exchanged s l exchange o (legal_link now s l on within) fresh (sym for, stored) in
+          let does : Does st log exchanges d = next_of size now (ExchangeLink s l exchange) d step in
           let is : link_at (after st (log ++ exchanges ∷ [])) l ≡ o = ap (λ (z : State). link_at z l) (after_push st log exchanges d found.before.legal does) ∙ get_or-set_same now.links l o None within in
           record {
-            fair = record { done = d; legal = does; covers = covers_exchange; names = names_exchange };
+            fair = record { done = d; legal = does; covers = covers_exchange; names = names_exchange; one = one_stored o new step };
             its = refl;
             no_births = refl;
             ends = λ a i. absurd i;
@@ -184,7 +207,7 @@ module _ (n : Name) (l : ℕ) where
           let does : Does st log exchanges d = next_of size now (ExchangeLink s l exchange) d (Step.compared s l exchange (legal_link now s l on within) (ap (is_none_or_fresh now) for ∙ fresh, stored)) in
           let is : link_at (after st t.0) l ≡ link_at (after st (log ++ exchanges ∷ [])) l = same v p seen held alive t log found ∙ sym (ap (λ (z : State). link_at z l) (after_push st log exchanges d found.before.legal does)) in
           record {
-            fair = record { done = d; legal = does; covers = covers_exchange; names = names_exchange };
+            fair = record { done = d; legal = does; covers = covers_exchange; names = names_exchange; one = λ one. one };
             its = refl;
             no_births = refl;
             ends = λ a i. absurd i;

@@ -14,7 +14,7 @@ use Rattle.seize_words.specs.Ledger.{Held, renewed, born}
 use Rattle.seize_words.specs.Entry.{Entry}
 use Rattle.seize_words.specs.Book.{after, births, slots, heads, numbers, of_new_slot}
 use Rattle.seize_words.specs.Fair.{Before, Covers, Fair, MayAdd, pass_key}
-use Rattle.seize_words.specs.Private.{is_one, key_of, own_of}
+use Rattle.seize_words.specs.Private.{is_one, key_of, label_of, own_of}
 use Rattle.seize_words.specs.Tokens.{Name, start}
 use Rattle.seize_words.proofs.Lists.{equal}
 use Rattle.seize_words.proofs.Gives.{free_by, free_of, the_only}
@@ -23,17 +23,17 @@ use Rattle.seize_words.proofs.Private.{only, only_is, differ}
 takes : ℕ → ℕ → ℕ → Entry
 takes p size s = record { pass = p; size = size; event = Take s; life = 0 }
 
-covers : (st : State) (log : List Entry) (p size s j : ℕ) (mine own : List Entry) → s ≡ length (after st log).slots → j ≡ 0
-    → Covers st (pass_key p mine ∷ record { kind = numbers; key = j; own = own } ∷ []) log (takes p size s)
+covers : (st : State) (log : List Entry) (p size s j x : ℕ) (mine own : List Entry) → s ≡ length (after st log).slots → j ≡ 0
+    → Covers st (pass_key p mine ∷ record { kind = numbers; key = j; own = own; label = x } ∷ []) log (takes p size s)
 unfolding takes
-covers st log p size s j mine own is z zero k b there = differ p k (λ i. b.0 (refl, i))
-covers st log p size s j mine own is z (suc zero) k b there = absurd (b.1.0 (refl, the_only k j there.0 there.1 there.2 (let n : there.0 ≡ 1 = there.1 in omega (arith, z, n))))
-covers st log p size s j mine own is z (suc (suc zero)) k b there = let n : there.0 ≡ length (after st log).slots = there.1 in let l : k < there.0 = there.2 in grind arith
-covers st log p size s j mine own is z (suc (suc (suc zero))) k b there = refl
-covers st log p size s j mine own is z (suc (suc (suc (suc zero)))) k b there = refl
-covers st log p size s j mine own is z (suc (suc (suc (suc (suc zero))))) k b there = refl
-covers st log p size s j mine own is z (suc (suc (suc (suc (suc (suc zero)))))) k b there = refl
-covers st log p size s j mine own is z (suc (suc (suc (suc (suc (suc (suc r))))))) k b there = refl
+covers st log p size s j x mine own is z zero k b there = differ p k (λ i. b.0 (refl, i))
+covers st log p size s j x mine own is z (suc zero) k b there = absurd (b.1.0 (refl, the_only k j there.0 there.1 there.2 (let n : there.0 ≡ 1 = there.1 in omega (arith, z, n))))
+covers st log p size s j x mine own is z (suc (suc zero)) k b there = let n : there.0 ≡ length (after st log).slots = there.1 in let l : k < there.0 = there.2 in grind arith
+covers st log p size s j x mine own is z (suc (suc (suc zero))) k b there = refl
+covers st log p size s j x mine own is z (suc (suc (suc (suc zero)))) k b there = refl
+covers st log p size s j x mine own is z (suc (suc (suc (suc (suc zero))))) k b there = refl
+covers st log p size s j x mine own is z (suc (suc (suc (suc (suc (suc zero)))))) k b there = refl
+covers st log p size s j x mine own is z (suc (suc (suc (suc (suc (suc (suc r))))))) k b there = refl
 
 -- how many slots there are, and which number is free, follows from which are in use
 as_many : (a b : State) → used a ≡ used b → length a.slots ≡ length b.slots
@@ -79,7 +79,7 @@ module _ (n : Name) (b : List (Held Entry)) where
   s = length old.slots
 
   pub may_make : (p size : ℕ) (seen : List Entry) → is_one numbers b ≡ true → key_of b ≡ 0 → first_free old.slots ≡ s → s < all_numbers → MayAdd n p seen b (record { pass = p; size = size; event = Take s; life = 0 })
-  unfolding takes
+  unfolding takes made_by
   may_make p size seen one zero_is full few = subst (λ (hs : List (Held Entry)). MayAdd n p seen hs (takes p size s)) (sym (only_is numbers b one)) ((omega arith, tt), (λ lives. refl), (λ s. refl), fair)
     where
       fair : (mine log : List Entry) → Before n p seen (only numbers b) log → Fair (start n) (pass_key p mine ∷ only numbers b) log (takes p size s)
@@ -88,18 +88,19 @@ module _ (n : Name) (b : List (Held Entry)) where
           record {
             done = made_by (after (start n) log) s;
             legal = does size (after (start n) log) s many (sym full ∙ as_free old (after (start n) log) same) few;
-            covers = covers (start n) log p size s (key_of b) mine (own_of b) many zero_is;
-            names = λ many was there. (there.0, λ v le. refl);
+            covers = covers (start n) log p size s (key_of b) (label_of b) mine (own_of b) many zero_is;
+            names = λ many was there. (there.0, (λ k le. refl), λ k le. refl);
+            one = λ one. one;
           }
 
   -- the keys that come with it
   pub new_keys : (p : ℕ) (seen log log' : List Entry) → is_one numbers b ≡ true → Before n p seen b log
-      → born (births (after (start n) log) (Take s)) log' ≡ record { kind = slots; key = s; own = log' } ∷ record { kind = heads; key = s; own = log' } ∷ []
+      → born (births (after (start n) log) (Take s)) log' ≡ record { kind = slots; key = s; own = log'; label = 0 } ∷ record { kind = heads; key = s; own = log'; label = 0 } ∷ []
   new_keys p seen log log' one before =
       let same : used old ≡ used (after (start n) log) = (subst (λ (hs : List (Held Entry)). Before n p seen hs log) (only_is numbers b one) before).kept.0.1 in
       let many : s ≡ length (after (start n) log).slots = as_many old (after (start n) log) same in
       ap (λ (c : Bool). born (if c then of_new_slot (after (start n) log) else []) log') (equal s (length (after (start n) log).slots) many)
-      ∙ ap (λ (k : ℕ). record { kind = slots; key = k; own = log' } ∷ record { kind = heads; key = k; own = log' } ∷ []) (sym many)
+      ∙ ap (λ (k : ℕ). record { kind = slots; key = k; own = log'; label = 0 } ∷ record { kind = heads; key = k; own = log'; label = 0 } ∷ []) (sym many)
 
   last : {X : Type 0} (xs : List X) (x d : X) → get_or (xs ++ x ∷ []) (length xs) d ≡ x
   last [] x d = refl
@@ -144,7 +145,7 @@ module _ (n : Name) (b : List (Held Entry)) where
   -- all keys then
   pub all_keys : (p : ℕ) (seen log log' : List Entry) → is_one numbers b ≡ true → Before n p seen b log
       → renewed b log' ++ born (births (after (start n) log) (Take s)) log'
-      ≡ record { kind = numbers; key = key_of b; own = log' } ∷ record { kind = slots; key = s; own = log' } ∷ record { kind = heads; key = s; own = log' } ∷ []
+      ≡ record { kind = numbers; key = key_of b; own = log'; label = label_of b } ∷ record { kind = slots; key = s; own = log'; label = 0 } ∷ record { kind = heads; key = s; own = log'; label = 0 } ∷ []
   all_keys p seen log log' one before =
       ap (λ (hs : List (Held Entry)). renewed hs log' ++ born (births (after (start n) log) (Take s)) log') (only_is numbers b one)
-      ∙ ap (λ (hs : List (Held Entry)). record { kind = numbers; key = key_of b; own = log' } ∷ hs) (new_keys p seen log log' one before)
+      ∙ ap (λ (hs : List (Held Entry)). record { kind = numbers; key = key_of b; own = log'; label = label_of b } ∷ hs) (new_keys p seen log log' one before)

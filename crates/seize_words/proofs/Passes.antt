@@ -111,7 +111,7 @@ module _ {M : Type 1} {𝓤 : Ura M} (𝓛 : Logic 𝓤) (n : Name) where
       now log = log ++ ev log ∷ []
 
       before : (log : List Entry) → Known (rules st) all seen log → (IsSole n.gate → log ≡ seen) → Before n p seen held log
-      before log known alone = record { legal = known.0; grows = known.1; none_made = sym known.2.0.1 ∙ past.1; kept = known.2.1; alone = alone }
+      before log known alone = record { legal = known.0.0; sound = known.0.1; grows = known.1; none_made = sym known.2.0.1 ∙ past.1; kept = known.2.1; alone = alone }
 
       tells_all : Tells p seen held Told X → (log : List Entry) → Known (rules st) all seen log → ⟦ beside n log ⟧ ∗ (⟦ gives seen ⟧ ∗ X) ⊢ guard 𝓤 (ToldAll log) (⟦ beside n log ⟧ ∗ (⟦ gives seen ⟧ ∗ X))
       tells_all tells log known = qed 𝓛 (‵ (beside n log) ∷ (‵ (gives seen) ⊛ raw X) ∷ []) ∵ fsplit ! $ move ! (2 ∷ []) $ split ! $

@@ -26,7 +26,7 @@ plans_append st (e ∷ a) b =
     let now = (done_by next st (timed e)).0 in
     ap (λ (ps : List Plan). planned_by st e.event ++ ps) (plans_append now a b) ∙ sym (append_assoc (planned_by st e.event) (plans now a) (plans (after now a) b))
 
-planned_many : (st : State) (event : Event) → length (planned_by st event) ≡ batches_added event
+pub planned_many : (st : State) (event : Event) → length (planned_by st event) ≡ batches_added event
 planned_many st (Event.Detach s) = refl
 planned_many st _ = refl
 
@@ -48,9 +48,12 @@ pub plans_long : (n : Name) (log : List Entry) → IsLegalList (start n) log →
 plans_long n log l = let m : 0 + length (plans (start n) log) ≡ length (after (start n) log).batches = many_plans (start n) log l in omega (arith, m)
 
 -- and it stays
+pub plan_stays : (st : State) (own log : List Entry) (b : ℕ) → IsPrefix own log → b < length (plans st own) → get_or (plans st own) b no_plan ≡ get_or (plans st log) b no_plan
+plan_stays st own log b grows there =
+    sym (get_or_append_left (plans st own) (plans (after st own) grows.0) no_plan b there) ∙ ap (λ (ps : List Plan). get_or ps b no_plan) (sym (plans_append st own grows.0) ∙ ap (plans st) grows.1)
+
 pub block_stays : (st : State) (own log : List Entry) (b m : ℕ) → IsPrefix own log → b < length (plans st own) → block_for st own b m ≡ block_for st log b m
-block_stays st own log b m grows there =
-    ap (λ (p : Plan). block_in p m) (sym (get_or_append_left (plans st own) (plans (after st own) grows.0) no_plan b there) ∙ ap (λ (ps : List Plan). get_or ps b no_plan) (sym (plans_append st own grows.0) ∙ ap (plans st) grows.1))
+block_stays st own log b m grows there = ap (λ (p : Plan). block_in p m) (plan_stays st own log b grows there)
 
 -- Batches that wait at a head were detached.
 

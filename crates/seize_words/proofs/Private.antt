@@ -6,23 +6,24 @@ use Rattle.seize_machine.specs.Machine.Event.{Event, slot_of}
 use Rattle.seize_machine.specs.Machine.Next.{next}
 use Rattle.seize_machine.specs.Machine.Frames.{changes_slot}
 use Rattle.seize_machine.specs.declared.machine.event.Answer.{Answer}
-use Rattle.seize_machine.proofs.Facts.{is_true, eq_true}
+use Rattle.seize_machine.proofs.Facts.{is_true, eq_true, step_of}
 use Rattle.seize_words.specs.Ledger.{Held, AllKept, WithKinds, renewed, born}
 use Rattle.seize_words.specs.Entry.{Entry}
 use Rattle.seize_words.specs.Book.{after, births, TheSlot, Kept, kinds, rules, slots}
 use Rattle.seize_words.specs.Fair.{Added, Before, Covers, Fair, EndsNone, StartsNone, MayAdd, pass_key}
 use Rattle.seize_words.specs.Others.{MakesNone}
-use Rattle.seize_words.specs.Private.{IsOwn, IsOpen, is_one, key_of, own_of}
+use Rattle.seize_words.specs.Private.{IsOwn, IsOpen, is_one, key_of, label_of, own_of}
 use Rattle.seize_words.specs.Tokens.{Name, start}
+use Rattle.seize_words.proofs.Sound.{none_named}
 
 -- the one key there is
 abbrev pub only : ℕ → List (Held Entry) → List (Held Entry)
-only r held = record { kind = r; key = key_of held; own = own_of held } ∷ []
+only r held = record { kind = r; key = key_of held; own = own_of held; label = label_of held } ∷ []
 
 pub only_is : (r : ℕ) (held : List (Held Entry)) → is_one r held ≡ true → held ≡ only r held
 only_is r [] h = absurd (cc)
 only_is r (x ∷ y ∷ held) h = absurd (cc)
-only_is r (x ∷ []) h = ap (λ (k : ℕ). record { kind = k; key = x.key; own = x.own } ∷ []) (eq_true x.kind r h)
+only_is r (x ∷ []) h = ap (λ (k : ℕ). record { kind = k; key = x.key; own = x.own; label = x.label } ∷ []) (eq_true x.kind r h)
 
 -- the key after an event that it made
 pub one_after : (r : ℕ) (held : List (Held Entry)) (births : List (ℕ × ℕ)) (seen : List Entry) → is_one r held ≡ true
@@ -55,7 +56,7 @@ of_other (Event.ExchangeLink s l exchange) k h = refl
 of_other _ k h = h
 
 covers : (st : State) (log : List Entry) (e : Entry) (p s : ℕ) (mine own : List Entry) → e.pass ≡ p → IsOwn s e.event
-    → Covers st (pass_key p mine ∷ record { kind = slots; key = s; own = own } ∷ []) log e
+    → Covers st (pass_key p mine ∷ record { kind = slots; key = s; own = own; label = 0 } ∷ []) log e
 covers st log e p s mine own pe private zero k b there = differ e.pass k (λ i. b.0 (refl, i ∙ pe))
 covers st log e p s mine own pe private (suc zero) k b there = private.1
 covers st log e p s mine own pe private (suc (suc zero)) k b there = of_other e.event k (differ (slot_of e.event) k (λ i. b.1.0 (refl, i ∙ private.0)))
@@ -93,7 +94,8 @@ may_add n p seen held e one pe private open_ = subst (λ (hs : List (Held Entry)
           done = d.0;
           legal = d.1;
           covers = covers (start n) log e p (key_of held) mine (own_of held) pe private;
-          names = λ many was there. (subst (λ (z : ℕ). z < many 0) (sym pe) there.0, λ v le. (private.3 (after (start n) log) v).1);
+          names = λ many was there. (subst (λ (z : ℕ). z < many 0) (sym pe) there.0, (λ j le. (private.3 (after (start n) log) j).0), λ j le. (private.3 (after (start n) log) j).1);
+          one = none_named e.size (after (start n) log) e.event d.0 (step_of _ _ _ _ d.1) (λ j. (private.3 (after (start n) log) j).1);
         }
 
 -- A slot's key, and others after it.

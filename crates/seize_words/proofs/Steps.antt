@@ -14,7 +14,7 @@ use Rattle.seize_machine.specs.Machine.State.{State, link_at}
 use Rattle.seize_machine.proofs.Facts.{eq_true}
 use Rattle.seize_words.specs.Ledger.{fact, Held, right, WithKinds, renewed, born}
 use Rattle.seize_words.specs.Entry.{Entry, entry_coded}
-use Rattle.seize_words.specs.Book.{Kind, ThePass, TheNumbers, TheSlot, TheHead, TheLink, TheBatch, TheValue, Nothing, after, kinds, kind_of, values}
+use Rattle.seize_words.specs.Book.{Kind, ThePass, TheNumbers, TheSlot, TheHead, TheLink, TheCount, TheBlock, Nothing, after, kinds, kind_of, blocks}
 use Rattle.seize_words.specs.Laws.{ended}
 use Rattle.seize_words.specs.Fair.{Before}
 use Rattle.seize_words.specs.Private.{is_one}
@@ -32,14 +32,14 @@ kind_within st (suc zero) k v log so = absurd so
 kind_within st (suc (suc zero)) k v log so = absurd so
 kind_within st (suc (suc (suc zero))) k v log so = omega arith
 kind_within st (suc (suc (suc (suc zero)))) k v log so = omega arith
-kind_within st (suc (suc (suc (suc (suc zero))))) k v log so = absurd so
+kind_within st (suc (suc (suc (suc (suc zero))))) k v log so = omega arith
 kind_within st (suc (suc (suc (suc (suc (suc zero)))))) k v log so = absurd so
 kind_within st (suc (suc (suc (suc (suc (suc (suc r))))))) k v log so = absurd so
 
-one_within : (held : List (Held Entry)) → is_one values held ≡ true → WithKinds kinds held
+one_within : (held : List (Held Entry)) → is_one blocks held ≡ true → WithKinds kinds held
 one_within [] one = absurd (cc)
 one_within (h ∷ g ∷ held) one = absurd (cc)
-one_within (h ∷ []) one = (let is : h.kind ≡ values = eq_true h.kind values one in omega arith, tt)
+one_within (h ∷ []) one = (let is : h.kind ≡ blocks = eq_true h.kind blocks one in omega arith, tt)
 
 linked_within : (o : Option ℕ) (vs : List (Held Entry)) → IsKeyOf o vs → WithKinds kinds vs
 linked_within None vs is = subst (WithKinds kinds) (sym is) tt
@@ -52,8 +52,8 @@ beside_within st ThePass k log vs so = subst (WithKinds kinds) (sym so) tt
 beside_within st TheNumbers k log vs so = subst (WithKinds kinds) (sym so) tt
 beside_within st TheSlot k log vs so = subst (WithKinds kinds) (sym so) tt
 beside_within st TheHead k log vs so = subst (WithKinds kinds) (sym so) tt
-beside_within st TheBatch k log vs so = subst (WithKinds kinds) (sym so) tt
-beside_within st TheValue k log vs so = subst (WithKinds kinds) (sym so) tt
+beside_within st TheCount k log vs so = subst (WithKinds kinds) (sym so) tt
+beside_within st TheBlock k log vs so = subst (WithKinds kinds) (sym so) tt
 beside_within st Nothing k log vs so = subst (WithKinds kinds) (sym so) tt
 
 both_within : (a b : List (Held Entry)) → WithKinds kinds a → WithKinds kinds b → WithKinds kinds (a ++ b)
@@ -62,7 +62,7 @@ both_within (x ∷ a) b h k = (h.0, both_within a b h.1 k)
 
 renewed_append : (a b : List (Held Entry)) (log : List Entry) → renewed (a ++ b) log ≡ renewed a log ++ renewed b log
 renewed_append [] b log = refl
-renewed_append (x ∷ a) b log = ap (λ (hs : List (Held Entry)). record { kind = x.kind; key = x.key; own = log } ∷ hs) (renewed_append a b log)
+renewed_append (x ∷ a) b log = ap (λ (hs : List (Held Entry)). record { kind = x.kind; key = x.key; own = log; label = x.label } ∷ hs) (renewed_append a b log)
 
 module _ {M : Type 1} {𝓤 : Ura M} (𝓛 : Logic 𝓤) (site : Site) where
   open 𝓛 use {H, A}

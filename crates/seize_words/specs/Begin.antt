@@ -14,7 +14,7 @@ BeganWith n links size = (n.slots ≡ 0) × (n.links ≡ replicate links None) �
 
 -- nothing was ever added by its holder
 abbrev pub unused : ℕ → ℕ → Held Entry
-unused kind key = record { kind = kind; key = key; own = [] }
+unused kind key = record { kind = kind; key = key; own = []; label = 0 }
 
 -- those of so many links, from this one on
 abbrev pub first_links : ℕ → ℕ → List (Held Entry)

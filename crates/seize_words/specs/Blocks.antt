@@ -2,12 +2,14 @@
 --     block_of v             the number of the block that a value lies in: its name says it
 --     Plan, plans st log     each batch as it was detached, in order: the slots where it is to be inserted, and its values
 --     block_for log b m      the block with which batch b is inserted at slot m: that of the value with the slot's place
+--     front_of st log b      the first value of batch b, as it was detached: the count of the batch stands with its block
 --     list_word, head_word, link_word     the words of a list of batches that wait for a slot, of a head and of a link
-use Rattle.std.specs.Prelude.{ℕ, ◌+◌, ◌%◌, ◌^◌, ◌==◌, if◌then◌else◌, List, [], ◌∷◌, ◌++◌, Option, Some, None, slice_index_or, unwrap_or}
+--     count_word             the word of a count
+use Rattle.std.specs.Prelude.{ℕ, suc, ◌+◌, ◌-◌, ◌%◌, ◌^◌, ◌==◌, ℤ, pos, negsuc, if◌then◌else◌, List, [], ◌∷◌, ◌++◌, Option, Some, None, slice_index_or, unwrap_or}
 use Rattle.seize_machine.specs.Machine.State.{State, Slot, Place, Mark, Head, Inactive, Active, slot_at, head_at}
 use Rattle.seize_machine.specs.Machine.Event.{Event, Detach}
 use Rattle.seize_machine.specs.Machine.Next.{next, of_call}
-use Rattle.seize_machine.specs.Machine.History.{done_by}
+use Rattle.seize_machine.specs.Machine.History.{done_by, first_of}
 use Rattle.seize_words.specs.Entry.{Entry, timed}
 use Rattle.seize_words.specs.Book.{after}
 
@@ -48,6 +50,9 @@ block_in plan m = block_of (serving m plan.slots plan.values)
 abbrev pub block_for : State → List Entry → ℕ → ℕ → ℕ
 block_for st log b m = block_in (slice_index_or (plans st log) b no_plan) m
 
+abbrev pub front_of : State → List Entry → ℕ → Option ℕ
+front_of st log b = first_of (slice_index_or (plans st log) b no_plan).values
+
 -- A head's word is 0 where the slot is inactive, 1 where it is active and its list is empty, and else 2 and the number of the block with
 -- which the first batch of the list was inserted.
 
@@ -66,3 +71,8 @@ head_word st log m = word_of (λ b. block_for st log b m) (head_at (after st log
 abbrev pub link_word : Option ℕ → ℕ
 link_word None = 0
 link_word (Some v) = block_of v + 1
+
+-- A count's word is the count, and 2^64 more where that is below 0: it is 0 only where the count is, since each lies within 2^64 - 32.
+abbrev pub count_word : ℤ → ℕ
+count_word (pos n) = n
+count_word (negsuc n) = 2 ^ 64 - suc n

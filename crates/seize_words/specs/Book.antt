@@ -7,17 +7,18 @@
 --     Same st kind k a b  lists a and b say the same of key k
 --     touches st e kind k the event may change what the list says of it
 --     rules st            the rules of the list
-use Rattle.std.specs.Prelude.{◌≡◌, ℕ, zero, suc, ◌≤◌, Bool, true, false, ◌==◌, List, [], ◌∷◌, length, Some, if◌then◌else◌}
+use Rattle.std.specs.Prelude.{◌≡◌, ℕ, zero, suc, ◌≤◌, Bool, true, false, ◌==◌, pos, List, [], ◌∷◌, length, Some, if◌then◌else◌}
 use Rattle.std.specs.List.{filter}
 use mathlib.Core.List.{IsPrefix}
-use Rattle.seize_machine.specs.Machine.State.{State, slot_at, head_at, link_at, batch_at, is_active, has}
-use Rattle.seize_machine.specs.Machine.Event.{Event, Take, Detach}
+use Rattle.seize_machine.specs.Machine.State.{State, slot_at, head_at, link_at, is_active, has}
+use Rattle.seize_machine.specs.Machine.Event.{Event, Take}
 use Rattle.seize_machine.specs.Machine.Next.{next}
 use Rattle.seize_machine.specs.Machine.History.{Moment, done_by, history, end_of, are_legal}
-use Rattle.seize_machine.specs.Machine.Frames.{changes_slot, used, changes_used, changes_head_of, changes_link, changes_batch, changes_value}
+use Rattle.seize_machine.specs.Machine.Frames.{changes_slot, used, changes_used, changes_head_of, changes_link}
 use Rattle.seize_machine.specs.declared.machine.event.Answer.{Answer}
 use Rattle.seize_words.specs.Ledger.{Rules}
 use Rattle.seize_words.specs.Entry.{Entry, timed, events_of}
+use Rattle.seize_words.specs.Homes.{IsSound, changes_count, changes_home, count_in, home_of}
 
 abbrev pub moments : State → List Entry → List Moment
 moments st log = history next st (events_of log)
@@ -42,16 +43,16 @@ mine st p log = filter (λ a. a.0.pass == p) (answered st log)
 abbrev pub by_slot : State → ℕ → List Entry → List (Entry × Answer)
 by_slot st s log = filter (λ a. changes_slot s a.0.event) (answered st log)
 
--- The kinds of keys. There is one key of the numbers; of the others, one for each pass, slot made, head, link, retired batch and
--- value that may be named.
+-- The kinds of keys. There is one key of the numbers; of the others, one for each pass, slot made, head and link, and two for each
+-- block: that of its values, and that of the count of the batch whose first value lies in it.
 pub data Kind : Type 0 where
   ThePass : Kind
   TheNumbers : Kind
   TheSlot : Kind
   TheHead : Kind
   TheLink : Kind
-  TheBatch : Kind
-  TheValue : Kind
+  TheCount : Kind
+  TheBlock : Kind
   Nothing : Kind
 
 abbrev pub passes : ℕ
@@ -69,11 +70,11 @@ heads = 3
 abbrev pub links : ℕ
 links = 4
 
-abbrev pub batches : ℕ
-batches = 5
+abbrev pub counts : ℕ
+counts = 5
 
-abbrev pub values : ℕ
-values = 6
+abbrev pub blocks : ℕ
+blocks = 6
 
 abbrev pub kinds : ℕ
 kinds = 7
@@ -84,12 +85,12 @@ kind_of (suc zero) = TheNumbers
 kind_of (suc (suc zero)) = TheSlot
 kind_of (suc (suc (suc zero))) = TheHead
 kind_of (suc (suc (suc (suc zero)))) = TheLink
-kind_of (suc (suc (suc (suc (suc zero))))) = TheBatch
-kind_of (suc (suc (suc (suc (suc (suc zero)))))) = TheValue
+kind_of (suc (suc (suc (suc (suc zero))))) = TheCount
+kind_of (suc (suc (suc (suc (suc (suc zero)))))) = TheBlock
 kind_of _ = Nothing
 
--- what the list says of a key: of a pass what was made with it, of a value whether it was ever named and whether it is between a link
--- and its retirement
+-- what the list says of a key: of a pass what was made with it, of a block which of its values were ever named, and which of them are
+-- between a link and their retirement
 abbrev pub Same : State → Kind → ℕ → List Entry → List Entry → Type 0
 Same st ThePass p a b = mine st p a ≡ mine st p b
 Same st TheNumbers k a b = used (after st a) ≡ used (after st b)
@@ -99,8 +100,10 @@ Same st TheSlot s a b =
     × (is_active (head_at (after st a) s) ≡ is_active (head_at (after st b) s))
 Same st TheHead m a b = head_at (after st a) m ≡ head_at (after st b) m
 Same st TheLink l a b = link_at (after st a) l ≡ link_at (after st b) l
-Same st TheBatch k a b = batch_at (after st a) k ≡ batch_at (after st b) k
-Same st TheValue v a b = (has v (after st a).named ≡ has v (after st b).named) × (has v (after st a).loose ≡ has v (after st b).loose)
+Same st TheCount k a b = count_in (after st a) k ≡ count_in (after st b) k
+Same st TheBlock k a b =
+    (v : ℕ) → home_of v ≡ k
+    → (has v (after st a).named ≡ has v (after st b).named) × (has v (after st a).loose ≡ has v (after st b).loose)
 Same st Nothing k a b = Unit {0}
 
 -- what the holder of a key knows, who last appended when the list was `own`
@@ -113,37 +116,33 @@ touches st e TheNumbers k = changes_used e.event
 touches st e TheSlot s = changes_slot s e.event
 touches st e TheHead m = changes_head_of m e.event
 touches st e TheLink l = changes_link l e.event
-touches st e TheBatch k = changes_batch st k e.event
-touches st e TheValue v = changes_value st v e.event
+touches st e TheCount k = changes_count st k e.event
+touches st e TheBlock k = changes_home st k e.event
 touches st e Nothing k = false
 
--- how many keys of a kind there are: of passes more than made an event, of values more than were named
+-- how many keys of a kind there are: of passes more than made an event, of blocks more than have values that were named or counts
 abbrev pub Sized : State → Kind → ℕ → List Entry → Type 0
 Sized st ThePass n log = (p : ℕ) → n ≤ p → mine st p log ≡ []
 Sized st TheNumbers n log = n ≡ 1
 Sized st TheSlot n log = n ≡ length (after st log).slots
 Sized st TheHead n log = n ≡ length (after st log).slots
 Sized st TheLink n log = n ≡ length (after st log).links
-Sized st TheBatch n log = n ≡ length (after st log).batches
-Sized st TheValue n log = (v : ℕ) → n ≤ v → has v (after st log).named ≡ false
+Sized st TheCount n log = (k : ℕ) → n ≤ k → count_in (after st log) k ≡ pos 0
+Sized st TheBlock n log = (v : ℕ) → n ≤ home_of v → has v (after st log).named ≡ false
 Sized st Nothing n log = Unit {0}
 
 abbrev pub rules : State → Rules Entry
 rules st = record {
-  Legal = λ log. IsLegalList st log;
+  Legal = λ log. IsLegalList st log × IsSound (after st log);
   Kept = λ r. Kept st (kind_of r);
   Sized = λ r. Sized st (kind_of r);
 }
 
--- The keys that an event makes, by kind and number: a new slot's and its head's, and a detached batch's.
+-- The keys that an event makes, by kind and number: a new slot's and its head's.
 
 abbrev pub of_new_slot : State → List (ℕ × ℕ)
 of_new_slot st = (slots, length st.slots) ∷ (heads, length st.slots) ∷ []
 
-abbrev pub of_new_batch : State → List (ℕ × ℕ)
-of_new_batch st = (batches, length st.batches) ∷ []
-
 abbrev pub births : State → Event → List (ℕ × ℕ)
 births st (Take s) = if s == length st.slots then of_new_slot st else []
-births st (Detach s) = of_new_batch st
 births st _ = []

@@ -2,20 +2,29 @@
 --     Opens book numbers rest links size       a new book to which many may append, with so many links, which are empty; and its keys
 --     OpensAlone book pass numbers rest links size     a new book to which this pass alone may append
 --     IsNew pass                               nothing was made with it
---     IsNewValue keys block                    it is one key, of a value of the block that was never named
-use Rattle.std.specs.Prelude.{◌≡◌, ℕ, true, false, []}
+--     IsNewBlock keys number                   the key of a block with this number no value of which was ever named, labelled with one of
+--                                              them; and that of its count, which is 0
+--     IsFirstIn value number                   it was never named, nor was another value of its block, which has this number
+--     IsCountFor count value                   it is that of the value's block, and the count is 0
+use Rattle.std.specs.Prelude.{◌≡◌, ℕ, pos, false, List, [], ◌∷◌}
 use Rattle.seize_machine.specs.Machine.State.{has}
+use Rattle.seize_words.specs.Entry.{Entry}
 use Rattle.seize_words.specs.Blocks.{block_of}
-use Rattle.seize_words.specs.Book.{after, values}
+use Rattle.seize_words.specs.Counts.{count_known, home_in}
+use Rattle.seize_words.specs.Homes.{IsVacant, count_in, home_of}
+use Rattle.seize_words.specs.Others.{is_named, state_of, value_of}
+use Rattle.seize_words.specs.Book.{after, counts, blocks}
 use Rattle.seize_words.specs.Tokens.{many, IsSole, start}
-use Rattle.seize_words.specs.Private.{is_one, key_of, own_of}
+use Rattle.seize_words.specs.Private.{own_of}
 use Rattle.seize_words.specs.Begin.{BeganWith, first_keys, first_links}
 use Rattle.seize_words.specs.Passes.{mine_of}
+use Rattle.seize_words.specs.declared.book.count_key.CountKey.{CountKey}
 use Rattle.seize_words.specs.declared.book.keys.Keys.{Keys}
 use Rattle.seize_words.specs.declared.book.link_keys.LinkKeys.{LinkKeys}
 use Rattle.seize_words.specs.declared.book.numbers_key.NumbersKey.{NumbersKey}
 use Rattle.seize_words.specs.declared.book.pass.Pass.{Pass}
 use Rattle.seize_words.specs.declared.book.token.Book.{Book}
+use Rattle.seize_words.specs.declared.book.value_key.ValueKey.{ValueKey}
 
 -- the keys are all those of the book at its beginning
 abbrev pub Begins : Book → Keys → ℕ → ℕ → Type 0
@@ -42,7 +51,21 @@ Opens book numbers rest links size = IsMany book × HasKeys book numbers rest li
 abbrev pub OpensAlone : Book → Pass → NumbersKey → LinkKeys → ℕ → ℕ → Type 0
 OpensAlone book pass numbers rest links size = IsAlone book pass × HasKeys book numbers rest links size
 
-abbrev pub IsNewValue : Keys → ℕ → Type 0
-IsNewValue keys block =
-    (is_one values keys.held ≡ true) × (has (key_of keys.held) (after (start keys.name) (own_of keys.held)).named ≡ false)
-    × (block_of (key_of keys.held) ≡ block)
+pub record IsNewBlock (keys : Keys) (number : ℕ) : Type 0 where
+  pub value : ℕ
+  pub own : List Entry
+  pub held : keys.held
+      ≡ record { kind = blocks; key = home_of value; own = own; label = value }
+      ∷ record { kind = counts; key = home_of value; own = own; label = 0 } ∷ []
+  pub numbered : block_of value ≡ number
+  pub none_named : (v : ℕ) → home_of v ≡ home_of value → has v (after (start keys.name) own).named ≡ false
+  pub no_count : count_in (after (start keys.name) own) (home_of value) ≡ pos 0
+
+-- a value of a block with this number, which was never named, nor was another one of that block
+abbrev pub IsFirstIn : ValueKey → ℕ → Type 0
+IsFirstIn value number =
+    (is_named value ≡ false) × IsVacant (state_of value.keys) (home_of (value_of value)) × (block_of (value_of value) ≡ number)
+
+-- the count of its block, which is 0
+abbrev pub IsCountFor : CountKey → ValueKey → Type 0
+IsCountFor count value = (home_in count ≡ home_of (value_of value)) × (count_known count ≡ pos 0)

@@ -1,25 +1,26 @@
 -- What an event has to be, so that the holder of a pass and of some keys may add it.
 --     Before n p seen held log   what is known of the list just before the event
---     Fair st held log e         the event is legal then; the keys that it touches are held, and it names no others
+--     Fair st held log e         the event is legal then; the keys that it touches are held, and it changes no block but theirs
 --     MayAdd n p seen held e     it is fair whatever the list is by then, and it neither ends nor begins an activation
 --     Added n p seen seen' held held' e     it was added: see Noted; the keys know of it, and its own keys were made
 use Rattle.std.specs.Prelude.{◌≡◌, ℕ, ◌<◌, ◌≤◌, false, List, [], ◌∷◌, ◌++◌}
 use mathlib.Core.List.{IsPrefix}
 use Rattle.seize_machine.specs.Machine.State.{State}
 use Rattle.seize_machine.specs.Machine.Event.{Event}
-use Rattle.seize_machine.specs.Machine.Frames.{changes_value}
 use Rattle.seize_machine.specs.declared.machine.event.Answer.{Answer}
 use Rattle.seize_words.specs.Ledger.{Held, Beside, IsThere, AllThere, AllKept, WithKinds, renewed, born}
 use Rattle.seize_words.specs.Entry.{Entry}
-use Rattle.seize_words.specs.Book.{after, IsLegalList, Does, mine, kind_of, touches, Sized, rules, births, passes, values, kinds}
+use Rattle.seize_words.specs.Book.{after, IsLegalList, Does, mine, kind_of, touches, Sized, rules, births, passes, counts, blocks, kinds}
+use Rattle.seize_words.specs.Homes.{HasOne, IsSound, changes_count, changes_home}
 use Rattle.seize_words.specs.Laws.{ended_by, starts}
 use Rattle.seize_words.specs.Tokens.{Name, start, IsSole, Noted}
 
 abbrev pub pass_key : ℕ → List Entry → Held Entry
-pass_key p own = record { kind = passes; key = p; own = own }
+pass_key p own = record { kind = passes; key = p; own = own; label = 0 }
 
 pub record Before (n : Name) (p : ℕ) (seen : List Entry) (held : List (Held Entry)) (log : List Entry) : Type 0 where
   pub legal : IsLegalList (start n) log
+  pub sound : IsSound (after (start n) log)
   pub grows : IsPrefix seen log
   pub none_made : mine (start n) p log ≡ mine (start n) p seen
   pub kept : AllKept (rules (start n)) held log
@@ -28,16 +29,20 @@ pub record Before (n : Name) (p : ℕ) (seen : List Entry) (held : List (Held En
 abbrev pub Covers : State → List (Held Entry) → List Entry → Entry → Type 0
 Covers st held log e = (r k : ℕ) → Beside held r k → IsThere (rules st) r k log → touches (after st log) e (kind_of r) k ≡ false
 
--- the event is made with a pass whose key is there, and of values it names none but those whose keys are
+-- the event is made with a pass whose key is there; and it changes the values and the count of no block but those whose keys are
 abbrev pub NamesHeld : State → List (Held Entry) → List Entry → Entry → Type 0
 NamesHeld st held log e = (many : ℕ → ℕ) → ((r : ℕ) → Sized st (kind_of r) (many r) log) → AllThere many held
-    → (e.pass < many passes) × ((v : ℕ) → many values ≤ v → changes_value (after st log) v e.event ≡ false)
+    → (e.pass < many passes)
+    × ((k : ℕ) → many counts ≤ k → changes_count (after st log) k e.event ≡ false)
+    × ((k : ℕ) → many blocks ≤ k → changes_home (after st log) k e.event ≡ false)
 
 pub record Fair (st : State) (held : List (Held Entry)) (log : List Entry) (e : Entry) : Type 0 where
   pub done : State × Answer
   pub legal : Does st log e done
   pub covers : Covers st held log e
   pub names : NamesHeld st held log e
+  -- all earlier values of a home were reclaimed where it names one
+  pub one : HasOne (after st log) → HasOne done.0
 
 -- it neither ends nor begins an activation
 abbrev pub EndsNone : Event → Type 0

@@ -28,6 +28,8 @@ pub record Held (E : Type 0) : Type 0 where
   pub kind : ℕ
   pub key : ℕ
   pub own : List E
+  -- what its holder calls it; no rule speaks of this
+  pub label : ℕ
 
 -- the keys of the kinds, a row each: those past the last are empty
 abbrev pub first : {X : Type 0} → List (List X) → List X
@@ -102,7 +104,7 @@ WithKinds n (h ∷ hs) = (h.kind < n) × WithKinds n hs
 
 abbrev pub renewed : {E : Type 0} → List (Held E) → List E → List (Held E)
 renewed [] log = []
-renewed (h ∷ hs) log = record { kind = h.kind; key = h.key; own = log } ∷ renewed hs log
+renewed (h ∷ hs) log = record { kind = h.kind; key = h.key; own = log; label = h.label } ∷ renewed hs log
 
 -- the keys that an event makes, each by its kind and number
 
@@ -112,7 +114,7 @@ AllBelow n (b ∷ births) = (b.0 < n) × AllBelow n births
 
 abbrev pub born : {E : Type 0} → List (ℕ × ℕ) → List E → List (Held E)
 born [] own = []
-born (b ∷ births) own = record { kind = b.0; key = b.1; own = own } ∷ born births own
+born (b ∷ births) own = record { kind = b.0; key = b.1; own = own; label = 0 } ∷ born births own
 
 -- how many there are of each kind, with one more of kind b
 abbrev pub bumped : ℕ → (ℕ → ℕ) → ℕ → ℕ

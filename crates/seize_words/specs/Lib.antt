@@ -1,5 +1,6 @@
 pub mod Ledger
 pub mod Entry
+pub mod Homes
 pub mod Book
 pub mod Laws
 pub mod Tokens
@@ -10,6 +11,7 @@ pub mod Passes
 pub mod Adding
 pub mod Slots
 pub mod Others
+pub mod Counts
 pub mod Batches
 pub mod Books
 pub mod Blocks

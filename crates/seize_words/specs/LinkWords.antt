@@ -1,14 +1,15 @@
 -- The words in which the contracts of links speak.
---     IsNone key pass, IsKeyIn value key     it is none, of the pass's book;  it is the value's
+--     IsNone key pass, IsKeyIn value key     it is none, of the pass's book;  it is the value's block's, in its name
 --     number link                 which link it is
 --     holds key, IsSomeKey key    the value whose key it is, if it is one;  and it is one
 --     IsIn link activation pass   all are of one book, the activation has begun, as the pass has seen, and the link is one of the book's
---     IsNewFor link key new       the key is that of a value that was never named, or none, and this is its word
+--     IsNewFor link key new       the key is that of a value that was never named and whose block is vacant, or none; this is its word
+--     IsOut key                   the value was named, and it is loose, as its key knows
 --     HasNext left, IsNext left link left'     a link is left to make;  it was made
 --     Takes                       the event was made with the pass, during the activation;  IsDuring activation name list
 --     Reads, Swaps, CompareExchanges     what the event is, in which state it was made, and what is had afterwards
-use Rattle.std.specs.Prelude.{◌≡◌, ◌≢◌, ℕ, suc, List, [], Option, None, true, is_some, drop}
-use Rattle.seize_machine.specs.Machine.State.{head_at, is_active, link_at}
+use Rattle.std.specs.Prelude.{◌≡◌, ◌≢◌, ℕ, suc, List, [], Option, Some, None, true, is_some, drop}
+use Rattle.seize_machine.specs.Machine.State.{head_at, is_active, link_at, has}
 use Rattle.seize_machine.specs.Machine.Event.{Event, ReadLink, ExchangeLink}
 use Rattle.seize_machine.specs.declared.machine.event.Exchange.TheVariants.{Swap, Compare}
 use Rattle.seize_words.specs.Adding.{private}
@@ -19,6 +20,7 @@ use Rattle.seize_words.specs.Entry.{Entry}
 use Rattle.seize_words.specs.Laws.{life}
 use Rattle.seize_words.specs.Ledger.{renewed}
 use Rattle.seize_words.specs.Links.{IsNewIn, IsWithin, compared, value_in}
+use Rattle.seize_words.specs.Others.{state_of}
 use Rattle.seize_words.specs.Passes.{IsSame}
 use Rattle.seize_words.specs.Private.{key_of}
 use Rattle.seize_words.specs.Tokens.{Name, Noted, start}
@@ -77,18 +79,24 @@ Reads link activation pass pass' v = Takes link activation pass pass' (λ _. Rea
 abbrev pub KnowsAll : MaybeKey → Pass → Type 0
 KnowsAll key pass = key.keys.held ≡ renewed key.keys.held pass.seen
 
+-- what its key is of was named, and is loose
+abbrev pub IsOut : MaybeKey → Type 0
+IsOut key =
+    (v : ℕ) → holds key ≡ Some v
+    → (has v (state_of key.keys).named ≡ true) × (has v (state_of key.keys).loose ≡ true)
+
 -- the key of what the link held came out
 abbrev pub Swaps : Link → Activation → MaybeKey → Pass → MaybeKey → Pass → ℕ → Type 0
 Swaps link activation key pass key' pass' v =
     (t : Takes link activation pass pass' (λ _. ExchangeLink activation.slot (number link) (Swap (holds key))) v)
-    × (key'.keys.name ≡ key.keys.name) × (holds key' ≡ held_before t) × KnowsAll key' pass'
+    × (key'.keys.name ≡ key.keys.name) × (holds key' ≡ held_before t) × IsOut key' × KnowsAll key' pass'
 
 -- and here where it was what was seen; else it is the same key
 abbrev pub CompareExchanges : Link → Activation → MaybeKey → Pass → ℕ → MaybeKey → Pass → ℕ → Type 0
 CompareExchanges link activation key pass seen key' pass' v =
     (t : Takes link activation pass pass' (λ old. ExchangeLink activation.slot (number link) (Compare (compared seen old) (holds key))) v)
     × (key'.keys.name ≡ key.keys.name)
-    × (v ≡ seen → holds key' ≡ held_before t) × (v ≢ seen → holds key' ≡ holds key) × KnowsAll key' pass'
+    × (v ≡ seen → (holds key' ≡ held_before t) × IsOut key') × (v ≢ seen → holds key' ≡ holds key) × KnowsAll key' pass'
 
 -- Links are made of the keys that their book begins with.
 

@@ -2,15 +2,17 @@
 --     at_link n l        the word of link l of the book
 --     IsWithin n s a since seen l   the slot was active, in the activation with lifetime a, when the list was `since`, which the pass has
 --                        seen; and the link is one of the book's
---     IsNewIn st o vs    the keys are of this value, which was never named, as they know; or there is neither value nor key
---     value_in held, is_at_most_one held     the value that a key is of, if there is one;  there is no other key
+--     IsNewIn st o vs    the keys are of this value, which was never named, as they know, and all that lay in its block before were
+--                        reclaimed; or there is neither value nor key
+--     value_in held, is_at_most_one held     the value that a key is labelled with, if there is one;  there is no other key
 --     compared seen old  what an exchange compares that asks for this word, where the link holds this
-use Rattle.std.specs.Prelude.{◌≡◌, ℕ, zero, suc, ◌<◌, ◌==◌, Bool, true, false, if◌then◌else◌, List, [], ◌∷◌, length, Option, Some, None}
+use Rattle.std.specs.Prelude.{◌≡◌, ℕ, zero, suc, ◌<◌, ◌==◌, Bool, true, false, ◌&&◌, if◌then◌else◌, List, [], ◌∷◌, length, Option, Some, None}
 use Rattle.seize_words.specs.Blocks.{link_word}
 use mathlib.Core.List.{IsPrefix}
 use Rattle.seize_machine.specs.Machine.State.{State, head_at, is_active, has}
-use Rattle.seize_words.specs.Book.{after, links, values}
+use Rattle.seize_words.specs.Book.{after, blocks, links}
 use Rattle.seize_words.specs.Entry.{Entry}
+use Rattle.seize_words.specs.Homes.{IsVacant, home_of}
 use Rattle.seize_words.specs.Laws.{life}
 use Rattle.seize_words.specs.Ledger.{Held}
 use Rattle.seize_words.specs.Private.{own_of}
@@ -26,23 +28,24 @@ pub record IsWithin (n : Name) (s a : ℕ) (since seen : List Entry) (l : ℕ) :
   pub known : IsPrefix since seen
   pub is_link : l < length n.links
 
--- the keys are those of the value o, which was never named
+-- the keys are those of the value o, which was never named, and whose home is vacant
 abbrev pub IsNewIn : State → Option ℕ → List (Held Entry) → Type 0
 IsNewIn st None vs = IsKeyOf None vs
-IsNewIn st (Some v) vs = IsKeyOf (Some v) vs × (has v (after st (own_of vs)).named ≡ false)
+IsNewIn st (Some v) vs =
+    IsKeyOf (Some v) vs × (has v (after st (own_of vs)).named ≡ false) × IsVacant (after st (own_of vs)) (home_of v)
 
 abbrev pub IsLink : Site → Type 0
 IsLink word = word.kind ≡ links
 
--- the value that a key is of, if there is one
+-- the value that a key is labelled with, if there is one
 abbrev pub value_in : List (Held Entry) → Option ℕ
 value_in [] = None
-value_in (h ∷ held) = Some h.key
+value_in (h ∷ held) = Some h.label
 
--- there is at most one key, and it is a value's
+-- there is at most one key, and it is that of a value's block
 abbrev pub is_at_most_one : List (Held Entry) → Bool
 is_at_most_one [] = true
-is_at_most_one (h ∷ []) = h.kind == values
+is_at_most_one (h ∷ []) = (h.kind == blocks) && (h.key == home_of h.label)
 is_at_most_one (h ∷ g ∷ held) = false
 
 -- a value with this word, or none

@@ -2,7 +2,8 @@
 --     is_named value, is_loose value    whether the value was ever named, and whether it came out of a link and no call began to retire it,
 --                                       as its key knows
 --     book_of value                     its book
---     MayRetire value                   it was never named, or it is loose
+--     MayBegin v st                     it was never named, and all values that lay in its block before were reclaimed; or it was named,
+--                                       and is loose;  MayRetire value    so it is, as its key knows
 --     IsSpent v st                      it was named, and it is not loose;  CannotRetire value   so it is, as its key knows
 --     IsLeast s st                      slot s is there, and its number is the least that is not in use and one of a table;
 --     MayTake numbers key               so it is for this slot, as the key of the numbers knows
@@ -15,10 +16,11 @@
 use Rattle.std.specs.Prelude.{◌≡◌, ℕ, ◌<◌, Bool, true, false, List, [], ◌++◌, length, ◌⊎◌}
 use Rattle.seize_machine.specs.Machine.State.{State, has}
 use Rattle.seize_words.specs.Book.{after, births}
-use Rattle.seize_words.specs.Private.{is_one, key_of, own_of}
+use Rattle.seize_words.specs.Private.{is_one, key_of, label_of, own_of}
 use Rattle.seize_machine.specs.Machine.Event.{Event}
 use Rattle.seize_machine.specs.Machine.Next.{first_free}
 use Rattle.seize_table.specs.Place.{all_numbers}
+use Rattle.seize_words.specs.Homes.{IsVacant, home_of}
 use Rattle.seize_words.specs.Ledger.{Held, renewed}
 use Rattle.seize_words.specs.Entry.{Entry}
 use Rattle.seize_words.specs.Adding.{private}
@@ -34,7 +36,7 @@ abbrev pub state_of : Keys → State
 state_of keys = after (start keys.name) (own_of keys.held)
 
 abbrev pub value_of : ValueKey → ℕ
-value_of value = key_of value.keys.held
+value_of value = label_of value.keys.held
 
 abbrev pub book_of : ValueKey → Name
 book_of value = value.keys.name
@@ -45,8 +47,11 @@ is_named value = has (value_of value) (state_of value.keys).named
 abbrev pub is_loose : ValueKey → Bool
 is_loose value = has (value_of value) (state_of value.keys).loose
 
+abbrev pub MayBegin : ℕ → State → Type 0
+MayBegin v st = ((has v st.named ≡ false) × IsVacant st (home_of v)) ⊎ ((has v st.named ≡ true) × (has v st.loose ≡ true))
+
 abbrev pub MayRetire : ValueKey → Type 0
-MayRetire value = (is_named value ≡ false) ⊎ (is_loose value ≡ true)
+MayRetire value = MayBegin (value_of value) (state_of value.keys)
 
 abbrev pub IsSpent : ℕ → State → Type 0
 IsSpent v st = (has v st.named ≡ true) × (has v st.loose ≡ false)

@@ -4,22 +4,23 @@
 --     IsOpen slot active s size event    it is legal wherever the slot is as its key says
 --     puts_next slot         the value that the slot's call is about to put
 --     IsOver slot            the slot's call has nothing more to do
---     is_one r held          there is one key, of kind r;  key_of held, own_of held    its number and list
+--     is_one r held          there is one key, of kind r;  key_of held, own_of held, label_of held    its number, list and label
 use Rattle.std.specs.Prelude.{◌≡◌, ℕ, true, false, Bool, ◌==◌, List, [], ◌∷◌, Option, Some, None, is_some}
 use Rattle.seize_machine.specs.Machine.State.{State, Slot, Place, Append, Rest, slot_at, head_at, is_active}
 use Rattle.seize_machine.specs.Machine.Event.{Event, slot_of}
 use Rattle.seize_machine.specs.Machine.Next.{next, of_call}
-use Rattle.seize_machine.specs.Machine.Frames.{changes_used, changes_head_of, changes_link, changes_batch, changes_value}
+use Rattle.seize_machine.specs.Machine.Frames.{changes_used, changes_head_of, changes_link}
 use Rattle.seize_words.specs.Ledger.{Held}
 use Rattle.seize_words.specs.Entry.{Entry}
 use Rattle.seize_words.specs.Book.{births}
+use Rattle.seize_words.specs.Homes.{changes_count, changes_home}
 
 abbrev pub IsOwn : ℕ → Event → Type 0
 IsOwn s event =
     (slot_of event ≡ s)
     × (changes_used event ≡ false)
     × ((k : ℕ) → (changes_head_of k event ≡ false) × (changes_link k event ≡ false))
-    × ((st : State) (k : ℕ) → (changes_batch st k event ≡ false) × (changes_value st k event ≡ false))
+    × ((st : State) (k : ℕ) → (changes_count st k event ≡ false) × (changes_home st k event ≡ false))
 
 abbrev pub IsPrivate : ℕ → Event → Type 0
 IsPrivate s event = IsOwn s event × ((st : State) → births st event ≡ [])
@@ -33,7 +34,7 @@ abbrev pub is_one : ℕ → List (Held Entry) → Bool
 is_one r (h ∷ []) = h.kind == r
 is_one r _ = false
 
--- the number of the first key, and the list at its holder's last event
+-- the number of the first key, the list at its holder's last event, and its label
 abbrev pub key_of : List (Held Entry) → ℕ
 key_of [] = 0
 key_of (h ∷ held) = h.key
@@ -41,6 +42,10 @@ key_of (h ∷ held) = h.key
 abbrev pub own_of : List (Held Entry) → List Entry
 own_of [] = []
 own_of (h ∷ held) = h.own
+
+abbrev pub label_of : List (Held Entry) → ℕ
+label_of [] = 0
+label_of (h ∷ held) = h.label
 
 abbrev pub next_at : Place → List ℕ → Option ℕ
 next_at (Append v) queue = Some v

@@ -22,7 +22,7 @@ use Rattle.seize_words.specs.Heads.{IsMade, IsTrying, reads}
 use Rattle.seize_words.specs.Laws.{life}
 use Rattle.seize_words.specs.Others.{Follows, state_of}
 use Rattle.seize_words.specs.Passes.{IsSame}
-use Rattle.seize_words.specs.Private.{is_one, key_of}
+use Rattle.seize_words.specs.Private.{is_one, key_of, label_of}
 use Rattle.seize_words.specs.Slots.{active_of, life_of, number_of, own_list, slot_of, start_of}
 use Rattle.seize_words.specs.Tokens.{Noted, start}
 use Rattle.seize_words.specs.declared.activation.Activation.{Activation}
@@ -102,7 +102,8 @@ NumbersOf numbers pass = numbers.keys.name ≡ pass.name
 
 -- the one key is of a head, which is inactive
 abbrev pub IsOfHead : Keys → Type 0
-IsOfHead keys = (is_one heads keys.held ≡ true) × (head_at (state_of keys) (key_of keys.held) ≡ Inactive)
+IsOfHead keys =
+    (is_one heads keys.held ≡ true) × (label_of keys.held ≡ 0) × (head_at (state_of keys) (key_of keys.held) ≡ Inactive)
 
 abbrev pub IsHeadOf : Keys → Head → Type 0
 IsHeadOf keys head = (head.word.name ≡ keys.name) × (slot head ≡ key_of keys.held)

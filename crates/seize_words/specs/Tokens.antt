@@ -51,8 +51,8 @@ pub record Name : Type 0 where
   pub slot_keys : ℕ
   pub head_keys : ℕ
   pub link_keys : ℕ
-  pub batch_keys : ℕ
-  pub value_keys : ℕ
+  pub count_keys : ℕ
+  pub block_keys : ℕ
   pub gate : Gate
   -- the batch size at each event that is added
   pub size : ℕ
@@ -64,7 +64,7 @@ abbrev nth : List ℕ → ℕ → ℕ
 nth xs i = slice_index_or xs i 0
 
 abbrev pub rows : Name → List ℕ
-rows n = n.pass_keys ∷ n.number_keys ∷ n.slot_keys ∷ n.head_keys ∷ n.link_keys ∷ n.batch_keys ∷ n.value_keys ∷ []
+rows n = n.pass_keys ∷ n.number_keys ∷ n.slot_keys ∷ n.head_keys ∷ n.link_keys ∷ n.count_keys ∷ n.block_keys ∷ []
 
 abbrev pub name_coded : Coded Name
 name_coded =
@@ -80,8 +80,8 @@ name_coded =
       slot_keys = nth t.0 6;
       head_keys = nth t.0 7;
       link_keys = nth t.0 8;
-      batch_keys = nth t.0 9;
-      value_keys = nth t.0 10;
+      count_keys = nth t.0 9;
+      block_keys = nth t.0 10;
       gate = t.1.0;
       links = t.1.1;
     })
@@ -136,8 +136,8 @@ keys_own n held = rights entry_coded (rows n) held
 
 abbrev pub held_coded : Coded (Held Entry)
 held_coded =
-    code_by (ℕ × (ℕ × List Entry)) (coded× coded_ℕ (coded× coded_ℕ (coded_list entry_coded))) (λ h. (h.kind, (h.key, h.own)))
-    (λ t. record { kind = t.0; key = t.1.0; own = t.1.1 }) (λ _. refl)
+    code_by (ℕ × (ℕ × (ℕ × List Entry))) (coded× coded_ℕ (coded× coded_ℕ (coded× coded_ℕ (coded_list entry_coded))))
+    (λ h. (h.kind, (h.key, (h.label, h.own)))) (λ t. record { kind = t.0; key = t.1.0; label = t.1.1.0; own = t.1.1.1 }) (λ _. refl)
 
 -- Event e was added with pass p. It took the machine to this state, with this answer, and this state is where all that the pass has seen
 -- leads. Nothing had been made with the pass since it had seen its beginning, and where it is alone nothing at all had been added. The

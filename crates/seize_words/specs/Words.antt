@@ -1,9 +1,9 @@
--- What a word of the book is. A word stands for one head or link: its value shows what the list says of it. The word's key stands beside
--- it, in the word's own invariant, so whoever takes an atomic step on the word may add the event that changes the head or the link in that
--- very step, and nobody else may.
+-- What a word of the book is. A word stands for one head, link or count: its value shows what the list says of it. The word's key stands beside
+-- it, in the word's own invariant, so whoever takes an atomic step on the word may add the event that changes these in that very
+-- step, and nobody else may.
 --     Site                   which word it is: its book, and the kind and number of what it stands for
 --     Shows site v log       the value v is what the list says
---     Stands site log vs     these are the other keys that stand beside it: of a link that of the value in it
+--     Stands site log vs     these are the other keys that stand beside it: of a link that of the block of the value in it
 --     site_keys site since vs     its keys, its own first, which knows the list as it was at the last step on the word
 --     word_owns site v       what stands beside the memory of a word with this value;  word_shares    what a `&` to it is
 use Rattle.std.specs.Prelude.{◌≡◌, ℕ, true, List, [], ◌∷◌, Option, Some, None}
@@ -16,9 +16,10 @@ use Rattle.core.specs.Sync.RawAtomic.{word}
 use Rattle.seize_machine.specs.Machine.State.{State, link_at}
 use Rattle.seize_words.specs.Ledger.{Held, fact}
 use Rattle.seize_words.specs.Entry.{Entry}
-use Rattle.seize_words.specs.Book.{Kind, TheHead, TheLink, kind_of, after, values}
-use Rattle.seize_words.specs.Blocks.{head_word, link_word}
-use Rattle.seize_words.specs.Private.{is_one, key_of}
+use Rattle.seize_words.specs.Book.{Kind, TheHead, TheLink, TheCount, kind_of, after, blocks}
+use Rattle.seize_words.specs.Blocks.{count_word, head_word, link_word}
+use Rattle.seize_words.specs.Homes.{count_in, home_of}
+use Rattle.seize_words.specs.Private.{is_one, key_of, label_of}
 use Rattle.seize_words.specs.Tokens.{Name, name_coded, start, keys_own}
 
 pub record Site : Type 0 where
@@ -34,15 +35,16 @@ site_coded =
 abbrev pub ShowsOf : State → Kind → ℕ → ℕ → List Entry → Type 0
 ShowsOf st TheHead m v log = v ≡ head_word st log m
 ShowsOf st TheLink l v log = v ≡ link_word (link_at (after st log) l)
+ShowsOf st TheCount k v log = v ≡ count_word (count_in (after st log) k)
 ShowsOf st _ k v log = ⊥
 
 abbrev pub Shows : Site → ℕ → List Entry → Type 0
 Shows site v log = ShowsOf (start site.name) (kind_of site.kind) site.number v log
 
--- the keys of what a link holds
+-- the key of the block in which a value lies, with the value's name on it
 abbrev pub IsKeyOf : Option ℕ → List (Held Entry) → Type 0
 IsKeyOf None vs = vs ≡ []
-IsKeyOf (Some v) vs = (is_one values vs ≡ true) × (key_of vs ≡ v)
+IsKeyOf (Some v) vs = (is_one blocks vs ≡ true) × (key_of vs ≡ home_of v) × (label_of vs ≡ v)
 
 abbrev pub StandsOf : State → Kind → ℕ → List Entry → List (Held Entry) → Type 0
 StandsOf st TheLink l log vs = IsKeyOf (link_at (after st log) l) vs
@@ -52,7 +54,7 @@ abbrev pub Stands : Site → List Entry → List (Held Entry) → Type 0
 Stands site log vs = StandsOf (start site.name) (kind_of site.kind) site.number log vs
 
 abbrev pub site_keys : Site → List Entry → List (Held Entry) → List (Held Entry)
-site_keys site since vs = record { kind = site.kind; key = site.number; own = since } ∷ vs
+site_keys site since vs = record { kind = site.kind; key = site.number; own = since; label = 0 } ∷ vs
 
 -- the list was `since` at the last step on the word
 abbrev pub word_knows : Site → ℕ → List Entry × List (Held Entry) → Fml

@@ -5,7 +5,7 @@
 //! `SlotKey` those of a slot. An event that a word changes by is added in the word's own atomic step; a private event, which no word
 //! shows, by a call that does nothing else.
 
-mod batch_key;
+mod count_key;
 mod keys;
 mod link_keys;
 mod numbers_key;
@@ -14,7 +14,7 @@ mod slot_key;
 mod token;
 mod value_key;
 
-pub use batch_key::BatchKey;
+pub use count_key::CountKey;
 pub use keys::Keys;
 pub use link_keys::LinkKeys;
 pub use numbers_key::NumbersKey;

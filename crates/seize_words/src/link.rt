@@ -80,8 +80,8 @@ impl Link {
         self.word.load_in::<Brand>(&mut keys, activation, pass)
     }
 
-    /// Puts a value that was never named into the link, or none: the event `ExchangeLink` of the activation's slot. It gives the word of
-    /// what the link held, and the key of that, in place of the value's.
+    /// Puts a value that was never named into the link, or none: the event `ExchangeLink` of the activation's slot. All values that lay in
+    /// its block before were reclaimed. It gives the word of what the link held, and the key of that, in place of the value's.
     pub fn swap(
         &self,
         new: u64,

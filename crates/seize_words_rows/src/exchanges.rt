@@ -61,7 +61,7 @@ impl Swapper {
         } = self;
         let mut left: u64 = 0;
         for block in first..first + EACH {
-            let mut value = MaybeKey::some(book.value(block));
+            let mut value = MaybeKey::some(book.block(block).0);
             let old = link.swap(block + 1, &mut value, &activation, &mut pass);
             left = left.wrapping_add(block + 1).wrapping_sub(old);
         }
@@ -83,7 +83,7 @@ impl Swapper {
         let mut left: u64 = 0;
         for block in first..first + EACH {
             let seen = link.read(&activation, &mut pass);
-            let mut value = MaybeKey::some(book.value(block));
+            let mut value = MaybeKey::some(book.block(block).0);
             let old = link.compare_exchange(seen, block + 1, &mut value, &activation, &mut pass);
             if old == seen {
                 left = left.wrapping_add(block + 1).wrapping_sub(old);
@@ -104,7 +104,7 @@ impl Swapper {
             mut book,
             mut pass,
         } = self;
-        let mut value = MaybeKey::some(book.value(block));
+        let mut value = MaybeKey::some(book.block(block).0);
         into.swap(block + 1, &mut value, &activation, &mut pass);
         for _ in 0..TURNS {
             if from.read(&activation, &mut pass) != 0 {

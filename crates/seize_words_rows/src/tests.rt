@@ -4,7 +4,7 @@ ghost use Rattle.seize_words_rows.specs.Exchanges.{MaySwap};
 use crate::exchanges::Swapper;
 use crate::leaving::leave_head;
 use seize_words::activation::Activation;
-use seize_words::book::{BatchKey, Book, Keys, LinkKeys, NumbersKey, Pass, SlotKey, ValueKey};
+use seize_words::book::{Book, CountKey, Keys, LinkKeys, NumbersKey, Pass, SlotKey, ValueKey};
 use seize_words::link::{Link, MaybeKey};
 use seize_words::reservation::Head;
 use std::mem::size_of;
@@ -35,7 +35,7 @@ fn tokens_have_no_bytes(rt: HostRuntime) {
     assert_eq!(rt;
         size_of::<SlotKey>()
             + size_of::<ValueKey>()
-            + size_of::<BatchKey>()
+            + size_of::<CountKey>()
             + size_of::<NumbersKey>()
             + size_of::<LinkKeys>()
             + size_of::<MaybeKey>()
@@ -82,7 +82,7 @@ fn a_swapped_value_comes_out(rt: HostRuntime) {
     let link = Link::next(&mut links);
     let (mut key, head) = Head::make(&mut numbers, &mut pass);
     let activation = head.enter(&mut key, &mut pass);
-    let mut value = MaybeKey::some(book.value(5));
+    let mut value = MaybeKey::some(book.block(5).0);
     assert_eq!(rt; link.swap(6, &mut value, &activation, &mut pass), 0);
     let mut none = MaybeKey::none(&mut pass);
     assert_eq!(rt; link.swap(0, &mut none, &activation, &mut pass), 6);

@@ -6,7 +6,6 @@ ghost use Rattle.seize_machine.specs.declared.machine.event.Job.TheVariants.{Flu
 ghost use Rattle.seize_words.specs.Private.{IsOver, is_one, puts_next};
 ghost use Rattle.seize_words.specs.Book.{slots};
 
-use crate::book::batch_key::BatchKey;
 use crate::book::keys::{Keys, Picks};
 use crate::book::numbers_key::NumbersKey;
 use crate::book::pass::Pass;
@@ -127,17 +126,14 @@ impl SlotKey {
         self.note::<Brand>(pass);
     }
 
-    /// The event `Detach`: the slot's batch becomes a retired batch, and this is its key.
-    pub fn detach(&mut self, pass: &mut Pass) -> BatchKey
+    /// The event `Detach`: the slot's batch becomes a retired batch.
+    pub fn detach(&mut self, pass: &mut Pass)
         requires book { IsOf self.old pass.old }
         requires next { CanDetach self.old }
         ensures noted { Notes self.old pass.old self.new pass.new (Detach (number_of self.old)) }
-        ensures batch { Detaches self.old result pass.new }
+        ensures batch { Detaches self.old pass.new }
     {
-        let mut fresh = self.keys.none();
-        self.keys.note::<Brand>(pass);
-        self.keys.part(&mut fresh);
-        BatchKey { keys: fresh }
+        self.note::<Brand>(pass);
     }
 
     /// The event `Hand` of a value whose reclaimer puts none: the value that the slot's call is about to hand to its reclaimer goes there.

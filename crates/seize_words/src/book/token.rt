@@ -1,8 +1,9 @@
 //! Books: how one begins, and the passes and keys that are made of it later. It uses the passes and keys beside it.
-ghost use Rattle.std.specs.Prelude.{◌≡◌, ◌+◌, ◌<◌, ◌^◌, false};
+ghost use Rattle.std.specs.Prelude.{◌≡◌, ◌+◌, ◌<◌, ◌^◌};
 ghost use Rattle.seize_words.specs.Begin.{book_owns};
 ghost use Rattle.seize_words.specs.Tokens.{Name, many, name_coded};
 
+use crate::book::count_key::CountKey;
 use crate::book::keys::Keys;
 use crate::book::link_keys::LinkKeys;
 use crate::book::numbers_key::NumbersKey;
@@ -22,9 +23,8 @@ impl Model for Book {
 }
 
 impl Book {
-    ghost use Rattle.seize_words.specs.Books.{Begins, IsAlone, IsMany, IsNew, IsNewValue, Opens, OpensAlone};
-    ghost use Rattle.seize_words.specs.Blocks.{block_of};
-    ghost use Rattle.seize_words.specs.Others.{book_of, is_named, value_of};
+    ghost use Rattle.seize_words.specs.Books.{Begins, IsAlone, IsCountFor, IsFirstIn, IsMany, IsNew, IsNewBlock, Opens, OpensAlone};
+    ghost use Rattle.seize_words.specs.Others.{book_of};
 
     /// A new book, of which any number of passes may be made, the key of its numbers, and those of its links. It has no slot yet, and its
     /// links are empty.
@@ -101,20 +101,23 @@ impl Book {
         }
     }
 
-    /// The key of a value that was never named, and lies in the block with this number. The number fits beside the 2 of a head's word.
-    pub fn value(&mut self, block: u64) -> ValueKey
-        requires { block + 2 < 2 ^ 64 }
-        ensures new { (is_named result ≡ false) × (block_of (value_of result) ≡ block) }
-        ensures book { (book_of result ≡ self.old.name) × (self.new.name ≡ self.old.name) }
+    /// The key of a new block's values, and that of its count. Words hold this number for it, which fits beside the 2 of a head's word.
+    /// None of its values was ever named, and the key is for one of them.
+    pub fn block(&mut self, number: u64) -> (ValueKey, CountKey)
+        requires { number + 2 < 2 ^ 64 }
+        ensures value { IsFirstIn result.0 number }
+        ensures count { IsCountFor result.1 result.0 }
+        ensures book { (book_of result.0 ≡ self.old.name) × (result.1.keys.name ≡ self.old.name) × (self.new.name ≡ self.old.name) }
     {
-        ValueKey {
-            keys: self.value_keys(block),
-        }
+        let mut value = self.block_keys(number);
+        let mut count = value.none();
+        value.part(&mut count);
+        (ValueKey { keys: value }, CountKey { keys: count })
     }
 
-    // The same as `Keys`.
-    fn value_keys(&mut self, block: u64) -> Keys
-        ensures { IsNewValue result block × (result.name ≡ self.old.name) × (self.new.name ≡ self.old.name) }
+    // The keys of a new block: that of its values, and that of its count.
+    fn block_keys(&mut self, number: u64) -> Keys
+        ensures { IsNewBlock result number × (result.name ≡ self.old.name) × (self.new.name ≡ self.old.name) }
     {
         Keys {
             marker: PhantomData,

@@ -1,14 +1,16 @@
-//! The key of a value. It is `Keys` with one key.
+//! The key of a value: that of the block in which it lies. It is `Keys` with one key, whose label is the value's name.
 ghost use Rattle.std.specs.Prelude.{◌≡◌, true};
-ghost use Rattle.seize_words.specs.Book.{values};
-ghost use Rattle.seize_words.specs.Private.{is_one};
+ghost use Rattle.seize_words.specs.Book.{blocks};
+ghost use Rattle.seize_words.specs.Homes.{home_of};
+ghost use Rattle.seize_words.specs.Private.{is_one, key_of, label_of};
 
 use crate::book::keys::Keys;
 
-/// The right to name one value: to put it into a link, out of one, and to begin to retire it. It knows whether the value was ever named,
-/// and whether it came out of a link and no call began to retire it.
+/// The right to name the values of one block, of which it is this one's turn: to put it into a link, out of one, and to begin to retire it.
+/// It knows which of the block's values were ever named, and which came out of a link and no call began to retire them.
 #[derive(Drop)]
 pub struct ValueKey {
     pub(crate) keys: Keys,
-    ghost one: { is_one values keys.held ≡ true },
+    ghost one: { is_one blocks keys.held ≡ true },
+    ghost home: { key_of keys.held ≡ home_of (label_of keys.held) },
 }

@@ -1,4 +1,4 @@
-use Rattle.std.proofs.Common.{ℕ, ◌==◌, [], ◌∷◌, Option, sym, ◌∙◌, subst}
+use Rattle.std.proofs.Common.{ℕ, ◌==◌, [], ◌∷◌, Option, refl, sym, ◌∙◌, subst}
 use Rattle.seize_machine.specs.Machine.State.{link_at}
 use Rattle.seize_machine.specs.Machine.Event.{Event, ExchangeLink}
 use Rattle.seize_machine.specs.declared.machine.event.Exchange.TheVariants.{Compare}
@@ -10,8 +10,8 @@ use Rattle.seize_words.specs.Stepping.{MayStep}
 use Rattle.seize_words.specs.Tokens.{Name, start}
 use Rattle.seize_words.specs.Words.{Site}
 use Rattle.seize_words.proofs.Lists.{equal, unequal}
-use Rattle.seize_words.proofs.Exchanged.{came_out, is_at, knows_all, stayed, still_one, taken}
-use Rattle.seize_words.proofs.Exchanges.{may_compare_link}
+use Rattle.seize_words.proofs.Exchanged.{came_out, is_at, is_out, knows_all, stayed, still_one, taken}
+use Rattle.seize_words.proofs.Exchanges.{hit, may_compare_link}
 use Rattle.seize_words.proofs.link.Link.compare_exchange.Goals as goal
 
 -- the event by what the link held
@@ -42,7 +42,11 @@ returns c =
       exchanges = (
         taken link a pass pass' in_ value.keys keys' f v ev (λ v. v == seen) told,
         told.1,
-        (λ e. came_out link a pass pass' in_ value.keys keys' f v ev (λ v. v == seen) told (equal v seen e)),
+        (λ e. (
+          came_out link a pass pass' in_ value.keys keys' f v ev (λ v. v == seen) told (equal v seen e),
+          is_out link a pass pass' in_ value.keys keys' f v ev (λ v. v == seen) told (λ old. Compare (compared seen old) (holds value)) (c.requires.new.0 ∙ in_.book.0) (λ _. refl)
+              (λ old found. hit pass.name a.slot a.life l a.since pass.seen in_.within seen old (holds value) (sym found ∙ e)) (equal v seen e),
+        )),
         (λ differs. stayed link a pass pass' in_ value.keys keys' f v ev (λ v. v == seen) told (unequal v seen differs)),
         knows_all link a pass pass' in_ value.keys keys' f v ev (λ v. v == seen) told,
       );

@@ -7,7 +7,7 @@ use Rattle.seize_words.specs.Links.{IsNewIn}
 use Rattle.seize_words.specs.Stepping.{MayStep}
 use Rattle.seize_words.specs.Tokens.{Name, start}
 use Rattle.seize_words.specs.Words.{Site}
-use Rattle.seize_words.proofs.Exchanged.{came_out, is_at, knows_all, still_one, taken}
+use Rattle.seize_words.proofs.Exchanged.{came_out, is_at, is_out, knows_all, still_one, taken}
 use Rattle.seize_words.proofs.Exchanges.{may_swap_link}
 use Rattle.seize_words.proofs.link.Link.swap.Goals as goal
 
@@ -33,6 +33,7 @@ returns c =
         taken link a pass c.swap_in.new.pass in_ value.keys c.swap_in.new.keys (λ v. c.args.new) c.swap_in.result ev (λ v. true) told,
         told.1,
         came_out link a pass c.swap_in.new.pass in_ value.keys c.swap_in.new.keys (λ v. c.args.new) c.swap_in.result ev (λ v. true) told refl,
+        is_out link a pass c.swap_in.new.pass in_ value.keys c.swap_in.new.keys (λ v. c.args.new) c.swap_in.result ev (λ v. true) told (λ _. Swap (holds value)) (c.requires.new.0 ∙ in_.book.0) (λ _. refl) (λ _ _. refl) refl,
         knows_all link a pass c.swap_in.new.pass in_ value.keys c.swap_in.new.keys (λ v. c.args.new) c.swap_in.result ev (λ v. true) told,
       );
     }

@@ -9,7 +9,7 @@ use Rattle.seize_words.specs.Entry.{Entry}
 use Rattle.seize_words.specs.Fair.{Added, MayAdd}
 use Rattle.seize_words.specs.Ledger.{Held, renewed}
 use Rattle.seize_words.specs.Others.{state_of}
-use Rattle.seize_words.specs.Private.{is_one, key_of, own_of}
+use Rattle.seize_words.specs.Private.{is_one, key_of, label_of, own_of}
 use Rattle.seize_words.specs.Reservations.{made_of}
 use Rattle.seize_words.specs.Tokens.{Name, Noted, start}
 use Rattle.seize_words.specs.Passes.{IsSame}
@@ -35,7 +35,7 @@ record Told (number : NumbersKey) (pass : Pass) (keys' : Keys) (pass' : Pass) : 
   pub same : IsSame pass pass'
   pub name : keys'.name ≡ number.keys.name
   pub added : Added number.keys.name pass.id pass.seen pass'.seen number.keys.held keys'.held (private pass (Take (made_of number)))
-  pub held : keys'.held ≡ record { kind = numbers; key = key_of number.keys.held; own = pass'.seen } ∷ record { kind = slots; key = made_of number; own = pass'.seen } ∷ record { kind = heads; key = made_of number; own = pass'.seen } ∷ []
+  pub held : keys'.held ≡ record { kind = numbers; key = key_of number.keys.held; own = pass'.seen; label = label_of number.keys.held } ∷ record { kind = slots; key = made_of number; own = pass'.seen; label = 0 } ∷ record { kind = heads; key = made_of number; own = pass'.seen; label = 0 } ∷ []
 
 told : (number : NumbersKey) (pass : Pass) (keys keys' : Keys) (pass' : Pass) → number.keys.name ≡ pass.name → keys ≡ number.keys → Adds keys pass keys' pass' (Take (length (state_of keys).slots)) → Told number pass keys' pass'
 told number pass keys keys' pass' book same adds =
@@ -59,6 +59,7 @@ of-requires c =
     let head = c.part-2.new.other in let name = c.part-2.ensures.1 ∙ c.part.ensures.1 ∙ t.name in
     let is = c.part-2.ensures.3 ∙ ap (drop 1) (c.part.ensures.3 ∙ ap (drop 1) t.held) in (
       ap (is_one heads) is,
+      ap label_of is,
       ap (λ (n : Name). head_at (after (start n) (own_of head.held)) (key_of head.held)) name
           ∙ ap (λ (hs : List (Held Entry)). head_at (after (start k.name) (own_of hs)) (key_of hs)) is
           ∙ ap (λ (st : State). head_at st (made_of number)) noted.leads

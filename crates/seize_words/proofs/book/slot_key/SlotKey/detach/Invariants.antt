@@ -3,4 +3,4 @@ use Rattle.seize_words.specs.Private.{key_of}
 use Rattle.seize_words.proofs.book.slot_key.SlotKey.detach.Given as goal
 
 abbrev pub ghosts-note : goal.ghosts-note
-ghosts-note a = record { event = Detach (key_of a.self.now.held) }
+ghosts-note a = record { event = Detach (key_of a.self.now.keys.held) }

@@ -1,0 +1,112 @@
+-- What each list of the book keeps beside being legal: of the values of one home that were named, at most one was not reclaimed.
+use Rattle.std.proofs.Common.{◌≡◌, ℕ, ◌+◌, ◌<◌, ◌≤◌, Bool, true, false, ◌||◌, ◌==◌, if◌then◌else◌, List, [], ◌∷◌, ◌++◌, length, refl, sym, ◌∙◌, ap, subst, ◌⊎◌, inl, inr, arith}
+use mathlib.Core.List.{IsPrefix}
+use Rattle.seize_table.specs.Place.{all_numbers}
+use Rattle.seize_machine.specs.Machine.State.{State, has}
+use Rattle.seize_machine.specs.Machine.Event.{Event}
+use Rattle.seize_machine.specs.Machine.Frames.{slots_added}
+use Rattle.seize_machine.specs.Machine.History.{done_by}
+use Rattle.seize_machine.specs.Machine.Next.{next}
+use Rattle.seize_machine.specs.declared.machine.event.Answer.{Answer}
+use Rattle.seize_machine.proofs.Facts.{Step, eq_true, gone_grows, is_true, slots_length, step_of, value_frame}
+use Rattle.seize_words.specs.Entry.{Entry, timed}
+use Rattle.seize_words.specs.Book.{IsLegalList, Does, Kept, TheBlock, after}
+use Rattle.seize_words.specs.Homes.{HasOne, IsSound, IsVacant, changes_home, home_of}
+use Rattle.seize_words.proofs.Homes.{home_value}
+use Rattle.seize_words.proofs.Lists.{after_push}
+use Rattle.seize_words.proofs.Lives.{legal_first}
+
+-- what was not reclaimed afterwards was not before
+not_gone : (v size : ℕ) (st : State) (event : Event) (d : State × Answer) → Step size st event d → has v (d.0).gone ≡ false → has v st.gone ≡ false
+not_gone v size st event d step h = go (is_true (has v st.gone))
+  where
+    go : (has v st.gone ≡ true) ⊎ (has v st.gone ≡ false) → has v st.gone ≡ false
+    go (inl t) = absurd (let b : true ≡ false = sym (gone_grows v size st event d step t) ∙ h in cc)
+    go (inr f) = f
+
+gone_after : (st : State) (more : List Entry) (v : ℕ) → IsLegalList st more → has v st.gone ≡ true → has v (after st more).gone ≡ true
+gone_after st [] v l h = h
+gone_after st (e ∷ more) v l h =
+    let w = legal_first st e more l in
+    subst (λ (d : State × Answer). has v (after d.0 more).gone ≡ true) (sym w.2) (gone_after (w.0).0 more v w.3 (gone_grows v e.size st e.event w.0 (step_of _ _ _ _ w.1) h))
+
+gone_on : (st : State) (own more : List Entry) (v : ℕ) → IsLegalList st (own ++ more) → has v (after st own).gone ≡ true → has v (after st (own ++ more)).gone ≡ true
+gone_on st [] more v l h = gone_after st more v l h
+gone_on st (e ∷ own) more v l h =
+    let w = legal_first st e (own ++ more) l in
+    gone_on (done_by next st (timed e)).0 own more v (subst (λ (d : State × Answer). IsLegalList d.0 (own ++ more)) (sym w.2) w.3) h
+
+-- what was reclaimed stays so as the list goes on
+pub gone_later : (st : State) (own log : List Entry) (v : ℕ) → IsPrefix own log → IsLegalList st log → has v (after st own).gone ≡ true → has v (after st log).gone ≡ true
+gone_later st own log v grows l h =
+    subst (λ (x : List Entry). has v (after st x).gone ≡ true) grows.1 (gone_on st own grows.0 v (subst (IsLegalList st) (sym grows.1) l) h)
+
+-- and a home that its key knows to be vacant
+pub vacant_later : (st : State) (own log : List Entry) (k : ℕ) → IsLegalList st log → Kept st TheBlock k own log → IsVacant (after st own) k → IsVacant (after st log) k
+vacant_later st own log k l kept vacant = λ v home named. gone_later st own log v kept.0 l (vacant v home ((kept.1 v home).0 ∙ named))
+
+-- an event that names nothing that was not named
+pub old_named : (size : ℕ) (st : State) (event : Event) (d : State × Answer) → Step size st event d → ((v : ℕ) → has v (d.0).named ≡ true → has v st.named ≡ true) → HasOne st → HasOne d.0
+old_named size st event d step names one = λ v w home a b c e. one v w home (names v a) (names w b) (not_gone v size st event d step c) (not_gone w size st event d step e)
+
+-- as one that changes no home
+pub none_named : (size : ℕ) (st : State) (event : Event) (d : State × Answer) → Step size st event d → ((k : ℕ) → changes_home st k event ≡ false) → HasOne st → HasOne d.0
+none_named size st event d step none = old_named size st event d step (λ v a. sym (same v) ∙ a)
+  where
+    same : (v : ℕ) → has v (d.0).named ≡ has v st.named
+    same v = (value_frame v size st event d step (home_value st v event (none (home_of v)))).0
+
+-- an event that names at most this value, in whose home all that were named were reclaimed
+pub new_named : (size : ℕ) (st : State) (event : Event) (d : State × Answer) (new : ℕ) → Step size st event d → ((v : ℕ) → has v (d.0).named ≡ true → (v ≡ new) ⊎ (has v st.named ≡ true)) → IsVacant st (home_of new) → HasOne st → HasOne d.0
+new_named size st event d new step names vacant one = λ v w home a b c e. go v w home (not_gone v size st event d step c) (not_gone w size st event d step e) (names v a) (names w b)
+  where
+    gone : (v : ℕ) → home_of v ≡ home_of new → has v st.named ≡ true → has v st.gone ≡ false → ⊥
+    gone v home a c = let b : true ≡ false = sym (vacant v home a) ∙ c in cc
+
+    go : (v w : ℕ) → home_of v ≡ home_of w → has v st.gone ≡ false → has w st.gone ≡ false → (v ≡ new) ⊎ (has v st.named ≡ true) → (w ≡ new) ⊎ (has w st.named ≡ true) → v ≡ w
+    go v w home c e (inl x) (inl y) = x ∙ sym y
+    go v w home c e (inl x) (inr y) = absurd (gone w (sym home ∙ ap home_of x) y e)
+    go v w home c e (inr x) (inl y) = absurd (gone v (home ∙ ap home_of y) x c)
+    go v w home c e (inr x) (inr y) = one v w home x y c e
+
+-- a value after others
+pub pushed : (v : ℕ) (xs : List ℕ) (u : ℕ) → has u (xs ++ v ∷ []) ≡ true → (u ≡ v) ⊎ (has u xs ≡ true)
+pushed v [] u h = inl (sym (eq_true v u (one (v == u) h)))
+  where
+    one : (b : Bool) → (b || false) ≡ true → b ≡ true
+    one true e = refl
+    one false e = e
+pushed v (x ∷ xs) u h = first (x == u) (pushed v xs u) h
+  where
+    first : (b : Bool) → (has u (xs ++ v ∷ []) ≡ true → (u ≡ v) ⊎ (has u xs ≡ true)) → (b || has u (xs ++ v ∷ [])) ≡ true → (u ≡ v) ⊎ ((b || has u xs) ≡ true)
+    first true rest e = inr refl
+    first false rest e = rest e
+
+pub has_last : (v : ℕ) (xs : List ℕ) → has v (xs ++ v ∷ []) ≡ true
+has_last v [] = grind arith
+has_last v (x ∷ xs) = ap (λ (b : Bool). (x == v) || b) (has_last v xs) ∙ or_true (x == v)
+  where
+    or_true : (b : Bool) → (b || true) ≡ true
+    or_true true = refl
+    or_true false = refl
+
+few_added : (size : ℕ) (st : State) (event : Event) (d : State × Answer) → Step size st event d → length st.slots ≤ all_numbers → length st.slots + slots_added st event ≤ all_numbers
+few_added size st event _ (Step.took_new s e free) few = at_most s (s == length st.slots) refl free.1
+  where
+    at_most : (s : ℕ) (b : Bool) → (s == length st.slots) ≡ b → s < all_numbers → length st.slots + (if b then 1 else 0) ≤ all_numbers
+    at_most s true e less = (let is : s ≡ length st.slots = grind arith in omega (arith, less, is))
+    at_most s false e less = omega (arith, few)
+few_added size st event _ (Step.took_old s l u free) few = at_most (s == length st.slots) refl
+  where
+    at_most : (b : Bool) → (s == length st.slots) ≡ b → length st.slots + (if b then 1 else 0) ≤ all_numbers
+    at_most true e = (let is : s ≡ length st.slots = grind arith in omega (arith, l, is))
+    at_most false e = omega (arith, few)
+few_added size st event _ _ few = omega (arith, few)
+
+few_kept : (size : ℕ) (st : State) (event : Event) (d : State × Answer) → Step size st event d → length st.slots ≤ all_numbers → length (d.0).slots ≤ all_numbers
+few_kept size st event d step few = subst (λ (n : ℕ). n ≤ all_numbers) (sym (slots_length size st event d step)) (few_added size st event d step few)
+
+-- so does a longer list
+pub sound_push : (st : State) (log : List Entry) (e : Entry) (d : State × Answer) → IsLegalList st log → Does st log e d → (HasOne (after st log) → HasOne d.0) → IsSound (after st log) → IsSound (after st (log ++ e ∷ []))
+sound_push st log e d l h one sound =
+    subst IsSound (sym (after_push st log e d l h)) (record { one = one sound.one; few = few_kept e.size (after st log) e.event d (step_of _ _ _ _ h) sound.few })
