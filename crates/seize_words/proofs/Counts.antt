@@ -110,7 +110,7 @@ come_share k batch count h = go (is_zero count) refl
     go true e = zero_is count e
     go false e = share_all k (come batch false count) h
 
-in_range : (st : State) (k b : ℕ) → is_in k (batch_at st b) ≡ true → b < length st.batches
+pub in_range : (st : State) (k b : ℕ) → is_in k (batch_at st b) ≡ true → b < length st.batches
 in_range st k b h = go (cases_lt b (length st.batches))
   where
     go : (b < length st.batches) ⊎ (length st.batches ≤ b) → b < length st.batches

@@ -28,6 +28,8 @@ pub mod Steps
 pub mod Plans
 pub mod Fronts
 pub mod Heads
+pub mod Counting
+pub mod Counted
 pub mod Stepped
 pub mod Makes
 pub mod Links

@@ -9,7 +9,7 @@ use Rattle.seize_words.specs.Ledger.{Held, AllKept, renewed}
 use Rattle.seize_words.specs.Laws.{life, life_from, starts}
 use Rattle.seize_words.specs.Reservations.{IsActivationOf}
 use Rattle.seize_words.specs.Private.{is_one, key_of, own_of}
-use Rattle.seize_words.specs.Slots.{IsOf, NotesAs}
+use Rattle.seize_words.specs.Slots.{IsAfter, IsOf, Moves, NotesAs}
 use Rattle.seize_words.specs.Stepping.{Stepped}
 use Rattle.seize_words.specs.Tokens.{Name, start}
 use Rattle.seize_words.specs.Words.{Site}
@@ -30,24 +30,30 @@ after_one r [] seen one = absurd (cc)
 after_one r (x ∷ y ∷ held) seen one = absurd (cc)
 after_one r (x ∷ []) seen one = (refl, refl)
 
-module _ (m : ℕ) (key key' : SlotKey) (pass pass' : Pass) (f : ℕ → ℕ) (v life : ℕ) (event : Events)
-    (told : Takes (at_head pass.name m) key.keys pass key'.keys pass' [] f v life event (λ _. false)) where
-  abbrev step : Stepped (at_head pass.name m) pass.id pass.seen pass'.seen key.keys.held key'.keys.held [] v (f v) (entries pass life event) (λ _. false)
+-- a word with no key beside its own
+module _ (r m : ℕ) (key key' : SlotKey) (pass pass' : Pass) (f : ℕ → ℕ) (v life : ℕ) (event : Events)
+    (told : Takes (record { name = pass.name; kind = r; number = m }) key.keys pass key'.keys pass' [] f v life event (λ _. false)) where
+  abbrev step : Stepped (record { name = pass.name; kind = r; number = m }) pass.id pass.seen pass'.seen key.keys.held key'.keys.held [] v (f v) (entries pass life event) (λ _. false)
   step = told.2
 
   -- the slot's holder added the entry
-  pub noted_by : IsOf key pass → NotesAs key pass key' pass' (entries pass life event v step.log)
-  noted_by book =
+  pub moved : step.since.1 ≡ [] → IsOf key pass → IsAfter key pass' key' × Moves key key' step.noted.before (event v step.log) step.noted.later step.noted.answer
+  moved none book =
       let noted = step.noted in let e = entries pass life event v step.log in
-      let kept_then = subst (λ (vs : List (Held Entry)). AllKept (rules (start pass.name)) (vs ++ key.keys.held) step.log) step.found.stands step.found.before.kept.1 in
+      let kept_then = subst (λ (vs : List (Held Entry)). AllKept (rules (start pass.name)) (vs ++ key.keys.held) step.log) none step.found.before.kept.1 in
       let one = after_one slots key.keys.held pass'.seen key.one in
       let number = ap key_of step.keys ∙ one.0 in let own = ap own_of step.keys ∙ one.1 in
       let legal : IsLegalList (start pass.name) noted.before = subst (IsLegalList (start pass.name)) (sym step.is_log) step.found.before.legal in
       let kept = one_kept (start pass.name) key.keys.held noted.before key.one (subst (AllKept (rules (start pass.name)) key.keys.held) (sym step.is_log) kept_then) in (
-        told.0,
         (told.1, number, own),
-        (noted, moves key key' pass.name e noted.before (noted.later, noted.answer) book (told.1 ∙ book) refl legal noted.does kept number (own ∙ noted.appended)),
+        moves key key' pass.name e noted.before (noted.later, noted.answer) book (told.1 ∙ book) refl legal noted.does kept number (own ∙ noted.appended),
       )
+
+-- a head's
+pub noted_by : (m : ℕ) (key key' : SlotKey) (pass pass' : Pass) (f : ℕ → ℕ) (v life : ℕ) (event : Events) (told : Takes (at_head pass.name m) key.keys pass key'.keys pass' [] f v life event (λ _. false))
+    → IsOf key pass → NotesAs key pass key' pass' (entries pass life event v told.2.log)
+noted_by m key key' pass pass' f v life event told book =
+    let parts = moved heads m key key' pass pass' f v life event told told.2.found.stands book in (told.0, parts.0, (told.2.noted, parts.1))
 
 -- the word shows it afterwards, and what it held the list showed just before
 module _ (m : ℕ) (pass pass' : Pass) (keys keys' : Keys) (f : ℕ → ℕ) (v life : ℕ) (event : Events) (told : Takes (at_head pass.name m) keys pass keys' pass' [] f v life event (λ _. false)) where

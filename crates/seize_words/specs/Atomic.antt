@@ -1,11 +1,12 @@
 -- The words in which the contracts of atomic steps speak.
 --     exchanged seen new v          what a compare and exchange leaves that found v
+--     plus k v, minus k v           what an addition or a subtraction of k leaves that found v, round 2^64
 --     entries pass life event v log     the entry of a step that found v in the word, where the list was this just before
 --     MayTake word keys pass alive lives f life event trades     the holder of the keys may take the step with the pass: see MayStep
 --     Takes word keys pass keys' pass' alive f v life event trades     the step was taken and found v: see Stepped
 --     MayTakeIn, TakesIn            the same where the activation has not ended
 --     site_of keys, IsWordOf keys bits     which word the keys are of;  a word that holds this stands for what they know
-use Rattle.std.specs.Prelude.{◌≡◌, ℕ, Bool, List, [], ◌∷◌, drop}
+use Rattle.std.specs.Prelude.{◌≡◌, ℕ, ◌+◌, ◌-◌, ◌%◌, ◌^◌, Bool, List, [], ◌∷◌, drop}
 use lib.Dec.{eqb}
 use prog.Atomic.{either}
 use Rattle.seize_machine.specs.Machine.Event.{Event}
@@ -21,6 +22,12 @@ use Rattle.seize_words.specs.declared.book.pass.Pass.{Pass}
 
 abbrev pub exchanged : ℕ → ℕ → ℕ → ℕ
 exchanged seen new v = either (eqb v seen) new v
+
+abbrev pub plus : ℕ → ℕ → ℕ
+plus k v = (v + k) % 2 ^ 64
+
+abbrev pub minus : ℕ → ℕ → ℕ
+minus k v = (v + (2 ^ 64 - k)) % 2 ^ 64
 
 abbrev pub Events : Type 0
 Events = ℕ → List Entry → Event

@@ -1,4 +1,5 @@
 -- The words in which contracts speak of retired batches.
+--     IsCount word                  it is the word of a count
 --     CanDetach key                 the slot's call has read as many heads as there were slots when it began to
 --     Detaches key pass'            the newest batch of all that the pass has seen has the values that the slot's batch had, and its count is
 --                                   0; it is to be inserted at the slots that the call marked
@@ -6,10 +7,15 @@ use Rattle.std.specs.Prelude.{◌≡◌, ℕ, ◌+◌, true, pos, length, slice_
 use Rattle.seize_machine.specs.Machine.State.{batch_at}
 use Rattle.seize_machine.specs.Machine.Next.{can_detach}
 use Rattle.seize_words.specs.Blocks.{no_plan, plan_of, plans}
-use Rattle.seize_words.specs.Book.{after}
+use Rattle.seize_words.specs.Book.{after, counts}
 use Rattle.seize_words.specs.Slots.{slot_of, start_of}
+use Rattle.seize_words.specs.Words.{Site}
 use Rattle.seize_words.specs.declared.book.pass.Pass.{Pass}
 use Rattle.seize_words.specs.declared.book.slot_key.SlotKey.{SlotKey}
+
+-- it is the word of a count
+abbrev pub IsCount : Site → Type 0
+IsCount word = word.kind ≡ counts
 
 abbrev pub CanDetach : SlotKey → Type 0
 CanDetach key = can_detach (slot_of key) ≡ true

@@ -4,6 +4,7 @@
 #![tactic(auto)]
 
 pub mod activation;
+pub mod batch;
 pub mod book;
 pub mod link;
 pub mod reservation;

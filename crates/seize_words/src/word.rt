@@ -50,7 +50,7 @@ impl Finds for Brand {
 }
 
 impl Word {
-    ghost use Rattle.seize_words.specs.Atomic.{IsWordOf, MayTake, MayTakeIn, Takes, TakesIn, exchanged, site_of};
+    ghost use Rattle.seize_words.specs.Atomic.{IsWordOf, MayTake, MayTakeIn, Takes, TakesIn, exchanged, minus, plus, site_of};
 
     /// A word that holds `bits` and has the keys of what it stands for.
     pub(crate) fn new(bits: u64, keys: &mut Keys) -> Word
@@ -136,6 +136,22 @@ impl Word {
         ensures { Takes self.now keys.old pass.old keys.new pass.new [] (exchanged seen new) result P.life P.event P.trades }
     {
         unsafe { exchange::<Brand>(self as *const Self as *const u64, seen, new) }
+    }
+
+    /// Adds to the word, round 2^64, and gives what it held.
+    pub(crate) fn add<P: Finds>(&self, added: u64, keys: &mut Keys, pass: &mut Pass) -> u64
+        requires { MayTake self.now keys.old pass.old [] [] (plus added) P.life P.event P.trades }
+        ensures { Takes self.now keys.old pass.old keys.new pass.new [] (plus added) result P.life P.event P.trades }
+    {
+        unsafe { raw::fetch_add::<Brand>(self as *const Self as *const u64, added, SeqCst) }
+    }
+
+    /// Subtracts from the word, round 2^64, and gives what it held.
+    pub(crate) fn subtract<P: Finds>(&self, less: u64, keys: &mut Keys, pass: &mut Pass) -> u64
+        requires { MayTake self.now keys.old pass.old [] [] (minus less) P.life P.event P.trades }
+        ensures { Takes self.now keys.old pass.old keys.new pass.new [] (minus less) result P.life P.event P.trades }
+    {
+        unsafe { raw::fetch_sub::<Brand>(self as *const Self as *const u64, less, SeqCst) }
     }
 }
 

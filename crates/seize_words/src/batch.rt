@@ -1,0 +1,59 @@
+//! Batches: what counts them. Each block has a word for the count of the batch whose first value lies in it. It uses words and the book's
+//! keys.
+ghost use Rattle.std.specs.Prelude.{◌≡◌, [], pos};
+ghost use Rattle.seize_machine.specs.Machine.Event.{AddCount, SubCount};
+ghost use Rattle.seize_words.specs.Batches.{IsCount};
+
+use crate::book::{CountKey, Pass, SlotKey};
+use crate::word::Word;
+use std::marker::Brand;
+
+/// The count of one block, which threads share.
+///
+/// Its word is the count of the batch whose first value lies in the block, and 2^64 more where that is below 0. It is 0 where there is no
+/// such batch.
+#[derive(Drop)]
+pub struct Count {
+    word: Word,
+    ghost count: { IsCount word },
+}
+
+impl Count {
+    ghost use Rattle.seize_words.specs.Counts.{AddsTo, Counts, GivesUp, IsCountOf, IsOfBook, Walks, count_known};
+    ghost use Rattle.seize_words.specs.Slots.{IsOf, number_of};
+
+    /// The word of a block's count, which is 0.
+    pub fn new(key: CountKey) -> Count
+        requires { count_known key ≡ pos 0 }
+        ensures { IsCountOf result key }
+    {
+        let mut keys = key.keys;
+        Count {
+            word: Word::new(0, &mut keys),
+        }
+    }
+
+    /// Adds the insertions won to the batch's count: the event `AddCount` of the slot that detached the batch. It says whether the count
+    /// is 0 then. If it is, nobody holds the batch, and its values are given up to the slot's call.
+    pub fn add(&self, won: u64, key: &mut SlotKey, pass: &mut Pass) -> bool
+        requires book { IsOf key.old pass.old × IsOfBook self.now pass.old }
+        requires adds { AddsTo key.old self.now won }
+        ensures counts { Counts key.old pass.old key.new pass.new (AddCount (number_of key.old)) result }
+        ensures gives { (adds : AddsTo key.old self.now won) → GivesUp key.old key.new adds.batch [] adds.queue result }
+    {
+        let old = self.word.add::<Brand>(won, &mut key.keys, pass);
+        old.wrapping_add(won) == 0
+    }
+
+    /// Counts the batch down that the slot's walk comes to: the event `SubCount`. It says whether the count is 0 then. If it is, nobody
+    /// else holds the batch, and its values are given up to the slot's call.
+    pub fn subtract(&self, key: &mut SlotKey, pass: &mut Pass) -> bool
+        requires book { IsOf key.old pass.old × IsOfBook self.now pass.old }
+        requires walks { Walks key.old self.now }
+        ensures counts { Counts key.old pass.old key.new pass.new (SubCount (number_of key.old)) result }
+        ensures gives { (walks : Walks key.old self.now) → GivesUp key.old key.new walks.batch walks.walk walks.queue result }
+    {
+        let old = self.word.subtract::<Brand>(1, &mut key.keys, pass);
+        old == 1
+    }
+}
