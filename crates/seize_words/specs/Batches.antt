@@ -1,8 +1,8 @@
 -- The words in which contracts speak of retired batches.
 --     IsCount word                  it is the word of a count
 --     CanDetach key                 the slot's call has read as many heads as there were slots when it began to
---     Detaches key pass'            the newest batch of all that the pass has seen has the values that the slot's batch had, and its count is
---                                   0; it is to be inserted at the slots that the call marked
+--     Detaches key pass'            the newest batch of all that the pass has seen has the values that the slot's batch had, and its count
+--                                   is 0; it is to be inserted at the slots that the call marked
 use Rattle.std.specs.Prelude.{◌≡◌, ℕ, ◌+◌, true, pos, length, slice_index_or}
 use Rattle.seize_machine.specs.Machine.State.{batch_at}
 use Rattle.seize_machine.specs.Machine.Next.{can_detach}

@@ -36,7 +36,8 @@ is_home k (Some v) = home_of v == k
 
 abbrev pub HasOne : State → Type 0
 HasOne st =
-    (v w : ℕ) → home_of v ≡ home_of w → has v st.named ≡ true → has w st.named ≡ true → has v st.gone ≡ false → has w st.gone ≡ false → v ≡ w
+    (v w : ℕ) → home_of v ≡ home_of w → has v st.named ≡ true → has w st.named ≡ true → has v st.gone ≡ false → has w st.gone ≡ false
+    → v ≡ w
 
 abbrev pub IsVacant : State → ℕ → Type 0
 IsVacant st k = (v : ℕ) → home_of v ≡ k → has v st.named ≡ true → has v st.gone ≡ true

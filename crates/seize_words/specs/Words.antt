@@ -1,5 +1,5 @@
--- What a word of the book is. A word stands for one head, link or count: its value shows what the list says of it. The word's key stands beside
--- it, in the word's own invariant, so whoever takes an atomic step on the word may add the event that changes these in that very
+-- What a word of the book is. A word stands for one head, link or count: its value shows what the list says of it. The word's key stands
+-- beside it, in the word's own invariant, so whoever takes an atomic step on the word may add the event that changes these in that very
 -- step, and nobody else may.
 --     Site                   which word it is: its book, and the kind and number of what it stands for
 --     Shows site v log       the value v is what the list says
