@@ -336,6 +336,32 @@ module _ {E : Type 0} (c : Coded E) (rules : Rules E) (extra : List E → Fml) (
       move ! (5 ∷ 2 ∷ 0 ∷ []) $ use3 𝓛 (‵ J) (shut s.0 s.1 so.0) $ show ! (λ log. guard 𝓤 (Known rules held seen log × Told log) (⟦ J ⟧ ∗ ⟦ rights c δs held ⟧ ∗ ⟦ had log ⟧ ∗ Y log)) s.1 $
       check ! (so.1, told) $ move ! (0 ∷ 3 ∷ 2 ∷ 1 ∷ []) $ done !)))
 
+  holds_renewed : (rows : Rows) (held : List (Held E)) (log : List E) → KeptNow → Holds rules rows log → Holds rules (puts rows held log) log
+  holds_renewed rows held log same so = record {
+    legal = so.legal;
+    kept = λ r k own h. ⊎_elim (λ (e : own ≡ log). subst (λ (x : List E). rules.Kept r k x log) (sym e) (same r k log)) (λ t. so.kept r k own t.1) (has_puts rows held log r k own h);
+    sized = λ r. subst (λ (j : ℕ). rules.Sized r j log) (sym (puts_length rows held log r)) (so.sized r);
+  }
+
+  -- and the keys know of all that was appended
+  abbrev pub Renewed : List (Held E) → List E → (List E → Type 0) → (List E → Pr) → List E → Pr
+  Renewed held seen Told Y log = guard 𝓤 (Known rules held seen log × Told log) (⟦ J ⟧ ∗ ⟦ rights c δs (renewed held log) ⟧ ∗ ⟦ had log ⟧ ∗ Y log)
+
+  pub renews : (held : List (Held E)) (seen : List E) (Told : List E → Type 0) (X : Pr) (Y : List E → Pr) → WithKinds (length δs) held → KeptNow → ((log : List E) → Known rules held seen log → ⟦ extra log ⟧ ∗ X ⊢ guard 𝓤 (Told log) (⟦ extra log ⟧ ∗ Y log))
+      → ⟦ J ⟧ ∗ ⟦ rights c δs held ⟧ ∗ ⟦ had seen ⟧ ∗ X ⊢ upd 𝓤 (ex 𝓤 (Renewed held seen Told Y))
+  renews held seen Told X Y w same tells = let Z : Pr = ex 𝓤 (Renewed held seen Told Y) in
+      qed 𝓛 (‵ J ∷ ‵ (rights c δs held) ∷ ‵ (had seen) ∷ raw X ∷ []) ∵ use3 𝓛 (seeing held seen) (looked held seen w) $ pick ! (λ s. learn ! (λ so. let rows : Rows = s.0 in let log : List E = s.1 in split ! $ move ! (1 ∷ []) $ split3 ! $
+      use1 𝓛 (‵ (top log) ⊛ ‵ (had log)) (latest_shows (logs c) 𝓛 full_share η log log ([], mathlib.Core.List.append-nil log)) $ split ! $
+      -- [top; reached; extra; rights; rosters; X]
+      move ! (2 ∷ 5 ∷ []) $ use2 𝓛 (given (Told log) (‵ (extra log) ⊛ raw (Y log))) (tells log so.1) $ learn ! (λ told. split ! $
+      -- [extra; Y; top; reached; rights; rosters]
+      move ! (5 ∷ 4 ∷ []) $ use2 𝓛 (raw (upd 𝓤 (⟦ rosters c δs (puts rows held log) ⟧ ∗ ⟦ rights c δs (renewed held log) ⟧))) (sets_rights rows held log w) $
+      settle 𝓛 Z (‵ (rosters c δs (puts rows held log)) ⊛ ‵ (rights c δs (renewed held log))) $ split ! $ suffices ! _ (upd_i 𝓤 Z) $
+      -- [rosters; rights; extra; Y; top; reached]
+      move ! (0 ∷ 4 ∷ 2 ∷ []) $ use3 𝓛 (‵ J) (shut (puts rows held log) log (holds_renewed rows held log same so.0)) $
+      -- [J; rights; Y; reached]
+      show ! (Renewed held seen Told Y) log $ check ! (so.1, told) $ move ! (0 ∷ 1 ∷ 3 ∷ 2 ∷ []) $ done !)))
+
   abbrev pub Looked : List (Held E) → List E → List E → Pr
   Looked held seen log = guard 𝓤 (Known rules held seen log) (⟦ J ⟧ ∗ ⟦ rights c δs held ⟧ ∗ ⟦ had log ⟧)
 

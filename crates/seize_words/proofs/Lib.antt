@@ -20,6 +20,7 @@ pub mod Tuples
 pub mod Private
 pub mod Moves
 pub mod Hands
+pub mod Renames
 pub mod Retires
 pub mod Gives
 pub mod Detaches

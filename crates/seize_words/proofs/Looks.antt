@@ -1,22 +1,23 @@
 -- The holder of a pass, and of keys, looks at the list with no event. Assumes `Logic`.
-use Rattle.std.proofs.Common.{◌≡◌, ℕ, List, [], ◌∷◌, sym, ◌∙◌, arith}
+use Rattle.std.proofs.Common.{◌≡◌, ℕ, List, [], ◌∷◌, refl, sym, ◌∙◌, append-nil, arith}
 use mathlib.Core.List.{IsPrefix}
 use seplogic.Ra.Ura.{Ura}
-use base.Logic.{SProp, ent, sep, ex, guard, upd_i}
+use base.Logic.{SProp, ent, sep, ex, guard, upd, upd_i}
 use base.Fml.{Fml, ftrue, finv, fdead}
 use types.Logic.{Logic, sem}
 use types.Growing.{at_least_dup}
-use types.Kit.{‵, keep, ◌⊛◌, some, given, ◌$◌, ◌∵◌, !, qed, move, drop, split, split3, join, fsplit, fjoin, fpick, fpack, pick, learn, show, check, frame, assume, suffices, done, use1, use2, use3}
+use types.Kit.{‵, raw, settle, keep, ◌⊛◌, some, given, ◌$◌, ◌∵◌, !, qed, move, drop, split, split3, join, fsplit, fjoin, fpick, fpack, pick, learn, show, check, frame, assume, suffices, done, use1, use2, use3}
 use denote.Steps.{nothing}
 use Rattle.seize_machine.specs.Machine.State.{State}
-use Rattle.seize_words.specs.Ledger.{Held, WithKinds, Known, logs, reached}
+use Rattle.seize_words.specs.Ledger.{Held, WithKinds, Known, logs, reached, renewed}
 use Rattle.seize_words.specs.Entry.{Entry, entry_coded}
 use Rattle.seize_words.specs.Book.{mine, rules, kinds}
 use Rattle.seize_words.specs.Fair.{Before, pass_key}
 use Rattle.seize_words.specs.Laws.{ended, IsIn}
 use Rattle.seize_words.specs.Tokens.{Name, rows, start, beside, inside, knows, keys_own, over, IsSole, gate_keeps, gate_gives, pass_at, pass_holds, pass_owns}
-use Rattle.seize_words.proofs.Append.{looks_beside}
+use Rattle.seize_words.proofs.Append.{Renewed, looks_beside, renews}
 use Rattle.seize_words.proofs.Gates.{agrees, gives_as}
+use Rattle.seize_words.proofs.Goes.{kept_now}
 use Rattle.seize_words.proofs.Notes.{knows_twice, opens}
 use Rattle.seize_words.proofs.Lives.{ended_grows, over_one}
 
@@ -83,9 +84,9 @@ module _ {M : Type 1} {𝓤 : Ura M} (𝓛 : Logic 𝓤) (n : Name) (p : ℕ) wh
     before own log past known same = record { legal = known.0.0; sound = known.0.1; grows = known.1; none_made = sym known.2.0.1 ∙ past; kept = known.2.1; alone = same }
 
     abbrev pub Looked : List Entry → Pr
-    Looked log = guard 𝓤 (Before n p seen held log) (⟦ pass_owns n p log ⟧ ∗ ⟦ keys held ⟧)
+    Looked log = guard 𝓤 (Before n p seen held log) (⟦ pass_owns n p log ⟧ ∗ ⟦ keys (renewed held log) ⟧)
 
-    -- with keys: the pass has seen all then, and the keys are as they were
+    -- with keys: the pass has seen all then, and the keys know of it
     pub looks_now : WithKinds kinds held → ⟦ pass_owns n p seen ⟧ ∗ ⟦ keys held ⟧ ⊢ H.⇛ (ex 𝓤 Looked)
     looks_now within = let Z : Pr = ex 𝓤 Looked in qed 𝓛 ((‵ (knows n) ⊛ ‵ (pass_holds n p seen)) ∷ ‵ (keys held) ∷ []) ∵ split ! $ use1 𝓛 (‵ (knows n) ⊛ ‵ (knows n)) (knows_twice 𝓛 n) $ split ! $ use1 𝓛 (‵ (finv J)) (opens 𝓛 n) $
         suffices ! _ (𝓛.invs.inv_acc J Z) $ frame ! $ assume ! (‵ J) $ move ! (2 ∷ []) $
@@ -93,13 +94,14 @@ module _ {M : Type 1} {𝓤 : Ura M} (𝓛 : Logic 𝓤) (n : Name) (p : ℕ) wh
         use1 𝓛 (some (λ (own : List Entry). given (Idle own seen) (‵ (keys (pass_key p own ∷ [])) ⊛ ‵ (had seen) ⊛ ‵ (gives seen)))) (apart seen) $ pick ! (λ own. learn ! (λ past. split3 ! $ fsplit ! $ move ! (1 ∷ []) $ drop ! $
         -- [its key; what it has seen; its copy; J; the book; the keys]
         move ! (0 ∷ 5 ∷ []) $ fjoin ! $ move ! (1 ∷ 2 ∷ []) $ join ! $ move ! (2 ∷ 1 ∷ 0 ∷ []) $
-        use3 𝓛 (some (λ (log : List Entry). given (Known (rules st) (pass_key p own ∷ held) seen log × alone log) (‵ J ⊛ ‵ (keys (pass_key p own ∷ held)) ⊛ ‵ (had log) ⊛ ‵ (gives seen))))
-        (looks_beside entry_coded (rules st) (beside n) n.log (rows n) 𝓛 (pass_key p own ∷ held) seen alone ⟦ gives seen ⟧ (λ _. ⟦ gives seen ⟧) (omega arith, within) (tells own)) $
+        use3 𝓛 (raw (upd 𝓤 (ex 𝓤 (Renewed entry_coded (rules st) (beside n) n.log (rows n) 𝓛 (pass_key p own ∷ held) seen alone (λ _. ⟦ gives seen ⟧)))))
+        (renews entry_coded (rules st) (beside n) n.log (rows n) 𝓛 (pass_key p own ∷ held) seen alone ⟦ gives seen ⟧ (λ _. ⟦ gives seen ⟧) (omega arith, within) (kept_now st) (tells own)) $
+        settle 𝓛 (⟦ J ⟧ ∗ Z) (some (λ (log : List Entry). given (Known (rules st) (pass_key p own ∷ held) seen log × alone log) (‵ J ⊛ ‵ (keys (renewed (pass_key p own ∷ held) log)) ⊛ ‵ (had log) ⊛ ‵ (gives seen)))) $
         suffices ! _ (upd_i 𝓤 (⟦ J ⟧ ∗ Z)) $ pick ! (λ log. learn ! (λ known. let b = before own log past.1 known.0 known.1 in split ! $ frame ! $ split3 ! $
         -- [the keys; what was reached; its copy; the book]
         move ! (2 ∷ []) $ use1 𝓛 (‵ (gives log)) (gives_as 𝓛 n.gate seen log (λ s. sym (known.1 s))) $ move ! (1 ∷ []) $ fsplit ! $
         -- [its key; the keys; its copy; what was reached; the book]
-        nothing ! $ move ! (1 ∷ 0 ∷ []) $ fjoin ! $ move ! (0 ∷ 3 ∷ 2 ∷ []) $ use3 𝓛 (‵ (pass_holds n p log)) (together log own (known.0.2.0.0, known.0.2.0.1)) $
+        nothing ! $ move ! (1 ∷ 0 ∷ []) $ fjoin ! $ move ! (0 ∷ 3 ∷ 2 ∷ []) $ use3 𝓛 (‵ (pass_holds n p log)) (together log log (([], append-nil log), refl)) $
         move ! (2 ∷ 0 ∷ []) $ fjoin ! $ show ! Looked log $ check ! b $ done !))))
 
   -- a lifetime that the pass has seen ended is over

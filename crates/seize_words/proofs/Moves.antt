@@ -4,18 +4,18 @@ use Rattle.seize_machine.specs.Machine.State.{State, slot_at, head_at, is_active
 use Rattle.seize_machine.specs.Machine.Next.{next}
 use Rattle.seize_machine.specs.declared.machine.event.Answer.{Answer}
 use Rattle.seize_words.specs.Entry.{Entry}
+use Rattle.seize_words.specs.Ledger.{renewed}
 use Rattle.seize_words.specs.Book.{after, IsLegalList, Does, TheSlot, Kept, mine, slots}
 use Rattle.seize_words.specs.Slots.{Looks, Moves, number_of, own_list}
 use Rattle.seize_words.specs.Tokens.{Name, start}
 use Rattle.seize_words.specs.Fair.{Before}
 use Rattle.seize_words.specs.Passes.{IsSame}
 use Rattle.seize_words.specs.Private.{is_one, key_of, own_of}
-use Rattle.seize_words.specs.declared.book.keys.Keys.{Keys}
 use Rattle.seize_words.specs.declared.book.pass.Pass.{Pass}
 use Rattle.seize_words.specs.declared.book.slot_key.SlotKey.{SlotKey}
 use Rattle.seize_words.proofs.Lists.{after_push}
 use Rattle.seize_words.proofs.Lives.{life_kept}
-use Rattle.seize_words.proofs.Private.{one_kept}
+use Rattle.seize_words.proofs.Private.{after_one, one_kept}
 
 -- what a key knows, of the state that its list ends with
 now : {X : Type 0} (key key' : SlotKey) (n : Name) (e : Entry) (later : State) (log : List Entry) → key'.keys.name ≡ n → own_list key' ≡ log ++ e ∷ [] → after (start n) (log ++ e ∷ []) ≡ later
@@ -45,13 +45,13 @@ moves key key' n e log d name name' size legal does kept number own =
     }
 
 -- where its holder only looked
-pub stays : (key key' : SlotKey) (pass pass' : Pass) → key.keys.name ≡ pass.name → IsSame pass pass' → key'.keys ≡ key.keys → Before pass.name pass.id pass.seen key.keys.held pass'.seen
+pub stays : (key key' : SlotKey) (pass pass' : Pass) → key.keys.name ≡ pass.name → IsSame pass pass' → (key'.keys.name ≡ key.keys.name) × (key'.keys.held ≡ renewed key.keys.held pass'.seen) → Before pass.name pass.id pass.seen key.keys.held pass'.seen
     → is_one slots key.keys.held ≡ true → Looks key pass key' pass'
 stays key key' pass pass' book same is before one =
-    let k = number_of key in let kept_all = one_kept (start pass.name) key.keys.held pass'.seen one before.kept in let kept = kept_all.1 in
+    let k = number_of key in let known = after_one slots key.keys.held pass'.seen one in let kept_all = one_kept (start pass.name) key.keys.held pass'.seen one before.kept in let kept = kept_all.1 in
     record {
       same = same;
-      kept = (ap (λ (h : Keys). h.name) is, ap (λ (h : Keys). key_of h.held) is, ap (λ (h : Keys). own_of h.held) is);
+      seen_by = (is.0, ap key_of is.1 ∙ known.0, ap own_of is.1 ∙ known.1);
       none_made = ap (λ (m : Name). mine (start m) pass'.id pass'.seen) same.0 ∙ ap (λ (p : ℕ). mine (start pass.name) p pass'.seen) same.1 ∙ before.none_made;
       grows = before.grows;
       knows = kept_all.0;

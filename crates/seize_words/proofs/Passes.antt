@@ -19,6 +19,7 @@ use Rattle.seize_words.proofs.Append.{appends, Appended}
 use Rattle.seize_words.proofs.Goes.{goes, kept_now, births_of, births_below}
 use Rattle.seize_words.proofs.Gates.{agrees, follows}
 use Rattle.seize_words.proofs.Lists.{after_push, legal_push, selected_in}
+use Rattle.seize_words.proofs.Sound.{sound_push}
 
 module _ {M : Type 1} {𝓤 : Ura M} (𝓛 : Logic 𝓤) (n : Name) where
   abbrev Pr : Type 2
@@ -80,6 +81,7 @@ module _ {M : Type 1} {𝓤 : Ura M} (𝓛 : Logic 𝓤) (n : Name) where
         before = log;
         appended = refl;
         legal = legal_push st log (ev log) fair.done before.legal fair.legal;
+        sound = sound_push st log (ev log) fair.done before.legal fair.legal fair.one before.sound;
         grows = before.grows;
         later = fair.done.0;
         answer = fair.done.1;

@@ -32,6 +32,12 @@ one_after r [] births seen h = absurd (cc)
 one_after r (x ∷ y ∷ held) births seen h = absurd (cc)
 one_after r (x ∷ []) births seen h = (refl, refl)
 
+-- or after a look
+pub after_one : (r : ℕ) (held : List (Held Entry)) (seen : List Entry) → is_one r held ≡ true → (key_of (renewed held seen) ≡ key_of held) × (own_of (renewed held seen) ≡ seen)
+after_one r [] seen one = absurd (cc)
+after_one r (x ∷ y ∷ held) seen one = absurd (cc)
+after_one r (x ∷ []) seen one = (refl, refl)
+
 -- the key and those that the event made
 pub one_and_born : (r : ℕ) (held : List (Held Entry)) (births : List (ℕ × ℕ)) (seen : List Entry) → is_one r held ≡ true
     → (key_of (take 1 (renewed held seen ++ born births seen)) ≡ key_of held) × (own_of (take 1 (renewed held seen ++ born births seen)) ≡ seen) × (drop 1 (renewed held seen ++ born births seen) ≡ born births seen)

@@ -1,26 +1,29 @@
 -- The keys of a slot and of a value are enough to begin to retire the value.
-use Rattle.std.proofs.Common.{Some, Bool, ◌||◌, not, if◌then◌else◌, filter, ◌≡◌, ℕ, zero, suc, ◌<◌, ◌≤◌, true, false, ◌==◌, List, [], ◌∷◌, ◌++◌, refl, sym, ◌∙◌, ap, subst, ◌⊎◌, inl, inr, ⊎_elim, arith}
+use Rattle.std.proofs.Common.{Option, Some, Bool, ◌||◌, not, if◌then◌else◌, filter, ◌≡◌, ℕ, zero, suc, ◌<◌, ◌≤◌, true, false, ◌==◌, List, [], ◌∷◌, ◌++◌, refl, sym, ◌∙◌, ap, subst, ◌⊎◌, inl, inr, ⊎_elim, arith}
 use Rattle.seize_machine.specs.Machine.State.{State, Append, slot_at, is_idle, has}
 use Rattle.seize_machine.specs.Machine.Event.{Event, Begin}
 use Rattle.seize_machine.specs.Machine.Next.{begun, retiring, with_named}
 use Rattle.seize_machine.specs.Machine.Frames.{begins_retiring}
+use Rattle.seize_machine.specs.Machine.History.{IsReached}
 use Rattle.seize_machine.specs.declared.machine.event.Answer.{Answer}
 use Rattle.seize_machine.specs.declared.machine.event.Answer.TheVariants.{Done}
 use Rattle.seize_machine.specs.declared.machine.event.Job.{Job}
 use Rattle.seize_machine.specs.declared.machine.event.Job.TheVariants.{Retire}
-use Rattle.seize_machine.proofs.Facts.{Step, next_of, step_of, beginning, eq_true}
+use Rattle.seize_machine.proofs.Facts.{Step, next_of, step_of, beginning, eq_true, gone_named, is_true, loose_named}
 use Rattle.seize_words.specs.Ledger.{Held, renewed}
 use Rattle.seize_words.specs.Entry.{Entry}
-use Rattle.seize_words.specs.Book.{after, blocks, slots}
+use Rattle.seize_words.specs.Book.{IsLegalList, after, blocks, slots}
 use Rattle.seize_words.specs.Fair.{Before, Covers, Fair, MayAdd, pass_key}
-use Rattle.seize_words.specs.Homes.{IsVacant, home_of}
-use Rattle.seize_words.specs.Others.{IsSpent, MayBegin, state_of}
+use Rattle.seize_words.specs.Homes.{HasOne, IsVacant, home_of}
+use Rattle.seize_words.specs.Others.{IsLastIn, IsSpent, MayBegin, state_of, value_of}
 use Rattle.seize_words.specs.Private.{is_one, key_of, label_of, own_of}
 use Rattle.seize_words.specs.Tokens.{Name, Noted, start}
 use Rattle.seize_words.specs.Adding.{private}
 use Rattle.seize_words.specs.declared.book.keys.Keys.{Keys}
 use Rattle.seize_words.specs.declared.book.pass.Pass.{Pass}
-use Rattle.seize_words.proofs.Private.{only, only_is, differ}
+use Rattle.seize_words.specs.declared.book.value_key.ValueKey.{ValueKey}
+use Rattle.seize_words.proofs.Lists.{legal_front, reached_after}
+use Rattle.seize_words.proofs.Private.{after_one, only, only_is, differ}
 use Rattle.seize_words.proofs.Sound.{has_last, new_named, old_named, pushed, vacant_later}
 
 retires : ℕ → ℕ → ℕ → ℕ → Entry
@@ -101,6 +104,10 @@ spends size st v event _ (Step.begun_other s job place idle which from) h = othe
     other _ h from = absurd (cc)
 spends size st v event _ _ h = absurd (cc)
 
+renewed_label : (held : List (Held Entry)) (seen : List Entry) → label_of (renewed held seen) ≡ label_of held
+renewed_label [] seen = refl
+renewed_label (x ∷ xs) seen = refl
+
 -- and so does its key know
 pub spent : (pass : Pass) (seen' : List Entry) (value value' : Keys) (s : ℕ) (noted : Noted pass.name pass.id pass.seen seen' (private pass (Begin s (Retire (label_of value.held)))))
     → is_one blocks value.held ≡ true → value.name ≡ pass.name → value'.name ≡ value.name → value'.held ≡ renewed value.held seen' → IsSpent (label_of value'.held) (state_of value')
@@ -114,10 +121,43 @@ spent pass seen' value value' s noted one book name held =
     itself : (v : ℕ) → (v == v) ≡ true
     itself v = grind arith
 
-    renewed_label : (held : List (Held Entry)) (seen : List Entry) → label_of (renewed held seen) ≡ label_of held
-    renewed_label [] seen = refl
-    renewed_label (x ∷ xs) seen = refl
-
     renewed_own : (held : List (Held Entry)) (seen : List Entry) → is_one blocks held ≡ true → own_of (renewed held seen) ≡ seen
     renewed_own [] seen h = absurd (cc)
     renewed_own (x ∷ xs) seen h = refl
+
+-- it was not reclaimed
+not_gone : (size : ℕ) (st : State) (s v : ℕ) (d : State × Answer) → IsReached st → Step size st (Begin s (Retire v)) d → has v (d.0).gone ≡ false
+not_gone size st _ _ _ r (Step.begun_retire s v idle may) = ⊎_elim (λ unnamed. go (is_true (has v st.gone)) unnamed) (λ loose. (loose_named st r v loose).1) may
+  where
+    go : (has v st.gone ≡ true) ⊎ (has v st.gone ≡ false) → has v st.named ≡ false → has v st.gone ≡ false
+    go (inl gone) unnamed = absurd (let x : true ≡ false = sym (gone_named st r v gone) ∙ unnamed in cc)
+    go (inr not) unnamed = not
+not_gone size st _ _ _ r (Step.begun_other s job place idle which from) = absurd (let x : Option.None ≡ Some place = from.1 in cc)
+
+-- and all others of its block were, as its key knows
+pub last : (pass : Pass) (seen' : List Entry) (value : ValueKey) (keys' : Keys) (s : ℕ) (noted : Noted pass.name pass.id pass.seen seen' (private pass (Begin s (Retire (value_of value))))) → value.keys.name ≡ pass.name
+    → IsSpent (label_of keys'.held) (state_of keys') → keys'.name ≡ value.keys.name → keys'.held ≡ renewed value.keys.held seen' → IsLastIn (label_of keys'.held) (state_of keys')
+last pass seen' value keys' s noted book spent name held w home other named = go (is_true (has w now.gone))
+  where
+    now : State
+    now = state_of keys'
+
+    is_now : now ≡ after (start pass.name) seen'
+    is_now = ap (λ (t : Name × List Entry). after (start t.0) t.1) (λ j. ((name ∙ book) j, (ap own_of held ∙ (after_one blocks value.keys.held seen' value.one).1) j))
+
+    v : ℕ
+    v = label_of keys'.held
+
+    its : v ≡ value_of value
+    its = ap label_of held ∙ renewed_label value.keys.held seen'
+
+    alive : has v now.gone ≡ false
+    alive =
+        let st : State = after (start pass.name) noted.before in let e = private pass (Begin s (Retire (value_of value))) in
+        let legal = legal_front (start pass.name) noted.before e (subst (IsLegalList (start pass.name)) noted.appended noted.legal) in
+        subst (λ (t : ℕ × State). has t.0 t.1.gone ≡ false) (λ j. (sym its j, sym (is_now ∙ noted.leads) j))
+        (not_gone e.size st s (value_of value) (noted.later, noted.answer) (reached_after pass.name noted.before noted.distinct legal) (step_of _ _ _ _ noted.does))
+
+    go : (has w now.gone ≡ true) ⊎ (has w now.gone ≡ false) → has w now.gone ≡ true
+    go (inl gone) = gone
+    go (inr not) = absurd (other (subst HasOne (sym is_now) noted.sound.one w v home named spent.0 not alive))

@@ -3,13 +3,13 @@
 --     Asks keys pass event          the holder of the keys may add it with the pass
 --     Adds keys pass keys' pass' event   it was added: see Added
 --     MayLook keys pass             the holder of the keys may look at the list with the pass
---     Looks keys pass keys' pass'      the pass has seen a legal list, as in Before, and nothing was made with it; the keys are the same
+--     Looks keys pass keys' pass'      the pass has seen a legal list, as in Before, and nothing was made with it; the keys know all of it
 --     Joins keys other keys' other'    the other's keys come after its own, and the other has none
 --     Parts keys keys' other'          the other has all but the first
 use Rattle.std.specs.Prelude.{◌≡◌, [], ◌++◌, take, drop}
 use Rattle.seize_machine.specs.Machine.Event.{Event}
 use Rattle.seize_words.specs.Entry.{Entry}
-use Rattle.seize_words.specs.Ledger.{WithKinds}
+use Rattle.seize_words.specs.Ledger.{WithKinds, renewed}
 use Rattle.seize_words.specs.Book.{kinds}
 use Rattle.seize_words.specs.Fair.{Before, MayAdd, Added}
 use Rattle.seize_words.specs.Passes.{IsSame}
@@ -30,7 +30,9 @@ abbrev pub MayLook : Keys → Pass → Type 0
 MayLook keys pass = (keys.name ≡ pass.name) × WithKinds kinds keys.held
 
 abbrev pub Looks : Keys → Pass → Keys → Pass → Type 0
-Looks keys pass keys' pass' = IsSame pass pass' × (keys' ≡ keys) × Before pass.name pass.id pass.seen keys.held pass'.seen
+Looks keys pass keys' pass' =
+    IsSame pass pass' × ((keys'.name ≡ keys.name) × (keys'.held ≡ renewed keys.held pass'.seen))
+    × Before pass.name pass.id pass.seen keys.held pass'.seen
 
 abbrev pub Joins : Keys → Keys → Keys → Keys → Type 0
 Joins keys other keys' other' =

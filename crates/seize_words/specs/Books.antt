@@ -4,9 +4,12 @@
 --     IsNew pass                               nothing was made with it
 --     IsNewBlock keys number                   the key of a block with this number no value of which was ever named, labelled with one of
 --                                              them; and that of its count, which is 0
---     IsFirstIn value number                   it was never named, nor was another value of its block, which has this number
+--     IsNextIn value number                    it was never named, all values that lay in its block before were reclaimed, and this is the
+--                                              number by which words hold the block
+--     MakesNext value pass value' pass'        it is for the next value of the block, and the pass has looked at the list
 --     IsCountFor count value                   it is that of the value's block, and the count is 0
 use Rattle.std.specs.Prelude.{◌≡◌, ℕ, pos, false, List, [], ◌∷◌}
+use mathlib.Core.List.{IsPrefix}
 use Rattle.seize_machine.specs.Machine.State.{has}
 use Rattle.seize_words.specs.Entry.{Entry}
 use Rattle.seize_words.specs.Blocks.{block_of}
@@ -17,7 +20,7 @@ use Rattle.seize_words.specs.Book.{after, counts, blocks}
 use Rattle.seize_words.specs.Tokens.{many, IsSole, start}
 use Rattle.seize_words.specs.Private.{own_of}
 use Rattle.seize_words.specs.Begin.{BeganWith, first_keys, first_links}
-use Rattle.seize_words.specs.Passes.{mine_of}
+use Rattle.seize_words.specs.Passes.{IsSame, MadeNone, mine_of}
 use Rattle.seize_words.specs.declared.book.count_key.CountKey.{CountKey}
 use Rattle.seize_words.specs.declared.book.keys.Keys.{Keys}
 use Rattle.seize_words.specs.declared.book.link_keys.LinkKeys.{LinkKeys}
@@ -61,10 +64,16 @@ pub record IsNewBlock (keys : Keys) (number : ℕ) : Type 0 where
   pub none_named : (v : ℕ) → home_of v ≡ home_of value → has v (after (start keys.name) own).named ≡ false
   pub no_count : count_in (after (start keys.name) own) (home_of value) ≡ pos 0
 
--- a value of a block with this number, which was never named, nor was another one of that block
-abbrev pub IsFirstIn : ValueKey → ℕ → Type 0
-IsFirstIn value number =
+-- it was never named, all values that lay in its block before were reclaimed, and words hold the block by this number
+abbrev pub IsNextIn : ValueKey → ℕ → Type 0
+IsNextIn value number =
     (is_named value ≡ false) × IsVacant (state_of value.keys) (home_of (value_of value)) × (block_of (value_of value) ≡ number)
+
+-- it is for another value of the same block, and the pass has seen a legal list that goes on; nothing was made with it
+abbrev pub MakesNext : ValueKey → Pass → ValueKey → Pass → Type 0
+MakesNext value pass value' pass' =
+    IsSame pass pass' × MadeNone pass pass' × IsPrefix pass.seen pass'.seen
+    × (value'.keys.name ≡ value.keys.name) × (home_of (value_of value') ≡ home_of (value_of value))
 
 -- the count of its block, which is 0
 abbrev pub IsCountFor : CountKey → ValueKey → Type 0

@@ -11,10 +11,16 @@
 --     state_of keys, value_of value     where the keys' list leads, and which value it is
 --     MakesNone n p seen held event     wherever the list is by then, the event makes no keys
 --     IsWith key other pass event       the slot's holder may add the event with the other keys
+--     IsLastIn v st                     all other values of its block that were ever named were reclaimed;  IsLast value    so it is, as
+--                                       its key knows
+--     HasGone value pass                the value was reclaimed, as the pass has seen
+--     labelled v held                   the first key has this label
+--     Renames keys keys' number         the first key's label is a value of its block, with this number, that was never named, as it knows
 --     SameKind keys keys'               if there was one key of some kind, there is one of this kind
 --     Follows keys pass' keys'          they are the same keys, and know all that the pass has seen
-use Rattle.std.specs.Prelude.{◌≡◌, ℕ, ◌<◌, Bool, true, false, List, [], ◌++◌, length, ◌⊎◌}
+use Rattle.std.specs.Prelude.{◌≡◌, ◌≢◌, ℕ, ◌<◌, Bool, true, false, List, [], ◌∷◌, ◌++◌, length, ◌⊎◌}
 use Rattle.seize_machine.specs.Machine.State.{State, has}
+use Rattle.seize_words.specs.Blocks.{block_of}
 use Rattle.seize_words.specs.Book.{after, births}
 use Rattle.seize_words.specs.Private.{is_one, key_of, label_of, own_of}
 use Rattle.seize_machine.specs.Machine.Event.{Event}
@@ -77,6 +83,27 @@ abbrev pub IsWith : SlotKey → Keys → Pass → Event → Type 0
 IsWith key other pass event =
     MakesNone pass.name pass.id pass.seen (key.keys.held ++ other.held) event
     × MayAdd pass.name pass.id pass.seen (key.keys.held ++ other.held) (private pass event)
+
+abbrev pub IsLastIn : ℕ → State → Type 0
+IsLastIn v st = (w : ℕ) → home_of w ≡ home_of v → w ≢ v → has w st.named ≡ true → has w st.gone ≡ true
+
+abbrev pub IsLast : ValueKey → Type 0
+IsLast value = IsLastIn (value_of value) (state_of value.keys)
+
+abbrev pub HasGone : ValueKey → Pass → Type 0
+HasGone value pass = has (value_of value) (after (start pass.name) pass.seen).gone ≡ true
+
+abbrev pub labelled : ℕ → List (Held Entry) → List (Held Entry)
+labelled v [] = []
+labelled v (h ∷ held) = record { kind = h.kind; key = h.key; own = h.own; label = v } ∷ held
+
+pub record Renames (keys keys' : Keys) (number : ℕ) : Type 0 where
+  pub value : ℕ
+  pub book : keys'.name ≡ keys.name
+  pub held : keys'.held ≡ labelled value keys.held
+  pub home : home_of value ≡ key_of keys.held
+  pub numbered : block_of value ≡ number
+  pub unnamed : has value (state_of keys).named ≡ false
 
 abbrev pub SameKind : Keys → Keys → Type 0
 SameKind keys keys' = (r : ℕ) → is_one r keys.held ≡ true → is_one r keys'.held ≡ true

@@ -9,9 +9,8 @@
 --                          the slot, the event took the slot from where its key knew it to where it knows it now
 --     NotesAs key pass key' pass' e     the slot's holder added this one entry with the pass: see Noted and Moves
 --     Notes key pass key' pass' event     and it is one of an event that begins no activation
---     IsKept key key'      it is the same key, and knows the same
---     Looks key pass key' pass'     the pass has seen a legal list, which goes on from what it and the key knew and in which the slot is as
---                          the key says; nothing was made with the pass, and the key is kept
+--     Looks key pass key' pass'     the pass and the key have seen a legal list, which goes on from what they knew and in which the slot is
+--                          as the key said; nothing was made with the pass
 --     hands_next slot      the value that the slot's call is about to hand to its reclaimer
 --     HandsOnce key pass' v    it was handed now, for the first time, all who found it have left or refreshed since, and
 --                          the activations in which they found it are over
@@ -57,7 +56,7 @@ active_of key = is_active (head_at (after (start_of key) (own_list key)) (number
 abbrev pub life_of : SlotKey → ℕ
 life_of key = life (number_of key) (own_list key)
 
--- the key of the slot after its event, which all that the pass has seen ends with
+-- it is the key of the same slot, and knows all that the pass has seen
 abbrev pub IsAfter : SlotKey → Pass → SlotKey → Type 0
 IsAfter key pass' key' = (key'.keys.name ≡ key.keys.name) × (number_of key' ≡ number_of key) × (own_list key' ≡ pass'.seen)
 
@@ -80,12 +79,9 @@ NotesAs key pass key' pass' e =
 abbrev pub Notes : SlotKey → Pass → SlotKey → Pass → Event → Type 0
 Notes key pass key' pass' event = NotesAs key pass key' pass' (private pass event)
 
-abbrev pub IsKept : SlotKey → SlotKey → Type 0
-IsKept key key' = (key'.keys.name ≡ key.keys.name) × (number_of key' ≡ number_of key) × (own_list key' ≡ own_list key)
-
 pub record Looks (key : SlotKey) (pass : Pass) (key' : SlotKey) (pass' : Pass) : Type 0 where
   pub same : IsSame pass pass'
-  pub kept : IsKept key key'
+  pub seen_by : IsAfter key pass' key'
   pub none_made : MadeNone pass pass'
   pub grows : IsPrefix pass.seen pass'.seen
   pub knows : IsPrefix (own_list key) pass'.seen

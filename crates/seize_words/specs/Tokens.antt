@@ -16,6 +16,7 @@ use Rattle.seize_machine.specs.declared.machine.event.Answer.{Answer}
 use Rattle.seize_words.specs.Ledger.{Held, fact, logs, right, rights, reached, contents}
 use Rattle.seize_words.specs.Entry.{Entry, entry_coded}
 use Rattle.seize_words.specs.Book.{IsLegalList, Does, after, mine, passes, rules}
+use Rattle.seize_words.specs.Homes.{IsSound}
 use Rattle.seize_words.specs.Laws.{ended}
 
 -- Who may append: whoever has a pass; or one pass alone, whose copy of the list has this name.
@@ -146,6 +147,7 @@ pub record Noted (n : Name) (p : ℕ) (seen seen' : List Entry) (e : Entry) : Ty
   pub before : List Entry
   pub appended : seen' ≡ before ++ e ∷ []
   pub legal : IsLegalList (start n) seen'
+  pub sound : IsSound (after (start n) seen')
   pub grows : IsPrefix seen before
   pub later : State
   pub answer : Answer

@@ -31,6 +31,7 @@ impl Picks for Brand {
 
 impl Keys {
     ghost use Rattle.seize_words.specs.Adding.{Adds, Asks, Joins, Looks, MayLook, Parts};
+    ghost use Rattle.seize_words.specs.Others.{Renames};
 
     /// Adds the event with the pass.
     pub(crate) fn note<P: Picks>(&mut self, pass: &mut Pass)
@@ -42,6 +43,11 @@ impl Keys {
     pub(crate) fn look(&mut self, pass: &mut Pass)
         requires { MayLook self.old pass.old }
         ensures { Looks self.old pass.old self.new pass.new }
+    {}
+
+    /// The first key's label is a value of its block then, with this number, which was never named.
+    pub(crate) fn rename(&mut self, number: u64)
+        ensures { Renames self.old self.new number }
     {}
 
     /// No keys of the same book.

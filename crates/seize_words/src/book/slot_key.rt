@@ -22,7 +22,7 @@ pub struct SlotKey {
 
 impl SlotKey {
     ghost use Rattle.seize_words.specs.Batches.{CanDetach, Detaches};
-    ghost use Rattle.seize_words.specs.Others.{CannotRetire, Follows, IsOfBook, IsWith, MayRetire, MayTake, SameKind, value_of};
+    ghost use Rattle.seize_words.specs.Others.{CannotRetire, Follows, IsLast, IsOfBook, IsWith, MayRetire, MayTake, SameKind, value_of};
     ghost use Rattle.seize_words.specs.Private.{IsOpen, IsPrivate};
     ghost use Rattle.seize_words.specs.Slots.{HandsOnce, Looks, Notes, IsOf, active_of, hands_next, number_of, size_of, slot_of};
 
@@ -58,7 +58,8 @@ impl SlotKey {
         self.keys.look(pass);
     }
 
-    /// The event `Begin` of the retirement of a value. Its key knows then that no call may begin to retire it.
+    /// The event `Begin` of the retirement of a value. Its key knows then that no call may begin to retire it, and that all others that lay
+    /// in its block were reclaimed.
     pub fn begin_retire(&mut self, value: &mut ValueKey, pass: &mut Pass)
         requires book { IsOf self.old pass.old × IsOfBook value.old.keys pass.old }
         requires idle { is_idle (slot_of self.old) ≡ true }
@@ -66,6 +67,7 @@ impl SlotKey {
         ensures noted { Notes self.old pass.old self.new pass.new (Begin (number_of self.old) (Retire (value_of value.old))) }
         ensures value { Follows value.old.keys pass.new value.new.keys }
         ensures spent { CannotRetire value.new }
+        ensures last { IsLast value.new }
     {
         self.note_with::<Brand>(&mut value.keys, pass);
     }

@@ -1,10 +1,11 @@
 //! The key of a value: that of the block in which it lies. It is `Keys` with one key, whose label is the value's name.
-ghost use Rattle.std.specs.Prelude.{◌≡◌, true};
+ghost use Rattle.std.specs.Prelude.{◌≡◌, ◌+◌, ◌<◌, ◌^◌, true};
 ghost use Rattle.seize_words.specs.Book.{blocks};
 ghost use Rattle.seize_words.specs.Homes.{home_of};
 ghost use Rattle.seize_words.specs.Private.{is_one, key_of, label_of};
 
 use crate::book::keys::Keys;
+use crate::book::pass::Pass;
 
 /// The right to name the values of one block, of which it is this one's turn: to put it into a link, out of one, and to begin to retire it.
 /// It knows which of the block's values were ever named, and which came out of a link and no call began to retire them.
@@ -13,4 +14,22 @@ pub struct ValueKey {
     pub(crate) keys: Keys,
     ghost one: { is_one blocks keys.held ≡ true },
     ghost home: { key_of keys.held ≡ home_of (label_of keys.held) },
+}
+
+impl ValueKey {
+    ghost use Rattle.seize_words.specs.Books.{IsNextIn, MakesNext};
+    ghost use Rattle.seize_words.specs.Others.{HasGone, IsLast, IsOfBook};
+
+    /// The key is for the next value of its block then, which words hold by this number. The last one was reclaimed, as the pass has seen.
+    /// The pass and the key look at the list with no event.
+    pub fn next(&mut self, number: u64, pass: &mut Pass)
+        requires book { IsOfBook self.old.keys pass.old }
+        requires fits { number + 2 < 2 ^ 64 }
+        requires last { IsLast self.old × HasGone self.old pass.old }
+        ensures value { IsNextIn self.new number }
+        ensures next { MakesNext self.old pass.old self.new pass.new }
+    {
+        self.keys.look(pass);
+        self.keys.rename(number);
+    }
 }

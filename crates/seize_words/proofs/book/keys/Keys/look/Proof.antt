@@ -2,6 +2,7 @@
 use Rattle.seize_words.proofs.Kit.{ℕ, List, [], ◌∷◌, refl, sym, proved, named, Val, vptr, vunit, SProp, emp, Fml, ftrue, fsep, flft, ‵, ◌⊛◌, some, given, later, await, ◌$◌, ◌∵◌, !, qed, by, move, keep, drop, split, fsplit, fsplit3, fjoin, fjoin3, pick, learn, use2, rewrite, feq_i, unit_lit, of_opd, returns, enter, alloc_all, pass_all, free_all, look_at, sets, fact_i, tables, owns, types_at, plain, mut_vals, mut_Tells, nothing, opens, closes, Stays, stay_ref, walk_of, Goes-ref}
 use Rattle.seize_words.specs.Entry.{Entry}
 use Rattle.seize_words.specs.Fair.{Before}
+use Rattle.seize_words.specs.Ledger.{renewed}
 use Rattle.seize_words.specs.Tokens.{Name, keys_own, pass_owns}
 use Rattle.seize_words.specs.contracts.book.pass.Pass as Pass
 use Rattle.seize_words.specs.contracts.book.keys.Keys as Keys
@@ -30,17 +31,17 @@ look_spec 𝓤 𝓛 𝓜 𝓡 wired =
     -- [the rights; the keys; its cell, in four entries; the pass, in two; its token]
     move ! (6 ∷ 7 ∷ 8 ∷ []) $ opens ! tt Pass.the_row rb ro (λ vs1. move ! (1 ∷ []) $ fsplit ! $ move ! (1 ∷ []) $
     -- [what the pass owns; the pass; its cell, in four entries; the rights; the keys; its cell]
-    move ! (0 ∷ 6 ∷ []) $ use2 𝓛 (later (some (λ (log : List Entry). given (Before r.name r.id r.seen p.held log) (‵ (pass_owns r.name r.id log) ⊛ ‵ (keys_own r.name p.held)))))
+    move ! (0 ∷ 6 ∷ []) $ use2 𝓛 (later (some (λ (log : List Entry). given (Before r.name r.id r.seen p.held log) (‵ (pass_owns r.name r.id log) ⊛ ‵ (keys_own r.name (renewed p.held log))))))
     (looks_now 𝓛 r.name r.id r.seen p.held asked.1) $ await ! tt $ pick ! (λ log. learn ! (λ so. split ! $
     -- [what the pass owns; the rights; the pass; its cell, in four entries; the keys; its cell]
-    let r' : Pass.the_row.Denot = record r { seen = log } in
-    move ! (1 ∷ []) $ rewrite ! 0 (λ (z : Name). ‵ (keys_own z p.held)) (sym asked.0) refl $ move ! (2 ∷ 1 ∷ []) $ fjoin ! $ move ! (2 ∷ 0 ∷ 3 ∷ 4 ∷ 5 ∷ []) $ closes ! tt Pass.the_row r' vs1 rb ro $
+    let r' : Pass.the_row.Denot = record r { seen = log } in let p' : Keys.the_row.Denot = record p { held = renewed p.held log } in
+    move ! (1 ∷ []) $ rewrite ! 0 (λ (z : Name). ‵ (keys_own z (renewed p.held log))) (sym asked.0) refl $ move ! (2 ∷ 1 ∷ []) $ fjoin ! $ move ! (2 ∷ 0 ∷ 3 ∷ 4 ∷ 5 ∷ []) $ closes ! tt Pass.the_row r' vs1 rb ro $
     -- [the pass, in two; its token; the rights; the keys; its cell]
-    move ! (4 ∷ 3 ∷ []) $ fjoin ! $ move ! (4 ∷ 0 ∷ 5 ∷ 6 ∷ 7 ∷ []) $ closes ! tt Keys.the_row p vs0 pb po $
+    move ! (4 ∷ 3 ∷ []) $ fjoin ! $ move ! (4 ∷ 0 ∷ 5 ∷ 6 ∷ 7 ∷ []) $ closes ! tt Keys.the_row p' vs0 pb po $
     -- [the keys, in two; its token; the pass, in two; its token]
     sets ! (of_opd ! (unit_lit !)) refl (tt, tt) $ feq_i ! (List Val) (vunit ∷ []) (vunit ∷ []) refl $
     nothing ! $ move ! (7 ∷ 0 ∷ []) $ fjoin ! $ move ! (4 ∷ 0 ∷ []) $ fjoin ! $
     -- [the tokens; the result; the keys, in two; the pass, in two]
     nothing ! $ feq_i ! (List Val) (vptr rb ro ∷ []) (vptr rb ro ∷ []) refl $ move ! (0 ∷ 6 ∷ 7 ∷ []) $ fjoin3 ! $ fjoin ! $ feq_i ! (List Val) (vptr pb po ∷ []) (vptr pb po ∷ []) refl $ move ! (0 ∷ 4 ∷ 5 ∷ []) $ fjoin3 ! $ fjoin ! $
     returns ! (look_at ! 0 refl) $ free_all ! refl $ keep ! (1 ∷ 0 ∷ 2 ∷ []) $
-    by ! (ends 𝓛 ended hs c y vunit tt (p, (r', tt)) (tt, (tt, tt)) (fact_i 𝓤 _ (emp 𝓤) ((refl, refl), refl, so))))))))))
+    by ! (ends 𝓛 ended hs c y vunit tt (p', (r', tt)) (tt, (tt, tt)) (fact_i 𝓤 _ (emp 𝓤) ((refl, refl), (refl, refl), so))))))))))

@@ -4,7 +4,7 @@ use Rattle.seize_words.specs.Book.{after}
 use Rattle.seize_words.specs.Others.{MayBegin}
 use Rattle.seize_words.specs.Private.{key_of, label_of, own_of}
 use Rattle.seize_words.specs.Tokens.{Name, start}
-use Rattle.seize_words.proofs.Retires.{may_retire, spent}
+use Rattle.seize_words.proofs.Retires.{last, may_retire, spent}
 use Rattle.seize_words.proofs.book.slot_key.SlotKey.begin_retire.Goals as goal
 
 pub note_with-requires-clause-may : goal.note_with-requires-clause-may
@@ -18,3 +18,9 @@ pub returns-clause-spent : goal.returns-clause-spent
 returns-clause-spent c =
     let value = c.args.value.now in let told = c.note_with.ensures in
     spent c.args.pass.now c.note_with.new.pass.seen value.keys c.note_with.new.other (key_of c.args.self.now.keys.held) told.noted.2.0 value.one c.requires.book.1 told.other.0.0 told.other.0.1
+
+pub returns-clause-last : goal.returns-clause-last
+returns-clause-last c =
+    let value = c.args.value.now in let told = c.note_with.ensures in let s = key_of c.args.self.now.keys.held in
+    let cannot = spent c.args.pass.now c.note_with.new.pass.seen value.keys c.note_with.new.other s told.noted.2.0 value.one c.requires.book.1 told.other.0.0 told.other.0.1 in
+    last c.args.pass.now c.note_with.new.pass.seen value c.note_with.new.other s told.noted.2.0 c.requires.book.1 cannot told.other.0.0 told.other.0.1
