@@ -10,12 +10,11 @@ use Rattle.seize_machine.proofs.Facts.{some_is}
 use Rattle.seize_words.specs.Adding.{private}
 use Rattle.seize_words.specs.Atomic.{Takes, minus, plus}
 use Rattle.seize_words.specs.Blocks.{Plan, count_word, front_of, no_plan, plans}
-use Rattle.seize_words.specs.Book.{TheSlot, Kept, after, counts, rules, slots}
+use Rattle.seize_words.specs.Book.{TheSlot, Kept, after, counts, rules}
 use Rattle.seize_words.specs.Counts.{Counts, GivesUp, IsAdding, IsWalking}
 use Rattle.seize_words.specs.Entry.{Entry}
 use Rattle.seize_words.specs.Homes.{count_in}
 use Rattle.seize_words.specs.Ledger.{AllKept, Held}
-use Rattle.seize_words.specs.Private.{is_one}
 use Rattle.seize_words.specs.Slots.{IsOf, number_of, own_list}
 use Rattle.seize_words.specs.Tokens.{Name, start}
 use Rattle.seize_words.specs.Words.{Site}
@@ -27,7 +26,7 @@ use Rattle.seize_words.proofs.Counts.{word_zero}
 use Rattle.seize_words.proofs.Fronts.{held_values}
 use Rattle.seize_words.proofs.Lists.{equal, unequal}
 use Rattle.seize_words.proofs.Plans.{plan_stays}
-use Rattle.seize_words.proofs.Private.{one_kept, same_kind}
+use Rattle.seize_words.proofs.Private.{one_kept}
 use Rattle.seize_words.proofs.Stepped.{moved}
 
 -- a count's word, named by the pass's book
@@ -66,10 +65,6 @@ module _ (k : ℕ) (key : SlotKey) (keys' : Keys) (pass pass' : Pass) (f : ℕ �
 
   its_word : v ≡ count_word (count_in (after (start pass.name) told.2.log) k)
   its_word = same pass.name k v pass.id pass.seen key.keys.held told.2.since told.2.log told.2.found
-
-  -- it is a slot's key afterwards
-  abbrev pub key_after : SlotKey
-  key_after = record { keys = keys'; one = ap (is_one slots) told.2.keys ∙ same_kind slots key.keys.held pass'.seen key.one }
 
 -- the step that adds to a count, and the one that counts it down
 pub added : (k won : ℕ) (key : SlotKey) (keys' : Keys) (pass pass' : Pass) (v : ℕ) (told : Takes (at_count pass.name k) key.keys pass keys' pass' [] (plus won) v 0 (λ v log. AddCount (number_of key)) (λ _. false))

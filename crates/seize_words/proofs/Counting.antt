@@ -57,7 +57,7 @@ other_block k j batch h other = go (first_of batch.values) h
     go (Some v) e = let home : home_of v ≡ k = eq_true (home_of v) k e in differ (home_of v) j (λ i. other (i ∙ home))
 
 -- a slot with a call is there
-in_slots : (st : State) (s : ℕ) (place : Place) (queue : List ℕ) → Stands st s place queue → s < length st.slots
+pub in_slots : (st : State) (s : ℕ) (place : Place) (queue : List ℕ) → Stands st s place queue → s < length st.slots
 in_slots st s place queue is = go (cases_lt s (length st.slots))
   where
     go : (s < length st.slots) ⊎ (length st.slots ≤ s) → s < length st.slots

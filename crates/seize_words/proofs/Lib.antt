@@ -32,6 +32,7 @@ pub mod Heads
 pub mod Counting
 pub mod Counted
 pub mod Stepped
+pub mod Walked
 pub mod Makes
 pub mod Links
 pub mod Exchanges

@@ -5,7 +5,7 @@ use Rattle.seize_words.specs.Atomic.{Events, Takes, entries}
 use Rattle.seize_words.specs.Blocks.{block_for, head_word, word_of}
 use Rattle.seize_words.specs.Book.{IsLegalList, after, heads, rules, slots}
 use Rattle.seize_words.specs.Entry.{Entry}
-use Rattle.seize_words.specs.Ledger.{Held, AllKept}
+use Rattle.seize_words.specs.Ledger.{Held, AllKept, renewed}
 use Rattle.seize_words.specs.Laws.{life, life_from, starts}
 use Rattle.seize_words.specs.Reservations.{IsActivationOf}
 use Rattle.seize_words.specs.Private.{is_one, key_of, own_of}
@@ -19,11 +19,15 @@ use Rattle.seize_words.specs.declared.book.pass.Pass.{Pass}
 use Rattle.seize_words.specs.declared.book.slot_key.SlotKey.{SlotKey}
 use Rattle.seize_words.proofs.Heads.{at_head, found_word}
 use Rattle.seize_words.proofs.Moves.{moves}
-use Rattle.seize_words.proofs.Private.{after_one, one_kept}
+use Rattle.seize_words.proofs.Private.{after_one, one_kept, same_kind}
 
 -- a head's word, named by the pass's book
 pub is_at_head : (word : Site) (n : Name) → word.name ≡ n → word.kind ≡ heads → word ≡ at_head n word.number
 is_at_head word n e k = ap (λ (t : Name × ℕ). record { name = t.0; kind = t.1; number = word.number }) (λ j. (e j, k j))
+
+-- a slot's key, with all that a step tells it
+abbrev pub key_then : (key : SlotKey) (keys' : Keys) (seen' : List Entry) → keys'.held ≡ renewed key.keys.held seen' → SlotKey
+key_then key keys' seen' is = record { keys = keys'; one = ap (is_one slots) is ∙ same_kind slots key.keys.held seen' key.one }
 
 -- a word with no key beside its own
 module _ (r m : ℕ) (key key' : SlotKey) (pass pass' : Pass) (f : ℕ → ℕ) (v life : ℕ) (event : Events)

@@ -5,6 +5,7 @@
 --     FoundBefore head pass' v    all that the pass has seen shows v, without its last event
 --     TriesAt key head seen block     the slot's call is about to insert its batch here: see IsTrying. The block's number fits beside 2
 --     IsOwn head key, IsOut key stays     it is the slot's own head;  the slot's call is about to swap it out
+--     WalksOn head key' v queue           the slot's call walks the batches that the word v of the head shows, and then goes on with this queue
 --     IsLastOf key a                      it is the slot's last activation
 --     IsActivationOf key a                it has begun with what the key knows last
 --     made_of numbers, IsFull numbers     how many slots there are, as the key knows;  all of their numbers are in use
@@ -14,8 +15,8 @@ use Rattle.seize_machine.specs.Machine.Event.{Event, Take}
 use Rattle.seize_machine.specs.Machine.Next.{first_free}
 use Rattle.seize_table.specs.Place.{all_numbers}
 use Rattle.seize_words.specs.Adding.{private}
-use Rattle.seize_machine.specs.Machine.State.{Inactive, Out, head_at, is_active}
-use Rattle.seize_words.specs.Blocks.{head_word}
+use Rattle.seize_machine.specs.Machine.State.{Inactive, Out, Rest, head_at, is_active}
+use Rattle.seize_words.specs.Blocks.{block_for, head_word, list_word}
 use Rattle.seize_words.specs.Book.{after, heads}
 use Rattle.seize_words.specs.Entry.{Entry}
 use Rattle.seize_words.specs.Heads.{IsMade, IsTrying, reads}
@@ -58,6 +59,12 @@ IsOwn head key = slot head ≡ number_of key
 -- the slot's call is about to swap its head out, and then the slot stays active or not
 abbrev pub IsOut : SlotKey → Bool → Type 0
 IsOut key stays = (queue : List ℕ) × ((slot_of key).call ≡ Some (record { place = Out stays; queue = queue }))
+
+-- where the slot's call goes on that has swapped its head out, which had this word
+abbrev pub WalksOn : Head → SlotKey → ℕ → List ℕ → Type 0
+WalksOn head key' v queue =
+    (walk : List ℕ) × ((slot_of key').call ≡ Some (record { place = Rest [] walk; queue = queue }))
+    × (v ≡ list_word (λ b. block_for (start_of key') (own_list key') b (slot head)) walk)
 
 abbrev pub IsLastOf : SlotKey → Activation → Type 0
 IsLastOf key a = (a.name ≡ key.keys.name) × (a.slot ≡ number_of key) × (a.life ≡ life_of key)

@@ -21,7 +21,7 @@ pub struct Head {
 }
 
 impl Head {
-    ghost use Rattle.seize_words.specs.Reservations.{FoundBefore, IsActivationOf, IsFull, IsHeadOf, IsLastOf, IsOfBook, IsOfHead, IsOut, IsOwn, MakesSlot, MayRead, NumbersOf, Shows, TriesAt, beginning, slot};
+    ghost use Rattle.seize_words.specs.Reservations.{FoundBefore, IsActivationOf, IsFull, IsHeadOf, IsLastOf, IsOfBook, IsOfHead, IsOut, IsOwn, MakesSlot, MayRead, NumbersOf, Shows, TriesAt, WalksOn, beginning, slot};
     ghost use Rattle.seize_words.specs.Slots.{IsOf, Notes, NotesAs, active_of, number_of, slot_of};
 
     /// Makes the next slot, with its head: the event `Take` of a number that was never in use. All numbers below it are in use.
@@ -91,6 +91,7 @@ impl Head {
         requires last { IsLastOf key.old activation }
         ensures noted { Notes key.old pass.old key.new pass.new (SwapOut (number_of key.old)) }
         ensures found { FoundBefore self.now pass.new result }
+        ensures walks { (leaving : IsOut key.old false) → WalksOn self.now key.new result leaving.0 }
     {
         let mut last = activation;
         let mut ended = last.renew();
@@ -106,6 +107,7 @@ impl Head {
         ensures noted { NotesAs key.old pass.old key.new pass.new (beginning pass.old activation.new.life (SwapOut (number_of key.old))) }
         ensures activation { IsActivationOf key.new activation.new }
         ensures found { FoundBefore self.now pass.new result }
+        ensures walks { (refreshing : IsOut key.old true) → WalksOn self.now key.new result refreshing.0 }
     {
         let mut ended = activation.renew();
         let word = self.word.swap::<Brand>(1, &mut key.keys, &mut ended, pass);

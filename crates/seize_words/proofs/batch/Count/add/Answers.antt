@@ -6,7 +6,8 @@ use Rattle.seize_words.specs.Private.{key_of, own_of}
 use Rattle.seize_words.specs.Stepping.{MayStep}
 use Rattle.seize_words.specs.Words.{Site}
 use Rattle.seize_words.proofs.Counting.{may_add_count}
-use Rattle.seize_words.proofs.Counted.{added, adding_in, counts_so, gives_so, is_at_count, key_after}
+use Rattle.seize_words.proofs.Counted.{added, adding_in, counts_so, gives_so, is_at_count}
+use Rattle.seize_words.proofs.Stepped.{key_then}
 use Rattle.seize_words.proofs.batch.Count.add.Goals as goal
 
 pub add-old-requires : goal.add-old-requires
@@ -31,4 +32,4 @@ returns-clause-gives c adds_ =
     let count = c.args.self.now in let key = c.args.key.now in let pass = c.args.pass.now in let pass' = c.add-old.new.pass in let keys' = c.add-old.new.keys in let v = c.add-old.result in let s = key_of key.keys.held in let k = home count in
     let told = subst (λ (w : Site). Takes w key.keys pass keys' pass' [] (plus c.args.won) v 0 (λ v log. AddCount s) (λ v. false)) (is_at_count count.word pass.name c.requires.book.1 count.count) c.add-old.ensures in
     let adds = adding_in key.keys.name pass.name s (own_of key.keys.held) k c.args.won c.requires.book.0 adds_ in
-    gives_so k key (key_after k key keys' pass pass' (plus c.args.won) v (AddCount s) told) pass pass' (plus c.args.won) v (AddCount s) adds.batch [] adds.queue told c.requires.book.0 (added k c.args.won key keys' pass pass' v told adds) _ refl
+    gives_so k key (key_then key keys' pass'.seen told.2.keys) pass pass' (plus c.args.won) v (AddCount s) adds.batch [] adds.queue told c.requires.book.0 (added k c.args.won key keys' pass pass' v told adds) _ refl

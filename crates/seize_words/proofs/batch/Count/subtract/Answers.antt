@@ -6,7 +6,8 @@ use Rattle.seize_words.specs.Private.{key_of, own_of}
 use Rattle.seize_words.specs.Stepping.{MayStep}
 use Rattle.seize_words.specs.Words.{Site}
 use Rattle.seize_words.proofs.Counting.{may_subtract_count}
-use Rattle.seize_words.proofs.Counted.{counts_so, gives_so, is_at_count, key_after, subtracted, walking_in, was_one}
+use Rattle.seize_words.proofs.Counted.{counts_so, gives_so, is_at_count, subtracted, walking_in, was_one}
+use Rattle.seize_words.proofs.Stepped.{key_then}
 use Rattle.seize_words.proofs.batch.Count.subtract.Goals as goal
 
 pub subtract-old-requires : goal.subtract-old-requires
@@ -31,4 +32,4 @@ returns-clause-gives c walks_ =
     let count = c.args.self.now in let key = c.args.key.now in let pass = c.args.pass.now in let pass' = c.subtract-old.new.pass in let keys' = c.subtract-old.new.keys in let v = c.subtract-old.result in let s = key_of key.keys.held in let k = home count in
     let told = subst (λ (w : Site). Takes w key.keys pass keys' pass' [] (minus 1) v 0 (λ v log. SubCount s) (λ v. false)) (is_at_count count.word pass.name c.requires.book.1 count.count) c.subtract-old.ensures in
     let walks = walking_in key.keys.name pass.name s (own_of key.keys.held) k c.requires.book.0 walks_ in
-    gives_so k key (key_after k key keys' pass pass' (minus 1) v (SubCount s) told) pass pass' (minus 1) v (SubCount s) walks.batch walks.walk walks.queue told c.requires.book.0 (subtracted k key keys' pass pass' v told walks) _ (was_one v c.subtract-old.type_inv)
+    gives_so k key (key_then key keys' pass'.seen told.2.keys) pass pass' (minus 1) v (SubCount s) walks.batch walks.walk walks.queue told c.requires.book.0 (subtracted k key keys' pass pass' v told walks) _ (was_one v c.subtract-old.type_inv)

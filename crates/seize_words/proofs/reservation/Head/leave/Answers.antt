@@ -13,7 +13,8 @@ use Rattle.seize_words.specs.Stepping.{MayStep}
 use Rattle.seize_words.specs.Tokens.{Name, start}
 use Rattle.seize_words.specs.Words.{Site}
 use Rattle.seize_words.proofs.Heads.{may_leave}
-use Rattle.seize_words.proofs.Stepped.{found_before, is_at_head, noted_by}
+use Rattle.seize_words.proofs.Stepped.{found_before, is_at_head, key_then, noted_by}
+use Rattle.seize_words.proofs.Walked.{walks_on}
 use Rattle.seize_words.proofs.reservation.Head.leave.Goals as goal
 
 pub swap-requires : goal.swap-requires
@@ -40,3 +41,10 @@ returns-clause-found c =
     let told = subst (λ (w : Site). Takes w key.keys pass c.swap.new.keys c.swap.new.pass [] (λ v. 0) c.swap.result 0 (λ v log. SwapOut s) (λ v. false)) (is_at_head head.word pass.name c.requires.book.1 head.head) c.swap.ensures in
     subst (λ (n : Name). (before : List Entry) × (last : Entry) × (c.swap.new.pass.seen ≡ before ++ last ∷ []) × (c.swap.result ≡ head_word (start n) before m)) (sym c.requires.book.1)
     (found_before m pass c.swap.new.pass key.keys c.swap.new.keys (λ v. 0) c.swap.result 0 (λ v log. SwapOut s) told)
+
+pub returns-clause-walks : goal.returns-clause-walks
+returns-clause-walks c leaving =
+    let head = c.args.self.now in let key = c.args.key.now in let pass = c.args.pass.now in let s = key_of key.keys.held in let m = slot head in
+    let told = subst (λ (w : Site). Takes w key.keys pass c.swap.new.keys c.swap.new.pass [] (λ v. 0) c.swap.result 0 (λ v log. SwapOut s) (λ v. false)) (is_at_head head.word pass.name c.requires.book.1 head.head) c.swap.ensures in
+    let out = subst (λ (n : Name). Stands (after (start n) (own_of key.keys.held)) s (Out false) leaving.0) c.requires.book.0 leaving.1 in
+    walks_on m key (key_then key c.swap.new.keys c.swap.new.pass.seen told.2.keys) pass c.swap.new.pass (λ v. 0) c.swap.result 0 told c.requires.book.0 (sym c.requires.book.2) false leaving.0 out

@@ -16,7 +16,8 @@ use Rattle.seize_words.specs.declared.book.keys.Keys.{Keys}
 use Rattle.seize_words.specs.declared.book.pass.Pass.{Pass}
 use Rattle.seize_words.proofs.Lists.{equal}
 use Rattle.seize_words.proofs.Heads.{at_head, may_leave}
-use Rattle.seize_words.proofs.Stepped.{activation_is, found_before, is_at_head, noted_by}
+use Rattle.seize_words.proofs.Stepped.{activation_is, found_before, is_at_head, key_then, noted_by}
+use Rattle.seize_words.proofs.Walked.{walks_on}
 use Rattle.seize_words.proofs.reservation.Head.refresh.Goals as goal
 
 pub swap-word-requires : goal.swap-word-requires
@@ -59,3 +60,11 @@ returns-clause-found c =
     let step = told head.word m s pass c.swap-word.new.pass key.keys c.swap-word.new.keys c.swap-word.new.keys c.swap-word.result next next (is_at_head head.word pass.name c.requires.book.1 head.head) refl refl c.swap-word.ensures in
     subst (λ (n : Name). (before : List Entry) × (last : Entry) × (c.swap-word.new.pass.seen ≡ before ++ last ∷ []) × (c.swap-word.result ≡ head_word (start n) before m)) (sym c.requires.book.1)
     (found_before m pass c.swap-word.new.pass key.keys c.swap-word.new.keys (λ v. 1) c.swap-word.result next (λ v log. SwapOut s) step)
+
+pub returns-clause-walks : goal.returns-clause-walks
+returns-clause-walks c refreshing =
+    let head = c.args.self.now in let key = c.args.key.now in let pass = c.args.pass.now in let s = key_of key.keys.held in let m = slot head in let life = c.begun.new.self.life in let pass' = c.swap-word.new.pass in
+    let step = told head.word m s pass pass' key.keys c.swap-word.new.keys c.begun.new.keys c.swap-word.result c.renew-ended.result.next life (is_at_head head.word pass.name c.requires.book.1 head.head)
+    (sym c.begun.ensures.1) (c.renew-ended.ensures.3 ∙ sym c.begun.ensures.0.2) c.swap-word.ensures in
+    let out = subst (λ (n : Name). Stands (after (start n) (own_of key.keys.held)) s (Out true) refreshing.0) c.requires.book.0 refreshing.1 in
+    walks_on m key (key_then key c.begun.new.keys pass'.seen step.2.keys) pass pass' (λ v. 1) c.swap-word.result life step c.requires.book.0 (sym c.requires.book.2) true refreshing.0 out
