@@ -107,7 +107,7 @@ module _ (k : ℕ) (key key' : SlotKey) (pass pass' : Pass) (f : ℕ → ℕ) (v
   pub counts_so : (done : Bool) → done ≡ (f v == 0) → Counts key pass key' pass' event done
   counts_so done e = let parts = moved counts k key key' pass pass' f v 0 (λ v log. event) told told.2.found.stands book in (
     (told.0, parts.0, (told.2.noted, parts.1)),
-    (c.count, ap (λ (d : State × Answer). d.1) comes, zero_is done e),
+    (c.count, ap (λ (d : State × Answer). d.1) comes, zero_is done e, c.near),
   )
 
   -- the values with which the batch was detached, as the slot's key knows

@@ -13,7 +13,7 @@ use Rattle.seize_machine.specs.declared.machine.event.Answer.{Answer}
 use Rattle.seize_machine.specs.declared.machine.event.Answer.TheVariants.{Count as Counted}
 use Rattle.seize_machine.proofs.Facts.{Step, Stands, eq_true, next_of, reached_next, step_of}
 use Rattle.seize_words.specs.Atomic.{minus, plus}
-use Rattle.seize_words.specs.Blocks.{count_word, front_of, no_plan, plans}
+use Rattle.seize_words.specs.Blocks.{IsNear, count_word, front_of, no_plan, plans}
 use Rattle.seize_words.specs.Book.{Kept, TheSlot, Does, IsLegalList, after, births, counts, rules, slots}
 use Rattle.seize_words.specs.Counts.{IsAdding, IsWalking}
 use Rattle.seize_words.specs.Entry.{Entry, timed}
@@ -24,7 +24,7 @@ use Rattle.seize_words.specs.Private.{is_one, key_of, label_of, own_of}
 use Rattle.seize_words.specs.Stepping.{EndsAmong, FoundAs, IsStep, MayStep, in_step}
 use Rattle.seize_words.specs.Tokens.{Name, start}
 use Rattle.seize_words.specs.Words.{Site}
-use Rattle.seize_words.proofs.Counts.{IsNear, batch_near, count_added, count_near, count_subtracted, in_range, word_added, word_subtracted}
+use Rattle.seize_words.proofs.Counts.{batch_near, count_added, count_near, count_subtracted, in_range, word_added, word_subtracted}
 use Rattle.seize_words.proofs.Fronts.{added_held, front_grows, held_front, walked_held}
 use Rattle.seize_words.proofs.Lists.{after_push, reached_after}
 use Rattle.seize_words.proofs.Private.{differ, only_is}

@@ -1,10 +1,9 @@
 -- What the words of counts show: the count of the one batch that has values and whose first value lies in the block.
-use Rattle.std.proofs.Common.{◌≡◌, ◌≢◌, ℕ, zero, suc, ◌+◌, ◌-◌, ◌%◌, ◌^◌, ◌<◌, ◌≤◌, ℤ, pos, negsuc, neg_ℤ, ◌+ℤ◌, ◌-ℤ◌, ◌≤ℤ◌, Bool, true, false, ◌==◌, if◌then◌else◌, List, [], ◌∷◌, ◌++◌, length, get_or, set, Some, refl, sym, ◌∙◌, ap, subst, ◌⊎◌, inl, inr, arith}
+use Rattle.std.proofs.Common.{◌≡◌, ◌≢◌, ℕ, zero, suc, ◌+◌, ◌-◌, ◌%◌, ◌^◌, ◌<◌, ◌≤◌, ℤ, pos, negsuc, ◌+ℤ◌, ◌-ℤ◌, Bool, true, false, ◌==◌, if◌then◌else◌, List, [], ◌∷◌, ◌++◌, length, get_or, set, Some, refl, sym, ◌∙◌, ap, subst, ◌⊎◌, inl, inr, arith}
 use Rattle.std.specs.List.{Contains}
 use Rattle.std.proofs.lemmas.Int.{ints}
 use Rattle.std.proofs.lemmas.List.{get_or-set_same, get_or-set_other, get_or_past}
 use Rattle.std.proofs.lemmas.Bool.{cases_lt}
-use Rattle.seize_table.specs.Place.{all_numbers}
 use Rattle.seize_machine.specs.Machine.State.{State, Batch, Rest, Add, no_batch, batch_at}
 use Rattle.seize_machine.specs.Machine.Event.{Event, AddCount, SubCount}
 use Rattle.seize_machine.specs.Machine.Next.{next, scheme, of_call, adding_at, add_count, walking_at, sub_count, is_zero}
@@ -13,8 +12,9 @@ use Rattle.seize_machine.specs.Machine.Laws.{added_batch}
 use Rattle.seize_machine.specs.declared.machine.event.Answer.{Answer}
 use Rattle.seize_machine.specs.declared.machine.event.Answer.TheVariants.{Count}
 use Rattle.seize_machine.proofs.Facts.{Step, Stands, some_is, eq_true, is_true, batched_named, batched_once, counts_near}
-use Rattle.seize_words.specs.Blocks.{count_word}
+use Rattle.seize_words.specs.Blocks.{IsNear, count_word}
 use Rattle.seize_words.specs.Homes.{HasOne, IsSound, changes_count, count_in, counts_in, home_of, is_home, is_batch_in, is_in}
+use Rattle.seize_words.proofs.Lists.{unequal}
 
 -- what a batch adds to the count of a block
 abbrev share : ℕ → Batch → ℤ
@@ -141,34 +141,27 @@ count_subtracted size st s b walk queue d k r one stands does h =
 
 -- A count within the numbers of slots is 0 only where its word is, and its word steps as the count does.
 
-abbrev pub IsNear : ℤ → Type 0
-IsNear c = (neg_ℤ (pos all_numbers) ≤ℤ c) × (c ≤ℤ pos all_numbers)
-
-pub word_fits : (c : ℤ) → IsNear c → count_word c < 2 ^ 64
-word_fits (pos n) near = omega (arith, ints, near.1)
-word_fits (negsuc n) near = omega arith
-
 pub word_zero : (c : ℤ) → IsNear c → (count_word c == 0) ≡ is_zero c
-word_zero (pos n) near = refl
-word_zero (negsuc n) near = let some : 2 ^ 64 - suc n ≢ 0 = omega (arith, ints, near.0) in grind (arith, some)
+word_zero (pos n) near = let same : n % 2 ^ 64 ≡ n = omega (arith, ints, near.1) in ap (λ (k : ℕ). k == 0) same
+word_zero (negsuc n) near = let some : 2 ^ 64 - suc (n % 2 ^ 64) ≢ 0 = omega (arith, ints, near.0) in unequal (2 ^ 64 - suc (n % 2 ^ 64)) 0 some
 
 pub word_added : (c : ℤ) (w : ℕ) → IsNear c → IsNear (c +ℤ pos w) → (count_word c + w) % 2 ^ 64 ≡ count_word (c +ℤ pos w)
 word_added c w near after = go c near (c +ℤ pos w) refl after
   where
     go : (c : ℤ) → IsNear c → (e : ℤ) → c +ℤ pos w ≡ e → IsNear e → (count_word c + w) % 2 ^ 64 ≡ count_word e
-    go (pos n) near (pos m) is after = let word : (n + w) % 2 ^ 64 ≡ m = omega (arith, ints) in word
-    go (pos n) near (negsuc m) is after = absurd (omega (arith, ints))
-    go (negsuc n) near (pos m) is after = let word : (2 ^ 64 - suc n + w) % 2 ^ 64 ≡ m = omega (arith, ints) in word
-    go (negsuc n) near (negsuc m) is after = let word : (2 ^ 64 - suc n + w) % 2 ^ 64 ≡ 2 ^ 64 - suc m = omega (arith, ints) in word
+    go (pos n) near (pos m) is after = let word : (n % 2 ^ 64 + w) % 2 ^ 64 ≡ m % 2 ^ 64 = omega (arith, ints, is) in word
+    go (pos n) near (negsuc m) is after = absurd (omega (arith, ints, is))
+    go (negsuc n) near (pos m) is after = let word : (2 ^ 64 - suc (n % 2 ^ 64) + w) % 2 ^ 64 ≡ m % 2 ^ 64 = omega (arith, ints, is, near.0, after.1) in word
+    go (negsuc n) near (negsuc m) is after = let word : (2 ^ 64 - suc (n % 2 ^ 64) + w) % 2 ^ 64 ≡ 2 ^ 64 - suc (m % 2 ^ 64) = omega (arith, ints, is, near.0, after.0) in word
 
 pub word_subtracted : (c : ℤ) → IsNear c → IsNear (c -ℤ pos 1) → (count_word c + (2 ^ 64 - 1)) % 2 ^ 64 ≡ count_word (c -ℤ pos 1)
 word_subtracted c near after = go c near (c -ℤ pos 1) refl after
   where
     go : (c : ℤ) → IsNear c → (e : ℤ) → c -ℤ pos 1 ≡ e → IsNear e → (count_word c + (2 ^ 64 - 1)) % 2 ^ 64 ≡ count_word e
-    go (pos n) near (pos m) is after = let word : (n + (2 ^ 64 - 1)) % 2 ^ 64 ≡ m = omega (arith, ints) in word
-    go (pos n) near (negsuc m) is after = let word : (n + (2 ^ 64 - 1)) % 2 ^ 64 ≡ 2 ^ 64 - suc m = omega (arith, ints) in word
-    go (negsuc n) near (pos m) is after = absurd (omega (arith, ints))
-    go (negsuc n) near (negsuc m) is after = let word : (2 ^ 64 - suc n + (2 ^ 64 - 1)) % 2 ^ 64 ≡ 2 ^ 64 - suc m = omega (arith, ints) in word
+    go (pos n) near (pos m) is after = let word : (n % 2 ^ 64 + (2 ^ 64 - 1)) % 2 ^ 64 ≡ m % 2 ^ 64 = omega (arith, ints, is, near.1) in word
+    go (pos n) near (negsuc m) is after = let word : (n % 2 ^ 64 + (2 ^ 64 - 1)) % 2 ^ 64 ≡ 2 ^ 64 - suc (m % 2 ^ 64) = omega (arith, ints, is, near.1) in word
+    go (negsuc n) near (pos m) is after = absurd (omega (arith, ints, is))
+    go (negsuc n) near (negsuc m) is after = let word : (2 ^ 64 - suc (n % 2 ^ 64) + (2 ^ 64 - 1)) % 2 ^ 64 ≡ 2 ^ 64 - suc (m % 2 ^ 64) = omega (arith, ints, is, near.0, after.0) in word
 
 -- the counts of a sound state are near
 

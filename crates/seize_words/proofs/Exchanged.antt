@@ -7,15 +7,15 @@ use Rattle.seize_machine.specs.Machine.Next.{is_stored, next}
 use Rattle.seize_machine.specs.declared.machine.event.Answer.{Answer}
 use Rattle.seize_machine.specs.declared.machine.event.Answer.TheVariants.{Link as Held_}
 use Rattle.seize_machine.specs.declared.machine.event.Exchange.{Exchange}
-use Rattle.seize_machine.proofs.Facts.{Step, is_true, linked_named, named_grows, step_of, swapped}
+use Rattle.seize_machine.proofs.Facts.{Step, is_true, linked_named, named_grows, not_true, step_of, swapped}
 use Rattle.seize_words.specs.Atomic.{Takes as Took, entries}
 use Rattle.seize_words.specs.Blocks.{link_word}
-use Rattle.seize_words.specs.Book.{after, blocks, links}
+use Rattle.seize_words.specs.Book.{IsLegalList, after, blocks, links, rules}
 use Rattle.seize_words.specs.Entry.{Entry}
-use Rattle.seize_words.specs.Homes.{home_of}
-use Rattle.seize_words.specs.Ledger.{Held, renewed}
+use Rattle.seize_words.specs.Homes.{IsVacant, home_of}
+use Rattle.seize_words.specs.Ledger.{AllKept, Held, renewed}
 use Rattle.seize_words.specs.LinkWords.{IsIn, Takes, held_before, number}
-use Rattle.seize_words.specs.Links.{at_link, is_at_most_one, value_in}
+use Rattle.seize_words.specs.Links.{IsNewIn, at_link, is_at_most_one, value_in}
 use Rattle.seize_words.specs.Others.{state_of}
 use Rattle.seize_words.specs.Private.{own_of}
 use Rattle.seize_words.specs.Stepping.{Stepped, traded}
@@ -26,7 +26,7 @@ use Rattle.seize_words.specs.declared.book.keys.Keys.{Keys}
 use Rattle.seize_words.specs.declared.book.pass.Pass.{Pass}
 use Rattle.seize_words.specs.declared.link.Link.{Link}
 use Rattle.seize_words.proofs.Exchanges.{within}
-use Rattle.seize_words.proofs.Links.{same}
+use Rattle.seize_words.proofs.Links.{kept_right, key_later, same, still_new, still_vacant}
 use Rattle.seize_words.proofs.Lists.{equal, reached_after}
 use Rattle.seize_words.proofs.Sound.{has_last}
 
@@ -64,6 +64,24 @@ out_loose size st _ _ _ _ w (Step.exchanged s l exchange new can fresh stores) s
   subst (λ (o : Option ℕ). has w (st.loose ++ option_to_list o) ≡ true) (sym linked) (has_last w st.loose),
 )
 out_loose size st _ _ _ _ w (Step.compared s l exchange can misses) stored linked named = absurd (let x : true ≡ false = sym stored ∙ misses.1 in cc)
+
+-- and one that stores nothing
+kept_state : (size : ℕ) (st : State) (s l : ℕ) (exchange : Exchange) (d : State × Answer) → Step size st (ExchangeLink s l exchange) d → is_stored (link_at st l) exchange ≡ false → d.0 ≡ st
+kept_state size st _ _ _ _ (Step.exchanged s l exchange new can fresh stores) misses = absurd (let x : true ≡ false = sym stores.1 ∙ misses in cc)
+kept_state size st _ _ _ _ (Step.compared s l exchange can none) misses = refl
+
+-- a value that is new in a list is so in one that leads to the same state
+new_later : (st : State) (o : Option ℕ) (vs : List (Held Entry)) (log log' : List Entry) → IsLegalList st log → IsNewIn st o vs → AllKept (rules st) vs log → after st log' ≡ after st log → IsNewIn st (value_in (renewed vs log')) (renewed vs log')
+new_later st None vs log log' l new kept same = subst (λ (hs : List (Held Entry)). IsNewIn st (value_in (renewed hs log')) (renewed hs log')) (sym new) refl
+new_later st (Some v) [] log log' l new kept same = absurd (let x : false ≡ true = new.0.0 in cc)
+new_later st (Some v) (x ∷ y ∷ vs) log log' l new kept same = absurd (let x : false ≡ true = new.0.0 in cc)
+new_later st (Some v) (x ∷ []) log log' l new kept same =
+    let label : v ≡ x.label = sym new.0.2 in
+    subst (λ (w : ℕ). IsNewIn st (Some w) (record { kind = x.kind; key = x.key; own = log'; label = x.label } ∷ [])) label (
+      key_later (Some v) (x ∷ []) log' new.0,
+      subst (λ (z : State). has v z.named ≡ false) (sym same) (not_true _ (still_new st (Some v) (x ∷ []) log new kept)),
+      subst (λ (z : State). IsVacant z (home_of v)) (sym same) (still_vacant st v (x ∷ []) log l new kept),
+    )
 
 renewed_own : (vs : List (Held Entry)) (log : List Entry) (w : ℕ) → value_in (renewed vs log) ≡ Some w → own_of (renewed vs log) ≡ log
 renewed_own [] log w h = absurd (cc)
@@ -117,6 +135,17 @@ module _ (link : Link) (a : Activation) (pass pass' : Pass) (in_ : IsIn link a p
 
   pub stayed : trades v ≡ false → value_in keys'.held ≡ value_in keys.held
   stayed e = ap value_in (had false e) ∙ same_value keys.held pass'.seen
+
+  -- where nothing was stored, the value is as new as before
+  pub still_may : (exchange : Option ℕ → Exchange) → keys.name ≡ pass.name → IsNewIn (start pass.name) (value_in keys.held) keys.held → ((o : Option ℕ) → ev o ≡ ExchangeLink a.slot (number link) (exchange o)) → ((o : Option ℕ) → v ≡ link_word o → is_stored o (exchange o) ≡ false) → trades v ≡ false
+      → IsNewIn (start keys'.name) (value_in keys'.held) keys'.held
+  still_may exchange book new is misses e =
+      let st : State = start pass.name in let now : State = after st step.log in let old : Option ℕ = link_at now (number link) in
+      let done : next pass.name.size now (event v step.log) ≡ Some (step.noted.later, step.noted.answer) = subst (λ (l : List Entry). next pass.name.size (after st l) (event v step.log) ≡ Some (step.noted.later, step.noted.answer)) step.is_log step.noted.does in
+      let same : step.noted.later ≡ now = kept_state pass.name.size now a.slot (number link) (exchange old) (step.noted.later, step.noted.answer) (subst (λ (x : Event). Step pass.name.size now x (step.noted.later, step.noted.answer)) (is old) (step_of _ _ _ _ done)) (misses old (step.found.shows ∙ ap link_word held)) in
+      let kept = kept_right st step.since.1 keys.held step.log step.found.before.kept.1 in
+      subst (λ (t : Name × List (Held Entry)). IsNewIn (start t.0) (value_in t.1) t.1) (λ j. (sym (told.1 ∙ book) j, sym (had false e) j))
+      (new_later st (value_in keys.held) keys.held step.log pass'.seen step.found.before.legal new kept (step.noted.leads ∙ same))
 
   pub knows_all : keys'.held ≡ renewed keys'.held pass'.seen
   knows_all = step.keys ∙ renewed_twice (traded (trades v) keys.held step.since.1) pass'.seen ∙ ap (λ (hs : List (Held Entry)). renewed hs pass'.seen) (sym step.keys)

@@ -85,7 +85,7 @@ module _ (n : Name) (s a l : ℕ) (since seen : List Entry) (in_ : IsWithin n s 
   pub hit : (seen_word : ℕ) (old o : Option ℕ) → link_word old ≡ seen_word → is_stored old (Compare (compared seen_word old) o) ≡ true
   hit seen_word old o e = ap (λ (b : Bool). same_link old (if b then old else value_with seen_word)) (equal (link_word old) seen_word e) ∙ is_same old
 
-  missed : (seen_word : ℕ) (old o : Option ℕ) → seen_word < 2 ^ 64 → link_word old ≢ seen_word → is_stored old (Compare (compared seen_word old) o) ≡ false
+  pub missed : (seen_word : ℕ) (old o : Option ℕ) → seen_word < 2 ^ 64 → link_word old ≢ seen_word → is_stored old (Compare (compared seen_word old) o) ≡ false
   missed seen_word old o fits differs = ap (λ (b : Bool). same_link old (if b then old else value_with seen_word)) (unequal (link_word old) seen_word differs) ∙ apart (is_true (same_link old (value_with seen_word)))
     where
       word_back : (w : ℕ) → w < 2 ^ 64 → link_word (value_with w) ≡ w

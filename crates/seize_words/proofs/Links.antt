@@ -23,7 +23,7 @@ use Rattle.seize_words.proofs.Private.{differ}
 use Rattle.seize_words.proofs.Sound.{new_named, old_named, pushed, vacant_later}
 
 -- the keys of what a link holds, later
-key_later : (o : Option ℕ) (vs : List (Held Entry)) (log : List Entry) → IsKeyOf o vs → IsKeyOf o (renewed vs log)
+pub key_later : (o : Option ℕ) (vs : List (Held Entry)) (log : List Entry) → IsKeyOf o vs → IsKeyOf o (renewed vs log)
 key_later None vs log is = ap (λ (hs : List (Held Entry)). renewed hs log) is
 key_later (Some v) [] log is = is
 key_later (Some v) (x ∷ y ∷ vs) log is = is
@@ -47,7 +47,7 @@ there_both : (many : ℕ → ℕ) (a b : List (Held Entry)) → AllThere many (a
 there_both many [] b h = (tt, h)
 there_both many (x ∷ a) b h = let rest = there_both many a b h.1 in ((h.0, rest.0), rest.1)
 
-kept_right : (st : State) (a b : List (Held Entry)) (log : List Entry) → AllKept (rules st) (a ++ b) log → AllKept (rules st) b log
+pub kept_right : (st : State) (a b : List (Held Entry)) (log : List Entry) → AllKept (rules st) (a ++ b) log → AllKept (rules st) b log
 kept_right st [] b log h = h
 kept_right st (x ∷ a) b log h = kept_right st a b log h.1
 
@@ -65,7 +65,7 @@ past_value many (Some v) (x ∷ []) k is there le =
     let kind : x.kind ≡ blocks = eq_true x.kind blocks is.0 in let l : home_of v < many blocks = subst (λ (z : ℕ). home_of v < many z) kind (subst (λ (z : ℕ). z < many x.kind) is.1 there.0) in
     differ (home_of v) k (λ e. omega (arith, e, l, le))
 
-is_key : (st : State) (o : Option ℕ) (vs : List (Held Entry)) → IsNewIn st o vs → IsKeyOf o vs
+pub is_key : (st : State) (o : Option ℕ) (vs : List (Held Entry)) → IsNewIn st o vs → IsKeyOf o vs
 is_key st None vs new = new
 is_key st (Some v) vs new = new.0
 
@@ -78,7 +78,7 @@ value_kept : (st : State) (v : ℕ) (x : Held Entry) (log : List Entry) → IsKe
 value_kept st v x log is kept = (block_kept st v x log is kept).1 v refl
 
 -- a value that its key knows to be new is new
-still_new : (st : State) (o : Option ℕ) (vs : List (Held Entry)) (log : List Entry) → IsNewIn st o vs → AllKept (rules st) vs log → is_none_or_fresh (after st log) o ≡ true
+pub still_new : (st : State) (o : Option ℕ) (vs : List (Held Entry)) (log : List Entry) → IsNewIn st o vs → AllKept (rules st) vs log → is_none_or_fresh (after st log) o ≡ true
 still_new st None vs log new kept = refl
 still_new st (Some v) [] log new kept = absurd (let x : false ≡ true = new.0.0 in cc)
 still_new st (Some v) (x ∷ y ∷ vs) log new kept = absurd (let x : false ≡ true = new.0.0 in cc)
@@ -86,7 +86,7 @@ still_new st (Some v) (x ∷ []) log new kept =
     ap not (sym (value_kept st v x log new.0 kept.0).0 ∙ new.1)
 
 -- and its block is vacant still
-still_vacant : (st : State) (v : ℕ) (vs : List (Held Entry)) (log : List Entry) → IsLegalList st log → IsNewIn st (Some v) vs → AllKept (rules st) vs log → IsVacant (after st log) (home_of v)
+pub still_vacant : (st : State) (v : ℕ) (vs : List (Held Entry)) (log : List Entry) → IsLegalList st log → IsNewIn st (Some v) vs → AllKept (rules st) vs log → IsVacant (after st log) (home_of v)
 still_vacant st v [] log l new kept = absurd (let x : false ≡ true = new.0.0 in cc)
 still_vacant st v (x ∷ y ∷ vs) log l new kept = absurd (let x : false ≡ true = new.0.0 in cc)
 still_vacant st v (x ∷ []) log l new kept = vacant_later st x.own log (home_of v) l (block_kept st v x log new.0 kept.0) new.2

@@ -6,6 +6,7 @@ use Rattle.seize_machine.specs.declared.machine.event.Answer.{Answer}
 use Rattle.seize_words.specs.Entry.{Entry}
 use Rattle.seize_words.specs.Ledger.{renewed}
 use Rattle.seize_words.specs.Book.{after, IsLegalList, Does, TheSlot, Kept, mine, slots}
+use Rattle.seize_words.specs.Homes.{IsSound}
 use Rattle.seize_words.specs.Slots.{Looks, Moves, number_of, own_list}
 use Rattle.seize_words.specs.Tokens.{Name, start}
 use Rattle.seize_words.specs.Fair.{Before}
@@ -57,6 +58,7 @@ stays key key' pass pass' book same is before one =
       knows = kept_all.0;
       alone = before.alone;
       legal = subst (λ (m : Name). IsLegalList (start m) pass'.seen) (sym book) before.legal;
+      sound = subst (λ (m : Name). IsSound (after (start m) pass'.seen)) (sym book) before.sound;
       lives = sym (life_kept (start pass.name) k (own_list key) pass'.seen kept_all);
       slot = in_book book pass'.seen (λ s. slot_at s k) ∙ sym kept.1 ∙ sym (in_book book (own_list key) (λ s. slot_at s k));
       active = in_book book pass'.seen (λ s. is_active (head_at s k)) ∙ sym kept.2 ∙ sym (in_book book (own_list key) (λ s. is_active (head_at s k)));

@@ -4,8 +4,9 @@
 --     block_for log b m      the block with which batch b is inserted at slot m: that of the value with the slot's place
 --     front_of st log b      the first value of batch b, as it was detached: the count of the batch stands with its block
 --     list_word, head_word, link_word     the words of a list of batches that wait for a slot, of a head and of a link
---     count_word             the word of a count
-use Rattle.std.specs.Prelude.{ℕ, suc, ◌+◌, ◌-◌, ◌%◌, ◌^◌, ◌==◌, ℤ, pos, negsuc, if◌then◌else◌, List, [], ◌∷◌, ◌++◌, Option, Some, None, slice_index_or, unwrap_or}
+--     count_word, IsNear     the word of a count, and that the count is between minus and plus the number of numbers
+use Rattle.std.specs.Prelude.{ℕ, suc, ◌+◌, ◌-◌, ◌%◌, ◌^◌, ◌==◌, ℤ, pos, negsuc, neg_ℤ, ◌≤ℤ◌, if◌then◌else◌, List, [], ◌∷◌, ◌++◌, Option, Some, None, slice_index_or, unwrap_or}
+use Rattle.seize_table.specs.Place.{all_numbers}
 use Rattle.seize_machine.specs.Machine.State.{State, Slot, Place, Mark, Head, Inactive, Active, slot_at, head_at}
 use Rattle.seize_machine.specs.Machine.Event.{Event, Detach}
 use Rattle.seize_machine.specs.Machine.Next.{next, of_call}
@@ -72,7 +73,11 @@ abbrev pub link_word : Option ℕ → ℕ
 link_word None = 0
 link_word (Some v) = block_of v + 1
 
--- A count's word is the count, and 2^64 more where that is below 0: it is 0 only where the count is, since each lies within 2^64 - 32.
+-- A count's word is the count modulo 2^64.
 abbrev pub count_word : ℤ → ℕ
-count_word (pos n) = n
-count_word (negsuc n) = 2 ^ 64 - suc n
+count_word (pos n) = n % 2 ^ 64
+count_word (negsuc n) = 2 ^ 64 - suc (n % 2 ^ 64)
+
+-- It is 0 only where the count is, since each count lies here.
+abbrev pub IsNear : ℤ → Type 0
+IsNear count = (neg_ℤ (pos all_numbers) ≤ℤ count) × (count ≤ℤ pos all_numbers)

@@ -6,6 +6,7 @@
 --                                              them; and that of its count, which is 0
 --     IsNextIn value number                    it was never named, all values that lay in its block before were reclaimed, and this is the
 --                                              number by which words hold the block
+--     IsFirstIn value number                   and no value of its home was ever named
 --     MakesNext value pass value' pass'        it is for the next value of the block, and the pass has looked at the list
 --     IsCountFor count value                   it is that of the value's block, and the count is 0
 use Rattle.std.specs.Prelude.{◌≡◌, ℕ, pos, false, List, [], ◌∷◌}
@@ -68,6 +69,11 @@ pub record IsNewBlock (keys : Keys) (number : ℕ) : Type 0 where
 abbrev pub IsNextIn : ValueKey → ℕ → Type 0
 IsNextIn value number =
     (is_named value ≡ false) × IsVacant (state_of value.keys) (home_of (value_of value)) × (block_of (value_of value) ≡ number)
+
+-- nor was any other value of its home
+abbrev pub IsFirstIn : ValueKey → ℕ → Type 0
+IsFirstIn value number =
+    IsNextIn value number × ((w : ℕ) → home_of w ≡ home_of (value_of value) → has w (state_of value.keys).named ≡ false)
 
 -- it is for another value of the same block, and the pass has seen a legal list that goes on; nothing was made with it
 abbrev pub MakesNext : ValueKey → Pass → ValueKey → Pass → Type 0

@@ -4,7 +4,8 @@
 --     IsCountOf count key               it is the key's
 --     IsAdding, AddsTo key count won    the slot's call is about to add so many insertions won to the count of a batch, which is this one
 --     IsWalking, Walks key count        the slot's call is about to count down the next batch of its walk, whose count is this one
---     Counts key pass key' pass' event zero     the event was noted, its answer is a count, and this says whether it is 0
+--     Counts key pass key' pass' event zero     the event was noted, its answer is a count, and this says whether it is 0;
+--                                               it lies between minus and plus the number of numbers
 --     GivesUp key key' b walk queue zero        the slot's call goes on with this walk and queue; the values with which the batch was
 --                                               detached are given up to it if the count came to 0, and else none are
 use Rattle.std.specs.Prelude.{◌≡◌, ℕ, ℤ, Bool, if◌then◌else◌, List, [], ◌∷◌, Some, slice_index_or}
@@ -12,7 +13,7 @@ use Rattle.seize_machine.specs.Machine.State.{State, Add, Rest, slot_at}
 use Rattle.seize_machine.specs.Machine.Event.{Event}
 use Rattle.seize_machine.specs.Machine.Next.{is_zero}
 use Rattle.seize_machine.specs.declared.machine.event.Answer.TheVariants.{Count as Counted}
-use Rattle.seize_words.specs.Blocks.{front_of, no_plan, plans}
+use Rattle.seize_words.specs.Blocks.{IsNear, front_of, no_plan, plans}
 use Rattle.seize_words.specs.Book.{after}
 use Rattle.seize_words.specs.Entry.{Entry}
 use Rattle.seize_words.specs.Homes.{count_in, home_of}
@@ -65,7 +66,7 @@ Walks key count = IsWalking (start_of key) (number_of key) (own_list key) (home 
 
 abbrev pub Counts : SlotKey → Pass → SlotKey → Pass → Event → Bool → Type 0
 Counts key pass key' pass' event zero =
-    (notes : Notes key pass key' pass' event) × ((count : ℤ) × (notes.2.0.answer ≡ Counted count) × (zero ≡ is_zero count))
+    (notes : Notes key pass key' pass' event) × ((count : ℤ) × (notes.2.0.answer ≡ Counted count) × (zero ≡ is_zero count) × IsNear count)
 
 abbrev pub GivesUp : SlotKey → SlotKey → ℕ → List ℕ → List ℕ → Bool → Type 0
 GivesUp key key' b walk queue zero =

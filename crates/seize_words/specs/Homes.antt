@@ -5,8 +5,8 @@
 --     HasOne st                  of the values of one home that were ever named, at most one was not reclaimed
 --     IsVacant st k              all values of the home that were ever named were reclaimed
 --     changes_home st k event    the event may change whether a value of the home was named, or whether it is loose
---     count_in st k              the count of the batch whose first value has its home there; 0 where there is none. A batch that was
---                                given up has no values
+--     count_in st k              the sum of the counts of the batches whose first value has its home there. A batch that was given up has
+--                                no values; so there is one at most, of which this is the count, where the list is sound
 --     changes_count st k event   the event counts that batch up or down
 --     IsSound st                 at most one value of a home is not reclaimed, and there are no more slots than numbers
 use Rattle.std.specs.Prelude.{◌≡◌, ℕ, zero, suc, ◌/◌, ◌^◌, ◌≤◌, ◌==◌, ℤ, pos, ◌+ℤ◌, Bool, true, false, ◌||◌, if◌then◌else◌, List, [], ◌∷◌, length, Option, Some, None}
@@ -19,7 +19,8 @@ use Rattle.seize_machine.specs.Machine.History.{first_of}
 use Rattle.seize_machine.specs.Machine.Laws.{added_batch}
 use Rattle.seize_machine.specs.declared.machine.event.Job.TheVariants.{Retire}
 
--- 0; then 0 and 1; then 0, 1 and 2; and so on: each number comes again and again. Here with the last of its round.
+-- 0; then 0 and 1; then 0, 1 and 2; and so on: each number comes again and again. The second number of a turn says which round it is in,
+-- which ends there. So each home has values with each remainder by 2^64, past any bound (`another_of` in `proofs/Homes`).
 abbrev pub next_turn : ℕ × ℕ → ℕ × ℕ
 next_turn t = if t.0 == t.1 then (0, suc t.1) else (suc t.0, t.1)
 

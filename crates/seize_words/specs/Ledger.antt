@@ -28,7 +28,7 @@ pub record Held (E : Type 0) : Type 0 where
   pub kind : ℕ
   pub key : ℕ
   pub own : List E
-  -- what its holder calls it; no rule speaks of this
+  -- what its holder calls it: no part of the right, which is to the kind and number alone
   pub label : ℕ
 
 -- the keys of the kinds, a row each: those past the last are empty

@@ -91,12 +91,13 @@ Swaps link activation key pass key' pass' v =
     (t : Takes link activation pass pass' (λ _. ExchangeLink activation.slot (number link) (Swap (holds key))) v)
     × (key'.keys.name ≡ key.keys.name) × (holds key' ≡ held_before t) × IsOut key' × KnowsAll key' pass'
 
--- and here where it was what was seen; else it is the same key
+-- and here where it was what was seen; else it is the same key, and its value may be named still
 abbrev pub CompareExchanges : Link → Activation → MaybeKey → Pass → ℕ → MaybeKey → Pass → ℕ → Type 0
 CompareExchanges link activation key pass seen key' pass' v =
     (t : Takes link activation pass pass' (λ old. ExchangeLink activation.slot (number link) (Compare (compared seen old) (holds key))) v)
     × (key'.keys.name ≡ key.keys.name)
-    × (v ≡ seen → (holds key' ≡ held_before t) × IsOut key') × (v ≢ seen → holds key' ≡ holds key) × KnowsAll key' pass'
+    × (v ≡ seen → (holds key' ≡ held_before t) × IsOut key')
+    × (v ≢ seen → (holds key' ≡ holds key) × IsNewIn (start key'.keys.name) (holds key') key'.keys.held) × KnowsAll key' pass'
 
 -- Links are made of the keys that their book begins with.
 

@@ -23,6 +23,7 @@ use Rattle.seize_machine.specs.declared.machine.event.Answer.{Answer}
 use Rattle.seize_machine.specs.Machine.History.{done_by, handed_value}
 use Rattle.seize_words.specs.Entry.{Entry, timed}
 use Rattle.seize_words.specs.Book.{after, IsLegalList}
+use Rattle.seize_words.specs.Homes.{IsSound}
 use Rattle.seize_words.specs.Laws.{NotHanded, AllParted, AllOver, life}
 use Rattle.seize_words.specs.Tokens.{IsSole, Noted, start}
 use Rattle.seize_words.specs.Private.{key_of, own_of}
@@ -87,6 +88,7 @@ pub record Looks (key : SlotKey) (pass : Pass) (key' : SlotKey) (pass' : Pass) :
   pub knows : IsPrefix (own_list key) pass'.seen
   pub alone : IsSole pass.name.gate → pass'.seen ≡ pass.seen
   pub legal : IsLegalList (start_of key) pass'.seen
+  pub sound : IsSound (after (start_of key) pass'.seen)
   pub lives : life (number_of key) pass'.seen ≡ life_of key
   pub slot : slot_at (after (start_of key) pass'.seen) (number_of key) ≡ slot_of key
   pub active : is_active (head_at (after (start_of key) pass'.seen) (number_of key)) ≡ active_of key

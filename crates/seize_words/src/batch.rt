@@ -10,8 +10,7 @@ use std::marker::Brand;
 
 /// The count of one block, which threads share.
 ///
-/// Its word is the count of the batch whose first value lies in the block, and 2^64 more where that is below 0. It is 0 where there is no
-/// such batch.
+/// Its word is the count of the batch whose first value lies in the block, modulo 2^64. It is 0 where there is no such batch.
 #[derive(Drop)]
 pub struct Count {
     word: Word,

@@ -23,7 +23,7 @@ impl Model for Book {
 }
 
 impl Book {
-    ghost use Rattle.seize_words.specs.Books.{Begins, IsAlone, IsCountFor, IsNextIn, IsMany, IsNew, IsNewBlock, Opens, OpensAlone};
+    ghost use Rattle.seize_words.specs.Books.{Begins, IsAlone, IsCountFor, IsFirstIn, IsMany, IsNew, IsNewBlock, Opens, OpensAlone};
     ghost use Rattle.seize_words.specs.Others.{book_of};
 
     /// A new book, of which any number of passes may be made, the key of its numbers, and those of its links. It has no slot yet, and its
@@ -102,10 +102,11 @@ impl Book {
     }
 
     /// The key of a new block's values, and that of its count. Words hold this number for it, which fits beside the 2 of a head's word.
-    /// None of its values was ever named, and the key is for one of them.
+    /// None of its values was ever named, and the key is for one of them. Without the count's key no batch can be counted whose first value
+    /// lies in the block.
     pub fn block(&mut self, number: u64) -> (ValueKey, CountKey)
         requires { number + 2 < 2 ^ 64 }
-        ensures value { IsNextIn result.0 number }
+        ensures value { IsFirstIn result.0 number }
         ensures count { IsCountFor result.1 result.0 }
         ensures book { (book_of result.0 ≡ self.old.name) × (result.1.keys.name ≡ self.old.name) × (self.new.name ≡ self.old.name) }
     {

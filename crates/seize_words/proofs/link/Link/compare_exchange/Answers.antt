@@ -10,8 +10,8 @@ use Rattle.seize_words.specs.Stepping.{MayStep}
 use Rattle.seize_words.specs.Tokens.{Name, start}
 use Rattle.seize_words.specs.Words.{Site}
 use Rattle.seize_words.proofs.Lists.{equal, unequal}
-use Rattle.seize_words.proofs.Exchanged.{came_out, is_at, is_out, knows_all, stayed, still_one, taken}
-use Rattle.seize_words.proofs.Exchanges.{hit, may_compare_link}
+use Rattle.seize_words.proofs.Exchanged.{came_out, is_at, is_out, knows_all, stayed, still_may, still_one, taken}
+use Rattle.seize_words.proofs.Exchanges.{hit, may_compare_link, missed}
 use Rattle.seize_words.proofs.link.Link.compare_exchange.Goals as goal
 
 -- the event by what the link held
@@ -47,7 +47,12 @@ returns c =
           is_out link a pass pass' in_ value.keys keys' f v ev (λ v. v == seen) told (λ old. Compare (compared seen old) (holds value)) (c.requires.new.0 ∙ in_.book.0) (λ _. refl)
               (λ old found. hit pass.name a.slot a.life l a.since pass.seen in_.within seen old (holds value) (sym found ∙ e)) (equal v seen e),
         )),
-        (λ differs. stayed link a pass pass' in_ value.keys keys' f v ev (λ v. v == seen) told (unequal v seen differs)),
+        (λ differs. (
+          stayed link a pass pass' in_ value.keys keys' f v ev (λ v. v == seen) told (unequal v seen differs),
+          still_may link a pass pass' in_ value.keys keys' f v ev (λ v. v == seen) told (λ old. Compare (compared seen old) (holds value)) (c.requires.new.0 ∙ in_.book.0)
+              (subst (λ (n : Name). IsNewIn (start n) (holds value) value.keys.held) in_.book.0 c.requires.new.1) (λ _. refl)
+              (λ old found. missed pass.name a.slot a.life l a.since pass.seen in_.within seen old (holds value) c.ranges.seen.fits (λ x. differs (found ∙ x))) (unequal v seen differs),
+        )),
         knows_all link a pass pass' in_ value.keys keys' f v ev (λ v. v == seen) told,
       );
     }
