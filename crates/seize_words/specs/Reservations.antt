@@ -5,7 +5,7 @@
 --     FoundBefore head pass' v    all that the pass has seen shows v, without its last event
 --     TriesAt key head seen block     the slot's call is about to insert its batch here: see IsTrying. The block's number fits beside 2
 --     IsOwn head key, IsOut key stays     it is the slot's own head;  the slot's call is about to swap it out
---     WalksOn head key' v queue           the slot's call walks the batches that the word v of the head shows, and then goes on with this queue
+--     WalksOn head key' v queue           the slot's call walks the batches that the word v of the head shows, and goes on with this queue
 --     IsLastOf key a                      it is the slot's last activation
 --     IsActivationOf key a                it has begun with what the key knows last
 --     made_of numbers, IsFull numbers     how many slots there are, as the key knows;  all of their numbers are in use

@@ -1,5 +1,6 @@
-//! Words: the memory that threads change by single atomic steps. A word stands for a head, link or count of the book. Its keys stand beside it,
-//! so an atomic step on it is an event in the list, which the holder of a pass adds in that very step. Heads and links are made of it.
+//! Words: the memory that threads change by single atomic steps. A word stands for a head, link or count of the book. Its keys stand
+//! beside it, so an atomic step on it is an event in the list, which the holder of a pass adds in that very step. Heads, links and counts
+//! are made of it.
 ghost use Rattle.std.specs.Prelude.{◌≡◌, ℕ, ◌<◌, ◌==◌, ◌^◌, Bool, false, if◌then◌else◌, List, []};
 ghost use base.Fml.{fsep, fex};
 ghost use Rattle.seize_machine.specs.Machine.Event.{Event, Return};
