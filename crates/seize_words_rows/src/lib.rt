@@ -5,5 +5,6 @@
 pub mod calls;
 pub mod exchanges;
 pub mod leaving;
+pub mod worked_run;
 #[cfg(test)]
 mod tests;
