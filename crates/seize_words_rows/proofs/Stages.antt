@@ -1,5 +1,5 @@
 -- What one event does to what is known by a caller who has a book alone.
-use Rattle.std.proofs.Common.{◌≡◌, ℕ, ℤ, ◌<◌, true, List, [], ◌∷◌, ◌++◌, length, Option, Some, refl, sym, ap, ◌∙◌, subst}
+use Rattle.std.proofs.Common.{◌≡◌, ℕ, ℤ, ◌<◌, true, List, [], ◌∷◌, ◌++◌, length, Some, refl, sym, ap, ◌∙◌, subst}
 use Rattle.std.specs.Prelude.{slice_index_or}
 use Rattle.seize_machine.specs.Machine.State.{State, Slot, slot_at, head_at, is_active}
 use Rattle.seize_machine.specs.Machine.Event.{Event, ReadHead, Take}
@@ -139,7 +139,7 @@ pub may_read : (n : Name) (key : SlotKey) (s : ℕ) (known : Stage) (head : Head
 may_read n key s known head m pass stage knows its sees next there = (
   ap (λ (r : Slot). reads r (slot head)) (record_is n key s known knows) ∙ ap (reads (slot_at known.state s)) its.1 ∙ next,
   subst (λ (k : Name). slot head < length (after (start k) pass.seen).slots) (sym its.0) (
-    subst (λ (st : State). slot head < length st.slots) (sym sees.leads.state) (subst (λ (k : ℕ). k < length stage.state.slots) (sym its.1) there)),
+      subst (λ (st : State). slot head < length st.slots) (sym sees.leads.state) (subst (λ (k : ℕ). k < length stage.state.slots) (sym its.1) there)),
 )
 
 pub head_read : (n : Name) (key key' : SlotKey) (head : Head) (pass pass' : Pass) (s m v : ℕ) (from known to : Stage) (answer : Answer) → Notes key pass key' pass' (ReadHead (number_of key) (slot head)) → (head.word.name ≡ n) × (slot head ≡ m)

@@ -3,16 +3,19 @@
 --     value_in block     the value of the block
 --     IsLaid n block     its count is of the book, and stands with it;  IsNewBlock n block     and its value was never named
 --     book_of words, value_of words     their book and their block's value;  AreWords words     they are as said above
+--     StandsAt words pass now key s last     the pass has seen the one stage, and slot s made its last event at the other
 --     opened .. over v   the stages, in order
 use Rattle.std.specs.Prelude.{◌≡◌, ℕ, ℤ, pos, negsuc, true, false, List, [], ◌∷◌, Some, None}
-use Rattle.seize_machine.specs.Machine.State.{State, Slot, Head, Inactive, Active, Batch, Place, Append, Mark, Look, Try, Add, Out, Rest}
-use Rattle.seize_words.specs.Blocks.{Plan, block_of}
+use Rattle.seize_machine.specs.Machine.State.{Slot, Head, Inactive, Active, Batch, Place, Append, Mark, Look, Try, Add, Out, Rest}
+use Rattle.seize_words.specs.Blocks.{block_of}
 use Rattle.seize_words.specs.Counts.{home}
 use Rattle.seize_words.specs.Homes.{home_of}
 use Rattle.seize_words.specs.Others as others
 use Rattle.seize_words.specs.Reservations.{slot}
 use Rattle.seize_words.specs.Tokens.{Name}
-use Rattle.seize_words_rows.specs.Stages.{Stage}
+use Rattle.seize_words.specs.declared.book.pass.Pass.{Pass}
+use Rattle.seize_words.specs.declared.book.slot_key.SlotKey.{SlotKey}
+use Rattle.seize_words_rows.specs.Stages.{Knows, Sees, Stage}
 use Rattle.seize_words_rows.specs.declared.worked_run.Block.{Block}
 use Rattle.seize_words_rows.specs.declared.worked_run.Heads.{Heads}
 use Rattle.seize_words_rows.specs.declared.worked_run.Words.{Words}
@@ -41,6 +44,10 @@ value_of words = value_in words.block
 
 abbrev pub AreWords : Words → Type 0
 AreWords words = AreHeads words.heads × IsLaid (book_of words) words.block
+
+abbrev pub StandsAt : Words → Pass → (ℕ → Stage) → SlotKey → ℕ → (ℕ → Stage) → Type 0
+StandsAt words pass now key s last =
+    AreWords words × Sees (book_of words) pass (now (value_of words)) × Knows (book_of words) key s (last (value_of words))
 
 -- The stages.
 
@@ -91,7 +98,15 @@ marked v = retiring v (v ∷ []) (Mark 2 2 (0 ∷ []))
 abbrev pub after_detached : Slot → Slot → Head → Batch → List ℕ → ℕ → Stage
 after_detached reader retirer head batch gone v = record {
   size = 1;
-  state = record { slots = reader ∷ retirer ∷ []; heads = head ∷ Inactive ∷ []; batches = batch ∷ []; links = []; loose = []; gone = gone; named = v ∷ [] };
+  state = record {
+    slots = reader ∷ retirer ∷ [];
+    heads = head ∷ Inactive ∷ [];
+    batches = batch ∷ [];
+    links = [];
+    loose = [];
+    gone = gone;
+    named = v ∷ [];
+  };
   plans = record { slots = 0 ∷ []; values = v ∷ [] } ∷ [];
 }
 

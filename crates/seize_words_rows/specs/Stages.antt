@@ -3,6 +3,7 @@
 --     IsAt n log stage   the book has this size, and its list leads there
 --     Sees n pass stage  the pass is of book n, and alone, and what it has seen leads there
 --     Knows n key s stage    it is the key of slot s of book n, whose last event led there
+--     Leads n pass key s stage     what the pass has seen leads there, and slot s made its last event
 --     Goes from event to answer     the event is legal at the one stage, leads to the other and is answered so
 --     word_at stage m    the word of the head of slot m
 use Rattle.std.specs.Prelude.{◌≡◌, ℕ, List, ◌++◌, Some, slice_index_or}
@@ -37,6 +38,9 @@ pub record Knows (n : Name) (key : SlotKey) (s : ℕ) (stage : Stage) : Type 0 w
   pub book : key.keys.name ≡ n
   pub number : number_of key ≡ s
   pub leads : IsAt n (own_list key) stage
+
+abbrev pub Leads : Name → Pass → SlotKey → ℕ → Stage → Type 0
+Leads n pass key s stage = Sees n pass stage × Knows n key s stage
 
 pub record Goes (from : Stage) (event : Event) (to : Stage) (answer : Answer) : Type 0 where
   pub size : from.size ≡ to.size

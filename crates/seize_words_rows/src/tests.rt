@@ -207,7 +207,10 @@ fn a_batch_is_counted_down_and_up(rt: HostRuntime) {
     assert_eq!(rt; worked_run::mark(&words, &mut retirer, &mut pass), (1, 0));
     assert_eq!(rt; worked_run::detach(&words, &mut retirer, &mut pass), 1);
     assert_eq!(rt; worked_run::insert(&words, &mut retirer, &mut pass), 1);
-    assert_eq!(rt; worked_run::leave(&words, &mut reader, activation, &mut pass), 7);
+    assert_eq!(rt;
+        worked_run::leave(&words, &mut reader, activation, &mut pass),
+        7
+    );
     assert!(rt; !worked_run::count_down(&words, &mut reader, &mut pass));
     assert!(rt; worked_run::count_up(&words, &mut retirer, &mut pass));
     worked_run::hand(&words, &mut retirer, &mut pass);

@@ -9,6 +9,6 @@ use Rattle.seize_words_rows.proofs.worked_run.hand.Goals as goal
 pub returns : goal.returns
 returns c =
     let words = c.args.words.now in let n = book_of words in let v = value_of words in let one = c.hand in let two = c.finish in
-    let first = steps n c.args.retirer.now one.new.self c.args.pass.now one.new.pass 1 0 (λ s. Hand s []) (counted_up v) (counted_up v) (handed v) (Handed v) one.ensures.noted c.requires.sees.0 c.requires.sees.1 (hands v) in
+    let first = steps n c.args.retirer.now one.new.self c.args.pass.now one.new.pass 1 0 (λ s. Hand s []) (counted_up v) (counted_up v) (handed v) (Handed v) one.ensures.noted c.requires.stands.1 c.requires.stands.2 (hands v) in
     let last = steps n one.new.self two.new.self one.new.pass two.new.pass 1 0 (λ s. Return s) (handed v) (handed v) (over v) Done two.ensures.noted first.0 first.1 (returns_last v) in
-    record { sees = (last.0, last.1) }
+    record { stands = (c.requires.stands.0, last.0, last.1) }

@@ -16,12 +16,12 @@ leave-requires-clause-last c =
 pub returns-clause-found : goal.returns-clause-found
 returns-clause-found c =
     let words = c.args.words.now in let n = book_of words in let v = value_of words in let one = c.begin_leave in let two = c.leave in
-    let first = steps n c.args.reader.now one.new.self c.args.pass.now one.new.pass 0 0 (λ s. Begin s Leave) (inserted v) entered (leaving v) Done one.ensures.noted c.requires.sees.0 c.requires.sees.1 (begins_leave v) in
-    found n words.heads.reader one.new.pass two.new.pass _ 0 two.result (leaving v) refl c.requires.words.0.1 two.ensures.noted.2.0 first.0 two.ensures.found ∙ ap (λ (k : ℕ). k + 2) c.requires.words.1.2
+    let first = steps n c.args.reader.now one.new.self c.args.pass.now one.new.pass 0 0 (λ s. Begin s Leave) (inserted v) entered (leaving v) Done one.ensures.noted c.requires.stands.1 c.requires.stands.2 (begins_leave v) in
+    found n words.heads.reader one.new.pass two.new.pass _ 0 two.result (leaving v) refl c.requires.stands.0.0.1 two.ensures.noted.2.0 first.0 two.ensures.found ∙ ap (λ (k : ℕ). k + 2) c.requires.stands.0.1.2
 
-pub returns-clause-sees : goal.returns-clause-sees
-returns-clause-sees c =
+pub returns-clause-stands : goal.returns-clause-stands
+returns-clause-stands c =
     let words = c.args.words.now in let n = book_of words in let v = value_of words in let one = c.begin_leave in let two = c.leave in
-    let first = steps n c.args.reader.now one.new.self c.args.pass.now one.new.pass 0 0 (λ s. Begin s Leave) (inserted v) entered (leaving v) Done one.ensures.noted c.requires.sees.0 c.requires.sees.1 (begins_leave v) in
+    let first = steps n c.args.reader.now one.new.self c.args.pass.now one.new.pass 0 0 (λ s. Begin s Leave) (inserted v) entered (leaving v) Done one.ensures.noted c.requires.stands.1 c.requires.stands.2 (begins_leave v) in
     let last = steps n one.new.self two.new.key one.new.pass two.new.pass 0 0 (λ s. SwapOut s) (leaving v) (leaving v) (left v) Done two.ensures.noted first.0 first.1 (leaves v) in
-    (last.0, last.1)
+    (c.requires.stands.0, last.0, last.1)
