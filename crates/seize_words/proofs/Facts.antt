@@ -1,5 +1,5 @@
 -- What other crates may build on. All else in `proofs` is no interface, and may change.
-use Rattle.std.proofs.Common.{◌≡◌, ℕ, Bool, false, if◌then◌else◌, List, [], ◌∷◌, ◌++◌, Option, Some, sym, ap, ◌∙◌, subst}
+use Rattle.std.proofs.Common.{◌≡◌, ℕ, Bool, false, if◌then◌else◌, List, [], ◌∷◌, ◌++◌, Option, Some, sym, ap, ◌∙◌, subst, append-nil}
 use base.Growing.{prefix_trans}
 use mathlib.Core.List.{IsPrefix}
 use Rattle.seize_machine.specs.Machine.State.{State, slot_at}
@@ -8,6 +8,7 @@ use Rattle.seize_machine.specs.Machine.Next.{next}
 use Rattle.seize_machine.specs.declared.machine.event.Answer.{Answer}
 use Rattle.seize_machine.proofs.Facts.{some_is}
 use Rattle.seize_words.specs.Adding.{private}
+use Rattle.seize_words.specs.Blocks.{Plan, planned_by, plans}
 use Rattle.seize_words.specs.Book.{after, mine}
 use Rattle.seize_words.specs.Entry.{Entry}
 use Rattle.seize_words.specs.Laws.{life, starts}
@@ -16,6 +17,7 @@ use Rattle.seize_words.specs.Links.{IsWithin}
 use Rattle.seize_words.specs.Passes.{IsSame, mine_of}
 use Rattle.seize_words.specs.Slots.{Moves, NotesAs, life_of, number_of, own_list, size_of, slot_of, start_of}
 use Rattle.seize_words.specs.Tokens.{Name, Noted, start}
+use Rattle.seize_words.proofs.Plans.{plans_append}
 use Rattle.seize_words.proofs.Stepped.{life_push}
 use Rattle.seize_words.specs.declared.activation.Activation.{Activation}
 use Rattle.seize_words.specs.declared.book.pass.Pass.{Pass}
@@ -43,6 +45,10 @@ pub life_kept : (key key' : SlotKey) (pass pass' : Pass) (e : Entry) → NotesAs
 life_kept key key' pass pass' e noted none =
     let n = noted.2.0 in
     ap (λ (k : ℕ). life k (own_list key')) noted.1.1 ∙ ap (life (number_of key)) (noted.1.2 ∙ n.appended) ∙ life_push 0 (number_of key) n.before e ∙ ap (λ (b : Bool). if b then e.life else life (number_of key) n.before) none ∙ noted.2.1.lived
+
+-- the plans of the batches detached, after one event more
+pub planned_after : (st : State) (log : List Entry) (e : Entry) → plans st (log ++ e ∷ []) ≡ plans st log ++ planned_by (after st log) e.event
+planned_after st log e = plans_append st log (e ∷ []) ∙ ap (λ (ps : List Plan). plans st log ++ ps) (append-nil (planned_by (after st log) e.event))
 
 -- what a pass has seen begins with what it had seen before an event
 pub seen_grows : (n : Name) (p : ℕ) (seen seen' : List Entry) (e : Entry) → Noted n p seen seen' e → IsPrefix seen seen'

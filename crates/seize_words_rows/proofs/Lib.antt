@@ -1,1 +1,3 @@
 pub mod Flushes
+pub mod Stages
+pub mod Runs

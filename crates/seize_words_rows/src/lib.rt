@@ -1,5 +1,5 @@
-//! Whole calls of a slot on the book, made of its private events. They show that the contracts of the events, with the exported
-//! lemmas of the book, suffice for a caller.
+//! Whole calls of a slot on the book, made of its private events, and a worked run on words. They show that the contracts of the events,
+//! with the exported lemmas of the book, suffice for a caller.
 #![tactic(auto)]
 
 pub mod calls;
@@ -7,3 +7,4 @@ pub mod exchanges;
 pub mod leaving;
 #[cfg(test)]
 mod tests;
+pub mod worked_run;

@@ -3,6 +3,7 @@ ghost use Rattle.seize_words_rows.specs.Exchanges.{MaySwap};
 
 use crate::exchanges::Swapper;
 use crate::leaving::leave_head;
+use crate::worked_run;
 use seize_words::activation::Activation;
 use seize_words::book::{Book, CountKey, Keys, LinkKeys, NumbersKey, Pass, SlotKey, ValueKey};
 use seize_words::link::{Link, MaybeKey};
@@ -194,4 +195,24 @@ fn each_thread_sees_what_the_other_put_in(rt: HostRuntime) {
     );
     assert!(rt; saw_1 && saw_2);
     drop((links, numbers));
+}
+
+// One slot reads while another retires a value: the batch goes into the reader's list, is counted down to -1, and up to 0, which gives it
+// up.
+#[test]
+fn a_batch_is_counted_down_and_up(rt: HostRuntime) {
+    let (mut reader, mut retirer, mut words, mut pass) = worked_run::begin();
+    let activation = worked_run::enter(&words.heads, &mut reader, &mut pass);
+    worked_run::retire(&words.heads, &mut retirer, &mut words.block, &mut pass);
+    assert_eq!(rt; worked_run::mark(&words, &mut retirer, &mut pass), (1, 0));
+    assert_eq!(rt; worked_run::detach(&words, &mut retirer, &mut pass), 1);
+    assert_eq!(rt; worked_run::insert(&words, &mut retirer, &mut pass), 1);
+    assert_eq!(rt;
+        worked_run::leave(&words, &mut reader, activation, &mut pass),
+        7
+    );
+    assert!(rt; !worked_run::count_down(&words, &mut reader, &mut pass));
+    assert!(rt; worked_run::count_up(&words, &mut retirer, &mut pass));
+    worked_run::hand(&words, &mut retirer, &mut pass);
+    drop((reader, retirer, words));
 }
