@@ -23,7 +23,7 @@ made slots s used = go (cases_lt s (length slots))
     go (inl l) = l
     go (inr le) = absurd (let x : false ≡ true = sym (ap (λ (z : Slot). z.used) (get_or_past slots s no_slot le)) ∙ used in cc)
 
-same_slot : (st : State) (s : ℕ) (slot : Slot) → (slot_at st s).used ≡ true → slot_at (set_slot st s slot) s ≡ slot
+pub same_slot : (st : State) (s : ℕ) (slot : Slot) → (slot_at st s).used ≡ true → slot_at (set_slot st s slot) s ≡ slot
 same_slot st s slot used = get_or-set_same st.slots s slot no_slot (made st.slots s used)
 
 pub begun_nothing : (key key' : SlotKey) (log : List Entry) (later : State) (answer : Answer) → Moves key key' log (Begin (number_of key) Flush) later answer → is_idle (slot_of key) ≡ true → active_of key ≡ true → (slot_of key).batch ≡ []

@@ -1,21 +1,87 @@
-//! A slot leaves: the call begins, and the head is swapped out. What was waiting is still to be walked.
+//! A slot leaves: the call begins, the head is swapped out, and where nothing was waiting the call is over. What was waiting would still be
+//! to be walked.
 ghost use Rattle.std.specs.Prelude.{◌≡◌, true};
 ghost use Rattle.seize_machine.specs.Machine.State.{is_idle};
-ghost use Rattle.seize_words.specs.Reservations.{FoundBefore, IsLastOf, IsOfBook, IsOwn};
+ghost use Rattle.seize_words.specs.Reservations.{IsFull, IsLastOf, IsOfBook, IsOwn};
 ghost use Rattle.seize_words.specs.Slots.{IsOf, active_of, slot_of};
+ghost use Rattle.seize_words_rows.specs.Exchanges.{HasOneMore, TakesPart};
+ghost use Rattle.seize_words_rows.specs.Leaves.{GoesOut, IsInside, IsOutside};
+ghost use Rattle.seize_words_rows.specs.Visits.{MayVisit};
 
 use seize_words::activation::Activation;
-use seize_words::book::{Pass, SlotKey};
+use seize_words::book::{Book, NumbersKey, Pass, SlotKey};
 use seize_words::reservation::Head;
 
 /// Begins to leave, and swaps the head out. It gives the head's word.
 pub fn leave_head(head: &Head, activation: Activation, key: &mut SlotKey, pass: &mut Pass) -> u64
     requires book { IsOf key.old pass.old × IsOfBook head.now pass.old × IsOwn head.now key.old }
-    requires inside { (is_idle (slot_of key.old) ≡ true) × (active_of key.old ≡ true) }
+    requires inside { IsInside key.old }
     requires last { IsLastOf key.old activation }
-    ensures book { IsOf key.new pass.new }
-    ensures found { FoundBefore head.now pass.new result }
+    ensures out { GoesOut head.now pass.new key.old key.new result }
 {
     key.begin_leave(pass);
     head.leave(activation, key, pass)
+}
+
+/// Enters and leaves again. It says whether nothing was waiting: then the call is over.
+pub fn pass_through(head: &Head, key: &mut SlotKey, pass: &mut Pass) -> bool
+    requires book { IsOf key.old pass.old × IsOfBook head.now pass.old × IsOwn head.now key.old }
+    requires outside { IsOutside key.old }
+    ensures book { IsOf key.new pass.new × IsOfBook head.now pass.new × IsOwn head.now key.new }
+    ensures outside { result ≡ true → IsOutside key.new }
+{
+    let activation = head.enter(key, pass);
+    if leave_head(head, activation, key, pass) != 1 {
+        return false;
+    }
+    key.finish(pass);
+    true
+}
+
+/// Enters and leaves so often, unless something waits. It says how often nothing did.
+pub fn pass_many(head: &Head, key: &mut SlotKey, pass: &mut Pass, turns: u64) -> u64
+    requires book { IsOf key.old pass.old × IsOfBook head.now pass.old × IsOwn head.now key.old }
+    requires outside { IsOutside key.old }
+{
+    for turn in 0..turns {
+        if !pass_through(head, key, pass) {
+            return turn;
+        }
+    }
+    turns
+}
+
+/// What a thread passes through with: a slot of its own, and a pass.
+#[derive(Drop)]
+pub struct Visitor {
+    pub key: SlotKey,
+    pub head: Head,
+    pub pass: Pass,
+}
+
+impl Visitor {
+    /// Makes the next slot.
+    pub fn make(book: &mut Book, numbers: &mut NumbersKey) -> Visitor
+        requires book { TakesPart book.old numbers.old }
+        requires full { IsFull numbers.old }
+        ensures book { book.new.name ≡ book.old.name }
+        ensures may { MayVisit result }
+        ensures numbers { HasOneMore numbers.old numbers.new }
+    {
+        let mut pass = book.pass();
+        let (key, head) = Head::make(numbers, &mut pass);
+        Visitor { key, head, pass }
+    }
+
+    /// Enters and leaves so often, unless something waits. It says how often nothing did.
+    pub fn visit(self, turns: u64) -> u64
+        requires may { MayVisit self }
+    {
+        let Visitor {
+            mut key,
+            head,
+            mut pass,
+        } = self;
+        pass_many(&head, &mut key, &mut pass, turns)
+    }
 }

@@ -1,8 +1,9 @@
 //! Books, passes and keys in hand.
 ghost use Rattle.seize_words_rows.specs.Exchanges.{MaySwap};
+ghost use Rattle.seize_words_rows.specs.Visits.{MayVisit};
 
 use crate::exchanges::Swapper;
-use crate::leaving::leave_head;
+use crate::leaving::{Visitor, leave_head};
 use crate::worked_run;
 use seize_words::activation::Activation;
 use seize_words::book::{Book, CountKey, Keys, LinkKeys, NumbersKey, Pass, SlotKey, ValueKey};
@@ -215,4 +216,76 @@ fn a_batch_is_counted_down_and_up(rt: HostRuntime) {
     assert!(rt; worked_run::count_up(&words, &mut retirer, &mut pass));
     worked_run::hand(&words, &mut retirer, &mut pass);
     drop((reader, retirer, words));
+}
+
+// Slots enter and leave side by side, each by steps on its own head, and nothing ever waits for one.
+#[test]
+fn two_slots_pass_through(rt: HostRuntime) {
+    let (mut book, mut numbers, links) = Book::open(0, 32);
+    let one = Visitor::make(&mut book, &mut numbers);
+    let two = Visitor::make(&mut book, &mut numbers);
+    let turns = thread::join(
+        &rt,
+        move || -> u64
+            requires { MayVisit one }
+        { one.visit(20_000) },
+        move || -> u64
+            requires { MayVisit two }
+        { two.visit(20_000) },
+    );
+    assert_eq!(rt; turns, (20_000, 20_000));
+    drop((links, numbers));
+}
+
+fn four_visits<R: Threads + Wait + Sync>(
+    rt: &R,
+    a: Visitor,
+    b: Visitor,
+    c: Visitor,
+    d: Visitor,
+) -> ((u64, u64), (u64, u64))
+    requires { MayVisit a × MayVisit b × MayVisit c × MayVisit d }
+{
+    thread::join(
+        rt,
+        move || -> (u64, u64)
+            requires { MayVisit a × MayVisit b }
+        {
+            thread::join(
+                rt,
+                move || -> u64
+                    requires { MayVisit a }
+                { a.visit(20_000) },
+                move || -> u64
+                    requires { MayVisit b }
+                { b.visit(20_000) },
+            )
+        },
+        move || -> (u64, u64)
+            requires { MayVisit c × MayVisit d }
+        {
+            thread::join(
+                rt,
+                move || -> u64
+                    requires { MayVisit c }
+                { c.visit(20_000) },
+                move || -> u64
+                    requires { MayVisit d }
+                { d.visit(20_000) },
+            )
+        },
+    )
+}
+
+#[test]
+fn four_slots_pass_through(rt: HostRuntime) {
+    let (mut book, mut numbers, links) = Book::open(0, 32);
+    let a = Visitor::make(&mut book, &mut numbers);
+    let b = Visitor::make(&mut book, &mut numbers);
+    let c = Visitor::make(&mut book, &mut numbers);
+    let d = Visitor::make(&mut book, &mut numbers);
+    let (first, last) = four_visits(&rt, a, b, c, d);
+    assert_eq!(rt; (first.0, first.1), (20_000, 20_000));
+    assert_eq!(rt; (last.0, last.1), (20_000, 20_000));
+    drop((links, numbers));
 }
