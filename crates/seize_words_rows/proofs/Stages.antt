@@ -1,24 +1,23 @@
 -- What one event does to what is known by a caller who has a book alone.
-use Rattle.std.proofs.Common.{◌≡◌, ℕ, ℤ, ◌<◌, true, List, [], ◌∷◌, ◌++◌, length, Some, refl, sym, ap, ◌∙◌, subst}
+use Rattle.std.proofs.Common.{◌≡◌, ℕ, List, [], ◌∷◌, ◌++◌, Some, refl, sym, ap, ◌∙◌, subst}
 use Rattle.std.specs.Prelude.{slice_index_or}
-use Rattle.seize_machine.specs.Machine.State.{State, Slot, slot_at, head_at, is_active}
+use Rattle.seize_machine.specs.Machine.State.{State, slot_at, head_at}
 use Rattle.seize_machine.specs.Machine.Event.{Event, ReadHead, Take}
-use Rattle.seize_machine.specs.Machine.Next.{is_zero, next}
+use Rattle.seize_machine.specs.Machine.Next.{next}
 use Rattle.seize_machine.specs.Machine.History.{first_of}
 use Rattle.seize_machine.specs.declared.machine.event.Answer.{Answer}
-use Rattle.seize_machine.specs.declared.machine.event.Answer.TheVariants.{Count, Done}
+use Rattle.seize_machine.specs.declared.machine.event.Answer.TheVariants.{Done}
 use Rattle.seize_machine.proofs.Facts.{some_is}
 use Rattle.seize_words.specs.Adding.{private}
 use Rattle.seize_words.specs.Blocks.{Plan, block_in, front_of, head_word, no_plan, planned_by, plans, word_of}
 use Rattle.seize_words.specs.Book.{after}
 use Rattle.seize_words.specs.Entry.{Entry}
-use Rattle.seize_words.specs.Heads.{reads}
 use Rattle.seize_words.specs.Ledger.{Held, renewed}
 use Rattle.seize_words.specs.Others.{Follows, value_of}
 use Rattle.seize_words.specs.Passes.{IsSame}
 use Rattle.seize_words.specs.Private.{label_of}
-use Rattle.seize_words.specs.Reservations.{FoundBefore, MakesSlot, MayRead, Shows, beginning, made_of, slot}
-use Rattle.seize_words.specs.Slots.{Notes, NotesAs, active_of, number_of, own_list, slot_of, start_of}
+use Rattle.seize_words.specs.Reservations.{FoundBefore, MakesSlot, Shows, beginning, made_of, slot}
+use Rattle.seize_words.specs.Slots.{Notes, NotesAs, number_of, own_list, slot_of, start_of}
 use Rattle.seize_words.specs.Tokens.{Name, Noted, start}
 use Rattle.seize_words.specs.declared.book.numbers_key.NumbersKey.{NumbersKey}
 use Rattle.seize_words.specs.declared.book.pass.Pass.{Pass}
@@ -26,11 +25,11 @@ use Rattle.seize_words.specs.declared.book.slot_key.SlotKey.{SlotKey}
 use Rattle.seize_words.specs.declared.book.value_key.ValueKey.{ValueKey}
 use Rattle.seize_words.specs.declared.reservation.Head.{Head}
 use Rattle.seize_words.proofs.Facts.{planned_after}
-use Rattle.seize_words_rows.specs.Stages.{Goes, IsAt, Knows, Sees, Stage, word_at}
+use Rattle.seize_words_rows.specs.Stages.{Goes, IsAt, Knows, Leads, Sees, Stage, word_at}
 
 -- said of the pass's own book
 goes_on : (pass pass' : Pass) (e : Entry) (from to : Stage) (answer : Answer) → IsSame pass pass' → (noted : Noted pass.name pass.id pass.seen pass'.seen e) → e.size ≡ pass.name.size → Sees pass.name pass from → Goes from e.event to answer
-    → Sees pass.name pass' to × (noted.answer ≡ answer)
+    → Sees pass.name pass' to
 goes_on pass pass' e from to answer same noted size sees goes =
     let n = pass.name in let st = start n in
     let appended : pass'.seen ≡ pass.seen ++ e ∷ [] = noted.appended ∙ ap (λ (log : List Entry). log ++ e ∷ []) (noted.alone sees.alone) in
@@ -44,34 +43,30 @@ goes_on pass pass' e from to answer same noted size sees goes =
     ap (plans st) appended ∙ planned_after st pass.seen e
     ∙ ap (λ (ps : List Plan). ps ++ planned_by (after st pass.seen) e.event) sees.leads.planned
     ∙ ap (λ (now : State). from.plans ++ planned_by now e.event) sees.leads.state
-    ∙ goes.planned in (
-      record {
-        book = same.0;
-        alone = sees.alone;
-        leads = record { size = sees.leads.size ∙ goes.size; state = noted.leads ∙ ap (λ (d : State × Answer). d.0) same_end; planned = planned };
-      },
-      ap (λ (d : State × Answer). d.1) same_end,
-    )
+    ∙ goes.planned in
+    record {
+      book = same.0;
+      alone = sees.alone;
+      leads = record { size = sees.leads.size ∙ goes.size; state = noted.leads ∙ ap (λ (d : State × Answer). d.0) same_end; planned = planned };
+    }
 
--- what is known of the pass after an event of a slot, and of its answer
+-- what is known of the pass after an event of a slot
 pub passes : (n : Name) (pass pass' : Pass) (e : Entry) (from to : Stage) (answer : Answer) → IsSame pass pass' → (noted : Noted pass.name pass.id pass.seen pass'.seen e) → e.size ≡ pass.name.size → Sees n pass from → Goes from e.event to answer
-    → Sees n pass' to × (noted.answer ≡ answer)
+    → Sees n pass' to
 passes n pass pass' e from to answer same noted size sees goes =
-    let g = goes_on pass pass' e from to answer same noted size (subst (λ (m : Name). Sees m pass from) (sym sees.book) sees) goes in
-    (subst (λ (m : Name). Sees m pass' to) sees.book g.0, g.1)
+    subst (λ (m : Name). Sees m pass' to) sees.book (goes_on pass pass' e from to answer same noted size (subst (λ (m : Name). Sees m pass from) (sym sees.book) sees) goes)
 
 -- and of the slot's key
-pub steps : (n : Name) (key key' : SlotKey) (pass pass' : Pass) (s life : ℕ) (event : ℕ → Event) (from known to : Stage) (answer : Answer) → (notes : NotesAs key pass key' pass' (beginning pass life (event (number_of key))))
-    → Sees n pass from → Knows n key s known → Goes from (event s) to answer → Sees n pass' to × Knows n key' s to × (notes.2.0.answer ≡ answer)
+pub steps : (n : Name) (key key' : SlotKey) (pass pass' : Pass) (s life : ℕ) (event : ℕ → Event) (from known to : Stage) (answer : Answer) → NotesAs key pass key' pass' (beginning pass life (event (number_of key)))
+    → Sees n pass from → Knows n key s known → Goes from (event s) to answer → Leads n pass' key' s to
 steps n key key' pass pass' s life event from known to answer notes sees knows goes =
-    let g = passes n pass pass' (beginning pass life (event (number_of key))) from to answer notes.0 notes.2.0 refl sees (subst (λ (k : ℕ). Goes from (event k) to answer) (sym knows.number) goes) in (
-      g.0,
+    let now = passes n pass pass' (beginning pass life (event (number_of key))) from to answer notes.0 notes.2.0 refl sees (subst (λ (k : ℕ). Goes from (event k) to answer) (sym knows.number) goes) in (
+      now,
       record {
         book = notes.1.0 ∙ knows.book;
         number = notes.1.1 ∙ knows.number;
-        leads = subst (λ (log : List Entry). IsAt n log to) (sym notes.1.2) g.0.leads;
+        leads = subst (λ (log : List Entry). IsAt n log to) (sym notes.1.2) now.leads;
       },
-      g.1,
     )
 
 -- The slot's record, as its key knows it.
@@ -81,12 +76,6 @@ record_is n key s stage knows =
     ap (λ (m : Name). slot_at (after (start m) (own_list key)) (number_of key)) knows.book
     ∙ ap (λ (st : State). slot_at st (number_of key)) knows.leads.state
     ∙ ap (slot_at stage.state) knows.number
-
-pub active_is : (n : Name) (key : SlotKey) (s : ℕ) (stage : Stage) → Knows n key s stage → active_of key ≡ is_active (head_at stage.state s)
-active_is n key s stage knows =
-    ap (λ (m : Name). is_active (head_at (after (start m) (own_list key)) (number_of key))) knows.book
-    ∙ ap (λ (st : State). is_active (head_at st (number_of key))) knows.leads.state
-    ∙ ap (λ (k : ℕ). is_active (head_at stage.state k)) knows.number
 
 pub planned_is : (n : Name) (key : SlotKey) (s : ℕ) (stage : Stage) → Knows n key s stage → plans (start_of key) (own_list key) ≡ stage.plans
 planned_is n key s stage knows = ap (λ (m : Name). plans (start m) (own_list key)) knows.book ∙ knows.leads.planned
@@ -98,7 +87,7 @@ word_is n log stage m leads =
     ap (λ (ps : List Plan). word_of (λ b. block_in (slice_index_or ps b no_plan) m) (head_at (after (start n) log) m)) leads.planned
     ∙ ap (λ (st : State). word_of (λ b. block_in (slice_index_or stage.plans b no_plan) m) (head_at st m)) leads.state
 
-pub shown : (n : Name) (head : Head) (pass : Pass) (m v : ℕ) (stage : Stage) → head.word.name ≡ n → slot head ≡ m → Sees n pass stage → Shows head pass.seen v → v ≡ word_at stage m
+shown : (n : Name) (head : Head) (pass : Pass) (m v : ℕ) (stage : Stage) → head.word.name ≡ n → slot head ≡ m → Sees n pass stage → Shows head pass.seen v → v ≡ word_at stage m
 shown n head pass m v stage book number sees shows =
     shows
     ∙ ap (λ (k : Name). head_word (start k) pass.seen (slot head)) book
@@ -125,28 +114,19 @@ found n head pass pass' e m v stage book number noted sees was =
 -- Slots are made.
 
 pub makes : (n : Name) (numbers numbers' : NumbersKey) (pass pass' : Pass) (key : SlotKey) (head : Head) (s : ℕ) (from to : Stage) → MakesSlot numbers pass numbers' pass' key head → made_of numbers ≡ s → Sees n pass from → Goes from (Take s) to Done
-    → Sees n pass' to × Knows n key s to
+    → Leads n pass' key s to
 makes n numbers numbers' pass pass' key head s from to made number sees goes =
-    let now = (passes n pass pass' (private pass (Take (made_of numbers))) from to Done made.same made.noted refl sees (subst (λ (k : ℕ). Goes from (Take k) to Done) (sym number) goes)).0 in (
+    let now = passes n pass pass' (private pass (Take (made_of numbers))) from to Done made.same made.noted refl sees (subst (λ (k : ℕ). Goes from (Take k) to Done) (sym number) goes) in (
       now,
       record { book = made.book.0 ∙ sees.book; number = made.number.0 ∙ number; leads = subst (λ (log : List Entry). IsAt n log to) (sym made.own) now.leads },
     )
 
 -- Heads are read.
 
-pub may_read : (n : Name) (key : SlotKey) (s : ℕ) (known : Stage) (head : Head) (m : ℕ) (pass : Pass) (stage : Stage) → Knows n key s known → (head.word.name ≡ n) × (slot head ≡ m) → Sees n pass stage
-    → reads (slot_at known.state s) m ≡ true → m < length stage.state.slots → MayRead key head pass
-may_read n key s known head m pass stage knows its sees next there = (
-  ap (λ (r : Slot). reads r (slot head)) (record_is n key s known knows) ∙ ap (reads (slot_at known.state s)) its.1 ∙ next,
-  subst (λ (k : Name). slot head < length (after (start k) pass.seen).slots) (sym its.0) (
-      subst (λ (st : State). slot head < length st.slots) (sym sees.leads.state) (subst (λ (k : ℕ). k < length stage.state.slots) (sym its.1) there)),
-)
-
-pub head_read : (n : Name) (key key' : SlotKey) (head : Head) (pass pass' : Pass) (s m v : ℕ) (from known to : Stage) (answer : Answer) → Notes key pass key' pass' (ReadHead (number_of key) (slot head)) → (head.word.name ≡ n) × (slot head ≡ m)
-    → Sees n pass from → Knows n key s known → Goes from (ReadHead s m) to answer → Shows head pass'.seen v → Sees n pass' to × Knows n key' s to × (v ≡ word_at to m)
-head_read n key key' head pass pass' s m v from known to answer notes its sees knows goes shows =
-    let now = steps n key key' pass pass' s 0 (λ k. ReadHead k (slot head)) from known to answer notes sees knows (subst (λ (k : ℕ). Goes from (ReadHead s k) to answer) (sym its.1) goes) in
-    (now.0, now.1, shown n head pass' m v to its.0 its.1 now.0 shows)
+pub head_read : (n : Name) (key key' : SlotKey) (head : Head) (pass pass' : Pass) (s m : ℕ) (from known to : Stage) (answer : Answer) → Notes key pass key' pass' (ReadHead (number_of key) (slot head)) → slot head ≡ m
+    → Sees n pass from → Knows n key s known → Goes from (ReadHead s m) to answer → Leads n pass' key' s to
+head_read n key key' head pass pass' s m from known to answer notes number sees knows goes =
+    steps n key key' pass pass' s 0 (λ k. ReadHead k (slot head)) from known to answer notes sees knows (subst (λ (k : ℕ). Goes from (ReadHead s k) to answer) (sym number) goes)
 
 -- Values keep their names.
 
@@ -162,7 +142,3 @@ same_value value value' pass' follows = ap label_of follows.1 ∙ same_labels va
 -- the batch's first value, as the key knows
 pub front_is : (n : Name) (key : SlotKey) (s b v : ℕ) (stage : Stage) → Knows n key s stage → first_of (slice_index_or stage.plans b no_plan).values ≡ Some v → front_of (start_of key) (own_list key) b ≡ Some v
 front_is n key s b v stage knows first = ap (λ (ps : List Plan). first_of (slice_index_or ps b no_plan).values) (planned_is n key s stage knows) ∙ first
-
--- what a count answers
-pub same_count : (one two : ℤ) → Count one ≡ Count two → is_zero one ≡ is_zero two
-same_count one two e = let same : one ≡ two = cc in ap is_zero same

@@ -7,5 +7,4 @@ use Rattle.seize_words_rows.proofs.worked_run.enter.Goals as goal
 
 pub returns-clause-leads : goal.returns-clause-leads
 returns-clause-leads c =
-    let after = steps (book_in c.args.heads.now) c.args.reader.now c.enter.new.key c.args.pass.now c.enter.new.pass 0 c.enter.result.life (λ s. Enter s) two_made one_made entered Done c.enter.ensures.noted c.requires.sees.0 c.requires.sees.1 enters in
-    (after.0, after.1)
+    steps (book_in c.args.heads.now) c.args.reader.now c.enter.new.key c.args.pass.now c.enter.new.pass 0 c.enter.result.life (λ s. Enter s) two_made one_made entered Done c.enter.ensures.noted c.requires.sees.0 c.requires.sees.1 enters

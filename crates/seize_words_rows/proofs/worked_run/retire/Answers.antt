@@ -14,4 +14,4 @@ returns-clause-leads c =
     let n = book_in c.args.heads.now in let block = c.args.block.now in let v = value_of block.value in let one = c.begin_retire in let two = c.put in
     let first = steps n c.args.retirer.now one.new.self c.args.pass.now one.new.pass 1 0 (λ s. Begin s (Retire v)) entered two_made (begun v) Done one.ensures.noted c.requires.sees.0 c.requires.sees.1 (begins v) in
     let last = steps n one.new.self two.new.self one.new.pass two.new.pass 1 0 (λ s. Put s) (begun v) (begun v) (put v) Done two.ensures.noted first.0 first.1 (puts v) in
-    subst (λ (k : ℕ). Leads n two.new.pass two.new.self 1 (put k)) (sym (same_value block.value one.new.value one.new.pass one.ensures.value)) (last.0, last.1)
+    subst (λ (k : ℕ). Leads n two.new.pass two.new.self 1 (put k)) (sym (same_value block.value one.new.value one.new.pass one.ensures.value)) last
