@@ -118,7 +118,7 @@ module _ {M : Type 1} {𝓤 : Ura M} (𝓛 : Logic 𝓤) where
 
   module _ (n size : ℕ) (Picked : Gate → Type 0) where
     abbrev pub Begun : Name → Pr
-    Begun m = guard 𝓤 (Picked m.gate × BeganWith m n size) (⟦ book_owns m ⟧ ∗ ⟦ pass_holds m 0 [] ⟧ ∗ ⟦ keys_own m (first_keys n) ⟧)
+    Begun m = guard 𝓤 (Picked m.gate × BeganWith m n size) (⟦ book_owns m [] ⟧ ∗ ⟦ pass_holds m 0 [] ⟧ ∗ ⟦ keys_own m (first_keys n) ⟧)
 
     pub begins : emp 𝓤 ⊢ upd 𝓤 (ex 𝓤 (Opened Picked)) → emp 𝓤 ⊢ H.⇛ (ex 𝓤 Begun)
     begins opened = qed 𝓛 [] ∵ updating ! $

@@ -16,6 +16,7 @@ pub mod Adds
 pub mod Looks
 pub mod Begins
 pub mod Books
+pub mod Sharing
 pub mod Tuples
 pub mod Private
 pub mod Moves

@@ -54,11 +54,11 @@ module _ {M : Type 1} {𝓤 : Ura M} (𝓛 : Logic 𝓤) (n : Name) (p : ℕ) wh
   keys held = keys_own n held
 
   -- nothing was made with the pass since the list was `own`
-  abbrev Idle : List Entry → List Entry → Type 0
+  abbrev pub Idle : List Entry → List Entry → Type 0
   Idle own seen = IsPrefix own seen × (mine st p own ≡ mine st p seen)
 
   -- a pass, taken apart: its key, what it has seen, and its copy of the list
-  abbrev Apart : List Entry → List Entry → Pr
+  abbrev pub Apart : List Entry → List Entry → Pr
   Apart seen own = guard 𝓤 (Idle own seen) (⟦ keys (pass_key p own ∷ []) ⟧ ∗ ⟦ had seen ⟧ ∗ ⟦ gives seen ⟧)
 
   pub apart : (seen : List Entry) → ⟦ pass_holds n p seen ⟧ ⊢ ex 𝓤 (Apart seen)

@@ -35,9 +35,9 @@ inside_keyless : (n : Name) → Keyless (inside n)
 unfolding latest
 inside_keyless n = λ s. (rosters_keyless (rows n) s.0, (tt, ((over_keyless (ended s.1), keeps_keyless n.gate s.1), (λ _. tt))))
 
-pub book_keyless : (n : Name) → Keyless (book_owns n)
+pub book_keyless : (n : Name) (seen : List Entry) → Keyless (book_owns n seen)
 unfolding at_least
-book_keyless n = ((inside_keyless n, λ _. tt), tt)
+book_keyless n seen = ((inside_keyless n, λ _. tt), tt)
 
 pub pass_keyless : (n : Name) (p : ℕ) (seen : List Entry) → Keyless (pass_owns n p seen)
 unfolding at_least

@@ -1,7 +1,7 @@
 -- How a book begins.
 --     BeganWith n links size   its opening has no slot and so many links, which are empty; the batch size at each event is this
 --     first_keys many          with so many links, the keys that there are then but for passes: the numbers' and one of each link
---     book_owns n              what the token of a book owns
+--     book_owns n seen         what the token of a book owns that has seen this beginning of the list
 use Rattle.std.specs.Prelude.{◌≡◌, ℕ, zero, suc, List, [], ◌∷◌, replicate, None}
 use base.Fml.{Fml, fsep}
 use Rattle.seize_words.specs.Ledger.{Held, reached}
@@ -24,6 +24,6 @@ first_links l (suc many) = unused links l ∷ first_links (suc l) many
 abbrev pub first_keys : ℕ → List (Held Entry)
 first_keys many = unused numbers 0 ∷ first_links 0 many
 
--- It lasts for good, and may be had twice. New passes and keys ask for a beginning of the list, and the empty one does.
-abbrev pub book_owns : Name → Fml
-book_owns n = fsep (knows n) (reached entry_coded n.log [])
+-- It lasts for good, and may be had twice. New passes have seen what it has seen.
+abbrev pub book_owns : Name → List Entry → Fml
+book_owns n seen = fsep (knows n) (reached entry_coded n.log seen)

@@ -30,9 +30,10 @@ use Rattle.seize_words.specs.declared.book.pass.Pass.{Pass}
 use Rattle.seize_words.specs.declared.book.token.Book.{Book}
 use Rattle.seize_words.specs.declared.book.value_key.ValueKey.{ValueKey}
 
--- the keys are all those of the book at its beginning
+-- the keys are all those of the book at its beginning, of which it has seen nothing more
 abbrev pub Begins : Book → Keys → ℕ → ℕ → Type 0
-Begins book keys links size = BeganWith book.name links size × (keys.name ≡ book.name) × (keys.held ≡ first_keys links)
+Begins book keys links size =
+    BeganWith book.name links size × (book.seen ≡ []) × (keys.name ≡ book.name) × (keys.held ≡ first_keys links)
 
 abbrev pub IsNew : Pass → Type 0
 IsNew pass = mine_of pass ≡ []
@@ -43,10 +44,10 @@ IsMany book = book.name.gate ≡ many
 abbrev pub IsAlone : Book → Pass → Type 0
 IsAlone book pass = IsSole book.name.gate × (pass.name ≡ book.name) × (pass.seen ≡ [])
 
--- it begins with so many links, which are empty; the keys of the numbers and of all links are these
+-- it begins with so many links, which are empty, and has seen nothing more; the keys of the numbers and of all links are these
 abbrev pub HasKeys : Book → NumbersKey → LinkKeys → ℕ → ℕ → Type 0
 HasKeys book numbers rest links size =
-    BeganWith book.name links size × (numbers.keys.name ≡ book.name) × (own_of numbers.keys.held ≡ [])
+    BeganWith book.name links size × (book.seen ≡ []) × (numbers.keys.name ≡ book.name) × (own_of numbers.keys.held ≡ [])
     × (rest.keys.name ≡ book.name) × (rest.keys.held ≡ first_links 0 links)
 
 abbrev pub Opens : Book → NumbersKey → LinkKeys → ℕ → ℕ → Type 0

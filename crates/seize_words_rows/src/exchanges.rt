@@ -27,10 +27,9 @@ pub struct Swapper {
 
 impl Swapper {
     /// Makes the next slot, which enters.
-    pub fn enter(book: &mut Book, numbers: &mut NumbersKey, link: &Link) -> Swapper
-        requires book { TakesPart book.old numbers.old × IsLinkOf link.now book.old }
+    pub fn enter(book: &Book, numbers: &mut NumbersKey, link: &Link) -> Swapper
+        requires book { TakesPart book.now numbers.old × IsLinkOf link.now book.now }
         requires full { IsFull numbers.old }
-        ensures book { book.new.name ≡ book.old.name }
         ensures may { MaySwap link.now result }
         ensures numbers { HasOneMore numbers.old numbers.new }
     {
@@ -56,7 +55,7 @@ impl Swapper {
             key: _,
             head: _,
             activation,
-            mut book,
+            book,
             mut pass,
         } = self;
         let mut left: u64 = 0;
@@ -77,7 +76,7 @@ impl Swapper {
             key: _,
             head: _,
             activation,
-            mut book,
+            book,
             mut pass,
         } = self;
         let mut left: u64 = 0;
@@ -101,7 +100,7 @@ impl Swapper {
             key: _,
             head: _,
             activation,
-            mut book,
+            book,
             mut pass,
         } = self;
         let mut value = MaybeKey::some(book.block(block).0);

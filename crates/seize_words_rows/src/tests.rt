@@ -18,8 +18,8 @@ use std::thread::Threads;
 // Two passes meet, go to threads, come back and meet again.
 #[test]
 fn passes_go_to_threads_and_meet(rt: HostRuntime) {
-    let (mut book, numbers, links) = Book::open(2, 32);
-    let mut copy = book.again();
+    let (book, numbers, links) = Book::open(2, 32);
+    let copy = book.again();
     let (mut one, mut two) = (book.pass(), copy.pass());
     one.meet(&mut two);
     let (one, two) = thread::join(&rt, move || one, move || two);
@@ -56,7 +56,7 @@ fn words_have_eight_bytes(rt: HostRuntime) {
 // One slot enters and reads a link, which is empty.
 #[test]
 fn an_empty_link_is_read(rt: HostRuntime) {
-    let (mut book, mut numbers, mut links) = Book::open(1, 32);
+    let (book, mut numbers, mut links) = Book::open(1, 32);
     let mut pass = book.pass();
     let link = Link::next(&mut links);
     let (mut key, head) = Head::make(&mut numbers, &mut pass);
@@ -68,7 +68,7 @@ fn an_empty_link_is_read(rt: HostRuntime) {
 // A slot leaves; its head's word says that it was active, and that nothing waited.
 #[test]
 fn a_head_comes_out_with_nothing_waiting(rt: HostRuntime) {
-    let (mut book, mut numbers, links) = Book::open(0, 32);
+    let (book, mut numbers, links) = Book::open(0, 32);
     let mut pass = book.pass();
     let (mut key, head) = Head::make(&mut numbers, &mut pass);
     let activation = head.enter(&mut key, &mut pass);
@@ -79,7 +79,7 @@ fn a_head_comes_out_with_nothing_waiting(rt: HostRuntime) {
 // A value that is put into a link comes out of it, with its key.
 #[test]
 fn a_swapped_value_comes_out(rt: HostRuntime) {
-    let (mut book, mut numbers, mut links) = Book::open(1, 32);
+    let (book, mut numbers, mut links) = Book::open(1, 32);
     let mut pass = book.pass();
     let link = Link::next(&mut links);
     let (mut key, head) = Head::make(&mut numbers, &mut pass);
@@ -94,11 +94,11 @@ fn a_swapped_value_comes_out(rt: HostRuntime) {
 // Two threads swap values of their own into one link: each comes out once, or is there in the end.
 #[test]
 fn swaps_lose_and_invent_no_value(rt: HostRuntime) {
-    let (mut book, mut numbers, mut links) = Book::open(1, 32);
+    let (book, mut numbers, mut links) = Book::open(1, 32);
     let link = Link::next(&mut links);
-    let one = Swapper::enter(&mut book, &mut numbers, &link);
-    let two = Swapper::enter(&mut book, &mut numbers, &link);
-    let mut last = Swapper::enter(&mut book, &mut numbers, &link);
+    let one = Swapper::enter(&book, &mut numbers, &link);
+    let two = Swapper::enter(&book, &mut numbers, &link);
+    let mut last = Swapper::enter(&book, &mut numbers, &link);
     let shared = &link;
     let (left_1, left_2) = thread::join(
         &rt,
@@ -163,13 +163,13 @@ fn four<R: Threads + Wait + Sync>(
 
 #[test]
 fn four_threads_lose_and_invent_no_value(rt: HostRuntime) {
-    let (mut book, mut numbers, mut links) = Book::open(1, 32);
+    let (book, mut numbers, mut links) = Book::open(1, 32);
     let link = Link::next(&mut links);
-    let a = Swapper::enter(&mut book, &mut numbers, &link);
-    let b = Swapper::enter(&mut book, &mut numbers, &link);
-    let c = Swapper::enter(&mut book, &mut numbers, &link);
-    let d = Swapper::enter(&mut book, &mut numbers, &link);
-    let mut last = Swapper::enter(&mut book, &mut numbers, &link);
+    let a = Swapper::enter(&book, &mut numbers, &link);
+    let b = Swapper::enter(&book, &mut numbers, &link);
+    let c = Swapper::enter(&book, &mut numbers, &link);
+    let d = Swapper::enter(&book, &mut numbers, &link);
+    let mut last = Swapper::enter(&book, &mut numbers, &link);
     let left = four(&rt, &link, (a, b), (c, d));
     let mut none = MaybeKey::none(&mut last.pass);
     let word = link.swap(0, &mut none, &last.activation, &mut last.pass);
@@ -180,10 +180,10 @@ fn four_threads_lose_and_invent_no_value(rt: HostRuntime) {
 // Each of two threads swaps a value into one link and then waits for that of the other: it ends only where both run.
 #[test]
 fn each_thread_sees_what_the_other_put_in(rt: HostRuntime) {
-    let (mut book, mut numbers, mut links) = Book::open(2, 32);
+    let (book, mut numbers, mut links) = Book::open(2, 32);
     let (first, second) = (Link::next(&mut links), Link::next(&mut links));
-    let one = Swapper::enter(&mut book, &mut numbers, &first);
-    let two = Swapper::enter(&mut book, &mut numbers, &second);
+    let one = Swapper::enter(&book, &mut numbers, &first);
+    let two = Swapper::enter(&book, &mut numbers, &second);
     let (first, second) = (&first, &second);
     let (saw_1, saw_2) = thread::join(
         &rt,

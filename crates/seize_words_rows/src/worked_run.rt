@@ -57,8 +57,8 @@ fn make_slots(numbers: &mut NumbersKey, pass: &mut Pass) -> (SlotKey, SlotKey, H
 }
 
 // Makes the block, whose count is 0.
-fn make_block(book: &mut Book) -> Block
-    ensures { IsNewBlock book.old.name result }
+fn make_block(book: &Book) -> Block
+    ensures { IsNewBlock book.now.name result }
 {
     let (value, key) = book.block(BLOCK);
     Block {
@@ -72,9 +72,9 @@ pub fn begin() -> (SlotKey, SlotKey, Words, Pass)
     ensures words { AreHeads result.2.heads × IsNewBlock (book_of result.2) result.2.block }
     ensures made { Knows (book_of result.2) result.0 0 one_made × Leads (book_of result.2) result.3 result.1 1 two_made }
 {
-    let (mut book, mut pass, mut numbers, _) = Book::open_alone(0, 1);
+    let (book, mut pass, mut numbers, _) = Book::open_alone(0, 1);
     let (reader, retirer, heads) = make_slots(&mut numbers, &mut pass);
-    let block = make_block(&mut book);
+    let block = make_block(&book);
     (reader, retirer, Words { heads, block }, pass)
 }
 

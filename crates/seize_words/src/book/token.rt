@@ -1,6 +1,9 @@
 //! Books: how one begins, and the passes and keys that are made of it later. It uses the passes and keys beside it.
-ghost use Rattle.std.specs.Prelude.{◌≡◌, ◌+◌, ◌<◌, ◌^◌};
+ghost use Rattle.std.specs.Prelude.{◌≡◌, ◌+◌, ◌<◌, ◌^◌, List};
+ghost use base.Stored.{coded_list};
+ghost use denote.Sharing.{said};
 ghost use Rattle.seize_words.specs.Begin.{book_owns};
+ghost use Rattle.seize_words.specs.Entry.{Entry, entry_coded};
 ghost use Rattle.seize_words.specs.Tokens.{Name, many, name_coded};
 
 use crate::book::count_key::CountKey;
@@ -11,18 +14,23 @@ use crate::book::pass::Pass;
 use crate::book::value_key::ValueKey;
 use std::marker::{Model, PhantomData};
 
-/// What shows that there is a book. It may be copied.
+/// What shows that there is a book, for good. It may be copied, and shared by `&`.
 pub struct Book {
     marker: PhantomData<()>,
     /// The book.
     pub ghost name: { Name } by { name_coded },
+    /// A beginning of the list, which the passes that are made of it have seen.
+    pub ghost seen: { List Entry } by { coded_list entry_coded },
 }
 
 impl Model for Book {
-    ghost also_owns = { λ b. book_owns b.name };
+    ghost also_owns = { λ b. book_owns b.name b.seen };
+
+    ghost also_shares = { λ b _ κ. said (book_owns b.name b.seen) κ };
 }
 
 impl Book {
+    ghost use mathlib.Core.List.{IsPrefix};
     ghost use Rattle.seize_words.specs.Books.{Begins, IsAlone, IsCountFor, IsFirstIn, IsMany, IsNew, IsNewBlock, Opens, OpensAlone};
     ghost use Rattle.seize_words.specs.Others.{book_of};
 
@@ -83,32 +91,38 @@ impl Book {
     }
 
     /// A copy of it.
-    pub fn again(&mut self) -> Book
-        ensures { (result.name ≡ self.old.name) × (self.new.name ≡ self.old.name) }
+    pub fn again(&self) -> Book
+        ensures { (result.name ≡ self.now.name) × (result.seen ≡ self.now.seen) }
     {
         Book {
             marker: PhantomData,
         }
     }
 
-    /// A new pass.
-    pub fn pass(&mut self) -> Pass
-        requires { self.old.name.gate ≡ many }
-        ensures { IsNew result × (result.name ≡ self.old.name) × (self.new.name ≡ self.old.name) }
+    /// A new pass, which has seen what the book has.
+    pub fn pass(&self) -> Pass
+        requires { self.now.name.gate ≡ many }
+        ensures { IsNew result × (result.name ≡ self.now.name) × IsPrefix self.now.seen result.seen }
     {
         Pass {
             marker: PhantomData,
         }
     }
 
+    /// It has seen what the pass has, and so have the passes made of it from then on.
+    pub fn learn(&mut self, pass: &mut Pass)
+        requires { self.old.name ≡ pass.old.name }
+        ensures { (self.new.name ≡ self.old.name) × (self.new.seen ≡ pass.old.seen) × (pass.new ≡ pass.old) }
+    {}
+
     /// The key of a new block's values, and that of its count. Words hold this number for it, which fits beside the 2 of a head's word.
     /// None of its values was ever named, and the key is for one of them. Without the count's key no batch can be counted whose first value
     /// lies in the block.
-    pub fn block(&mut self, number: u64) -> (ValueKey, CountKey)
+    pub fn block(&self, number: u64) -> (ValueKey, CountKey)
         requires { number + 2 < 2 ^ 64 }
         ensures value { IsFirstIn result.0 number }
         ensures count { IsCountFor result.1 result.0 }
-        ensures book { (book_of result.0 ≡ self.old.name) × (result.1.keys.name ≡ self.old.name) × (self.new.name ≡ self.old.name) }
+        ensures book { (book_of result.0 ≡ self.now.name) × (result.1.keys.name ≡ self.now.name) }
     {
         let mut value = self.block_keys(number);
         let mut count = value.none();
@@ -117,8 +131,8 @@ impl Book {
     }
 
     // The keys of a new block: that of its values, and that of its count.
-    fn block_keys(&mut self, number: u64) -> Keys
-        ensures { IsNewBlock result number × (result.name ≡ self.old.name) × (self.new.name ≡ self.old.name) }
+    fn block_keys(&self, number: u64) -> Keys
+        ensures { IsNewBlock result number × (result.name ≡ self.now.name) }
     {
         Keys {
             marker: PhantomData,
@@ -133,3 +147,5 @@ impl Drop for Book {
 }
 
 unsafe impl Send for Book {}
+
+unsafe impl Sync for Book {}

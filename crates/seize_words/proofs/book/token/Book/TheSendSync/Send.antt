@@ -3,4 +3,4 @@ use Rattle.seize_words.specs.contracts.book.token.Book.{the_row}
 use Rattle.seize_words.proofs.Sent.{book_keyless}
 
 pub send : IsSend the_row
-send = record { owned = λ d vs. ((λ vss. (tt, ((λ uss. (tt, tt)), tt))), book_keyless d.name); leaving = λ k f vs. tt }
+send = record { owned = λ d vs. ((λ vss. (tt, ((λ uss. (tt, tt)), tt))), book_keyless d.name d.seen); leaving = λ k f vs. tt }

@@ -27,12 +27,12 @@ open_sole_spec 𝓤 𝓛 𝓜 𝓡 wired =
     let Three : RattleType = Tuple (Book.the_row ∷ Pass.the_row ∷ Keys.the_row ∷ []) in let triple : Val = triple_val token token token in
     qed 𝓛 ((‵ ftrue ⊛ ‵ (owns (types_at ended.signature.params κs) a y.0.4)) ∷ raw ((c κs a).requires gh) ∷ []) ∵ drop ! $ drop ! $
     enter ! 𝓣.C 𝓣.Λ fn (vint w64 links ∷ vint w64 size ∷ []) Post $ alloc_all ! (λ l. pass_all ! refl ((tt, record { fits = are.0.1 }), ((tt, record { fits = are.1.0.1 }), tt)) $
-    use0 𝓛 (later (some (λ (m : Name). given (IsSole m.gate × BeganWith m links size) (‵ (book_owns m) ⊛ ‵ (pass_holds m 0 []) ⊛ ‵ (keys_own m (first_keys links))))))
+    use0 𝓛 (later (some (λ (m : Name). given (IsSole m.gate × BeganWith m links size) (‵ (book_owns m []) ⊛ ‵ (pass_holds m 0 []) ⊛ ‵ (keys_own m (first_keys links))))))
     (begins 𝓛 links size IsSole (sole_opens 𝓛)) $ await ! tt $ pick ! (λ m. learn ! (λ so. split3 ! $
     -- [what the book owns; the pass; what the keys own]
-    let b : Book.the_row.Denot = record { marker = record {}; name = m } in let k : Keys.the_row.Denot = record { marker = record {}; name = m; held = first_keys links } in
+    let b : Book.the_row.Denot = record { marker = record {}; name = m; seen = [] } in let k : Keys.the_row.Denot = record { marker = record {}; name = m; held = first_keys links } in
     let p : Pass.the_row.Denot = record { marker = record {}; name = m; id = 0; seen = [] } in
-    use1 𝓛 (‵ (book_owns m) ⊛ ‵ (book_owns m)) (book_twice 𝓛 m) $ split ! $ move ! (1 ∷ []) $ fsplit ! $ move ! (0 ∷ 3 ∷ []) $ fjoin ! $
+    use1 𝓛 (‵ (book_owns m []) ⊛ ‵ (book_owns m [])) (book_twice 𝓛 m []) $ split ! $ move ! (1 ∷ []) $ fsplit ! $ move ! (0 ∷ 3 ∷ []) $ fjoin ! $
     -- [what the pass owns; nothing was reached; what the book owns; what the keys own]
     use0 𝓛 (‵ (Token.own_val (record {}, tt) (token ∷ []))) (token_made 𝓛) $ fjoin ! $
     move ! (2 ∷ []) $ use0 𝓛 (‵ (Token.own_val (record {}, tt) (token ∷ []))) (token_made 𝓛) $ fjoin ! $
@@ -46,4 +46,4 @@ open_sole_spec 𝓤 𝓛 𝓜 𝓡 wired =
     sets ! (agg ! (and_then ! (get ! refl) (and_then ! (get ! refl) (and_then ! (get ! refl) (no_more !))))) refl (tt, ((tt, tt), ((tt, tt), ((tt, tt), tt)))) $
     nothing ! $ nothing ! $ fjoin ! $ nothing ! $ fjoin ! $ nothing ! $
     returns ! (look_at ! 0 refl) $ free_all ! refl $ keep ! (0 ∷ 1 ∷ 2 ∷ []) $
-    by ! (ends 𝓛 ended hs c y triple (b, p, k) (tt, (tt, tt)) (tt, (tt, tt)) (fact_i 𝓤 _ (emp 𝓤) ((so.0, refl, refl), (so.1, refl, refl))))))))
+    by ! (ends 𝓛 ended hs c y triple (b, p, k) (tt, (tt, tt)) (tt, (tt, tt)) (fact_i 𝓤 _ (emp 𝓤) ((so.0, refl, refl), (so.1, refl, refl, refl))))))))

@@ -1,9 +1,9 @@
 -- `pass` makes a pass that has made nothing.
-use Rattle.seize_words.proofs.Kit.{◌≡◌, ℕ, List, [], ◌∷◌, refl, proved, named, Val, vptr, SProp, emp, Fml, ftrue, fsep, flft, ‵, ◌⊛◌, some, given, later, await, ◌$◌, ◌∵◌, !, qed, by, move, keep, drop, split, fsplit, fsplit3, fjoin, fjoin3, pick, learn, use0, use1, feq_i, no_more, and_then, returns, enter, alloc_all, pass_all, free_all, look_at, get, sets, agg, fact_i, tables, owns, types_at, plain, mut_vals, mut_Tells, nothing, opens, closes, Stays, stay_ref, walk_of, Goes-ref}
+use Rattle.seize_words.proofs.Kit.{◌≡◌, ℕ, List, [], ◌∷◌, refl, proved, named, Val, vptr, SProp, emp, Fml, ftrue, fsep, flft, ‵, ◌⊛◌, some, given, later, await, ◌$◌, ◌∵◌, !, qed, by, move, keep, drop, split, fsplit, fjoin, pick, learn, use0, use1, no_more, and_then, returns, enter, alloc_all, pass_all, free_all, look_at, get, sets, agg, fact_i, tables, yes, owns, types_at, plain, RefOf, unhide, shr_vals, shr_Tells, nothing, Stays, stay_dropped, walk_of, Goes-dropped}
+use mathlib.Core.List.{IsPrefix}
 use Rattle.seize_words.specs.Entry.{Entry}
 use Rattle.seize_words.specs.Book.{mine}
 use Rattle.seize_words.specs.Tokens.{start, pass_owns}
-use Rattle.seize_words.specs.Begin.{book_owns}
 use Rattle.seize_words.specs.contracts.book.pass.Pass as Pass
 use Rattle.seize_words.specs.contracts.book.token.Book as Book
 use Rattle.seize_words.proofs.Books.{new_pass}
@@ -15,29 +15,22 @@ use Rattle.seize_words.proofs.book.token.Book.pass.Code as code
 
 pub pass_spec : {M : Type 1} → statement M
 pass_spec 𝓤 𝓛 𝓜 𝓡 wired =
-    let H = 𝓛.H in let 𝓣 = tables 𝓤 H 𝓜 𝓡 𝓡.env in let fn = code.function in let c = clauses 𝓛 𝓜.mem 𝓡.returns in
-    let hs : Stays ended.signature.params ended.kept = (stay_ref (0 ∷ []) tt (plain (λ _. Book.the_row)), tt) in
-    proved 𝓛 ended hs c 𝓜 𝓡 (Goes-ref 𝓛 1 0 tt (plain (λ _. Book.the_row)), tt) #self fn (code.unfolded 𝓤 H 𝓜 𝓡 wired)
-    (λ κs. (mut_vals, tt)) (λ κs. (mut_Tells (named 0) κs.0 Book.the_row, tt)) (λ κs qs bounds a gh are.
+    let H = 𝓛.H in let 𝓣 = tables 𝓤 H 𝓜 𝓡 𝓡.env in let fn = code.function in let c = clauses 𝓛 𝓜.mem 𝓡.returns in let self = RefOf (0 ∷ []) tt (plain (λ _. Book.the_row)) (λ _. tt) in
+    let hs : Stays ended.signature.params ended.kept = (stay_dropped self yes, tt) in
+    proved 𝓛 ended hs c 𝓜 𝓡 (Goes-dropped 𝓛 1 self yes (λ κs x f. refl), tt) #self fn (code.unfolded 𝓤 H 𝓜 𝓡 wired)
+    (λ κs. (shr_vals, tt)) (λ κs. (shr_Tells (named 0) κs.0 Book.the_row, tt)) (λ κs qs bounds a gh are.
     let b = a.0.now in let pb : ℕ = a.0.ref_ptr.0 in let po : ℕ = a.0.ref_ptr.1 in
     let y : (walk_of 𝓛 ended hs c).Ghost = ((κs, qs, bounds, a, (vptr pb po ∷ [], tt)), gh) in let Post : Val → SProp 𝓤 = (walk_of 𝓛 ended hs c).post y in let toks : Fml = fsep (flft κs.0 qs.0) ftrue in
-    qed 𝓛 ((‵ toks ⊛ ‵ (owns (types_at ended.signature.params κs) a y.0.4)) ∷ given _ (‵ ftrue) ∷ []) ∵ move ! (1 ∷ []) $ learn ! (λ free. drop ! $ split ! $
-    fsplit ! $ move ! (2 ∷ []) $ fsplit ! $ fsplit3 ! $
-    -- [the book, in three entries; nothing; its token; nothing]
-    keep ! (1 ∷ 2 ∷ 4 ∷ []) $
+    qed 𝓛 ((‵ toks ⊛ ‵ (owns (types_at ended.signature.params κs) a y.0.4)) ∷ given _ (‵ ftrue) ∷ []) ∵ move ! (1 ∷ []) $ learn ! (λ free. drop ! $ split ! $ move ! (1 ∷ []) $ fsplit ! $ fsplit ! $ drop ! $ unhide ! $ fsplit ! $ drop ! $
+    -- [what the book owns; nothing; the tokens]
+    keep ! (0 ∷ 2 ∷ []) $
     enter ! 𝓣.C 𝓣.Λ fn (vptr pb po ∷ []) Post $ alloc_all ! (λ l. pass_all ! refl ((tt, tt), tt) $
-    opens ! tt Book.the_row pb po (λ vs. move ! (1 ∷ []) $ fsplit ! $ move ! (1 ∷ []) $
-    -- [what the book owns; the book; its cell, in four entries]
-    use1 𝓛 (later (some (λ (t : ℕ × List Entry). given (mine (start b.name) t.0 t.1 ≡ []) (‵ (pass_owns b.name t.0 t.1) ⊛ ‵ (book_owns b.name))))) (new_pass 𝓛 b.name free) $ await ! tt $ pick ! (λ t. learn ! (λ new. split ! $
-    -- [what the pass owns; what the book owns; the book; its cell, in four entries]
+    use1 𝓛 (later (some (λ (t : ℕ × List Entry). given (IsPrefix b.seen t.1 × (mine (start b.name) t.0 t.1 ≡ [])) (‵ (pass_owns b.name t.0 t.1))))) (new_pass 𝓛 b.name b.seen free) $ await ! tt $ pick ! (λ t. learn ! (λ new.
+    -- [what the pass owns; the tokens]
     let r : Pass.the_row.Denot = record { marker = record {}; name = b.name; id = t.0; seen = t.1 } in
-    move ! (2 ∷ 1 ∷ []) $ fjoin ! $ move ! (2 ∷ 0 ∷ 3 ∷ 4 ∷ 5 ∷ []) $ closes ! tt Book.the_row b vs pb po $
-    -- [the book, in two; its token; what the pass owns]
     sets ! (agg ! (no_more !)) refl (tt, tt) $ sets ! (agg ! (and_then ! (get ! refl) (no_more !))) refl (tt, (tt, tt)) $
-    move ! (3 ∷ []) $ use0 𝓛 (‵ (Token.own_val (record {}, tt) (token ∷ []))) (token_made 𝓛) $ fjoin ! $
-    -- [the result; the book, in two; its token]
-    nothing ! $ move ! (4 ∷ 0 ∷ []) $ fjoin ! $
-    -- [the tokens; the result; the book, in two]
-    nothing ! $ feq_i ! (List Val) (vptr pb po ∷ []) (vptr pb po ∷ []) refl $ move ! (0 ∷ 4 ∷ 5 ∷ []) $ fjoin3 ! $ fjoin ! $
-    returns ! (look_at ! 0 refl) $ free_all ! refl $ keep ! (1 ∷ 0 ∷ 2 ∷ []) $
-    by ! (ends 𝓛 ended hs c y token r (b, tt) (tt, tt) (fact_i 𝓤 _ (emp 𝓤) (new, refl, refl)))))))))
+    use0 𝓛 (‵ (Token.own_val (record {}, tt) (token ∷ []))) (token_made 𝓛) $ fjoin ! $
+    -- [the result; the tokens]
+    nothing ! $ nothing ! $ fjoin ! $
+    returns ! (look_at ! 0 refl) $ free_all ! refl $ keep ! (2 ∷ 0 ∷ 1 ∷ []) $
+    by ! (ends 𝓛 ended hs c y token r (tt, tt) (tt, tt) (fact_i 𝓤 _ (emp 𝓤) (new.1, refl, new.0))))))))
