@@ -61,10 +61,9 @@ pub struct Visitor {
 
 impl Visitor {
     /// Makes the next slot.
-    pub fn make(book: &mut Book, numbers: &mut NumbersKey) -> Visitor
-        requires book { TakesPart book.old numbers.old }
+    pub fn make(book: &Book, numbers: &mut NumbersKey) -> Visitor
+        requires book { TakesPart book.now numbers.old }
         requires full { IsFull numbers.old }
-        ensures book { book.new.name ≡ book.old.name }
         ensures may { MayVisit result }
         ensures numbers { HasOneMore numbers.old numbers.new }
     {

@@ -221,9 +221,9 @@ fn a_batch_is_counted_down_and_up(rt: HostRuntime) {
 // Slots enter and leave side by side, each by steps on its own head, and nothing ever waits for one.
 #[test]
 fn two_slots_pass_through(rt: HostRuntime) {
-    let (mut book, mut numbers, links) = Book::open(0, 32);
-    let one = Visitor::make(&mut book, &mut numbers);
-    let two = Visitor::make(&mut book, &mut numbers);
+    let (book, mut numbers, links) = Book::open(0, 32);
+    let one = Visitor::make(&book, &mut numbers);
+    let two = Visitor::make(&book, &mut numbers);
     let turns = thread::join(
         &rt,
         move || -> u64
@@ -279,11 +279,11 @@ fn four_visits<R: Threads + Wait + Sync>(
 
 #[test]
 fn four_slots_pass_through(rt: HostRuntime) {
-    let (mut book, mut numbers, links) = Book::open(0, 32);
-    let a = Visitor::make(&mut book, &mut numbers);
-    let b = Visitor::make(&mut book, &mut numbers);
-    let c = Visitor::make(&mut book, &mut numbers);
-    let d = Visitor::make(&mut book, &mut numbers);
+    let (book, mut numbers, links) = Book::open(0, 32);
+    let a = Visitor::make(&book, &mut numbers);
+    let b = Visitor::make(&book, &mut numbers);
+    let c = Visitor::make(&book, &mut numbers);
+    let d = Visitor::make(&book, &mut numbers);
     let (first, last) = four_visits(&rt, a, b, c, d);
     assert_eq!(rt; (first.0, first.1), (20_000, 20_000));
     assert_eq!(rt; (last.0, last.1), (20_000, 20_000));
