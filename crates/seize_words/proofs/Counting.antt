@@ -13,7 +13,7 @@ use Rattle.seize_machine.specs.declared.machine.event.Answer.{Answer}
 use Rattle.seize_machine.specs.declared.machine.event.Answer.TheVariants.{Count as Counted}
 use Rattle.seize_machine.proofs.Facts.{Step, Stands, eq_true, next_of, reached_next, step_of}
 use Rattle.seize_words.specs.Atomic.{minus, plus}
-use Rattle.seize_words.specs.Blocks.{IsNear, count_word, front_of, no_plan, plans}
+use Rattle.seize_words.specs.Blocks.{IsNear, count_word, front_of, plans}
 use Rattle.seize_words.specs.Book.{Kept, TheSlot, Does, IsLegalList, after, births, counts, rules, slots}
 use Rattle.seize_words.specs.Counts.{IsAdding, IsWalking}
 use Rattle.seize_words.specs.Entry.{Entry, timed}
@@ -25,7 +25,7 @@ use Rattle.seize_words.specs.Stepping.{EndsAmong, FoundAs, IsStep, MayStep, in_s
 use Rattle.seize_words.specs.Tokens.{Name, start}
 use Rattle.seize_words.specs.Words.{Site}
 use Rattle.seize_words.proofs.Counts.{batch_near, count_added, count_near, count_subtracted, in_range, word_added, word_subtracted}
-use Rattle.seize_words.proofs.Fronts.{added_held, front_grows, held_front, walked_held}
+use Rattle.seize_words.proofs.Fronts.{added_held, front_grows, front_there, held_front, walked_held}
 use Rattle.seize_words.proofs.Lists.{after_push, reached_after}
 use Rattle.seize_words.proofs.Private.{differ, only_is}
 use Rattle.seize_words.proofs.Sound.{none_named, sound_push}
@@ -129,13 +129,6 @@ module _ (n : Name) (k : ℕ) where
             (steps v t own log found kept.0 (same v p seen (key (key_of held) (label_of held) (own_of held)) t log found))),
       )
 
-  front_there : (own : List Entry) (b v : ℕ) → front_of st own b ≡ Some v → b < length (plans st own)
-  front_there own b v front = go (cases_lt b (length (plans st own)))
-    where
-      go : (b < length (plans st own)) ⊎ (length (plans st own) ≤ b) → b < length (plans st own)
-      go (inl less) = less
-      go (inr past) = absurd (let none : Option.None ≡ Some v = sym (ap (λ plan. first_of plan.values) (get_or_past (plans st own) b no_plan past)) ∙ front in cc)
-
   -- the state after the batch came to this count
   abbrev pub come : State → ℕ → ℕ → ℤ → List ℕ → List ℕ → State × Answer
   come now s b count walk queue =
@@ -171,7 +164,7 @@ module _ (n : Name) (k : ℕ) where
     -- the batch, which is held, is of this block
     here : (b v : ℕ) → IsHeld now b → front_of st own b ≡ Some v → home_of v ≡ k → is_in k (batch_at now b) ≡ true
     here b v held front home =
-        subst (λ (j : ℕ). is_in j (batch_at now b) ≡ true) home (held_front n log distinct legal b v held (front_grows st own log b kept.0 (front_there own b v front) ∙ front))
+        subst (λ (j : ℕ). is_in j (batch_at now b) ≡ true) home (held_front n log distinct legal b v held (front_grows st own log b kept.0 (front_there st own b v front) ∙ front))
 
     -- a count to which a batch comes is near, as that of each batch
     near_come : (e : Entry) (b : ℕ) (count : ℤ) (walk queue : List ℕ) → IsCounting s e.event → b < length now.batches → Does st log e (come now s b count walk queue) → IsNear count
@@ -198,7 +191,7 @@ module _ (n : Name) (k : ℕ) where
           touched = λ j. ap (λ o. is_batch_in now j (added_batch o)) is;
           in_it = in_it;
           held = held;
-          planned = front_there own b a.front a.its_front;
+          planned = front_there st own b a.front a.its_front;
           there = in_slots now s (Add b won) a.queue is;
           does = does;
           near = near;
@@ -220,7 +213,7 @@ module _ (n : Name) (k : ℕ) where
           touched = λ j. ap (λ o. is_batch_in now j (of_call walking_at o)) is;
           in_it = in_it;
           held = held;
-          planned = front_there own b a.front a.its_front;
+          planned = front_there st own b a.front a.its_front;
           there = in_slots now s (Rest [] (b ∷ a.walk)) a.queue is;
           does = does;
           near = near;

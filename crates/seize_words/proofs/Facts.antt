@@ -1,5 +1,6 @@
 -- What other crates may build on. All else in `proofs` is no interface, and may change.
 use Rattle.std.proofs.Common.{◌≡◌, ℕ, Bool, false, if◌then◌else◌, List, [], ◌∷◌, ◌++◌, Option, Some, sym, ap, ◌∙◌, subst, append-nil}
+use Rattle.std.specs.Prelude.{slice_index_or}
 use base.Growing.{prefix_trans}
 use mathlib.Core.List.{IsPrefix}
 use Rattle.seize_machine.specs.Machine.State.{State, slot_at}
@@ -8,7 +9,7 @@ use Rattle.seize_machine.specs.Machine.Next.{next}
 use Rattle.seize_machine.specs.declared.machine.event.Answer.{Answer}
 use Rattle.seize_machine.proofs.Facts.{some_is}
 use Rattle.seize_words.specs.Adding.{private}
-use Rattle.seize_words.specs.Blocks.{Plan, planned_by, plans}
+use Rattle.seize_words.specs.Blocks.{Plan, front_of, no_plan, planned_by, plans}
 use Rattle.seize_words.specs.Book.{after, mine}
 use Rattle.seize_words.specs.Entry.{Entry}
 use Rattle.seize_words.specs.Laws.{life, starts}
@@ -17,7 +18,8 @@ use Rattle.seize_words.specs.Links.{IsWithin}
 use Rattle.seize_words.specs.Passes.{IsSame, mine_of}
 use Rattle.seize_words.specs.Slots.{Moves, NotesAs, life_of, number_of, own_list, size_of, slot_of, start_of}
 use Rattle.seize_words.specs.Tokens.{Name, Noted, start}
-use Rattle.seize_words.proofs.Plans.{plans_append}
+use Rattle.seize_words.proofs.Fronts.{front_there}
+use Rattle.seize_words.proofs.Plans.{plan_stays, plans_append}
 use Rattle.seize_words.proofs.Stepped.{life_push}
 use Rattle.seize_words.specs.declared.activation.Activation.{Activation}
 use Rattle.seize_words.specs.declared.book.pass.Pass.{Pass}
@@ -49,6 +51,15 @@ life_kept key key' pass pass' e noted none =
 -- the plans of the batches detached, after one event more
 pub planned_after : (st : State) (log : List Entry) (e : Entry) → plans st (log ++ e ∷ []) ≡ plans st log ++ planned_by (after st log) e.event
 planned_after st log e = plans_append st log (e ∷ []) ∙ ap (λ (ps : List Plan). plans st log ++ ps) (append-nil (planned_by (after st log) e.event))
+
+-- the plan of a batch that was detached, and so its front, stays in all that the slot's key knows later
+pub plan_kept : (key key' : SlotKey) (pass pass' : Pass) (e : Entry) (b v : ℕ) → NotesAs key pass key' pass' e → front_of (start_of key) (own_list key) b ≡ Some v
+    → slice_index_or (plans (start_of key') (own_list key')) b no_plan ≡ slice_index_or (plans (start_of key) (own_list key)) b no_plan
+plan_kept key key' pass pass' e b v noted front =
+    let n = noted.2.0 in let m = noted.2.1 in
+    let grows : IsPrefix (own_list key) (own_list key') = prefix_trans (own_list key) n.before (own_list key') m.knew (e ∷ [], sym (noted.1.2 ∙ n.appended)) in
+    ap (λ (x : Name). slice_index_or (plans (start x) (own_list key')) b no_plan) noted.1.0
+    ∙ sym (plan_stays (start_of key) (own_list key) (own_list key') b grows (front_there (start_of key) (own_list key) b v front))
 
 -- what a pass has seen begins with what it had seen before an event
 pub seen_grows : (n : Name) (p : ℕ) (seen seen' : List Entry) (e : Entry) → Noted n p seen seen' e → IsPrefix seen seen'

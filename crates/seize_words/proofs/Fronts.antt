@@ -1,5 +1,5 @@
 -- A batch that is held has the values that it was detached with. The first of them, its front, tells where its count stands.
-use Rattle.std.proofs.Common.{◌≡◌, ℕ, ◌<◌, ◌≤◌, List, [], ◌∷◌, ◌++◌, length, get_or, Some, refl, sym, ◌∙◌, ap, subst, ◌⊎◌, inl, inr, arith, append_assoc, append-nil, true, pos}
+use Rattle.std.proofs.Common.{◌≡◌, ℕ, ◌<◌, ◌≤◌, List, [], ◌∷◌, ◌++◌, length, get_or, Option, Some, refl, sym, ◌∙◌, ap, subst, ◌⊎◌, inl, inr, arith, append_assoc, append-nil, true, pos}
 use Rattle.std.specs.Prelude.{slice_index_or}
 use Rattle.std.specs.List.{Contains}
 use Rattle.std.proofs.lemmas.List.{get_or_past, get_or_append_left, get_or_push, length_push, length-append}
@@ -100,3 +100,11 @@ walked_held st s b walk queue stands = inr (inl (s, subst (λ o. Contains (walk_
 -- the front of a batch stays as the list goes on
 pub front_grows : (st : State) (own log : List Entry) (b : ℕ) → IsPrefix own log → b < length (plans st own) → front_of st log b ≡ front_of st own b
 front_grows st own log b grows there = ap (λ (p : Plan). first_of p.values) (sym (plan_stays st own log b grows there))
+
+-- a batch with a front was detached
+pub front_there : (st : State) (own : List Entry) (b v : ℕ) → front_of st own b ≡ Some v → b < length (plans st own)
+front_there st own b v front = go (cases_lt b (length (plans st own)))
+  where
+    go : (b < length (plans st own)) ⊎ (length (plans st own) ≤ b) → b < length (plans st own)
+    go (inl less) = less
+    go (inr past) = absurd (let none : Option.None ≡ Some v = sym (ap (λ (p : Plan). first_of p.values) (get_or_past (plans st own) b no_plan past)) ∙ front in cc)

@@ -1,3 +1,4 @@
+pub mod Insertions
 pub mod Flushes
 pub mod Leaves
 pub mod Stages

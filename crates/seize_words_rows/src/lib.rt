@@ -2,6 +2,7 @@
 //! with the exported lemmas of the book, suffice for a caller.
 #![tactic(auto)]
 
+pub mod attempts;
 pub mod calls;
 pub mod exchanges;
 pub mod leaving;
