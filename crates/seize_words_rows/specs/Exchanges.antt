@@ -1,13 +1,16 @@
 -- What threads need to swap values into one link.
 --     TakesPart book numbers, IsLinkOf link book     the numbers, and the link, are of the book, to which many may append
 --     MaySwap link swapper        all are of one book, and the activation has begun, as the pass has seen
+--     MayShare link activation book     the same, as the book has seen, to which many may append
 --     HasOneMore numbers numbers' one more slot was made
 use Rattle.std.specs.Prelude.{◌≡◌, suc, ◌<◌, length}
 use Rattle.seize_machine.specs.Machine.Next.{first_free}
 use Rattle.seize_words.specs.LinkWords.{IsIn, number}
+use Rattle.seize_words.specs.Links.{IsWithin}
 use Rattle.seize_words.specs.Others.{state_of}
 use Rattle.seize_words.specs.Reservations.{made_of}
 use Rattle.seize_words.specs.Tokens.{many}
+use Rattle.seize_words.specs.declared.activation.Activation.{Activation}
 use Rattle.seize_words.specs.declared.book.numbers_key.NumbersKey.{NumbersKey}
 use Rattle.seize_words.specs.declared.book.token.Book.{Book}
 use Rattle.seize_words.specs.declared.link.Link.{Link}
@@ -21,6 +24,11 @@ IsLinkOf link book = (link.word.name ≡ book.name) × (number link < length boo
 
 abbrev pub MaySwap : Link → Swapper → Type 0
 MaySwap link swapper = IsIn link swapper.activation swapper.pass × (swapper.book.name ≡ swapper.pass.name)
+
+abbrev pub MayShare : Link → Activation → Book → Type 0
+MayShare link activation book =
+    (book.name.gate ≡ many) × (link.word.name ≡ book.name) × (activation.name ≡ book.name)
+    × IsWithin book.name activation.slot activation.life activation.since book.seen (number link)
 
 abbrev pub HasOneMore : NumbersKey → NumbersKey → Type 0
 HasOneMore numbers numbers' =

@@ -1,7 +1,8 @@
-//! Swaps of many new values into one link, as each of several threads makes them.
+//! Swaps of many new values into one link, and many reads, as each of several threads makes them: with an activation of its own, or with
+//! one that it shares.
 ghost use Rattle.std.specs.Prelude.{◌≡◌, ◌<◌, ◌^◌};
 ghost use Rattle.seize_words.specs.Reservations.{IsFull};
-ghost use Rattle.seize_words_rows.specs.Exchanges.{HasOneMore, IsLinkOf, MaySwap, TakesPart};
+ghost use Rattle.seize_words_rows.specs.Exchanges.{HasOneMore, IsLinkOf, MayShare, MaySwap, TakesPart};
 
 use seize_words::activation::Activation;
 use seize_words::book::{Book, NumbersKey, Pass, SlotKey};
@@ -113,4 +114,31 @@ impl Swapper {
         }
         false
     }
+}
+
+/// Swaps as `Swapper::swap_many` does, by a thread that shares another's activation. Its pass has seen that this began, since the book has.
+pub fn share_many(book: &Book, link: &Link, activation: &Activation, first: u64) -> u64
+    requires may { MayShare link.now activation.now book.now }
+    requires small { first < 2 ^ 32 }
+{
+    let mut pass = book.pass();
+    let mut left: u64 = 0;
+    for block in first..first + EACH {
+        let mut value = MaybeKey::some(book.block(block).0);
+        let old = link.swap(block + 1, &mut value, activation, &mut pass);
+        left = left.wrapping_add(block + 1).wrapping_sub(old);
+    }
+    left
+}
+
+/// Reads the link so many times, by a thread that shares an activation. It gives the sum of the words, modulo 2^64.
+pub fn read_many(book: &Book, link: &Link, activation: &Activation, turns: u64) -> u64
+    requires may { MayShare link.now activation.now book.now }
+{
+    let mut pass = book.pass();
+    let mut sum: u64 = 0;
+    for _ in 0..turns {
+        sum = sum.wrapping_add(link.read(activation, &mut pass));
+    }
+    sum
 }

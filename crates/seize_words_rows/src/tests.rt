@@ -1,8 +1,8 @@
 //! Books, passes and keys in hand.
-ghost use Rattle.seize_words_rows.specs.Exchanges.{MaySwap};
+ghost use Rattle.seize_words_rows.specs.Exchanges.{MayShare, MaySwap};
 ghost use Rattle.seize_words_rows.specs.Visits.{MayVisit};
 
-use crate::exchanges::Swapper;
+use crate::exchanges::{EACH, Swapper, read_many, share_many};
 use crate::leaving::{Visitor, leave_head};
 use crate::worked_run;
 use seize_words::activation::Activation;
@@ -175,6 +175,33 @@ fn four_threads_lose_and_invent_no_value(rt: HostRuntime) {
     let word = link.swap(0, &mut none, &last.activation, &mut last.pass);
     assert_eq!(rt; left, word);
     drop((links, numbers, last, none));
+}
+
+// Two threads share one slot's activation by `&`, of which the book has learned: one swaps, and the other reads meanwhile, and finds
+// nothing but what was put in.
+#[test]
+fn threads_share_one_activation(rt: HostRuntime) {
+    let (mut book, mut numbers, mut links) = Book::open(1, 32);
+    let link = Link::next(&mut links);
+    let mut one = Swapper::enter(&book, &mut numbers, &link);
+    book.learn(&mut one.pass);
+    let mut value = MaybeKey::some(book.block(999_999).0);
+    link.swap(1_000_000, &mut value, &one.activation, &mut one.pass);
+    let (shared, book, activation) = (&link, &book, &one.activation);
+    let (left, sum) = thread::join(
+        &rt,
+        move || -> u64
+            requires { MayShare shared.now activation.now book.now }
+        { share_many(book, shared, activation, 1_000_000) },
+        move || -> u64
+            requires { MayShare shared.now activation.now book.now }
+        { read_many(book, shared, activation, EACH) },
+    );
+    let mut none = MaybeKey::none(&mut one.pass);
+    let word = link.swap(0, &mut none, &one.activation, &mut one.pass);
+    assert_eq!(rt; left.wrapping_add(1_000_000), word);
+    assert!(rt; sum >= EACH * 1_000_000 && sum <= EACH * 1_020_000);
+    drop((links, numbers, one, value, none));
 }
 
 // Each of two threads swaps a value into one link and then waits for that of the other: it ends only where both run.
