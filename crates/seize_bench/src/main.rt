@@ -1,4 +1,4 @@
-//! Times of the store's calls beside those of a box or a plain reference. With no argument it does nothing and prints nothing; with
+//! Times of the store's calls beside those of a box or a plain reference, and of steps on words that threads share. With no argument it does nothing and prints nothing; with
 //! the name of a work and a number of threads it prints one line: `port WORK THREADS median least clean peak`.
 #![tactic(auto)]
 
@@ -6,6 +6,7 @@ mod blocks;
 mod clock;
 mod lookups;
 mod team;
+mod words;
 mod work;
 
 use clock::Report;

@@ -1,6 +1,6 @@
-//! The works by their names. `blocks` makes and ends blocks, and `lookups` finds them.
+//! The works by their names. `blocks` makes and ends blocks, `lookups` finds them, and `words` steps on words.
 use crate::clock::{Report, Samples};
-use crate::{blocks, lookups};
+use crate::{blocks, lookups, words};
 use std::alloc::Global;
 use std::io;
 use std::rt::Clock;
@@ -28,6 +28,10 @@ pub(crate) enum Work {
     LookPlain,
     /// The same where what the references lead to lies as far apart as chunks do.
     LookWide,
+    /// A head entered and swapped out, by a slot of each thread.
+    Enter,
+    /// One link swapped by all threads.
+    Exchange1,
 }
 
 impl Work {
@@ -42,6 +46,8 @@ impl Work {
             "Token" => Some(Work::Token),
             "LookPlain" => Some(Work::LookPlain),
             "LookWide" => Some(Work::LookWide),
+            "Enter" => Some(Work::Enter),
+            "Exchange1" => Some(Work::Exchange1),
             _ => None,
         }
     }
@@ -57,6 +63,8 @@ impl Work {
             Work::Token => "Token",
             Work::LookPlain => "LookPlain",
             Work::LookWide => "LookWide",
+            Work::Enter => "Enter",
+            Work::Exchange1 => "Exchange1",
         }
     }
 
@@ -86,6 +94,7 @@ impl Work {
             Work::Make | Work::MakeBare | Work::MakeBox => threads,
             Work::Pipe | Work::PipeBox => 2 * blocks::PIPED,
             Work::Look | Work::Token | Work::LookPlain | Work::LookWide => lookups::STAND,
+            Work::Enter | Work::Exchange1 => 0,
         }
     }
 
@@ -106,6 +115,8 @@ impl Work {
             Work::Token => lookups::token(rt, threads, alloc, &mut samples)?,
             Work::LookPlain => lookups::look_plain(rt, threads, alloc, &mut samples)?,
             Work::LookWide => lookups::look_wide(rt, threads, alloc, &mut samples)?,
+            Work::Enter => words::enter(rt, threads, &mut samples)?,
+            Work::Exchange1 => words::exchange(rt, threads, &mut samples)?,
         }
         Ok(samples.report())
     }

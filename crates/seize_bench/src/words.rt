@@ -1,0 +1,47 @@
+//! Works on the words that threads share. Of the book nothing is left in the program: what is timed is the words' steps.
+ghost use Rattle.seize_words_rows.specs.Exchanges.{MayShare};
+
+use crate::clock::Samples;
+use crate::team::runs;
+use seize_words::book::Book;
+use seize_words::link::Link;
+use seize_words_rows::exchanges::{EACH, Swapper, share_many};
+use seize_words_rows::leaving::Visitor;
+use std::io;
+use std::rt::Clock;
+use std::thread::Threads;
+use std::time::CpuClock;
+
+/// How often a slot enters and leaves in a run.
+const ENTERED: u64 = 100_000;
+
+fn each_entered() -> u64 {
+    let (book, mut numbers, links) = Book::open(0, 32);
+    let visitor = Visitor::make(&book, &mut numbers);
+    drop((numbers, links));
+    visitor.visit(ENTERED)
+}
+
+pub(crate) fn enter<R: Clock + CpuClock + Threads + Sync>(
+    rt: &R,
+    threads: u64,
+    samples: &mut Samples,
+) -> io::Result<()> {
+    runs(rt, threads, ENTERED, samples, &|| Ok(each_entered()))
+}
+
+pub(crate) fn exchange<R: Clock + CpuClock + Threads + Sync>(
+    rt: &R,
+    threads: u64,
+    samples: &mut Samples,
+) -> io::Result<()> {
+    let (mut book, mut numbers, mut links) = Book::open(1, 32);
+    let link = Link::next(&mut links);
+    let mut one = Swapper::enter(&book, &mut numbers, &link);
+    book.learn(&mut one.pass);
+    let (link, book, activation) = (&link, &book, &one.activation);
+    let work = || -> io::Result<u64>
+        requires { MayShare link.now activation.now book.now }
+    { Ok(share_many(book, link, activation, 0)) };
+    runs(rt, threads, EACH, samples, &work)
+}
