@@ -1,5 +1,6 @@
 //! Works on the words that threads share. Of the book nothing is left in the program: what is timed is the words' steps.
 ghost use Rattle.seize_words_rows.specs.Exchanges.{MayShare};
+ghost use Rattle.seize_words_rows.specs.Rows.{MayReadAll};
 
 use crate::clock::Samples;
 use crate::team::runs;
@@ -7,6 +8,8 @@ use seize_words::book::Book;
 use seize_words::link::Link;
 use seize_words_rows::exchanges::{EACH, Swapper, share_many};
 use seize_words_rows::leaving::Visitor;
+use seize_words_rows::row::{open_row, read_row};
+use std::alloc::Global;
 use std::io;
 use std::rt::Clock;
 use std::thread::Threads;
@@ -14,6 +17,12 @@ use std::time::CpuClock;
 
 /// How often a slot enters and leaves in a run.
 const ENTERED: u64 = 100_000;
+
+/// How many links are read.
+const LINKS: usize = 1024;
+
+/// How often they are read in a run.
+const ROUNDS: u64 = 500;
 
 fn each_entered() -> u64 {
     let (book, mut numbers, links) = Book::open(0, 32);
@@ -44,4 +53,23 @@ pub(crate) fn exchange<R: Clock + CpuClock + Threads + Sync>(
         requires { MayShare link.now activation.now book.now }
     { Ok(share_many(book, link, activation, 0)) };
     runs(rt, threads, EACH, samples, &work)
+}
+
+pub(crate) fn protect<R: Clock + CpuClock + Threads + Sync>(
+    rt: &R,
+    threads: u64,
+    alloc: Global,
+    samples: &mut Samples,
+) -> io::Result<()> {
+    let (mut book, mut numbers, row) = open_row(alloc, LINKS)?;
+    let Some(first) = row.first() else {
+        return Ok(());
+    };
+    let mut one = Swapper::enter(&book, &mut numbers, first);
+    book.learn(&mut one.pass);
+    let (book, row, activation) = (&book, row.as_slice(), &one.activation);
+    let work = || -> io::Result<u64>
+        requires { MayReadAll row.now activation.now book.now }
+    { Ok(read_row(book, row, activation, ROUNDS)) };
+    runs(rt, threads, ROUNDS * LINKS as u64, samples, &work)
 }

@@ -1,5 +1,6 @@
 pub mod Insertions
 pub mod Flushes
 pub mod Leaves
+pub mod Rows
 pub mod Stages
 pub mod Runs

@@ -6,6 +6,7 @@ pub mod attempts;
 pub mod calls;
 pub mod exchanges;
 pub mod leaving;
+pub mod row;
 #[cfg(test)]
 mod tests;
 pub mod worked_run;

@@ -4,6 +4,7 @@ ghost use Rattle.seize_words_rows.specs.Visits.{MayVisit};
 
 use crate::exchanges::{EACH, Swapper, read_many, share_many};
 use crate::leaving::{Visitor, leave_head};
+use crate::row::{open_row, read_row};
 use crate::worked_run;
 use seize_words::activation::Activation;
 use seize_words::book::{Book, CountKey, Keys, LinkKeys, NumbersKey, Pass, SlotKey, ValueKey};
@@ -179,6 +180,23 @@ fn four_threads_lose_and_invent_no_value(rt: HostRuntime) {
 
 // Two threads share one slot's activation by `&`, of which the book has learned: one swaps, and the other reads meanwhile, and finds
 // nothing but what was put in.
+#[test]
+fn a_row_is_read_whole(rt: HostRuntime) {
+    let Ok((mut book, mut numbers, row)) = open_row(rt.alloc(), 3) else {
+        panic!(rt; "no memory");
+    };
+    let Some(first) = row.first() else {
+        panic!(rt; "no link");
+    };
+    let mut one = Swapper::enter(&book, &mut numbers, first);
+    book.learn(&mut one.pass);
+    let mut value = MaybeKey::some(book.block(6).0);
+    first.swap(7, &mut value, &one.activation, &mut one.pass);
+    let sum = read_row(&book, row.as_slice(), &one.activation, 2);
+    assert_eq!(rt; (row.len(), sum), (3, 14));
+    drop((numbers, one, value));
+}
+
 #[test]
 fn threads_share_one_activation(rt: HostRuntime) {
     let (mut book, mut numbers, mut links) = Book::open(1, 32);

@@ -1,0 +1,42 @@
+-- A row of links, and who may read it.
+--     AreLeft left first many     of a book's links, which were empty when it began, those from this one on are to be made, so many
+--     AreOf n row        all are links of book n
+--     OpensRow book numbers row     many may append to the book, no slot was made of its numbers, and these are its links
+--     HasBegun activation book    it has, as the book has seen, to which many may append
+--     MayReadAll row activation book     an activation has begun in the book whose links these are
+use Rattle.std.specs.Prelude.{◌≡◌, ℕ, ◌+◌, ◌<◌, ◌≤◌, List, length, replicate, None}
+use Rattle.std.specs.List.{All}
+use Rattle.seize_words.specs.Begin.{first_links}
+use Rattle.seize_words.specs.LinkWords.{number}
+use Rattle.seize_words.specs.Links.{IsWithin}
+use Rattle.seize_words.specs.Reservations.{IsFull}
+use Rattle.seize_words.specs.Tokens.{Name, many}
+use Rattle.seize_words.specs.declared.activation.Activation.{Activation}
+use Rattle.seize_words.specs.declared.book.link_keys.LinkKeys.{LinkKeys}
+use Rattle.seize_words.specs.declared.book.numbers_key.NumbersKey.{NumbersKey}
+use Rattle.seize_words.specs.declared.book.token.Book.{Book}
+use Rattle.seize_words.specs.declared.link.Link.{Link}
+use Rattle.seize_words_rows.specs.Exchanges.{TakesPart}
+
+pub record AreLeft (left : LinkKeys) (first count : ℕ) : Type 0 where
+  pub keys : left.keys.held ≡ first_links first count
+  pub all : ℕ
+  pub empty : left.keys.name.links ≡ replicate all None
+  pub within : first + count ≤ all
+
+abbrev pub IsOf : Name → Link → Type 0
+IsOf n link = (link.word.name ≡ n) × (number link < length n.links)
+
+abbrev pub AreOf : Name → List Link → Type 0
+AreOf n row = All (IsOf n) row
+
+abbrev pub OpensRow : Book → NumbersKey → List Link → Type 0
+OpensRow book numbers row = TakesPart book numbers × IsFull numbers × AreOf book.name row
+
+abbrev pub HasBegun : Activation → Book → Type 0
+HasBegun activation book =
+    (book.name.gate ≡ many) × (activation.name ≡ book.name)
+    × ((l : ℕ) → l < length book.name.links → IsWithin book.name activation.slot activation.life activation.since book.seen l)
+
+abbrev pub MayReadAll : List Link → Activation → Book → Type 0
+MayReadAll row activation book = HasBegun activation book × AreOf book.name row
