@@ -1,5 +1,6 @@
-//! Times of the store's calls beside those of a box or a plain reference, and of steps on words that threads share. With no argument it does nothing and prints nothing; with
-//! the name of a work and a number of threads it prints one line: `port WORK THREADS median least clean peak`.
+//! Times of the store's calls beside those of a box or a plain reference, and of steps on words that threads share. With no argument it
+//! does nothing and prints nothing; with the name of a work and a number of threads it prints one line:
+//! `port WORK THREADS median least clean peak`.
 #![tactic(auto)]
 
 mod blocks;
