@@ -8,7 +8,7 @@ use seize_words::book::Book;
 use seize_words::link::Link;
 use seize_words_rows::exchanges::{EACH, Swapper, share_many};
 use seize_words_rows::leaving::Visitor;
-use seize_words_rows::row::{open_row, read_row};
+use seize_words_rows::row::{open_row, read_row, visit_many};
 use std::alloc::Global;
 use std::io;
 use std::rt::Clock;
@@ -72,4 +72,27 @@ pub(crate) fn protect<R: Clock + CpuClock + Threads + Sync>(
         requires { MayReadAll row.now activation.now book.now }
     { Ok(read_row(book, row, activation, ROUNDS)) };
     runs(rt, threads, ROUNDS * LINKS as u64, samples, &work)
+}
+
+// With links of its own.
+fn each_visited(alloc: Global) -> io::Result<u64> {
+    let (book, mut numbers, row) = open_row(alloc, LINKS)?;
+    let visitor = Visitor::make(&book, &mut numbers);
+    drop(numbers);
+    Ok(visit_many(visitor, row.as_slice(), ROUNDS))
+}
+
+pub(crate) fn read<R: Clock + CpuClock + Threads + Sync>(
+    rt: &R,
+    threads: u64,
+    alloc: Global,
+    samples: &mut Samples,
+) -> io::Result<()> {
+    runs(
+        rt,
+        threads,
+        ROUNDS * LINKS as u64,
+        samples,
+        &|| each_visited(alloc),
+    )
 }

@@ -32,6 +32,8 @@ pub(crate) enum Work {
     Enter,
     /// One link swapped by all threads.
     Exchange1,
+    /// 1,024 links read by a slot of each thread, which enters before and leaves after.
+    Read1k,
     /// 1,024 links read by all threads, which share one activation.
     Protect1k,
 }
@@ -50,6 +52,7 @@ impl Work {
             "LookWide" => Some(Work::LookWide),
             "Enter" => Some(Work::Enter),
             "Exchange1" => Some(Work::Exchange1),
+            "Read1k" => Some(Work::Read1k),
             "Protect1k" => Some(Work::Protect1k),
             _ => None,
         }
@@ -68,6 +71,7 @@ impl Work {
             Work::LookWide => "LookWide",
             Work::Enter => "Enter",
             Work::Exchange1 => "Exchange1",
+            Work::Read1k => "Read1k",
             Work::Protect1k => "Protect1k",
         }
     }
@@ -98,7 +102,7 @@ impl Work {
             Work::Make | Work::MakeBare | Work::MakeBox => threads,
             Work::Pipe | Work::PipeBox => 2 * blocks::PIPED,
             Work::Look | Work::Token | Work::LookPlain | Work::LookWide => lookups::STAND,
-            Work::Enter | Work::Exchange1 | Work::Protect1k => 0,
+            Work::Enter | Work::Exchange1 | Work::Read1k | Work::Protect1k => 0,
         }
     }
 
@@ -121,6 +125,7 @@ impl Work {
             Work::LookWide => lookups::look_wide(rt, threads, alloc, &mut samples)?,
             Work::Enter => words::enter(rt, threads, &mut samples)?,
             Work::Exchange1 => words::exchange(rt, threads, &mut samples)?,
+            Work::Read1k => words::read(rt, threads, alloc, &mut samples)?,
             Work::Protect1k => words::protect(rt, threads, alloc, &mut samples)?,
         }
         Ok(samples.report())

@@ -2,18 +2,20 @@
 --     AreLeft left first many     of a book's links, which were empty when it began, those from this one on are to be made, so many
 --     AreOf n row        all are links of book n
 --     OpensRow book numbers row     many may append to the book, no slot was made of its numbers, and these are its links
+--     AreIn row activation pass     an activation has begun, as the pass has seen, in the book whose links these are
 --     HasBegun activation book    it has, as the book has seen, to which many may append
 --     MayReadAll row activation book     an activation has begun in the book whose links these are
 use Rattle.std.specs.Prelude.{◌≡◌, ℕ, ◌+◌, ◌<◌, ◌≤◌, List, length, replicate, None}
 use Rattle.std.specs.List.{All}
 use Rattle.seize_words.specs.Begin.{first_links}
-use Rattle.seize_words.specs.LinkWords.{number}
+use Rattle.seize_words.specs.LinkWords.{IsIn, number}
 use Rattle.seize_words.specs.Links.{IsWithin}
 use Rattle.seize_words.specs.Reservations.{IsFull}
 use Rattle.seize_words.specs.Tokens.{Name, many}
 use Rattle.seize_words.specs.declared.activation.Activation.{Activation}
 use Rattle.seize_words.specs.declared.book.link_keys.LinkKeys.{LinkKeys}
 use Rattle.seize_words.specs.declared.book.numbers_key.NumbersKey.{NumbersKey}
+use Rattle.seize_words.specs.declared.book.pass.Pass.{Pass}
 use Rattle.seize_words.specs.declared.book.token.Book.{Book}
 use Rattle.seize_words.specs.declared.link.Link.{Link}
 use Rattle.seize_words_rows.specs.Exchanges.{TakesPart}
@@ -32,6 +34,9 @@ AreOf n row = All (IsOf n) row
 
 abbrev pub OpensRow : Book → NumbersKey → List Link → Type 0
 OpensRow book numbers row = TakesPart book numbers × IsFull numbers × AreOf book.name row
+
+abbrev pub AreIn : List Link → Activation → Pass → Type 0
+AreIn row activation pass = All (λ link. IsIn link activation pass) row
 
 abbrev pub HasBegun : Activation → Book → Type 0
 HasBegun activation book =

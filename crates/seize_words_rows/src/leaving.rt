@@ -64,7 +64,7 @@ impl Visitor {
     pub fn make(book: &Book, numbers: &mut NumbersKey) -> Visitor
         requires book { TakesPart book.now numbers.old }
         requires full { IsFull numbers.old }
-        ensures may { MayVisit result }
+        ensures may { MayVisit result × (result.pass.name ≡ book.now.name) }
         ensures numbers { HasOneMore numbers.old numbers.new }
     {
         let mut pass = book.pass();
