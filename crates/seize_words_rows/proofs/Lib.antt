@@ -3,4 +3,5 @@ pub mod Flushes
 pub mod Leaves
 pub mod Rows
 pub mod Stages
+pub mod Tries
 pub mod Runs

@@ -181,6 +181,18 @@ fn four_threads_lose_and_invent_no_value(rt: HostRuntime) {
 // Two threads share one slot's activation by `&`, of which the book has learned: one swaps, and the other reads meanwhile, and finds
 // nothing but what was put in.
 #[test]
+fn a_last_insertion_is_added(rt: HostRuntime) {
+    let (mut reader, mut retirer, mut words, mut pass) = worked_run::begin();
+    let activation = worked_run::enter(&words.heads, &mut reader, &mut pass);
+    worked_run::retire(&words.heads, &mut retirer, &mut words.block, &mut pass);
+    worked_run::mark(&words, &mut retirer, &mut pass);
+    worked_run::detach(&words, &mut retirer, &mut pass);
+    let done = worked_run::insert_and_add(&words, &mut retirer, &mut pass);
+    assert_eq!(rt; done, Some(false));
+    drop((reader, retirer, words, activation));
+}
+
+#[test]
 fn a_row_is_read_whole(rt: HostRuntime) {
     let Ok((mut book, mut numbers, row)) = open_row(rt.alloc(), 3) else {
         panic!(rt; "no memory");

@@ -11,6 +11,7 @@ ghost use Rattle.seize_words_rows.specs.Runs.{entered, one_made, opened, put, tw
 ghost use Rattle.seize_words_rows.specs.Runs.{counted_up, inserted, left, looked, marked, over, reader_over};
 ghost use Rattle.seize_words_rows.specs.Stages.{Knows, Leads, Sees};
 
+use crate::attempts::insert_last;
 use seize_words::activation::Activation;
 use seize_words::batch::Count;
 use seize_words::book::{Book, NumbersKey, Pass, SlotKey, ValueKey};
@@ -126,6 +127,21 @@ pub fn insert(words: &Words, retirer: &mut SlotKey, pass: &mut Pass) -> u64
     ensures stands { StandsAt words.now pass.new inserted retirer.new 1 inserted }
 {
     words.heads.reader.insert(1, BLOCK, retirer, pass)
+}
+
+/// It inserts the batch there as its call would that knows nothing of other slots: if it is won, the count is added to at once.
+pub fn insert_and_add(words: &Words, retirer: &mut SlotKey, pass: &mut Pass) -> Option<bool>
+    requires stands { StandsAt words.now pass.old looked retirer.old 1 looked }
+{
+    insert_last(
+        &words.heads.reader,
+        &words.block.count,
+        1,
+        BLOCK,
+        0,
+        retirer,
+        pass,
+    )
 }
 
 /// The reader leaves. The word that comes out is that of a list with the batch alone.

@@ -1,38 +1,17 @@
-use Rattle.std.proofs.Common.{ℕ, List, [], Some, arith, refl, sym, ap, ◌∙◌, subst}
-use Rattle.std.specs.Prelude.{slice_index_or}
-use Rattle.seize_machine.specs.Machine.State.{Call, Slot, Try}
+use Rattle.std.proofs.Common.{ℕ, refl, sym, subst}
 use Rattle.seize_machine.specs.Machine.Event.{Insert}
 use Rattle.seize_machine.specs.declared.machine.event.Answer.TheVariants.{Done}
-use Rattle.seize_words.specs.Blocks.{Plan, block_in, no_plan}
 use Rattle.seize_words.specs.Heads.{found_end}
 use Rattle.seize_words.specs.Reservations.{slot}
 use Rattle.seize_words_rows.specs.Runs.{book_of, inserted, looked, value_of}
 use Rattle.seize_words_rows.specs.Stages.{Goes}
 use Rattle.seize_words_rows.proofs.Runs.{inserts}
-use Rattle.seize_words_rows.proofs.Stages.{found, planned_is, record_is, steps}
+use Rattle.seize_words_rows.proofs.Stages.{found, steps}
+use Rattle.seize_words_rows.proofs.Tries.{last_try}
 use Rattle.seize_words_rows.proofs.worked_run.insert.Goals as goal
 
-abbrev call_at : ℕ → Call
-call_at m = record { place = Try 0 0 m [] []; queue = [] }
-
 pub insert-requires-clause-tries : goal.insert-requires-clause-tries
-insert-requires-clause-tries c =
-    let words = c.args.words.now in let head = words.heads.reader in let n = book_of words in let v = value_of words in let key = c.args.retirer.now in let knows = c.requires.stands.2 in (
-      record {
-        batch = 0;
-        won = 0;
-        later = [];
-        saw = [];
-        queue = [];
-        trying = ap (λ (r : Slot). r.call) (record_is n key 1 (looked v) knows) ∙ ap (λ (m : ℕ). Some (call_at m)) (sym c.requires.stands.0.0.1);
-        is_seen = refl;
-        is_block = sym (
-            ap (λ (ps : List Plan). block_in (slice_index_or ps 0 no_plan) (slot head)) (planned_is n key 1 (looked v) knows)
-            ∙ ap (λ (m : ℕ). block_in (slice_index_or (looked v).plans 0 no_plan) m) c.requires.stands.0.0.1
-            ∙ c.requires.stands.0.1.2);
-      },
-      omega arith,
-    )
+insert-requires-clause-tries c = (last_try c.args.words.now c.args.retirer.now c.requires.stands.0 c.requires.stands.2).tries
 
 pub returns-clause-stands : goal.returns-clause-stands
 returns-clause-stands c =
