@@ -1,10 +1,10 @@
 -- Where a slot stands before it enters, inside, and when its head has come out.
 --     IsInside key, IsOutside key      no call of the slot is under way, and it is active;  and it is not
---     GoesOut head pass' key key' v    the slot is not active any more; its call walks what the word v shows, with no further values
+--     GoesOut head pass' key key' v    it is the same slot's key; the slot is not active any more; its call walks what the word v shows, with no further values
 use Rattle.std.specs.Prelude.{◌≡◌, ℕ, true, false, []}
 use Rattle.seize_machine.specs.Machine.State.{is_idle}
 use Rattle.seize_words.specs.Reservations.{IsOfBook, IsOwn, WalksOn}
-use Rattle.seize_words.specs.Slots.{IsOf, active_of, slot_of}
+use Rattle.seize_words.specs.Slots.{IsOf, active_of, number_of, slot_of}
 use Rattle.seize_words.specs.declared.book.pass.Pass.{Pass}
 use Rattle.seize_words.specs.declared.book.slot_key.SlotKey.{SlotKey}
 use Rattle.seize_words.specs.declared.reservation.Head.{Head}
@@ -17,6 +17,7 @@ IsOutside key = (is_idle (slot_of key) ≡ true) × (active_of key ≡ false)
 
 pub record GoesOut (head : Head) (pass' : Pass) (key key' : SlotKey) (v : ℕ) : Type 0 where
   pub book : IsOf key' pass' × IsOfBook head pass' × IsOwn head key'
+  pub its : (key'.keys.name ≡ key.keys.name) × (number_of key' ≡ number_of key)
   pub used : (slot_of key').used ≡ true
   pub inactive : active_of key' ≡ false
   pub walks : WalksOn head key' v []

@@ -25,7 +25,7 @@ pub fn insert_last(
     requires tries { IsLastTry key.old head.now count.now seen block won }
     requires few { won + 1 < 2 ^ 64 }
     ensures book { IsOf key.new pass.new }
-    ensures ends { Ends key.old key.new result }
+    ensures ends { (try : IsLastTry key.old head.now count.now seen block won) → Ends try key.new result }
 {
     if head.insert(seen, block, key, pass) != seen {
         return None;

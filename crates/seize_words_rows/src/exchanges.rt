@@ -1,6 +1,7 @@
 //! Swaps of many new values into one link, and many reads, as each of several threads makes them: with an activation of its own, or with
 //! one that it shares.
 ghost use Rattle.std.specs.Prelude.{◌≡◌, ◌<◌, ◌^◌};
+ghost use Rattle.seize_words.specs.LinkWords.{IsIn};
 ghost use Rattle.seize_words.specs.Reservations.{IsFull};
 ghost use Rattle.seize_words_rows.specs.Exchanges.{HasOneMore, IsLinkOf, MayShare, MaySwap, TakesPart};
 
@@ -59,13 +60,7 @@ impl Swapper {
             book,
             mut pass,
         } = self;
-        let mut left: u64 = 0;
-        for block in first..first + EACH {
-            let mut value = MaybeKey::some(book.block(block).0);
-            let old = link.swap(block + 1, &mut value, &activation, &mut pass);
-            left = left.wrapping_add(block + 1).wrapping_sub(old);
-        }
-        left
+        swap_each(&book, link, &activation, &mut pass, first, EACH)
     }
 
     /// The same, but each value goes in only if the link still holds what was read there just before.
@@ -116,19 +111,29 @@ impl Swapper {
     }
 }
 
-/// Swaps as `Swapper::swap_many` does, by a thread that shares another's activation. Its pass has seen that this began, since the book has.
-pub fn share_many(book: &Book, link: &Link, activation: &Activation, first: u64) -> u64
-    requires may { MayShare link.now activation.now book.now }
-    requires small { first < 2 ^ 32 }
+// Swaps the values of so many blocks, from this one on, into the link. It gives the sum of the words that it put in, less those that came
+// out, modulo 2^64.
+fn swap_each(book: &Book, link: &Link, activation: &Activation, pass: &mut Pass, first: u64, count: u64) -> u64
+    requires may { IsIn link.now activation.now pass.old × (book.now.name ≡ pass.old.name) }
+    requires small { (first < 2 ^ 32) × (count < 2 ^ 32) }
 {
-    let mut pass = book.pass();
     let mut left: u64 = 0;
-    for block in first..first + EACH {
+    for block in first..first + count {
         let mut value = MaybeKey::some(book.block(block).0);
-        let old = link.swap(block + 1, &mut value, activation, &mut pass);
+        let old = link.swap(block + 1, &mut value, activation, pass);
         left = left.wrapping_add(block + 1).wrapping_sub(old);
     }
     left
+}
+
+/// Swaps so many values as `Swapper::swap_many` does, by a thread that shares another's activation. Its pass has seen that this began, since
+/// the book has.
+pub fn share_many(book: &Book, link: &Link, activation: &Activation, first: u64, count: u64) -> u64
+    requires may { MayShare link.now activation.now book.now }
+    requires small { (first < 2 ^ 32) × (count < 2 ^ 32) }
+{
+    let mut pass = book.pass();
+    swap_each(book, link, activation, &mut pass, first, count)
 }
 
 /// Reads the link so many times, by a thread that shares an activation. It gives the sum of the words, modulo 2^64.

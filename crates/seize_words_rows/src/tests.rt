@@ -222,7 +222,7 @@ fn threads_share_one_activation(rt: HostRuntime) {
         &rt,
         move || -> u64
             requires { MayShare shared.now activation.now book.now }
-        { share_many(book, shared, activation, 1_000_000) },
+        { share_many(book, shared, activation, 1_000_000, EACH) },
         move || -> u64
             requires { MayShare shared.now activation.now book.now }
         { read_many(book, shared, activation, EACH) },

@@ -1,5 +1,5 @@
 use Rattle.std.proofs.Common.{◌≡◌, ◌≢◌, ℕ, ◌+◌, Bool, true, false, ◌==◌, if◌then◌else◌, [], Some, ap, ◌∙◌, subst, arith}
-use Rattle.seize_machine.specs.Machine.State.{Add, Rest}
+use Rattle.seize_machine.specs.Machine.State.{Add, Look, Rest}
 use Rattle.seize_machine.specs.Machine.Event.{Insert}
 use Rattle.seize_machine.specs.Machine.History.{first_of}
 use Rattle.seize_machine.specs.declared.machine.event.Try.{Try as Insertion}
@@ -43,9 +43,13 @@ adds_then key key' pass pass' head count seen block won t noted =
 
 pub returns-then-insert-seen-clause-ends : goal.returns-then-insert-seen-clause-ends
 returns-then-insert-seen-clause-ends c =
-    let key = c.args.key.now in let pass = c.args.pass.now in let head = c.args.head.now in let r = c.requires.tries.tries.0 in let key' = c.insert.new.key in
+    λ t. let key = c.args.key.now in let pass = c.args.pass.now in let head = c.args.head.now in let r = t.tries.0 in let key' = c.insert.new.key in
     let noted = subst (λ (end : Insertion). Inserts key key' pass c.insert.new.pass head end) (ends_lost c.args.seen c.insert.result c.if-insert-seen.true) c.insert.ensures.noted in let n = noted.2.0 in
-    (r.batch, r.queue, (r.won, slot head, lost_call key key' (slot head) n.before n.later n.answer r.batch r.won r.later r.saw r.queue r.trying c.requires.tries.last noted.2.1))
+    record {
+      its = (noted.1.0, noted.1.1);
+      stands = lost_call key key' (slot head) n.before n.later n.answer r.batch r.won r.later r.saw r.queue r.trying t.last noted.2.1
+          ∙ ap (λ (k : ℕ). Some (record { place = Look r.batch k (slot head) []; queue = r.queue })) t.won_so_far;
+    }
 
 pub add-requires-clause-adds : goal.add-requires-clause-adds
 add-requires-clause-adds c =
@@ -55,10 +59,11 @@ add-requires-clause-adds c =
 
 pub returns-clause-ends : goal.returns-clause-ends
 returns-clause-ends c =
-    let key = c.args.key.now in let pass = c.args.pass.now in let head = c.args.head.now in let t = c.requires.tries in let r = t.tries.0 in let key' = c.insert.new.key in
-    let noted = subst (λ (end : Insertion). Inserts key key' pass c.insert.new.pass head end) (ends_won c.args.seen c.insert.result c.if-insert-seen.false) c.insert.ensures.noted in (
-      r.batch,
-      r.queue,
-      c.add.ensures.gives (adds_then key key' pass c.insert.new.pass head c.args.count.now c.args.seen c.args.block c.args.won t noted)
-          ∙ ap (λ (p : Plan). Some (record { place = Rest (if c.add.result then p.values else []) []; queue = r.queue })) (plan_kept key key' pass c.insert.new.pass _ r.batch t.front noted t.its_front),
-    )
+    λ t. let key = c.args.key.now in let pass = c.args.pass.now in let head = c.args.head.now in let r = t.tries.0 in let key' = c.insert.new.key in
+    let noted = subst (λ (end : Insertion). Inserts key key' pass c.insert.new.pass head end) (ends_won c.args.seen c.insert.result c.if-insert-seen.false) c.insert.ensures.noted in
+    let added = c.add.ensures.counts.0 in
+    record {
+      its = (added.1.0 ∙ noted.1.0, added.1.1 ∙ noted.1.1);
+      stands = c.add.ensures.gives (adds_then key key' pass c.insert.new.pass head c.args.count.now c.args.seen c.args.block c.args.won t noted)
+          ∙ ap (λ (p : Plan). Some (record { place = Rest (if c.add.result then p.values else []) []; queue = r.queue })) (plan_kept key key' pass c.insert.new.pass _ r.batch t.front noted t.its_front);
+    }

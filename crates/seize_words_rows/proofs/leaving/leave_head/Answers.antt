@@ -27,6 +27,7 @@ returns c =
           book.1 ∙ sym (last.0.0 ∙ first.0.0),
           book.2 ∙ sym (last.1.1 ∙ first.1.1),
         );
+        its = (last.1.0 ∙ first.1.0, last.1.1 ∙ first.1.1);
         used = out.0;
         inactive = out.1;
         walks = c.leave.ensures.walks ([], ap (λ slot. slot.call) stands);
