@@ -15,7 +15,7 @@ use Rattle.seize_words.specs.declared.book.link_keys.LinkKeys.{LinkKeys}
 use Rattle.seize_words.specs.declared.book.pass.Pass.{Pass}
 use Rattle.seize_words.specs.declared.book.token.Book.{Book}
 use Rattle.seize_words.specs.declared.link.Link.{Link}
-use Rattle.seize_words_rows.specs.Rows.{AreLeft, HasBegun, IsOf}
+use Rattle.seize_words_rows.specs.Rows.{AreLeft, HasBegun, IsLink}
 
 -- one of a book's links
 within : (left : LinkKeys) (first rest : ℕ) (a : AreLeft left first (suc rest)) → first < a.all
@@ -31,8 +31,8 @@ module _ (left : LinkKeys) (first rest : ℕ) (a : AreLeft left first (suc rest)
   )
 
   module _ (link : Link) (left' : LinkKeys) (next : IsNext left link left') where
-    pub is_of : IsOf left.keys.name link
-    is_of = (
+    pub is_link : IsLink left.keys.name link
+    is_link = (
       next.0,
       subst (λ (k : ℕ). k < length left.keys.name.links) (sym (next.1 ∙ ap (λ (held : List (Held Entry)). key_of held) a.keys))
           (subst (λ (k : ℕ). first < k) (sym (ap (λ (all : List (Option ℕ)). length all) a.empty ∙ length-replicate {A = Option ℕ} a.all Option.None)) (within left first rest a)),
@@ -48,7 +48,7 @@ module _ (left : LinkKeys) (first rest : ℕ) (a : AreLeft left first (suc rest)
         }
 
 -- who has begun in a book may read each of its links with a pass that has seen what the book has
-pub is_in : (activation : Activation) (book : Book) (pass : Pass) → HasBegun activation book → pass.name ≡ book.name → IsPrefix book.seen pass.seen → (link : Link) → IsOf book.name link → IsIn link activation pass
+pub is_in : (activation : Activation) (book : Book) (pass : Pass) → HasBegun activation book → pass.name ≡ book.name → IsPrefix book.seen pass.seen → (link : Link) → IsLink book.name link → IsIn link activation pass
 is_in activation book pass has same seen link of =
     let w = has.2 (number link) of.1 in record {
       book = (of.0 ∙ sym same, has.1 ∙ sym same);

@@ -1,16 +1,16 @@
 -- A row of links, and who may read it.
 --     AreLeft left first many     of a book's links, which were empty when it began, those from this one on are to be made, so many
 --     AreOf n row        all are links of book n
---     OpensRow book numbers row     many may append to the book, no slot was made of its numbers, and these are its links
+--     OpensRow book numbers row count     many may append to the book, no slot was made of its numbers, and these are links of it, so many
 --     AreIn row activation pass     an activation has begun, as the pass has seen, in the book whose links these are
---     HasBegun activation book    it has, as the book has seen, to which many may append
+--     HasBegun activation book    it has, as the book has seen, to which many may append: each of its links may be stepped on
 --     MayReadAll row activation book     an activation has begun in the book whose links these are
 use Rattle.std.specs.Prelude.{◌≡◌, ℕ, ◌+◌, ◌<◌, ◌≤◌, List, length, replicate, None}
 use Rattle.std.specs.List.{All}
 use Rattle.seize_words.specs.Begin.{first_links}
 use Rattle.seize_words.specs.LinkWords.{IsIn, number}
 use Rattle.seize_words.specs.Links.{IsWithin}
-use Rattle.seize_words.specs.Reservations.{IsFull}
+use Rattle.seize_words.specs.Reservations.{IsFull, made_of}
 use Rattle.seize_words.specs.Tokens.{Name, many}
 use Rattle.seize_words.specs.declared.activation.Activation.{Activation}
 use Rattle.seize_words.specs.declared.book.link_keys.LinkKeys.{LinkKeys}
@@ -26,14 +26,14 @@ pub record AreLeft (left : LinkKeys) (first count : ℕ) : Type 0 where
   pub empty : left.keys.name.links ≡ replicate all None
   pub within : first + count ≤ all
 
-abbrev pub IsOf : Name → Link → Type 0
-IsOf n link = (link.word.name ≡ n) × (number link < length n.links)
+abbrev pub IsLink : Name → Link → Type 0
+IsLink n link = (link.word.name ≡ n) × (number link < length n.links)
 
 abbrev pub AreOf : Name → List Link → Type 0
-AreOf n row = All (IsOf n) row
+AreOf n row = All (IsLink n) row
 
-abbrev pub OpensRow : Book → NumbersKey → List Link → Type 0
-OpensRow book numbers row = TakesPart book numbers × IsFull numbers × AreOf book.name row
+abbrev pub OpensRow : Book → NumbersKey → List Link → ℕ → Type 0
+OpensRow book numbers row count = TakesPart book numbers × IsFull numbers × (made_of numbers ≡ 0) × AreOf book.name row × (length row ≡ count)
 
 abbrev pub AreIn : List Link → Activation → Pass → Type 0
 AreIn row activation pass = All (λ link. IsIn link activation pass) row

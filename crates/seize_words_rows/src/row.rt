@@ -1,5 +1,5 @@
 //! A row of links, made whole and read whole: under an activation that threads share, or by a slot that enters and leaves.
-ghost use Rattle.std.specs.Prelude.{IfOk, IfSome};
+ghost use Rattle.std.specs.Prelude.{◌≡◌, IfOk, IfSome, length};
 ghost use Rattle.seize_words.specs.Passes.{IsSame};
 ghost use Rattle.seize_words.specs.Reservations.{IsOfBook, IsOwn};
 ghost use Rattle.seize_words.specs.Slots.{IsOf};
@@ -16,17 +16,17 @@ use std::alloc::{AllocError, Global};
 
 /// A new book with so many links, all of which are made.
 pub fn open_row(alloc: Global, many: usize) -> Result<(Book, NumbersKey, Vec<Link>), AllocError>
-    ensures opens { IfOk result (λ made. OpensRow made.0 made.1 made.2.items) }
+    ensures opens { IfOk result (λ made. OpensRow made.0 made.1 made.2.items many) }
 {
     let (book, numbers, mut left) = Book::open(many, 32);
     let row = make_row(alloc, &mut left, many)?;
     Ok((book, numbers, row))
 }
 
-// Makes the links that are left.
+// Makes so many links, which are left.
 fn make_row(alloc: Global, left: &mut LinkKeys, many: usize) -> Result<Vec<Link>, AllocError>
     requires left { AreLeft left.old 0 many }
-    ensures row { IfOk result (λ row. AreOf left.old.keys.name row.items) }
+    ensures row { IfOk result (λ row. AreOf left.old.keys.name row.items × (length row.items ≡ many)) }
 {
     let mut row = Vec::with_capacity(alloc, many)?;
     for _ in 0..many {
@@ -76,8 +76,8 @@ pub fn visit_row(head: &Head, row: &[Link], key: &mut SlotKey, pass: &mut Pass) 
     Some(sum)
 }
 
-/// Enters, reads the row and leaves so often, unless something waits. It gives the sum of the words, modulo 2^64.
-pub fn visit_many(visitor: Visitor, row: &[Link], turns: u64) -> u64
+/// Enters, reads the row and leaves so often. It gives the sum of the words, modulo 2^64, if nothing waited at any time.
+pub fn visit_many(visitor: Visitor, row: &[Link], turns: u64) -> Option<u64>
     requires may { MayVisit visitor × AreOf visitor.pass.name row.now }
 {
     let Visitor {
@@ -87,10 +87,7 @@ pub fn visit_many(visitor: Visitor, row: &[Link], turns: u64) -> u64
     } = visitor;
     let mut sum: u64 = 0;
     for _ in 0..turns {
-        let Some(one) = visit_row(&head, row, &mut key, &mut pass) else {
-            return sum;
-        };
-        sum = sum.wrapping_add(one);
+        sum = sum.wrapping_add(visit_row(&head, row, &mut key, &mut pass)?);
     }
-    sum
+    Some(sum)
 }

@@ -4,7 +4,7 @@ ghost use Rattle.seize_words_rows.specs.Visits.{MayVisit};
 
 use crate::exchanges::{EACH, Swapper, read_many, share_many};
 use crate::leaving::{Visitor, leave_head};
-use crate::row::{open_row, read_row};
+use crate::row::{open_row, read_row, visit_many};
 use crate::worked_run;
 use seize_words::activation::Activation;
 use seize_words::book::{Book, CountKey, Keys, LinkKeys, NumbersKey, Pass, SlotKey, ValueKey};
@@ -178,8 +178,6 @@ fn four_threads_lose_and_invent_no_value(rt: HostRuntime) {
     drop((links, numbers, last, none));
 }
 
-// Two threads share one slot's activation by `&`, of which the book has learned: one swaps, and the other reads meanwhile, and finds
-// nothing but what was put in.
 #[test]
 fn a_last_insertion_is_added(rt: HostRuntime) {
     let (mut reader, mut retirer, mut words, mut pass) = worked_run::begin();
@@ -192,23 +190,26 @@ fn a_last_insertion_is_added(rt: HostRuntime) {
     drop((reader, retirer, words, activation));
 }
 
+// Each of the links of a row is read, with an activation that is shared and by a slot that enters and leaves.
 #[test]
 fn a_row_is_read_whole(rt: HostRuntime) {
     let Ok((mut book, mut numbers, row)) = open_row(rt.alloc(), 3) else {
         panic!(rt; "no memory");
     };
-    let Some(first) = row.first() else {
-        panic!(rt; "no link");
-    };
-    let mut one = Swapper::enter(&book, &mut numbers, first);
+    let mut one = Swapper::enter(&book, &mut numbers, &row[0]);
+    let visitor = Visitor::make(&book, &mut numbers);
     book.learn(&mut one.pass);
-    let mut value = MaybeKey::some(book.block(6).0);
-    first.swap(7, &mut value, &one.activation, &mut one.pass);
+    share_many(&book, &row[0], &one.activation, 6, 1);
+    share_many(&book, &row[1], &one.activation, 69, 1);
+    share_many(&book, &row[2], &one.activation, 699, 1);
     let sum = read_row(&book, row.as_slice(), &one.activation, 2);
-    assert_eq!(rt; (row.len(), sum), (3, 14));
-    drop((numbers, one, value));
+    assert_eq!(rt; (row.len(), sum), (3, 2 * 777));
+    assert_eq!(rt; visit_many(visitor, row.as_slice(), 5), Some(5 * 777));
+    drop((numbers, one));
 }
 
+// Two threads share one slot's activation by `&`, of which the book has learned: one swaps, and the other reads meanwhile. What it finds
+// adds up to no less and no more than so many of the values that were put in.
 #[test]
 fn threads_share_one_activation(rt: HostRuntime) {
     let (mut book, mut numbers, mut links) = Book::open(1, 32);
