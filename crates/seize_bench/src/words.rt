@@ -1,4 +1,4 @@
-//! Works on the words that threads share. Of the book nothing is left in the program: what is timed is the words' steps.
+//! Works that step on words: on a slot's own, or on links that all threads share. Of the book nothing is left in the program.
 ghost use Rattle.seize_words_rows.specs.Exchanges.{MayShare};
 ghost use Rattle.seize_words_rows.specs.Rows.{MayReadAll};
 
@@ -6,11 +6,12 @@ use crate::clock::Samples;
 use crate::team::runs;
 use seize_words::book::Book;
 use seize_words::link::Link;
-use seize_words_rows::exchanges::{EACH, Swapper, share_many};
+use seize_words_rows::exchanges::{Swapper, share_many};
 use seize_words_rows::leaving::Visitor;
 use seize_words_rows::row::{open_row, read_row, visit_many};
 use std::alloc::Global;
 use std::io;
+use std::io::ErrorKind;
 use std::rt::Clock;
 use std::thread::Threads;
 use std::time::CpuClock;
@@ -18,17 +19,24 @@ use std::time::CpuClock;
 /// How often a slot enters and leaves in a run.
 const ENTERED: u64 = 100_000;
 
+/// How often a thread swaps in a run.
+const SWAPPED: u64 = 200_000;
+
 /// How many links are read.
 const LINKS: usize = 1024;
 
 /// How often they are read in a run.
-const ROUNDS: u64 = 500;
+const ROUNDS: u64 = 2_500;
 
-fn each_entered() -> u64 {
+// An error tells that something waited at the head, which is alone in its book.
+fn each_entered() -> io::Result<u64> {
     let (book, mut numbers, links) = Book::open(0, 32);
     let visitor = Visitor::make(&book, &mut numbers);
     drop((numbers, links));
-    visitor.visit(ENTERED)
+    if visitor.visit(ENTERED) < ENTERED {
+        return Err(ErrorKind::Other.into());
+    }
+    Ok(ENTERED)
 }
 
 pub(crate) fn enter<R: Clock + CpuClock + Threads + Sync>(
@@ -36,7 +44,7 @@ pub(crate) fn enter<R: Clock + CpuClock + Threads + Sync>(
     threads: u64,
     samples: &mut Samples,
 ) -> io::Result<()> {
-    runs(rt, threads, ENTERED, samples, &|| Ok(each_entered()))
+    runs(rt, threads, ENTERED, samples, &|| each_entered())
 }
 
 pub(crate) fn exchange<R: Clock + CpuClock + Threads + Sync>(
@@ -51,8 +59,8 @@ pub(crate) fn exchange<R: Clock + CpuClock + Threads + Sync>(
     let (link, book, activation) = (&link, &book, &one.activation);
     let work = || -> io::Result<u64>
         requires { MayShare link.now activation.now book.now }
-    { Ok(share_many(book, link, activation, 0)) };
-    runs(rt, threads, EACH, samples, &work)
+    { Ok(share_many(book, link, activation, 0, SWAPPED)) };
+    runs(rt, threads, SWAPPED, samples, &work)
 }
 
 pub(crate) fn protect<R: Clock + CpuClock + Threads + Sync>(
@@ -62,10 +70,7 @@ pub(crate) fn protect<R: Clock + CpuClock + Threads + Sync>(
     samples: &mut Samples,
 ) -> io::Result<()> {
     let (mut book, mut numbers, row) = open_row(alloc, LINKS)?;
-    let Some(first) = row.first() else {
-        return Ok(());
-    };
-    let mut one = Swapper::enter(&book, &mut numbers, first);
+    let mut one = Swapper::enter(&book, &mut numbers, &row[0]);
     book.learn(&mut one.pass);
     let (book, row, activation) = (&book, row.as_slice(), &one.activation);
     let work = || -> io::Result<u64>
@@ -79,7 +84,7 @@ fn each_visited(alloc: Global) -> io::Result<u64> {
     let (book, mut numbers, row) = open_row(alloc, LINKS)?;
     let visitor = Visitor::make(&book, &mut numbers);
     drop(numbers);
-    Ok(visit_many(visitor, row.as_slice(), ROUNDS))
+    visit_many(visitor, row.as_slice(), ROUNDS).ok_or(ErrorKind::Other.into())
 }
 
 pub(crate) fn read<R: Clock + CpuClock + Threads + Sync>(

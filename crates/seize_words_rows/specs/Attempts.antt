@@ -3,8 +3,8 @@
 --                         else; it has won so many insertions, and the batch's count is this one
 --     Ends try key' result     it is the same slot's key; a lost insertion leaves the call to read that head again, and after a won one the
 --                         batch is given up to it where the count came to 0, and else nothing is
-use Rattle.std.specs.Prelude.{◌≡◌, ℕ, Bool, if◌then◌else◌, List, [], Option, Some, None, slice_index_or}
-use Rattle.seize_machine.specs.Machine.State.{Call, Look, Rest, Try}
+use Rattle.std.specs.Prelude.{◌≡◌, ℕ, Bool, if◌then◌else◌, [], Option, Some, None, slice_index_or}
+use Rattle.seize_machine.specs.Machine.State.{Call, Look, Rest}
 use Rattle.seize_words.specs.Blocks.{front_of, no_plan, plans}
 use Rattle.seize_words.specs.Counts.{home}
 use Rattle.seize_words.specs.Homes.{home_of}
@@ -31,6 +31,7 @@ StandsAfter {key} t (Some done) call =
     let try = t.tries.0 in let values = (slice_index_or (plans (start_of key) (own_list key)) try.batch no_plan).values in
     call ≡ Some (record { place = Rest (if done then values else []) []; queue = try.queue })
 
-pub record Ends {key : SlotKey} {head : Head} {count : Count} {seen block won : ℕ} (t : IsLastTry key head count seen block won) (key' : SlotKey) (result : Option Bool) : Type 0 where
+pub record Ends {key : SlotKey} {head : Head} {count : Count} {seen block won : ℕ} (t : IsLastTry key head count seen block won)
+    (key' : SlotKey) (result : Option Bool) : Type 0 where
   pub its : (key'.keys.name ≡ key.keys.name) × (number_of key' ≡ number_of key)
   pub stands : StandsAfter t result (slot_of key').call

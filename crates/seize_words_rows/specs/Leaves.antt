@@ -1,6 +1,7 @@
 -- Where a slot stands before it enters, inside, and when its head has come out.
 --     IsInside key, IsOutside key      no call of the slot is under way, and it is active;  and it is not
---     GoesOut head pass' key key' v    it is the same slot's key; the slot is not active any more; its call walks what the word v shows, with no further values
+--     GoesOut head pass' key key' v    it is the same slot's key; the slot is not active any more; its call walks what the word v shows,
+--                                      with no further values
 use Rattle.std.specs.Prelude.{◌≡◌, ℕ, true, false, []}
 use Rattle.seize_machine.specs.Machine.State.{is_idle}
 use Rattle.seize_words.specs.Reservations.{IsOfBook, IsOwn, WalksOn}

@@ -33,7 +33,8 @@ abbrev pub AreOf : Name → List Link → Type 0
 AreOf n row = All (IsLink n) row
 
 abbrev pub OpensRow : Book → NumbersKey → List Link → ℕ → Type 0
-OpensRow book numbers row count = TakesPart book numbers × IsFull numbers × (made_of numbers ≡ 0) × AreOf book.name row × (length row ≡ count)
+OpensRow book numbers row count =
+    TakesPart book numbers × IsFull numbers × (made_of numbers ≡ 0) × AreOf book.name row × (length row ≡ count)
 
 abbrev pub AreIn : List Link → Activation → Pass → Type 0
 AreIn row activation pass = All (λ link. IsIn link activation pass) row

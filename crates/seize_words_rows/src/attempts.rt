@@ -1,6 +1,6 @@
 //! The end of an attempt: the batch is inserted at the last of the slots where it has still to be, and the insertions won are added to its
 //! count. Others may step on both words meanwhile, and add any events.
-ghost use Rattle.std.specs.Prelude.{◌≡◌, ◌+◌, ◌<◌, ◌^◌};
+ghost use Rattle.std.specs.Prelude.{◌+◌, ◌<◌, ◌^◌};
 ghost use Rattle.seize_words.specs.Counts.{IsOfBook as IsCountIn};
 ghost use Rattle.seize_words.specs.Reservations.{IsOfBook};
 ghost use Rattle.seize_words.specs.Slots.{IsOf};

@@ -113,7 +113,14 @@ impl Swapper {
 
 // Swaps the values of so many blocks, from this one on, into the link. It gives the sum of the words that it put in, less those that came
 // out, modulo 2^64.
-fn swap_each(book: &Book, link: &Link, activation: &Activation, pass: &mut Pass, first: u64, count: u64) -> u64
+fn swap_each(
+    book: &Book,
+    link: &Link,
+    activation: &Activation,
+    pass: &mut Pass,
+    first: u64,
+    count: u64,
+) -> u64
     requires may { IsIn link.now activation.now pass.old × (book.now.name ≡ pass.old.name) }
     requires small { (first < 2 ^ 32) × (count < 2 ^ 32) }
 {
@@ -126,8 +133,8 @@ fn swap_each(book: &Book, link: &Link, activation: &Activation, pass: &mut Pass,
     left
 }
 
-/// Swaps so many values as `Swapper::swap_many` does, by a thread that shares another's activation. Its pass has seen that this began, since
-/// the book has.
+/// Swaps so many values as `Swapper::swap_many` does, by a thread that shares another's activation. Its pass has seen that this began,
+/// since the book has.
 pub fn share_many(book: &Book, link: &Link, activation: &Activation, first: u64, count: u64) -> u64
     requires may { MayShare link.now activation.now book.now }
     requires small { (first < 2 ^ 32) × (count < 2 ^ 32) }

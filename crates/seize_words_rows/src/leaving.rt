@@ -1,9 +1,8 @@
 //! A slot leaves: the call begins, the head is swapped out, and where nothing was waiting the call is over. What was waiting would still be
 //! to be walked.
 ghost use Rattle.std.specs.Prelude.{◌≡◌, true};
-ghost use Rattle.seize_machine.specs.Machine.State.{is_idle};
 ghost use Rattle.seize_words.specs.Reservations.{IsFull, IsLastOf, IsOfBook, IsOwn};
-ghost use Rattle.seize_words.specs.Slots.{IsOf, active_of, slot_of};
+ghost use Rattle.seize_words.specs.Slots.{IsOf};
 ghost use Rattle.seize_words_rows.specs.Exchanges.{HasOneMore, TakesPart};
 ghost use Rattle.seize_words_rows.specs.Leaves.{GoesOut, IsInside, IsOutside};
 ghost use Rattle.seize_words_rows.specs.Visits.{MayVisit};

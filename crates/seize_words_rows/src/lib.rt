@@ -1,5 +1,5 @@
-//! Whole calls of a slot on the book, made of its private events, and a worked run on words. They show that the contracts of the events,
-//! with the exported lemmas of the book, suffice for a caller.
+//! Callers of the book and its words: whole calls of a slot made of its private events, slots that enter and leave, swaps and reads of
+//! links, the end of an attempt, and a worked run. They show that the contracts below, with the exported lemmas, suffice for a caller.
 #![tactic(auto)]
 
 pub mod attempts;

@@ -1,4 +1,4 @@
-//! Books, passes and keys in hand.
+//! Books, passes and keys in hand, the worked run, and threads that step on words.
 ghost use Rattle.seize_words_rows.specs.Exchanges.{MayShare, MaySwap};
 ghost use Rattle.seize_words_rows.specs.Visits.{MayVisit};
 
@@ -7,6 +7,7 @@ use crate::leaving::{Visitor, leave_head};
 use crate::row::{open_row, read_row, visit_many};
 use crate::worked_run;
 use seize_words::activation::Activation;
+use seize_words::batch::Count;
 use seize_words::book::{Book, CountKey, Keys, LinkKeys, NumbersKey, Pass, SlotKey, ValueKey};
 use seize_words::link::{Link, MaybeKey};
 use seize_words::reservation::Head;
@@ -47,11 +48,12 @@ fn tokens_have_no_bytes(rt: HostRuntime) {
     );
 }
 
-// A head and a link are one word each.
+// A head, a link and a count are one word each.
 #[test]
 fn words_have_eight_bytes(rt: HostRuntime) {
     assert_eq!(rt; size_of::<Head>(), 8);
     assert_eq!(rt; size_of::<Link>(), 8);
+    assert_eq!(rt; size_of::<Count>(), 8);
 }
 
 // One slot enters and reads a link, which is empty.
@@ -235,7 +237,7 @@ fn threads_share_one_activation(rt: HostRuntime) {
     drop((links, numbers, one, value, none));
 }
 
-// Each of two threads swaps a value into one link and then waits for that of the other: it ends only where both run.
+// Each of two threads swaps a value into one link and then waits for that of the other: it holds only where both run.
 #[test]
 fn each_thread_sees_what_the_other_put_in(rt: HostRuntime) {
     let (book, mut numbers, mut links) = Book::open(2, 32);

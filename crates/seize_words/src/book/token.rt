@@ -19,7 +19,7 @@ pub struct Book {
     marker: PhantomData<()>,
     /// The book.
     pub ghost name: { Name } by { name_coded },
-    /// A beginning of the list, which the passes that are made of it have seen.
+    /// A beginning of the list. The passes that are made of it from now on have seen this.
     pub ghost seen: { List Entry } by { coded_list entry_coded },
 }
 
@@ -109,7 +109,7 @@ impl Book {
         }
     }
 
-    /// It has seen what the pass has, and so have the passes made of it from then on.
+    /// It has seen what the pass has, and so have the passes made of it from then on. What it had seen beyond that it forgets.
     pub fn learn(&mut self, pass: &mut Pass)
         requires { self.old.name ≡ pass.old.name }
         ensures { (self.new.name ≡ self.old.name) × (self.new.seen ≡ pass.old.seen) × (pass.new ≡ pass.old) }
