@@ -23,7 +23,7 @@ pub fn leave_head(head: &Head, activation: Activation, key: &mut SlotKey, pass: 
 }
 
 /// Enters and leaves again. It says whether nothing was waiting: then the call is over.
-pub fn pass_through(head: &Head, key: &mut SlotKey, pass: &mut Pass) -> bool
+pub fn enter_and_leave(head: &Head, key: &mut SlotKey, pass: &mut Pass) -> bool
     requires book { IsOf key.old pass.old × IsOfBook head.now pass.old × IsOwn head.now key.old }
     requires outside { IsOutside key.old }
     ensures book { IsOf key.new pass.new × IsOfBook head.now pass.new × IsOwn head.now key.new }
@@ -38,19 +38,19 @@ pub fn pass_through(head: &Head, key: &mut SlotKey, pass: &mut Pass) -> bool
 }
 
 /// Enters and leaves so often, unless something waits. It says how often nothing did.
-pub fn pass_many(head: &Head, key: &mut SlotKey, pass: &mut Pass, turns: u64) -> u64
+pub fn enter_and_leave_many(head: &Head, key: &mut SlotKey, pass: &mut Pass, turns: u64) -> u64
     requires book { IsOf key.old pass.old × IsOfBook head.now pass.old × IsOwn head.now key.old }
     requires outside { IsOutside key.old }
 {
     for turn in 0..turns {
-        if !pass_through(head, key, pass) {
+        if !enter_and_leave(head, key, pass) {
             return turn;
         }
     }
     turns
 }
 
-/// What a thread passes through with: a slot of its own, and a pass.
+/// What a thread enters and leaves with: a slot of its own, and a pass.
 #[derive(Drop)]
 pub struct Visitor {
     pub key: SlotKey,
@@ -80,6 +80,6 @@ impl Visitor {
             head,
             mut pass,
         } = self;
-        pass_many(&head, &mut key, &mut pass, turns)
+        enter_and_leave_many(&head, &mut key, &mut pass, turns)
     }
 }

@@ -280,7 +280,7 @@ fn a_batch_is_counted_down_and_up(rt: HostRuntime) {
 
 // Slots enter and leave side by side, each by steps on its own head, and nothing ever waits for one.
 #[test]
-fn two_slots_pass_through(rt: HostRuntime) {
+fn two_slots_enter_and_leave(rt: HostRuntime) {
     let (book, mut numbers, links) = Book::open(0, 32);
     let one = Visitor::make(&book, &mut numbers);
     let two = Visitor::make(&book, &mut numbers);
@@ -338,7 +338,7 @@ fn four_visits<R: Threads + Wait + Sync>(
 }
 
 #[test]
-fn four_slots_pass_through(rt: HostRuntime) {
+fn four_slots_enter_and_leave(rt: HostRuntime) {
     let (book, mut numbers, links) = Book::open(0, 32);
     let a = Visitor::make(&book, &mut numbers);
     let b = Visitor::make(&book, &mut numbers);

@@ -35,12 +35,11 @@ impl Book {
     ghost use Rattle.seize_words.specs.Others.{book_of};
 
     /// A new book, of which any number of passes may be made, the key of its numbers, and those of its links. It has no slot yet, and its
-    /// links are empty.
+    /// links are empty. A slot attempts its batch when that has `size` values, at least one.
     pub fn open(links: usize, size: usize) -> (Book, NumbersKey, LinkKeys)
         ensures { Opens result.0 result.1 result.2 links size }
     {
-        let (book, keys) = Book::open_keys(links, size);
-        let mut numbers = keys;
+        let (book, mut numbers) = Book::open_keys(links, size);
         let mut rest = numbers.none();
         numbers.part(&mut rest);
         (book, NumbersKey { keys: numbers }, LinkKeys { keys: rest })
@@ -50,8 +49,7 @@ impl Book {
     pub fn open_alone(links: usize, size: usize) -> (Book, Pass, NumbersKey, LinkKeys)
         ensures { OpensAlone result.0 result.1 result.2 result.3 links size }
     {
-        let (book, pass, keys) = Book::open_sole(links, size);
-        let mut numbers = keys;
+        let (book, pass, mut numbers) = Book::open_sole(links, size);
         let mut rest = numbers.none();
         numbers.part(&mut rest);
         (
