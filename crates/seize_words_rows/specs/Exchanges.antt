@@ -1,5 +1,6 @@
 -- What threads need to swap values into one link.
 --     TakesPart book numbers, IsLinkOf link book     the numbers, and the link, are of the book, to which many may append
+--     IsLink n link               it is one of the links of book n
 --     MaySwap link swapper        all are of one book, and the activation has begun, as the pass has seen
 --     MayShare link activation book     the same, as the book has seen, to which many may append
 --     HasOneMore numbers numbers' one more slot was made
@@ -9,7 +10,7 @@ use Rattle.seize_words.specs.LinkWords.{IsIn, number}
 use Rattle.seize_words.specs.Links.{IsWithin}
 use Rattle.seize_words.specs.Others.{state_of}
 use Rattle.seize_words.specs.Reservations.{made_of}
-use Rattle.seize_words.specs.Tokens.{many}
+use Rattle.seize_words.specs.Tokens.{Name, many}
 use Rattle.seize_words.specs.declared.activation.Activation.{Activation}
 use Rattle.seize_words.specs.declared.book.numbers_key.NumbersKey.{NumbersKey}
 use Rattle.seize_words.specs.declared.book.token.Book.{Book}
@@ -19,8 +20,11 @@ use Rattle.seize_words_rows.specs.declared.exchanges.Swapper.{Swapper}
 abbrev pub TakesPart : Book → NumbersKey → Type 0
 TakesPart book numbers = (numbers.keys.name ≡ book.name) × (book.name.gate ≡ many)
 
+abbrev pub IsLink : Name → Link → Type 0
+IsLink n link = (link.word.name ≡ n) × (number link < length n.links)
+
 abbrev pub IsLinkOf : Link → Book → Type 0
-IsLinkOf link book = (link.word.name ≡ book.name) × (number link < length book.name.links)
+IsLinkOf link book = IsLink book.name link
 
 abbrev pub MaySwap : Link → Swapper → Type 0
 MaySwap link swapper = IsIn link swapper.activation swapper.pass × (swapper.book.name ≡ swapper.pass.name)

@@ -8,7 +8,7 @@
 use Rattle.std.specs.Prelude.{◌≡◌, ℕ, ◌+◌, ◌<◌, ◌≤◌, List, length, replicate, None}
 use Rattle.std.specs.List.{All}
 use Rattle.seize_words.specs.Begin.{first_links}
-use Rattle.seize_words.specs.LinkWords.{IsIn, number}
+use Rattle.seize_words.specs.LinkWords.{IsIn}
 use Rattle.seize_words.specs.Links.{IsWithin}
 use Rattle.seize_words.specs.Reservations.{IsFull, made_of}
 use Rattle.seize_words.specs.Tokens.{Name, many}
@@ -18,16 +18,13 @@ use Rattle.seize_words.specs.declared.book.numbers_key.NumbersKey.{NumbersKey}
 use Rattle.seize_words.specs.declared.book.pass.Pass.{Pass}
 use Rattle.seize_words.specs.declared.book.token.Book.{Book}
 use Rattle.seize_words.specs.declared.link.Link.{Link}
-use Rattle.seize_words_rows.specs.Exchanges.{TakesPart}
+use Rattle.seize_words_rows.specs.Exchanges.{IsLink, TakesPart}
 
 pub record AreLeft (left : LinkKeys) (first count : ℕ) : Type 0 where
   pub keys : left.keys.held ≡ first_links first count
   pub all : ℕ
   pub empty : left.keys.name.links ≡ replicate all None
   pub within : first + count ≤ all
-
-abbrev pub IsLink : Name → Link → Type 0
-IsLink n link = (link.word.name ≡ n) × (number link < length n.links)
 
 abbrev pub AreOf : Name → List Link → Type 0
 AreOf n row = All (IsLink n) row

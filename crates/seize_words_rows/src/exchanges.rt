@@ -6,7 +6,7 @@ ghost use Rattle.seize_words.specs.Reservations.{IsFull};
 ghost use Rattle.seize_words_rows.specs.Exchanges.{HasOneMore, IsLinkOf, MayShare, MaySwap, TakesPart};
 
 use seize_words::activation::Activation;
-use seize_words::book::{Book, NumbersKey, Pass, SlotKey};
+use seize_words::book::{Book, NumbersKey, Pass};
 use seize_words::link::{Link, MaybeKey};
 use seize_words::reservation::Head;
 use std::thread;
@@ -17,11 +17,9 @@ pub const EACH: u64 = 20_000;
 /// How often a thread reads a link at most, before it gives up.
 pub const TURNS: u64 = 10_000_000;
 
-/// What a thread swaps with: a slot of its own, which is active, and a pass.
+/// What a thread swaps with: the activation of a slot of its own, which lasts for good, and a pass.
 #[derive(Drop)]
 pub struct Swapper {
-    pub key: SlotKey,
-    pub head: Head,
     pub activation: Activation,
     pub book: Book,
     pub pass: Pass,
@@ -39,8 +37,6 @@ impl Swapper {
         let (mut key, head) = Head::make(numbers, &mut pass);
         let activation = head.enter(&mut key, &mut pass);
         Swapper {
-            key,
-            head,
             activation,
             book: book.again(),
             pass,
@@ -54,8 +50,6 @@ impl Swapper {
         requires small { first < 2 ^ 32 }
     {
         let Swapper {
-            key: _,
-            head: _,
             activation,
             book,
             mut pass,
@@ -69,8 +63,6 @@ impl Swapper {
         requires small { first < 2 ^ 32 }
     {
         let Swapper {
-            key: _,
-            head: _,
             activation,
             book,
             mut pass,
@@ -93,8 +85,6 @@ impl Swapper {
         requires small { block < 2 ^ 32 }
     {
         let Swapper {
-            key: _,
-            head: _,
             activation,
             book,
             mut pass,
