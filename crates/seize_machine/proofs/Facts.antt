@@ -27,6 +27,7 @@ use Rattle.seize_machine.proofs.Invariants.States as states
 use Rattle.seize_machine.proofs.Invariants.Always as invariants
 use Rattle.seize_machine.proofs.Invariants.Kept as kept
 use Rattle.seize_machine.proofs.Invariants.Live as live
+use Rattle.seize_machine.proofs.Invariants.Tried as tried
 use Rattle.seize_machine.proofs.Laws.AtMostOnce as at_most_once
 use Rattle.seize_machine.proofs.Laws.After as after
 use Rattle.seize_machine.proofs.Laws.Protection as protection
@@ -240,6 +241,10 @@ tries_tidy = states.tries_tidy
 pub adds_tidy : (st : State) (s b won : ℕ) (queue : List ℕ) → IsReached st → Stands st s (Add b won) queue → won ≤ length (batch_at st b).values
 adds_tidy = states.adds_tidy
 
+-- where a call is about to insert its batch at a slot, that slot neither lists nor walks the batch
+pub tried_unheld : (st : State) (s b won m : ℕ) (later saw queue : List ℕ) → IsReached st → Stands st s (Try b won m later saw) queue → (Lists st m b → ⊥) × (Walks st m b → ⊥)
+tried_unheld = tried.tried_unheld
+
 -- Counts in a reached state.
 
 -- each lies between minus and plus the number of slots
@@ -276,6 +281,10 @@ batched_named = live.batched_named
 -- and it is in no other retired batch
 pub batched_once : (st : State) → IsReached st → (b c v : ℕ) → Contains (batch_at st b).values v → Contains (batch_at st c).values v → b ≡ c
 batched_once = live.batched_once
+
+-- nor twice in its batch
+pub batch_distinct : (st : State) → IsReached st → (b : ℕ) → are_distinct (batch_at st b).values ≡ true
+batch_distinct = tried.batch_distinct
 
 -- a value in a link was named and is not gone
 pub linked_named : (st : State) → IsReached st → (l v : ℕ) → link_at st l ≡ Some v → (has v st.named ≡ true) × (has v st.gone ≡ false)

@@ -8,3 +8,4 @@ pub mod Always
 pub mod Reached
 pub mod States
 pub mod Live
+pub mod Tried

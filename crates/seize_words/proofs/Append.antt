@@ -1,7 +1,8 @@
 -- The step of the list, once for all events. Assumes `Logic`.
-use Rattle.std.proofs.Common.{◌≡◌, ℕ, zero, suc, ◌+◌, ◌-◌, ◌<◌, Bool, true, false, ◌==◌, if◌then◌else◌, List, [], ◌∷◌, ◌++◌, length, get_or, set, length-set, sym, refl, ap, ◌∙◌, subst, ◌⊎◌, inl, inr, ⊎_elim, Some, slice_get, arith}
+use Rattle.std.proofs.Common.{◌≡◌, ℕ, zero, suc, ◌+◌, ◌-◌, ◌<◌, ◌≤◌, Bool, true, false, ◌==◌, if◌then◌else◌, List, [], ◌∷◌, ◌++◌, length, get_or, set, length-set, sym, refl, ap, ◌∙◌, subst, ◌⊎◌, inl, inr, ⊎_elim, Some, slice_get, arith}
 use Rattle.std.specs.Prelude.{take, drop as past}
 use mathlib.Core.List.{IsPrefix}
+use mathlib.Core.Path.{fun_ext}
 use seplogic.Ra.Ura.{Ura}
 use native.Mathlib.Decide.{ℕ_discrete}
 use base.Fraction.{full_share}
@@ -11,7 +12,7 @@ use base.Fml.{Fml, ftrue}
 use base.Growing.{latest}
 use types.Logic.{Logic, sem}
 use types.Growing.{latest_grows, latest_shows, latest_bounds}
-use types.Kit.{‵, raw, ◌⊛◌, some, given, later, ◌$◌, ◌∵◌, !, qed, by, move, keep, drop, split, split3, join, fsplit, fsplit3, fjoin, fjoin3, fpick, fpack, pick, learn, show, check, frame, each, assume, suffices, settle, done, use0, use1, use2, use3, updating, await, now, rewrite}
+use types.Kit.{‵, raw, ◌⊛◌, some, given, ◌$◌, ◌∵◌, !, qed, by, move, keep, drop, split, split3, join, fsplit, fsplit3, fjoin, fjoin3, fpick, fpack, pick, learn, show, check, frame, each, assume, suffices, settle, done, use1, use2, use3, rewrite}
 use denote.Steps.{nothing}
 use Rattle.seize_words.specs.Ledger.{Held, logs, roster, rosters, right, rights, reached, first, rest, row, Rules, Holds, standing, contents, Beside, WithKinds, renewed, AllKept, Known, Goes, AllBelow, born, bumped, AreNext, all_bumped, AllThere}
 use Rattle.seize_words.proofs.Roster.{has, sets, mints}
@@ -117,41 +118,38 @@ eq_true a b h = grind arith
 abbrev pub sizes : {E : Type 0} → List (List (List E)) → ℕ → ℕ
 sizes rows r = length (row rows r)
 
+size_more : {E : Type 0} (rows : List (List (List E))) (b : ℕ) (log : List E) → sizes (one_more rows b log) b ≡ sizes rows b + 1
+size_more rows b log = ap length (put_same rows b (row rows b ++ log ∷ [])) ∙ length_more (row rows b) log
+
 more_sizes : {E : Type 0} (rows : List (List (List E))) (b : ℕ) (log : List E) (r : ℕ) → sizes (one_more rows b log) r ≡ bumped b (sizes rows) r
 more_sizes rows b log r = go (is_true (r == b))
   where
     go : ((r == b) ≡ true) ⊎ ((r == b) ≡ false) → sizes (one_more rows b log) r ≡ (if r == b then sizes rows r + 1 else sizes rows r)
-    go (inl t) = let e : r ≡ b = eq_true r b t in ap (sizes (one_more rows b log)) e ∙ ap length (put_same rows b (row rows b ++ log ∷ [])) ∙ length_more (row rows b) log ∙ ap (λ (z : ℕ). sizes rows z + 1) (sym e) ∙ ap (λ (y : Bool). if y then sizes rows r + 1 else sizes rows r) (sym t)
+    go (inl t) = let e : r ≡ b = eq_true r b t in ap (sizes (one_more rows b log)) e ∙ size_more rows b log ∙ ap (λ (z : ℕ). sizes rows z + 1) (sym e) ∙ ap (λ (y : Bool). if y then sizes rows r + 1 else sizes rows r) (sym t)
     go (inr t) = ap length (put_other rows b r (row rows b ++ log ∷ []) (λ e. grind arith)) ∙ ap (λ (y : Bool). if y then sizes rows r + 1 else sizes rows r) (sym t)
-
-bumped_same : (b : ℕ) (f g : ℕ → ℕ) → ((r : ℕ) → f r ≡ g r) → (r : ℕ) → bumped b f r ≡ bumped b g r
-bumped_same b f g e r = ap (λ (n : ℕ). if r == b then n + 1 else n) (e r)
-
-next_same : (births : List (ℕ × ℕ)) (f g : ℕ → ℕ) → ((r : ℕ) → f r ≡ g r) → AreNext f births → AreNext g births
-next_same [] f g e h = tt
-next_same (b ∷ births) f g e h = (sym (e b.0) ∙ h.0, next_same births (bumped b.0 f) (bumped b.0 g) (bumped_same b.0 f g e) h.1)
-
-bumps_same : (births : List (ℕ × ℕ)) (f g : ℕ → ℕ) → ((r : ℕ) → f r ≡ g r) → (r : ℕ) → all_bumped births f r ≡ all_bumped births g r
-bumps_same [] f g e r = e r
-bumps_same (b ∷ births) f g e r = bumps_same births (bumped b.0 f) (bumped b.0 g) (bumped_same b.0 f g e) r
 
 pub grown_sizes : {E : Type 0} (rows : List (List (List E))) (births : List (ℕ × ℕ)) (log : List E) (r : ℕ) → sizes (grown rows births log) r ≡ all_bumped births (sizes rows) r
 grown_sizes rows [] log r = refl
-grown_sizes rows (b ∷ births) log r = grown_sizes (one_more rows b.0 log) births log r ∙ bumps_same births (sizes (one_more rows b.0 log)) (bumped b.0 (sizes rows)) (more_sizes rows b.0 log) r
+grown_sizes rows (b ∷ births) log r = grown_sizes (one_more rows b.0 log) births log r ∙ ap (λ (many : ℕ → ℕ). all_bumped births many r) (fun_ext (more_sizes rows b.0 log))
 
--- the rows, with some new keys of one kind
-abbrev many_more : {E : Type 0} → ℕ → List (List (List E)) → ℕ → List E → List (List (List E))
-many_more zero rows r log = rows
-many_more (suc d) rows r log = one_more (many_more d rows r log) r log
+-- how many there are of each kind, once there is this key
+abbrev pub up_to : ℕ × ℕ → (ℕ → ℕ) → ℕ → ℕ
+up_to b many r = if r == b.0 then suc b.1 else many r
 
-many_sizes : {E : Type 0} (d : ℕ) (rows : List (List (List E))) (r : ℕ) (log : List E) → sizes (many_more d rows r log) r ≡ sizes rows r + d
-many_sizes zero rows r log = omega arith
-many_sizes (suc d) rows r log = let before = many_more d rows r log in
-    let one : sizes (one_more before r log) r ≡ sizes before r + 1 = ap length (put_same before r (row before r ++ log ∷ [])) ∙ length_more (row before r) log in omega (arith, one, many_sizes d rows r log)
+up_to_last : {E : Type 0} (rows : List (List (List E))) (b : ℕ × ℕ) (log : List E) → sizes rows b.0 ≡ b.1 → up_to b (sizes rows) ≡ sizes (one_more rows b.0 log)
+up_to_last rows b log e = fun_ext (λ r. let one = more_sizes rows b.0 log r in grind arith)
 
-many_others : {E : Type 0} (d : ℕ) (rows : List (List (List E))) (r q : ℕ) (log : List E) → ¬ (q ≡ r) → sizes (many_more d rows r log) q ≡ sizes rows q
-many_others zero rows r q log apart = refl
-many_others (suc d) rows r q log apart = let before = many_more d rows r log in ap length (put_other before r q (row before r ++ log ∷ []) apart) ∙ many_others d rows r q log apart
+up_to_more : {E : Type 0} (rows : List (List (List E))) (b : ℕ × ℕ) (log : List E) → up_to b (sizes rows) ≡ up_to b (sizes (one_more rows b.0 log))
+up_to_more rows b log = fun_ext (λ r. let one = more_sizes rows b.0 log r in grind arith)
+
+-- there may always be one more of the kind
+abbrev pub OneMore : {E : Type 0} → Rules E → ℕ → Type 0
+OneMore {E} rules r = (log : List E) (j : ℕ) → rules.Sized r j log → rules.Sized r (j + 1) log
+
+-- each of these keys is of one of n kinds, of which there may always be one more, and there is neither it nor a later one
+abbrev pub MayMint : {E : Type 0} → Rules E → ℕ → (ℕ → ℕ) → List (ℕ × ℕ) → Type 0
+MayMint rules n many [] = Unit {0}
+MayMint rules n many (b ∷ births) = (b.0 < n) × OneMore rules b.0 × (many b.0 ≤ b.1) × MayMint rules n (up_to b many) births
 
 module _ {E : Type 0} (c : Coded E) (rules : Rules E) (extra : List E → Fml) (η : ℕ) (δs : List ℕ) {M : Type 1} {𝓤 : Ura M} (𝓛 : Logic 𝓤) where
   open 𝓛 use {H, A}
@@ -228,14 +226,24 @@ module _ {E : Type 0} (c : Coded E) (rules : Rules E) (extra : List E → Fml) (
       use2 𝓛 (raw (upd 𝓤 (⟦ rosters c δs (puts rows' hs log) ⟧ ∗ ⟦ rights c δs (renewed hs log) ⟧))) (sets_rights rows' hs log w.1) $ settle 𝓛 Z (‵ (rosters c δs (puts rows' hs log)) ⊛ ‵ (rights c δs (renewed hs log))) $ split ! $
       suffices ! _ (upd_i 𝓤 Z) $ frame ! $ move ! (1 ∷ 0 ∷ []) $ done !
 
+  -- a new key, and those that are made after it
+  mints_one : (rows last : Rows) (b : ℕ × ℕ) (births : List (ℕ × ℕ)) (log : List E) → b.0 < length δs → sizes rows b.0 ≡ b.1 → ⟦ rosters c δs (one_more rows b.0 log) ⟧ ⊢ upd 𝓤 (⟦ rosters c δs last ⟧ ∗ ⟦ rights c δs (born births log) ⟧)
+      → ⟦ rosters c δs rows ⟧ ⊢ upd 𝓤 (⟦ rosters c δs last ⟧ ∗ ⟦ rights c δs (born (b ∷ births) log) ⟧)
+  mints_one rows last b births log below is others = let rows' : Rows = one_more rows b.0 log in let k : ℕ = sizes rows b.0 in let Z : Pr = ⟦ rosters c δs last ⟧ ∗ ⟦ rights c δs (born (b ∷ births) log) ⟧ in
+      qed 𝓛 (‵ (rosters c δs rows) ∷ []) ∵ use1 𝓛 (raw (upd 𝓤 (⟦ rosters c δs rows' ⟧ ∗ ⟦ right c δs b.0 k log ⟧))) (mints_right rows b.0 log below) $ settle 𝓛 Z (‵ (rosters c δs rows') ⊛ ‵ (right c δs b.0 k log)) $ split ! $
+      rewrite ! 1 (λ (j : ℕ). ‵ (right c δs b.0 j log)) is refl $ use1 𝓛 (raw (upd 𝓤 (⟦ rosters c δs last ⟧ ∗ ⟦ rights c δs (born births log) ⟧))) others $
+      settle 𝓛 Z (‵ (rosters c δs last) ⊛ ‵ (rights c δs (born births log))) $ split ! $ suffices ! _ (upd_i 𝓤 Z) $ frame ! $ move ! (1 ∷ 0 ∷ []) $ fjoin ! $ done !
+
+  -- a new key that nobody holds, and what is made after it
+  drops_one : (rows : Rows) (r : ℕ) (log : List E) (Z : Pr) → r < length δs → ⟦ rosters c δs (one_more rows r log) ⟧ ⊢ upd 𝓤 Z → ⟦ rosters c δs rows ⟧ ⊢ upd 𝓤 Z
+  drops_one rows r log Z below others = let rows' : Rows = one_more rows r log in let k : ℕ = sizes rows r in
+      qed 𝓛 (‵ (rosters c δs rows) ∷ []) ∵ use1 𝓛 (raw (upd 𝓤 (⟦ rosters c δs rows' ⟧ ∗ ⟦ right c δs r k log ⟧))) (mints_right rows r log below) $ settle 𝓛 Z (‵ (rosters c δs rows') ⊛ ‵ (right c δs r k log)) $ split ! $ keep ! (0 ∷ []) $ by ! others
+
   -- the rights to new keys
   pub borns : (rows : Rows) (births : List (ℕ × ℕ)) (log : List E) → AllBelow (length δs) births → AreNext (sizes rows) births → ⟦ rosters c δs rows ⟧ ⊢ upd 𝓤 (⟦ rosters c δs (grown rows births log) ⟧ ∗ ⟦ rights c δs (born births log) ⟧)
   borns rows [] log below next = qed 𝓛 (‵ (rosters c δs rows) ∷ []) ∵ suffices ! _ (upd_i 𝓤 (⟦ rosters c δs rows ⟧ ∗ ⟦ ftrue ⟧)) $ frame ! $ nothing ! $ done !
-  borns rows (b ∷ births) log below next = let rows' : Rows = one_more rows b.0 log in let k : ℕ = length (row rows b.0) in let Z : Pr = ⟦ rosters c δs (grown rows' births log) ⟧ ∗ ⟦ rights c δs (born (b ∷ births) log) ⟧ in
-      qed 𝓛 (‵ (rosters c δs rows) ∷ []) ∵ use1 𝓛 (raw (upd 𝓤 (⟦ rosters c δs rows' ⟧ ∗ ⟦ right c δs b.0 k log ⟧))) (mints_right rows b.0 log below.0) $ settle 𝓛 Z (‵ (rosters c δs rows') ⊛ ‵ (right c δs b.0 k log)) $ split ! $
-      rewrite ! 1 (λ (j : ℕ). ‵ (right c δs b.0 j log)) next.0 refl $
-      use1 𝓛 (raw (upd 𝓤 (⟦ rosters c δs (grown rows' births log) ⟧ ∗ ⟦ rights c δs (born births log) ⟧))) (borns rows' births log below.1 (next_same births (bumped b.0 (sizes rows)) (sizes rows') (λ r. sym (more_sizes rows b.0 log r)) next.1)) $
-      settle 𝓛 Z (‵ (rosters c δs (grown rows' births log)) ⊛ ‵ (rights c δs (born births log))) $ split ! $ suffices ! _ (upd_i 𝓤 Z) $ frame ! $ move ! (1 ∷ 0 ∷ []) $ fjoin ! $ done !
+  borns rows (b ∷ births) log below next = let rows' : Rows = one_more rows b.0 log in
+      mints_one rows (grown rows' births log) b births log below.0 next.0 (borns rows' births log below.1 (subst (λ (many : ℕ → ℕ). AreNext many births) (sym (fun_ext (more_sizes rows b.0 log))) next.1))
 
   pub joins : (xs ys : List (Held E)) → ⟦ rights c δs xs ⟧ ∗ ⟦ rights c δs ys ⟧ ⊢ ⟦ rights c δs (xs ++ ys) ⟧
   joins [] ys = qed 𝓛 (‵ ftrue ∷ ‵ (rights c δs ys) ∷ []) ∵ keep ! (1 ∷ []) $ done !
@@ -290,7 +298,7 @@ module _ {E : Type 0} (c : Coded E) (rules : Rules E) (extra : List E → Fml) (
         legal = g.0;
         kept = λ r k own h. ⊎_elim (λ (e : own ≡ log'). subst (λ (x : List E). rules.Kept r k x log') (sym e) (same r k log'))
             (λ h'. ⊎_elim (λ (e : own ≡ log'). subst (λ (x : List E). rules.Kept r k x log') (sym e) (same r k log')) (λ t. g.1 r k own t.0 (sizes rows r, so.sized r, get_lt (row rows r) k own t.1) (so.kept r k own t.1)) (has_puts rows held log' r k own h')) (has_grown mid (births log) log' r k own h);
-        sized = λ r. subst (λ (j : ℕ). rules.Sized r j log') (bumps_same (births log) (sizes rows) (sizes mid) (λ q. sym (puts_length rows held log' q)) r ∙ sym (grown_sizes mid (births log) log' r)) ((g.2 (sizes rows) so.sized there).1 r);
+        sized = λ r. subst (λ (j : ℕ). rules.Sized r j log') (ap (λ (many : ℕ → ℕ). all_bumped (births log) many r) (sym (fun_ext (puts_length rows held log'))) ∙ sym (grown_sizes mid (births log) log' r)) ((g.2 (sizes rows) so.sized there).1 r);
       }
 
   -- what is had after an event was appended
@@ -311,7 +319,7 @@ module _ {E : Type 0} (c : Coded E) (rules : Rules E) (extra : List E → Fml) (
       move ! (1 ∷ 4 ∷ []) $ use2 𝓛 (given (Told log) (‵ (extra log) ⊛ raw X)) (tells log so.1) $ learn ! (λ told. split ! $
       -- [extra; X; top; rights; rosters]
       move ! (4 ∷ 3 ∷ []) $ use2 𝓛 (raw (upd 𝓤 (⟦ rosters c δs mid ⟧ ∗ ⟦ rights c δs (renewed held log') ⟧))) (sets_rights rows held log' w) $ settle 𝓛 Z (‵ (rosters c δs mid) ⊛ ‵ (rights c δs (renewed held log'))) $ split ! $
-      use1 𝓛 (raw (upd 𝓤 (⟦ rosters c δs rows' ⟧ ∗ ⟦ rights c δs new ⟧))) (borns mid (births log) log' (below log) (next_same (births log) (sizes rows) (sizes mid) (λ q. sym (puts_length rows held log' q)) ((goes log so.1 told).2 (sizes rows) so.0.sized so.2).0)) $ settle 𝓛 Z (‵ (rosters c δs rows') ⊛ ‵ (rights c δs new)) $ split ! $
+      use1 𝓛 (raw (upd 𝓤 (⟦ rosters c δs rows' ⟧ ∗ ⟦ rights c δs new ⟧))) (borns mid (births log) log' (below log) (subst (λ (many : ℕ → ℕ). AreNext many (births log)) (sym (fun_ext (puts_length rows held log'))) ((goes log so.1 told).2 (sizes rows) so.0.sized so.2).0)) $ settle 𝓛 Z (‵ (rosters c δs rows') ⊛ ‵ (rights c δs new)) $ split ! $
       -- [rosters; new rights; rights; extra; X; top]
       move ! (2 ∷ 1 ∷ []) $ use2 𝓛 (‵ (rights c δs (renewed held log' ++ new))) (joins (renewed held log') new) $ move ! (1 ∷ 0 ∷ []) $
       -- [rosters; rights; extra; X; top]
@@ -373,7 +381,7 @@ module _ {E : Type 0} (c : Coded E) (rules : Rules E) (extra : List E → Fml) (
       no_more : (log : List E) → Known rules held seen log → ⟦ extra log ⟧ ∗ ⟦ ftrue ⟧ ⊢ guard 𝓤 (Unit {0}) (⟦ extra log ⟧ ∗ ⟦ ftrue ⟧)
       no_more log known = qed 𝓛 (‵ (extra log) ∷ ‵ ftrue ∷ []) ∵ check ! tt $ done !
 
-  holds_minted : (rows : Rows) (r : ℕ) (log : List E) → KeptNow → ((j : ℕ) → rules.Sized r j log → rules.Sized r (j + 1) log) → Holds rules rows log → Holds rules (one_more rows r log) log
+  holds_minted : (rows : Rows) (r : ℕ) (log : List E) → KeptNow → OneMore rules r → Holds rules rows log → Holds rules (one_more rows r log) log
   holds_minted rows r log same more so = record {
     legal = so.legal;
     kept = λ q k own h. ⊎_elim (λ (i : own ≡ log). subst (λ (x : List E). rules.Kept q k x log) (sym i) (same q k log)) (λ t. so.kept q k own t) (has_more rows r log q k own h);
@@ -381,73 +389,37 @@ module _ {E : Type 0} (c : Coded E) (rules : Rules E) (extra : List E → Fml) (
   }
     where
       go : (q : ℕ) → ((q == r) ≡ true) ⊎ ((q == r) ≡ false) → rules.Sized q (bumped r (sizes rows) q) log
-      go q (inl t) = let e : q ≡ r = eq_true q r t in subst (λ (y : Bool). rules.Sized q (if y then sizes rows q + 1 else sizes rows q) log) (sym t) (subst (λ (z : ℕ). rules.Sized z (sizes rows z + 1) log) (sym e) (more (sizes rows r) (so.sized r)))
+      go q (inl t) = let e : q ≡ r = eq_true q r t in subst (λ (y : Bool). rules.Sized q (if y then sizes rows q + 1 else sizes rows q) log) (sym t) (subst (λ (z : ℕ). rules.Sized z (sizes rows z + 1) log) (sym e) (more log (sizes rows r) (so.sized r)))
       go q (inr t) = subst (λ (y : Bool). rules.Sized q (if y then sizes rows q + 1 else sizes rows q) log) (sym t) (so.sized q)
 
-  holds_many : (d : ℕ) (rows : Rows) (r : ℕ) (log : List E) → KeptNow → ((j : ℕ) → rules.Sized r j log → rules.Sized r (j + 1) log) → Holds rules rows log → Holds rules (many_more d rows r log) log
-  holds_many zero rows r log same more so = so
-  holds_many (suc d) rows r log same more so = holds_minted (many_more d rows r log) r log same more (holds_many d rows r log same more so)
+  -- new keys and no event: the rows, and the rights to these
+  abbrev Mints : List (ℕ × ℕ) → List E → Rows → Type 1
+  Mints births log rows = (rows' : Rows) × Holds rules rows' log × (⟦ rosters c δs rows ⟧ ⊢ upd 𝓤 (⟦ rosters c δs rows' ⟧ ∗ ⟦ rights c δs (born births log) ⟧))
 
-  -- the right to the last of them: nobody holds the others
-  mints_last : (d : ℕ) (rows : Rows) (r : ℕ) (log : List E) → r < length δs → ⟦ rosters c δs rows ⟧ ⊢ upd 𝓤 (⟦ rosters c δs (many_more (suc d) rows r log) ⟧ ∗ ⟦ right c δs r (sizes (many_more d rows r log) r) log ⟧)
-  mints_last zero rows r log h = mints_right rows r log h
-  mints_last (suc d) rows r log h = let before : Rows = many_more (suc d) rows r log in let k : ℕ = sizes (many_more d rows r log) r in
-      let Z : Pr = ⟦ rosters c δs (many_more (suc (suc d)) rows r log) ⟧ ∗ ⟦ right c δs r (sizes before r) log ⟧ in qed 𝓛 (‵ (rosters c δs rows) ∷ []) ∵
-      use1 𝓛 (raw (upd 𝓤 (⟦ rosters c δs before ⟧ ∗ ⟦ right c δs r k log ⟧))) (mints_last d rows r log h) $ settle 𝓛 Z (‵ (rosters c δs before) ⊛ ‵ (right c δs r k log)) $ split ! $
-      keep ! (0 ∷ []) $ by ! (mints_right before r log h)
+  -- a key, and others after it: nobody holds those of its kind that are made before it
+  fills : (d : ℕ) (b : ℕ × ℕ) (births : List (ℕ × ℕ)) (log : List E) → KeptNow → b.0 < length δs → OneMore rules b.0 → ((rows : Rows) → Holds rules rows log → MayMint rules (length δs) (sizes rows) births → Mints births log rows)
+      → (rows : Rows) → Holds rules rows log → sizes rows b.0 + d ≡ b.1 → MayMint rules (length δs) (up_to b (sizes rows)) births → Mints (b ∷ births) log rows
+  fills zero b births log same below more others rows so is may = let last : sizes rows b.0 ≡ b.1 = omega (arith, is) in
+      let made = others (one_more rows b.0 log) (holds_minted rows b.0 log same more so) (subst (λ (many : ℕ → ℕ). MayMint rules (length δs) many births) (up_to_last rows b log last) may) in
+      (made.0, made.1, mints_one rows made.0 b births log below last made.2)
+  fills (suc d) b births log same below more others rows so is may = let rows' : Rows = one_more rows b.0 log in
+      let made = fills d b births log same below more others rows' (holds_minted rows b.0 log same more so) (omega (arith, is, size_more rows b.0 log)) (subst (λ (many : ℕ → ℕ). MayMint rules (length δs) many births) (up_to_more rows b log) may) in
+      (made.0, made.1, drops_one rows b.0 log (⟦ rosters c δs made.0 ⟧ ∗ ⟦ rights c δs (born (b ∷ births) log) ⟧) below made.2)
 
-  -- new keys, whatever keys there are, and no event: rows, the number, and what is told and had of them
-  abbrev Makes : (ℕ → List E → Type 0) → (ℕ → List E → Pr) → Type 1
-  Makes Told Y = (rows : Rows) (log : List E) → Holds rules rows log → (rows' : Rows) × (k : ℕ) × Holds rules rows' log × Told k log × (⟦ rosters c δs rows ⟧ ⊢ upd 𝓤 (⟦ rosters c δs rows' ⟧ ∗ Y k log))
+  mints_all : (births : List (ℕ × ℕ)) (log : List E) → KeptNow → (rows : Rows) → Holds rules rows log → MayMint rules (length δs) (sizes rows) births → Mints births log rows
+  mints_all [] log same rows so may = (rows, so, borns rows [] log tt tt)
+  mints_all (b ∷ births) log same rows so may = fills (b.1 - sizes rows b.0) b births log same may.0 may.1 (mints_all births log same) rows so (omega (arith, may.2)) may.3
 
-  abbrev Made : List E → (ℕ → List E → Type 0) → (ℕ → List E → Pr) → ℕ × List E → Pr
-  Made seen Told Y t = guard 𝓤 (rules.Legal t.1 × IsPrefix seen t.1 × Told t.0 t.1) (⟦ J ⟧ ∗ Y t.0 t.1 ∗ ⟦ had t.1 ⟧)
+  -- New keys, picked by how many there are of each kind, and the rights to them. Those of a kind with smaller numbers that there were not are
+  -- made too, and nobody holds them.
+  abbrev pub Minted : List E → ((ℕ → ℕ) → List (ℕ × ℕ)) → (ℕ → ℕ) × List E → Pr
+  Minted seen births t = guard 𝓤 (rules.Legal t.1 × IsPrefix seen t.1 × ((r : ℕ) → rules.Sized r (t.0 r) t.1)) (⟦ J ⟧ ∗ ⟦ rights c δs (born (births t.0) t.1) ⟧ ∗ ⟦ had t.1 ⟧)
 
-  makes : (seen : List E) (Told : ℕ → List E → Type 0) (Y : ℕ → List E → Pr) → Makes Told Y → ⟦ J ⟧ ∗ ⟦ had seen ⟧ ⊢ upd 𝓤 (ex 𝓤 (Made seen Told Y))
-  makes seen Told Y may = let Z : Pr = ex 𝓤 (Made seen Told Y) in qed 𝓛 (‵ J ∷ ‵ (had seen) ∷ []) ∵ nothing ! $ move ! (1 ∷ 0 ∷ 2 ∷ []) $ use3 𝓛 (seeing [] seen) (looked [] seen tt) $ pick ! (λ s. learn ! (λ so.
-      let log : List E = s.1 in let made = may s.0 log so.0 in let rows : Rows = made.0 in let k : ℕ = made.1 in split ! $ move ! (1 ∷ []) $ split3 ! $ move ! (3 ∷ []) $
-      use1 𝓛 (raw (upd 𝓤 (⟦ rosters c δs rows ⟧ ∗ Y k log))) made.4 $ settle 𝓛 Z (‵ (rosters c δs rows) ⊛ raw (Y k log)) $ split ! $
-      -- [rosters; Y; top; extra; nothing]
+  pub mint : (seen : List E) (births : (ℕ → ℕ) → List (ℕ × ℕ)) → KeptNow → ((many : ℕ → ℕ) → MayMint rules (length δs) many (births many)) → ⟦ J ⟧ ∗ ⟦ had seen ⟧ ⊢ upd 𝓤 (ex 𝓤 (Minted seen births))
+  mint seen births same may = let Z : Pr = ex 𝓤 (Minted seen births) in qed 𝓛 (‵ J ∷ ‵ (had seen) ∷ []) ∵ nothing ! $ move ! (1 ∷ 0 ∷ 2 ∷ []) $ use3 𝓛 (seeing [] seen) (looked [] seen tt) $ pick ! (λ s. learn ! (λ so.
+      let log : List E = s.1 in let many : ℕ → ℕ = sizes s.0 in let made = mints_all (births many) log same s.0 so.0 (may many) in split ! $ move ! (1 ∷ []) $ split3 ! $ move ! (3 ∷ []) $
+      use1 𝓛 (raw (upd 𝓤 (⟦ rosters c δs made.0 ⟧ ∗ ⟦ rights c δs (born (births many) log) ⟧))) made.2 $ settle 𝓛 Z (‵ (rosters c δs made.0) ⊛ ‵ (rights c δs (born (births many) log))) $ split ! $
+      -- [rosters; rights; top; extra; nothing]
       move ! (2 ∷ []) $ use1 𝓛 (‵ (top log) ⊛ ‵ (had log)) (latest_shows (logs c) 𝓛 full_share η log log ([], mathlib.Core.List.append-nil log)) $ split ! $
-      move ! (2 ∷ 0 ∷ 4 ∷ []) $ use3 𝓛 (‵ J) (shut rows log made.2) $ suffices ! _ (upd_i 𝓤 Z) $
-      show ! (Made seen Told Y) (k, log) $ check ! (so.1.0, so.1.1, made.3) $ keep ! (0 ∷ 2 ∷ 1 ∷ []) $ done !))
-
-  -- there may always be one more of the kind
-  abbrev OneMore : ℕ → Type 0
-  OneMore r = (log : List E) (j : ℕ) → rules.Sized r j log → rules.Sized r (j + 1) log
-
-  -- A new key of a kind of which there may always be one more: the next number.
-  abbrev pub Minted : ℕ → List E → ℕ × List E → Pr
-  Minted r seen t = guard 𝓤 (rules.Legal t.1 × IsPrefix seen t.1 × rules.Sized r t.0 t.1) (⟦ J ⟧ ∗ ⟦ right c δs r t.0 t.1 ⟧ ∗ ⟦ had t.1 ⟧)
-
-  pub mint : (r : ℕ) (seen : List E) → r < length δs → KeptNow → OneMore r → ⟦ J ⟧ ∗ ⟦ had seen ⟧ ⊢ upd 𝓤 (ex 𝓤 (Minted r seen))
-  mint r seen h same more = makes seen (rules.Sized r) (λ k log. ⟦ right c δs r k log ⟧) (λ rows log so. (one_more rows r log, sizes rows r, holds_minted rows r log same (more log) so, so.sized r, mints_right rows r log h))
-
-  -- Two new keys of two kinds, of which there may always be one more, with one number.
-  abbrev pub MintedBoth : ℕ → ℕ → List E → ℕ × List E → Pr
-  MintedBoth r q seen t = guard 𝓤 (rules.Legal t.1 × IsPrefix seen t.1 × rules.Sized r t.0 t.1 × rules.Sized q t.0 t.1) (⟦ J ⟧ ∗ ⟦ right c δs r t.0 t.1 ⟧ ∗ ⟦ right c δs q t.0 t.1 ⟧ ∗ ⟦ had t.1 ⟧)
-
-  pub mint_both : (r q : ℕ) (seen : List E) → ¬ (r ≡ q) → r < length δs → q < length δs → KeptNow → OneMore r → OneMore q
-      → ⟦ J ⟧ ∗ ⟦ had seen ⟧ ⊢ upd 𝓤 (ex 𝓤 (MintedBoth r q seen))
-  mint_both r q seen apart hr hq same more_r more_q = let Z : Pr = ex 𝓤 (MintedBoth r q seen) in qed 𝓛 (‵ J ∷ ‵ (had seen) ∷ []) ∵
-      use2 𝓛 (raw (upd 𝓤 (ex 𝓤 (Made seen Told Y)))) (makes seen Told Y both) $ settle 𝓛 Z (some (λ (t : ℕ × List E). given (rules.Legal t.1 × IsPrefix seen t.1 × Told t.0 t.1) (‵ J ⊛ (‵ (right c δs r t.0 t.1) ⊛ ‵ (right c δs q t.0 t.1)) ⊛ ‵ (had t.1)))) $
-      suffices ! _ (upd_i 𝓤 Z) $ pick ! (λ t. learn ! (λ so. split3 ! $ move ! (1 ∷ []) $ split ! $ show ! (MintedBoth r q seen) t $ check ! (so.0, so.1, so.2.0, so.2.1) $ keep ! (2 ∷ 0 ∷ 1 ∷ 3 ∷ []) $ done !))
-    where
-      Told : ℕ → List E → Type 0
-      Told k log = rules.Sized r k log × rules.Sized q k log
-
-      Y : ℕ → List E → Pr
-      Y k log = ⟦ right c δs r k log ⟧ ∗ ⟦ right c δs q k log ⟧
-
-      both : Makes Told Y
-      both rows log so = let d : ℕ = sizes rows q - sizes rows r in let e : ℕ = sizes rows r - sizes rows q in let mid : Rows = many_more (suc d) rows r log in let last : Rows = many_more (suc e) mid q log in
-          let k : ℕ = sizes (many_more d rows r log) r in let l : ℕ = sizes (many_more e mid q log) q in let one : l ≡ k = omega (arith, many_sizes d rows r log, many_sizes e mid q log, many_others (suc d) rows r q log (λ i. apart (sym i))) in
-          let holds = holds_many (suc d) rows r log same (more_r log) so in (
-            last,
-            k,
-            holds_many (suc e) mid q log same (more_q log) holds,
-            ((holds_many d rows r log same (more_r log) so).sized r, subst (λ (x : ℕ). rules.Sized q x log) one ((holds_many e mid q log same (more_q log) holds).sized q)),
-            qed 𝓛 (‵ (rosters c δs rows) ∷ []) ∵ use1 𝓛 (raw (upd 𝓤 (⟦ rosters c δs mid ⟧ ∗ ⟦ right c δs r k log ⟧))) (mints_last d rows r log hr) $ settle 𝓛 (⟦ rosters c δs last ⟧ ∗ Y k log) (‵ (rosters c δs mid) ⊛ ‵ (right c δs r k log)) $ split ! $
-                use1 𝓛 (raw (upd 𝓤 (⟦ rosters c δs last ⟧ ∗ ⟦ right c δs q l log ⟧))) (mints_last e mid q log hq) $ settle 𝓛 (⟦ rosters c δs last ⟧ ∗ Y k log) (‵ (rosters c δs last) ⊛ ‵ (right c δs q l log)) $ split ! $
-                rewrite ! 1 (λ (j : ℕ). ‵ (right c δs q j log)) one refl $ suffices ! _ (upd_i 𝓤 (⟦ rosters c δs last ⟧ ∗ Y k log)) $ frame ! $ move ! (1 ∷ 0 ∷ []) $ done !,
-          )
+      move ! (2 ∷ 0 ∷ 4 ∷ []) $ use3 𝓛 (‵ J) (shut made.0 log made.1) $ suffices ! _ (upd_i 𝓤 Z) $
+      show ! (Minted seen births) (many, log) $ check ! (so.1.0, so.1.1, so.0.sized) $ keep ! (0 ∷ 2 ∷ 1 ∷ []) $ done !))

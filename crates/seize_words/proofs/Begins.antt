@@ -22,6 +22,8 @@ use Rattle.seize_words.specs.Homes.{IsSound}
 use Rattle.seize_words.specs.Tokens.{Name, Gate, many, sole, IsSole, rows, start, inside, beside, gate_keeps, gate_gives, keys_own, pass_at, pass_holds}
 use Rattle.seize_words.specs.Begin.{BeganWith, unused, first_links, first_keys, book_owns}
 use Rattle.seize_words.proofs.Append.{grown, borns, has_grown, shut, sizes, grown_sizes}
+use Rattle.seize_words.specs.Chains.{told}
+use Rattle.seize_words.proofs.Chains.{chained_opening}
 use Rattle.seize_words.proofs.Goes.{kept_now}
 
 -- the keys of the beginning, by kind and number: of the first pass, of the numbers, and of each link
@@ -73,7 +75,7 @@ sound_first n = record { one = λ v w home a b c d. absurd (let x : has v [] ≡
 
 holds_first : (n : ℕ) → Holds (rules (opening 0 (empty n))) (grown [] (firsts n) []) []
 holds_first n = record {
-  legal = (refl, sound_first n);
+  legal = (refl, sound_first n, chained_opening 0 (empty n) (told []));
   kept = λ r k own h. ⊎_elim (λ (e : own ≡ []). subst (λ (x : List Entry). Kept (opening 0 (empty n)) (kind_of r) k x []) (sym e) (kept_now (opening 0 (empty n)) r k []))
       (λ t. absurd (let h' : slice_get {X = List Entry} [] k ≡ Some own = subst (λ (z : List (List Entry)). slice_get z k ≡ Some own) (row_nil r) t in let m : Option.None ≡ Some own = h' in cc)) (has_grown [] (firsts n) [] r k own h);
   sized = λ r. subst (λ (j : ℕ). Sized (opening 0 (empty n)) (kind_of r) j []) (sym (grown_sizes [] (firsts n) [] r)) (go r);
@@ -85,9 +87,10 @@ holds_first n = record {
     go (suc (suc zero)) = bumped_other 0 n sizes_before 2 refl
     go (suc (suc (suc zero))) = bumped_other 0 n sizes_before 3 refl
     go (suc (suc (suc (suc zero)))) = omega (arith, bumped_links 0 n sizes_before, length-replicate {A = Option ℕ} n Option.None)
-    go (suc (suc (suc (suc (suc zero))))) = λ k le. refl
+    go (suc (suc (suc (suc (suc zero))))) = λ k le. (refl, refl)
     go (suc (suc (suc (suc (suc (suc zero)))))) = λ v le. ap (has v) (none_linked n)
-    go (suc (suc (suc (suc (suc (suc (suc r))))))) = tt
+    go (suc (suc (suc (suc (suc (suc (suc zero))))))) = λ f le. refl
+    go (suc (suc (suc (suc (suc (suc (suc (suc r)))))))) = tt
 
 module _ {M : Type 1} {𝓤 : Ura M} (𝓛 : Logic 𝓤) where
   open 𝓛 use {H, A}
@@ -125,9 +128,9 @@ module _ {M : Type 1} {𝓤 : Ura M} (𝓛 : Logic 𝓤) where
         use0 𝓛 fresh_row fresh $ await ! tt $ pick ! (λ d0. use0 𝓛 fresh_row fresh $ await ! tt $ pick ! (λ d1.
         use0 𝓛 fresh_row fresh $ await ! tt $ pick ! (λ d2. use0 𝓛 fresh_row fresh $ await ! tt $ pick ! (λ d3.
         use0 𝓛 fresh_row fresh $ await ! tt $ pick ! (λ d4. use0 𝓛 fresh_row fresh $ await ! tt $ pick ! (λ d5.
-        use0 𝓛 fresh_row fresh $ await ! tt $ pick ! (λ d6.
+        use0 𝓛 fresh_row fresh $ await ! tt $ pick ! (λ d6. use0 𝓛 fresh_row fresh $ await ! tt $ pick ! (λ d7.
         -- [the rosters, the last first]
-        nothing ! $ move ! (1 ∷ 0 ∷ []) $ fjoin ! $ move ! (1 ∷ 0 ∷ []) $ fjoin ! $ move ! (1 ∷ 0 ∷ []) $ fjoin ! $ move ! (1 ∷ 0 ∷ []) $ fjoin ! $ move ! (1 ∷ 0 ∷ []) $ fjoin ! $ move ! (1 ∷ 0 ∷ []) $ fjoin ! $ move ! (1 ∷ 0 ∷ []) $ fjoin ! $
+        nothing ! $ move ! (1 ∷ 0 ∷ []) $ fjoin ! $ move ! (1 ∷ 0 ∷ []) $ fjoin ! $ move ! (1 ∷ 0 ∷ []) $ fjoin ! $ move ! (1 ∷ 0 ∷ []) $ fjoin ! $ move ! (1 ∷ 0 ∷ []) $ fjoin ! $ move ! (1 ∷ 0 ∷ []) $ fjoin ! $ move ! (1 ∷ 0 ∷ []) $ fjoin ! $ move ! (1 ∷ 0 ∷ []) $ fjoin ! $
         use0 𝓛 (later (some (λ (η : ℕ). ‵ (latest (logs entry_coded) full_share η [])))) (via 𝓤 _ (latest_new (logs entry_coded) 𝓛 []) (basic 𝓛 _)) $ await ! tt $ pick ! (λ η.
         use1 𝓛 (‵ (latest (logs entry_coded) full_share η []) ⊛ ‵ (reached entry_coded η [])) (latest_shows (logs entry_coded) 𝓛 full_share η [] [] ([], refl)) $ split ! $
         move ! (1 ∷ []) $ use1 𝓛 (‵ (reached entry_coded η []) ⊛ ‵ (reached entry_coded η [])) (at_least_dup (logs entry_coded) 𝓛 η []) $ split ! $
@@ -143,6 +146,7 @@ module _ {M : Type 1} {𝓤 : Ura M} (𝓛 : Logic 𝓤) where
           link_keys = d4;
           count_keys = d5;
           block_keys = d6;
+          field_keys = d7;
           gate = g;
           size = size;
           slots = 0;
@@ -161,7 +165,7 @@ module _ {M : Type 1} {𝓤 : Ura M} (𝓛 : Logic 𝓤) where
         -- [nothing is past; the pass's key; the other keys; the book; the pass's copy; nothing was reached]
         move ! (4 ∷ 0 ∷ []) $ fjoin ! $ move ! (4 ∷ 0 ∷ []) $ fjoin ! $ move ! (1 ∷ 0 ∷ []) $ fjoin ! $ fpack ! (List Entry) (pass_at m 0 []) [] $
         rewrite ! 1 (λ (hs : List (Held Entry)). ‵ (keys_own m (unused numbers 0 ∷ hs))) (born_links 0 n) refl $
-        now ! $ show ! Begun m $ check ! (picked, (refl, refl, refl)) $ move ! (2 ∷ 0 ∷ 1 ∷ []) $ done !))))))))))))
+        now ! $ show ! Begun m $ check ! (picked, (refl, refl, refl)) $ move ! (2 ∷ 0 ∷ 1 ∷ []) $ done !)))))))))))))
 
   -- where many may append, and where one pass alone
   pub many_opens : emp 𝓤 ⊢ upd 𝓤 (ex 𝓤 (Opened (λ g. g ≡ many)))

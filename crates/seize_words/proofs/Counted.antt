@@ -1,33 +1,41 @@
 -- What is known after a step on a count's word by a slot's holder.
-use Rattle.std.proofs.Common.{◌≡◌, ℕ, zero, suc, ◌^◌, ◌<◌, arith, Bool, false, ◌==◌, if◌then◌else◌, List, [], ◌∷◌, ◌++◌, Some, sym, ◌∙◌, ap, subst}
-use Rattle.std.specs.Prelude.{slice_index_or}
+use Rattle.std.proofs.Common.{◌≡◌, ℕ, zero, suc, ◌^◌, ◌<◌, arith, ℤ, pos, ◌-ℤ◌, Bool, true, false, not, ◌==◌, if◌then◌else◌, List, [], ◌∷◌, ◌++◌, take, Some, refl, sym, ◌∙◌, ap, subst, ◌⊎◌, inl, inr}
+use Rattle.std.specs.Prelude.{drop, slice_index_or}
+use Rattle.std.specs.List.{Contains}
 use Rattle.std.proofs.lemmas.List.{get_or-set_same}
-use Rattle.seize_machine.specs.Machine.State.{State, Slot, Add, Rest, no_slot, slot_at, batch_at}
+use Rattle.seize_machine.specs.Machine.State.{State, Slot, Add, Rest, has, no_slot, slot_at, batch_at}
 use Rattle.seize_machine.specs.Machine.Event.{AddCount, Event, SubCount}
+use Rattle.seize_machine.specs.Machine.History.{IsReached}
 use Rattle.seize_machine.specs.Machine.Next.{is_zero, next}
 use Rattle.seize_machine.specs.declared.machine.event.Answer.{Answer}
-use Rattle.seize_machine.proofs.Facts.{some_is}
+use Rattle.seize_machine.proofs.Facts.{Stands, Step, batched_named, is_true, some_is, step_of}
 use Rattle.seize_words.specs.Adding.{private}
-use Rattle.seize_words.specs.Atomic.{Takes, minus, plus}
+use Rattle.seize_words.specs.Atomic.{deed, entries, minus, plus}
 use Rattle.seize_words.specs.Blocks.{Plan, count_word, front_of, no_plan, plans}
-use Rattle.seize_words.specs.Book.{TheSlot, Kept, after, counts, rules}
-use Rattle.seize_words.specs.Counts.{Counts, GivesUp, IsAdding, IsWalking}
-use Rattle.seize_words.specs.Entry.{Entry}
+use Rattle.seize_words.specs.Book.{IsLegalList, TheSlot, Kept, after, counts, kind_of, rules, slots}
+use Rattle.seize_words.specs.Counts.{Counts, GivesUp, IsAdding, IsWalking, values_in}
+use Rattle.seize_words.specs.Deposits.{deposit}
+use Rattle.seize_words.specs.Entry.{Deed, Entry}
 use Rattle.seize_words.specs.Homes.{count_in}
-use Rattle.seize_words.specs.Ledger.{AllKept, Held}
-use Rattle.seize_words.specs.Slots.{IsOf, number_of, own_list}
+use Rattle.seize_words.specs.Ledger.{AllKept, Held, renewed}
+use Rattle.seize_words.specs.Others.{IsLastIn}
+use Rattle.seize_words.specs.Passes.{IsSame}
+use Rattle.seize_words.specs.Private.{is_one, key_of, own_of}
+use Rattle.seize_words.specs.Slots.{IsAfter, IsOf, Moves, number_of, own_list}
+use Rattle.seize_words.specs.Stepping.{MayStep, Stepped, held_then}
 use Rattle.seize_words.specs.Tokens.{Name, start}
-use Rattle.seize_words.specs.Words.{Site}
-use Rattle.seize_words.specs.declared.book.keys.Keys.{Keys}
+use Rattle.seize_words.specs.Words.{AreKeysOf, Site, are_of_blocks, labels_of}
 use Rattle.seize_words.specs.declared.book.pass.Pass.{Pass}
 use Rattle.seize_words.specs.declared.book.slot_key.SlotKey.{SlotKey}
-use Rattle.seize_words.proofs.Counting.{Counting, adding, at_count, come, same, subtracting}
-use Rattle.seize_words.proofs.Counts.{word_zero}
+use Rattle.seize_words.proofs.Counting.{Counting, adding, at_count, come, deposited, kept_past, same, subtracting}
+use Rattle.seize_words.proofs.Counts.{count_alone, count_subtracted, word_zero}
+use Rattle.seize_words.proofs.Deposits.{deposit_added, deposit_subtracted}
 use Rattle.seize_words.proofs.Fronts.{held_values}
-use Rattle.seize_words.proofs.Lists.{equal, unequal}
+use Rattle.seize_words.proofs.Lists.{after_push, equal, reached_after, unequal}
+use Rattle.seize_words.proofs.Moves.{moves}
 use Rattle.seize_words.proofs.Plans.{plan_stays}
-use Rattle.seize_words.proofs.Private.{one_kept}
-use Rattle.seize_words.proofs.Stepped.{moved}
+use Rattle.seize_words.proofs.Private.{after_one, only, only_is}
+use Rattle.seize_words.proofs.Values.{keys_later, none_of}
 
 -- a count's word, named by the pass's book
 pub is_at_count : (word : Site) (n : Name) → word.name ≡ n → word.kind ≡ counts → word ≡ at_count n word.number
@@ -44,6 +52,10 @@ adding_in m n s own k won book a = record {
   its_home = a.its_home;
 }
 
+-- and a batch has its values there too
+pub in_pass : (m n : Name) (own : List Entry) (b : ℕ) → m ≡ n → (slice_index_or (plans (start m) own) b no_plan).values ≡ (slice_index_or (plans (start n) own) b no_plan).values
+in_pass m n own b book = ap (λ (z : Name). (slice_index_or (plans (start z) own) b no_plan).values) book
+
 abbrev pub walking_in : (m n : Name) (s : ℕ) (own : List Entry) (k : ℕ) → m ≡ n → IsWalking (start m) s own k → IsWalking (start n) s own k
 walking_in m n s own k book a = record {
   batch = a.batch;
@@ -55,31 +67,79 @@ walking_in m n s own k book a = record {
   its_home = a.its_home;
 }
 
--- what the slot's key said just before
-module _ (k : ℕ) (key : SlotKey) (keys' : Keys) (pass pass' : Pass) (f : ℕ → ℕ) (v : ℕ) (event : Event)
-    (told : Takes (at_count pass.name k) key.keys pass keys' pass' [] f v 0 (λ v log. event) (λ _. false)) where
-  kept_then : Kept (start pass.name) TheSlot (number_of key) (own_list key) told.2.log
-  kept_then =
-      one_kept (start pass.name) key.keys.held told.2.log key.one
-      (subst (λ (vs : List (Held Entry)). AllKept (rules (start pass.name)) (vs ++ key.keys.held) told.2.log) told.2.found.stands told.2.found.before.kept.1)
+-- a step on a count's word by a slot's holder, who has other keys after the slot's
+abbrev pub Steps : (k : ℕ) (key : SlotKey) (more held' : List (Held Entry)) (pass pass' : Pass) (f : ℕ → ℕ) (v : ℕ) (event : Event) (trades : ℕ → Bool) → Type 0
+Steps k key more held' pass pass' f v event trades = Stepped (at_count pass.name k) pass.id pass.seen pass'.seen (key.keys.held ++ more) held' [] v (f v) (entries pass 0 (λ v log. event)) trades
 
-  its_word : v ≡ count_word (count_in (after (start pass.name) told.2.log) k)
-  its_word = same pass.name k v pass.id pass.seen key.keys.held told.2.since told.2.log told.2.found
+module _ (k : ℕ) (key : SlotKey) (more held' : List (Held Entry)) (pass pass' : Pass) (f : ℕ → ℕ) (v : ℕ) (event : Event) (trades : ℕ → Bool) (step : Steps k key more held' pass pass' f v event trades) where
+  abbrev st : State
+  st = start pass.name
+
+  abbrev now : State
+  now = after st step.log
+
+  -- what the slot's key said just before
+  kept_then : Kept st TheSlot (number_of key) (own_list key) step.log
+  kept_then =
+      kept_past (rules st) step.since.1 _ more step.log
+      (subst (λ (hs : List (Held Entry)). AllKept (rules st) (step.since.1 ++ (hs ++ more)) step.log) (only_is slots key.keys.held key.one) step.found.before.kept.1)
+
+  its_word : v ≡ count_word (count_in now k)
+  its_word = same pass.name k v pass.id pass.seen (key.keys.held ++ more) step.since step.log step.found
+
+  -- the keys that stood beside the count
+  stood : AreKeysOf (deposit now k) step.since.1
+  stood = deposited pass.name k v pass.id pass.seen (key.keys.held ++ more) step.since step.log step.found
+
+  -- the slot's key comes first afterwards, and then those that stood beside the count, if they were traded
+  slots_key : take 1 held' ≡ renewed key.keys.held pass'.seen
+  slots_key = ap (take 1) step.keys ∙ either (trades v)
+    where
+      either : (b : Bool) → take 1 (renewed (held_then (kind_of counts) b step.since.1 (key.keys.held ++ more)) pass'.seen) ≡ renewed key.keys.held pass'.seen
+      either b =
+          subst (λ (hs : List (Held Entry)). take 1 (renewed (held_then (kind_of counts) b step.since.1 (hs ++ more)) pass'.seen) ≡ renewed hs pass'.seen) (sym (only_is slots key.keys.held key.one)) (of_one b)
+        where
+          of_one : (b : Bool) → take 1 (renewed (held_then (kind_of counts) b step.since.1 (only slots key.keys.held ++ more)) pass'.seen) ≡ renewed (only slots key.keys.held) pass'.seen
+          of_one true = refl
+          of_one false = refl
+
+  other_keys : drop 1 held' ≡ renewed (if trades v then step.since.1 else more) pass'.seen
+  other_keys = ap (drop 1) step.keys ∙ either (trades v)
+    where
+      either : (b : Bool) → drop 1 (renewed (held_then (kind_of counts) b step.since.1 (key.keys.held ++ more)) pass'.seen) ≡ renewed (if b then step.since.1 else more) pass'.seen
+      either b =
+          subst (λ (hs : List (Held Entry)). drop 1 (renewed (held_then (kind_of counts) b step.since.1 (hs ++ more)) pass'.seen) ≡ renewed (if b then step.since.1 else more) pass'.seen) (sym (only_is slots key.keys.held key.one)) (of_one b)
+        where
+          of_one : (b : Bool) → drop 1 (renewed (held_then (kind_of counts) b step.since.1 (only slots key.keys.held ++ more)) pass'.seen) ≡ renewed (if b then step.since.1 else more) pass'.seen
+          of_one true = refl
+          of_one false = refl
+
+  -- the slot's holder added the event
+  pub moved : (key' : SlotKey) → key'.keys.name ≡ key.keys.name → key'.keys.held ≡ take 1 held' → IsOf key pass → IsAfter key pass' key' × Moves key key' step.noted.before event step.noted.later step.noted.answer
+  moved key' name is book =
+      let noted = step.noted in let e : Deed = deed pass 0 (λ v log. event) v step.log in
+      let one = after_one slots key.keys.held pass'.seen key.one in let all = is ∙ slots_key in
+      let number = ap key_of all ∙ one.0 in let own = ap own_of all ∙ one.1 in
+      let legal : IsLegalList st noted.before = subst (IsLegalList st) (sym step.is_log) step.found.before.legal in
+      let kept = subst (Kept st TheSlot (number_of key) (own_list key)) (sym step.is_log) kept_then in (
+        (name, number, own),
+        moves key key' pass.name e noted.before (noted.later, noted.answer) book (name ∙ book) refl legal noted.does kept number (own ∙ noted.appended),
+      )
 
 -- the step that adds to a count, and the one that counts it down
-pub added : (k won : ℕ) (key : SlotKey) (keys' : Keys) (pass pass' : Pass) (v : ℕ) (told : Takes (at_count pass.name k) key.keys pass keys' pass' [] (plus won) v 0 (λ v log. AddCount (number_of key)) (λ _. false))
-    → (a : IsAdding (start pass.name) (number_of key) (own_list key) k won) → Counting pass.name k (number_of key) (own_list key) told.2.log (private pass (AddCount (number_of key))) (plus won) v a.batch [] a.queue
-added k won key keys' pass pass' v told a =
-    let found = told.2.found in let e = AddCount (number_of key) in
-    adding pass.name k (number_of key) (own_list key) told.2.log found.distinct found.before.legal found.before.sound (kept_then k key keys' pass pass' (plus won) v e told)
-    pass.id pass.name.size won v (its_word k key keys' pass pass' (plus won) v e told) a
+pub added : (k won : ℕ) (key : SlotKey) (more held' : List (Held Entry)) (pass pass' : Pass) (v : ℕ) (trades : ℕ → Bool) (step : Steps k key more held' pass pass' (plus won) v (AddCount (number_of key)) trades)
+    → (a : IsAdding (start pass.name) (number_of key) (own_list key) k won) → Counting pass.name k (number_of key) (own_list key) step.log (private pass (AddCount (number_of key))) (plus won) v a.batch [] a.queue
+added k won key more held' pass pass' v trades step a =
+    let found = step.found in let e = AddCount (number_of key) in
+    adding pass.name k (number_of key) (own_list key) step.log found.distinct found.before.legal found.before.sound (kept_then k key more held' pass pass' (plus won) v e trades step)
+    pass.id pass.name.size won v (its_word k key more held' pass pass' (plus won) v e trades step) a
 
-pub subtracted : (k : ℕ) (key : SlotKey) (keys' : Keys) (pass pass' : Pass) (v : ℕ) (told : Takes (at_count pass.name k) key.keys pass keys' pass' [] (minus 1) v 0 (λ v log. SubCount (number_of key)) (λ _. false))
-    → (a : IsWalking (start pass.name) (number_of key) (own_list key) k) → Counting pass.name k (number_of key) (own_list key) told.2.log (private pass (SubCount (number_of key))) (minus 1) v a.batch a.walk a.queue
-subtracted k key keys' pass pass' v told a =
-    let found = told.2.found in let e = SubCount (number_of key) in
-    subtracting pass.name k (number_of key) (own_list key) told.2.log found.distinct found.before.legal found.before.sound (kept_then k key keys' pass pass' (minus 1) v e told)
-    pass.id pass.name.size v (its_word k key keys' pass pass' (minus 1) v e told) a
+pub subtracted : (k : ℕ) (key : SlotKey) (more held' : List (Held Entry)) (pass pass' : Pass) (v : ℕ) (trades : ℕ → Bool) (step : Steps k key more held' pass pass' (minus 1) v (SubCount (number_of key)) trades)
+    → (a : IsWalking (start pass.name) (number_of key) (own_list key) k) → Counting pass.name k (number_of key) (own_list key) step.log (private pass (SubCount (number_of key))) (minus 1) v a.batch a.walk a.queue
+subtracted k key more held' pass pass' v trades step a =
+    let found = step.found in let e = SubCount (number_of key) in
+    subtracting pass.name k (number_of key) (own_list key) step.log found.distinct found.before.legal found.before.sound (kept_then k key more held' pass pass' (minus 1) v e trades step)
+    pass.id pass.name.size v (its_word k key more held' pass pass' (minus 1) v e trades step) a
 
 -- what was counted down to 0 was 1
 pub was_one : (v : ℕ) → v < 2 ^ 64 → (v == 1) ≡ (minus 1 v == 0)
@@ -87,40 +147,170 @@ was_one zero fits = unequal zero 1 (λ e. omega (arith, e)) ∙ sym (unequal (mi
 was_one (suc zero) fits = sym (equal (minus 1 1) 0 (omega arith))
 was_one (suc (suc v)) fits = unequal (suc (suc v)) 1 (λ e. omega (arith, e)) ∙ sym (unequal (minus 1 (suc (suc v))) 0 (λ e. omega (arith, fits, e)))
 
-module _ (k : ℕ) (key key' : SlotKey) (pass pass' : Pass) (f : ℕ → ℕ) (v : ℕ) (event : Event) (b : ℕ) (walk queue : List ℕ)
-    (told : Takes (at_count pass.name k) key.keys pass key'.keys pass' [] f v 0 (λ v log. event) (λ _. false)) (book : IsOf key pass)
-    (c : Counting pass.name k (number_of key) (own_list key) told.2.log (private pass event) f v b walk queue) where
-  abbrev st : State
-  st = start pass.name
+module _ (k : ℕ) (key key' : SlotKey) (more held' : List (Held Entry)) (pass pass' : Pass) (f : ℕ → ℕ) (v : ℕ) (event : Event) (trades : ℕ → Bool) (b : ℕ) (walk queue : List ℕ)
+    (step : Steps k key more held' pass pass' f v event trades) (same_pass : IsSame pass pass') (name : key'.keys.name ≡ key.keys.name) (is : key'.keys.held ≡ take 1 held') (book : IsOf key pass)
+    (c : Counting pass.name k (number_of key) (own_list key) step.log (private pass event) f v b walk queue) where
+  abbrev opens : State
+  opens = start pass.name
 
-  abbrev now : State
-  now = after st told.2.log
+  abbrev here : State
+  here = after opens step.log
 
   -- what the machine made of it
-  comes : (told.2.noted.later, told.2.noted.answer) ≡ come pass.name k now (number_of key) b c.count walk queue
-  comes = some_is _ _ (sym (subst (λ (l : List Entry). next pass.name.size (after st l) event ≡ Some (told.2.noted.later, told.2.noted.answer)) told.2.is_log told.2.noted.does) ∙ c.does)
+  comes : (step.noted.later, step.noted.answer) ≡ come pass.name k here (number_of key) b c.count walk queue
+  comes = some_is _ _ (sym (subst (λ (l : List Entry). next pass.name.size (after opens l) event ≡ Some (step.noted.later, step.noted.answer)) step.is_log step.noted.does) ∙ c.does)
 
   -- whether the count is 0 then
   zero_is : (done : Bool) → done ≡ (f v == 0) → done ≡ is_zero c.count
   zero_is done e = e ∙ ap (λ (w : ℕ). w == 0) c.word ∙ word_zero c.count c.near
 
+  parts : IsAfter key pass' key' × Moves key key' step.noted.before event step.noted.later step.noted.answer
+  parts = moved k key more held' pass pass' f v event trades step key' name is book
+
   pub counts_so : (done : Bool) → done ≡ (f v == 0) → Counts key pass key' pass' event done
-  counts_so done e = let parts = moved counts k key key' pass pass' f v 0 (λ v log. event) told told.2.found.stands book in (
-    (told.0, parts.0, (told.2.noted, parts.1)),
+  counts_so done e = (
+    (same_pass, parts.0, (step.noted, parts.1)),
     (c.count, ap (λ (d : State × Answer). d.1) comes, zero_is done e, c.near),
   )
 
   -- the values with which the batch was detached, as the slot's key knows
-  values_known : (batch_at now b).values ≡ (slice_index_or (plans (start key.keys.name) (own_list key)) b no_plan).values
+  pub values_known : (batch_at here b).values ≡ values_in key b
   values_known =
-      let grows = (kept_then k key key'.keys pass pass' f v event told).0 in
-      held_values pass.name told.2.log told.2.found.distinct told.2.found.before.legal b c.held
-      ∙ ap (λ (p : Plan). p.values) (sym (plan_stays st (own_list key) told.2.log b grows c.planned))
+      let grows = (kept_then k key more held' pass pass' f v event trades step).0 in
+      held_values pass.name step.log step.found.distinct step.found.before.legal b c.held
+      ∙ ap (λ (p : Plan). p.values) (sym (plan_stays opens (own_list key) step.log b grows c.planned))
       ∙ ap (λ (n : Name). (slice_index_or (plans (start n) (own_list key)) b no_plan).values) (sym book)
 
   pub gives_so : (done : Bool) → done ≡ (f v == 0) → GivesUp key key' b walk queue done
   gives_so done e =
-      let parts = moved counts k key key' pass pass' f v 0 (λ v log. event) told told.2.found.stands book in let s : ℕ = number_of key in
-      let after_it : Slot = record (slot_at now s) { call = Some (record { place = Rest (if is_zero c.count then (batch_at now b).values else []) walk; queue = queue }) } in
-      ap (λ (slot : Slot). slot.call) (parts.1.is ∙ ap (λ (d : State × Answer). slot_at d.0 s) comes ∙ get_or-set_same now.slots s after_it no_slot c.there)
+      let s : ℕ = number_of key in
+      let after_it : Slot = record (slot_at here s) { call = Some (record { place = Rest (if is_zero c.count then (batch_at here b).values else []) walk; queue = queue }) } in
+      ap (λ (slot : Slot). slot.call) (parts.1.is ∙ ap (λ (d : State × Answer). slot_at d.0 s) comes ∙ get_or-set_same here.slots s after_it no_slot c.there)
       ∙ ap (λ (t : Bool × List ℕ). Some (record { place = Rest (if t.0 then t.1 else []) walk; queue = queue })) (λ j. (sym (zero_is done e) j, values_known j))
+
+-- The keys of the batch's values.
+
+-- after an add they stay with the holder where the count is 0, and none comes
+pub left_with : (k won : ℕ) (key : SlotKey) (values : List (Held Entry)) (held' : List (Held Entry)) (pass pass' : Pass) (v : ℕ) (step : Steps k key values held' pass pass' (plus won) v (AddCount (number_of key)) (λ v. not (plus won v == 0)))
+    → (a : IsAdding (start pass.name) (number_of key) (own_list key) k won) → drop 1 held' ≡ renewed (if plus won v == 0 then values else []) pass'.seen
+left_with k won key values held' pass pass' v step a =
+    other_keys k key values held' pass pass' (plus won) v e trades step ∙ ap (λ (hs : List (Held Entry)). renewed hs pass'.seen) (either (plus won v == 0))
+  where
+    e : Event
+    e = AddCount (number_of key)
+
+    trades : ℕ → Bool
+    trades = λ v. not (plus won v == 0)
+
+    none : step.since.1 ≡ []
+    none =
+        let found = step.found in let c = added k won key values held' pass pass' v trades step a in let r = reached_after pass.name step.log found.distinct found.before.legal in
+        let stands : Stands (after (start pass.name) step.log) (number_of key) (Add a.batch won) a.queue = ap (λ slot. slot.call) (sym (kept_then k key values held' pass pass' (plus won) v e trades step).1.1) ∙ a.adding in
+        none_of step.since.1 ((stood k key values held' pass pass' (plus won) v e trades step).0 ∙ (deposit_added pass.name.size (after (start pass.name) step.log) (number_of key) a.batch won a.queue _ k r found.before.sound.one stands c.does c.in_it).0)
+
+    either : (z : Bool) → (if not z then step.since.1 else values) ≡ (if z then values else [])
+    either true = refl
+    either false = none
+
+-- after the batch was counted down they come where the count is 0
+module _ (k : ℕ) (key : SlotKey) (held' : List (Held Entry)) (pass pass' : Pass) (v : ℕ) (step : Steps k key [] held' pass pass' (minus 1) v (SubCount (number_of key)) (λ v. minus 1 v == 0))
+    (a : IsWalking (start pass.name) (number_of key) (own_list key) k) (book : IsOf key pass) where
+  abbrev before : State
+  before = after (start pass.name) step.log
+
+  abbrev c : Counting pass.name k (number_of key) (own_list key) step.log (private pass (SubCount (number_of key))) (minus 1) v a.batch a.walk a.queue
+  c = subtracted k key [] held' pass pass' v (λ v. minus 1 v == 0) step a
+
+  reached : IsReached before
+  reached = reached_after pass.name step.log step.found.distinct step.found.before.legal
+
+  pub others_are : drop 1 held' ≡ renewed (if minus 1 v == 0 then step.since.1 else []) pass'.seen
+  others_are = other_keys k key [] held' pass pass' (minus 1) v (SubCount (number_of key)) (λ v. minus 1 v == 0) step
+
+  zero_so : (minus 1 v == 0) ≡ is_zero c.count
+  zero_so = ap (λ (w : ℕ). w == 0) c.word ∙ word_zero c.count c.near
+
+  -- where the count comes to 0, the keys that stood there are those of the batch's values
+  at_zero : (minus 1 v == 0) ≡ true → deposit before k ≡ (batch_at before a.batch).values
+  at_zero done =
+      let stands : Stands before (number_of key) (Rest [] (a.batch ∷ a.walk)) a.queue = ap (λ slot. slot.call) (sym (kept_then k key [] held' pass pass' (minus 1) v (SubCount (number_of key)) (λ v. minus 1 v == 0) step).1.1) ∙ a.walking in
+      let one = step.found.before.sound.one in
+      let count_is : (batch_at before a.batch).count -ℤ pos 1 ≡ c.count = ap (λ (x : ℤ). x -ℤ pos 1) (sym (count_alone before reached one k a.batch c.in_it)) ∙ sym (count_subtracted pass.name.size before (number_of key) a.batch a.walk a.queue _ k reached one stands c.does c.in_it).1 ∙ c.is_count in
+      (deposit_subtracted pass.name.size before (number_of key) a.batch a.walk a.queue _ k reached one stands c.does c.in_it).1 (ap is_zero count_is ∙ sym zero_so ∙ done)
+
+  pub labels_are : labels_of (drop 1 held') ≡ (if minus 1 v == 0 then (batch_at before a.batch).values else [])
+  labels_are = ap labels_of others_are ∙ either (minus 1 v == 0) refl
+    where
+      either : (z : Bool) → (minus 1 v == 0) ≡ z → labels_of (renewed (if z then step.since.1 else []) pass'.seen) ≡ (if z then (batch_at before a.batch).values else [])
+      either true done = (keys_later _ step.since.1 pass'.seen (stood k key [] held' pass pass' (minus 1) v (SubCount (number_of key)) (λ v. minus 1 v == 0) step)).0 ∙ at_zero done
+      either false done = refl
+
+  pub all_blocks : are_of_blocks (drop 1 held') ≡ true
+  all_blocks = ap are_of_blocks others_are ∙ either (minus 1 v == 0)
+    where
+      either : (z : Bool) → are_of_blocks (renewed (if z then step.since.1 else []) pass'.seen) ≡ true
+      either true = (keys_later _ step.since.1 pass'.seen (stood k key [] held' pass pass' (minus 1) v (SubCount (number_of key)) (λ v. minus 1 v == 0) step)).1
+      either false = refl
+
+  -- all others that lay in their blocks were reclaimed
+  pub all_last : (u : ℕ) → Contains (batch_at before a.batch).values u → IsLastIn u (after (start pass.name) pass'.seen)
+  all_last u in_it w home other named = go (is_true (has w later.gone))
+    where
+      later : State
+      later = after (start pass.name) pass'.seen
+
+      d : State × Answer
+      d = come pass.name k before (number_of key) a.batch c.count a.walk a.queue
+
+      step_is : Step pass.name.size before (SubCount (number_of key)) d
+      step_is = step_of pass.name.size before (SubCount (number_of key)) d c.does
+
+      leads : later ≡ d.0
+      leads = ap (after (start pass.name)) (step.noted.appended ∙ ap (λ (l : List Entry). l ++ entries pass 0 (λ v log. SubCount (number_of key)) v step.log ∷ []) step.is_log)
+          ∙ after_push (start pass.name) step.log (entries pass 0 (λ v log. SubCount (number_of key)) v step.log) d step.found.before.legal c.does
+
+      stays : (has u later.named ≡ true) × (has u later.gone ≡ false)
+      stays =
+          let was = batched_named before reached a.batch u in_it in
+          subst (λ (z : State). (has u z.named ≡ true) × (has u z.gone ≡ false)) (sym leads) was
+
+      go : (has w later.gone ≡ true) ⊎ (has w later.gone ≡ false) → has w later.gone ≡ true
+      go (inl gone) = gone
+      go (inr not_gone) = absurd (other (step.noted.sound.one w u home named stays.0 not_gone stays.1))
+
+-- The steps as the calls on a count take them: with the slot's key and others joined, and the word as it is.
+
+first_of_both : (a b : List (Held Entry)) → is_one slots a ≡ true → key_of (a ++ b) ≡ key_of a
+first_of_both [] b one = absurd (cc)
+first_of_both (x ∷ a) b one = refl
+
+pub joined_may : (word : Site) (key : SlotKey) (more both : List (Held Entry)) (pass : Pass) (f : ℕ → ℕ) (event : ℕ → Event) (trades : ℕ → Bool) → word.name ≡ pass.name → word.kind ≡ counts → both ≡ key.keys.held ++ more
+    → MayStep (at_count pass.name word.number) pass.id pass.seen (key.keys.held ++ more) [] [] f (entries pass 0 (λ v log. event (number_of key))) trades
+    → MayStep word pass.id pass.seen both [] [] f (entries pass 0 (λ v log. event (key_of both))) trades
+joined_may word key more both pass f event trades name kind joined may =
+    let number : key_of both ≡ number_of key = ap key_of joined ∙ first_of_both key.keys.held more key.one in
+    subst (λ (t : Site × (List (Held Entry) × ℕ)). MayStep t.0 pass.id pass.seen t.1.0 [] [] f (entries pass 0 (λ v log. event t.1.1)) trades)
+    (λ i. (sym (is_at_count word pass.name name kind) i, (sym joined i, sym number i))) may
+
+pub joined_step : (word : Site) (key : SlotKey) (more both held' : List (Held Entry)) (pass pass' : Pass) (f : ℕ → ℕ) (v : ℕ) (event : ℕ → Event) (trades : ℕ → Bool) → word.name ≡ pass.name → word.kind ≡ counts → both ≡ key.keys.held ++ more
+    → Stepped word pass.id pass.seen pass'.seen both held' [] v (f v) (entries pass 0 (λ v log. event (key_of both))) trades → Steps word.number key more held' pass pass' f v (event (number_of key)) trades
+joined_step word key more both held' pass pass' f v event trades name kind joined step =
+    let number : key_of both ≡ number_of key = ap key_of joined ∙ first_of_both key.keys.held more key.one in
+    subst (λ (t : Site × (List (Held Entry) × ℕ)). Stepped t.0 pass.id pass.seen pass'.seen t.1.0 held' [] v (f v) (entries pass 0 (λ v log. event t.1.1)) trades)
+    (λ i. (is_at_count word pass.name name kind i, (joined i, number i))) step
+
+-- keys that stay, or none, are of blocks
+pub still_blocks : (done : Bool) (vs : List (Held Entry)) (log : List Entry) → are_of_blocks vs ≡ true → are_of_blocks (renewed (if done then vs else []) log) ≡ true
+still_blocks true vs log are = (keys_later (labels_of vs) vs log (refl, are)).1
+still_blocks false vs log are = refl
+
+-- those that came out know all that was seen
+pub renewed_twice : (done : Bool) (vs held : List (Held Entry)) (log : List Entry) → held ≡ renewed (if done then vs else []) log → held ≡ renewed held log
+renewed_twice done vs held log is = is ∙ sym (twice (if done then vs else [])) ∙ ap (λ (hs : List (Held Entry)). renewed hs log) (sym is)
+  where
+    twice : (hs : List (Held Entry)) → renewed (renewed hs log) log ≡ renewed hs log
+    twice [] = refl
+    twice (x ∷ hs) = ap (λ (rest : List (Held Entry)). record { kind = x.kind; key = x.key; own = log; label = x.label } ∷ rest) (twice hs)
+
+pub not_in_none : (u : ℕ) → Contains [] u → ⊥
+not_in_none u found = let less : found.0 < 0 = found.1 in omega (arith, less)

@@ -38,10 +38,10 @@ counts_set k zero (y ∷ xs) x h g = ap (λ (z : ℤ). z +ℤ counts_in k xs) (s
 counts_set k (suc b) (y ∷ xs) x h g = ap (λ (z : ℤ). share k y +ℤ z) (counts_set k b xs x h g)
 
 -- the batch comes to a count, and may give its values up
-abbrev come : Batch → Bool → ℤ → Batch
+abbrev pub come : Batch → Bool → ℤ → Batch
 come batch up count = record { values = if up then [] else batch.values; count = count }
 
-still_out : (k : ℕ) (batch : Batch) (up : Bool) (count : ℤ) → is_in k batch ≡ false → is_in k (come batch up count) ≡ false
+pub still_out : (k : ℕ) (batch : Batch) (up : Bool) (count : ℤ) → is_in k batch ≡ false → is_in k (come batch up count) ≡ false
 still_out k batch true count h = refl
 still_out k batch false count h = h
 
@@ -74,7 +74,7 @@ alone st r one k b c in_b in_c =
     let same : y.0 ≡ x.0 = one y.0 x.0 (y.2 ∙ sym x.2) there.0 here.0 there.1 here.1 in
     batched_once st r b c x.0 x.1 (subst (Contains (batch_at st c).values) same y.1)
 
-others_out : (st : State) → IsReached st → HasOne st → (k b : ℕ) → is_in k (batch_at st b) ≡ true → (c : ℕ) → c ≢ b → is_in k (batch_at st c) ≡ false
+pub others_out : (st : State) → IsReached st → HasOne st → (k b : ℕ) → is_in k (batch_at st b) ≡ true → (c : ℕ) → c ≢ b → is_in k (batch_at st c) ≡ false
 others_out st r one k b h c other = go (is_true (is_in k (batch_at st c)))
   where
     go : (is_in k (batch_at st c) ≡ true) ⊎ (is_in k (batch_at st c) ≡ false) → is_in k (batch_at st c) ≡ false
@@ -98,14 +98,14 @@ count_alone st r one k b h = counts_one k b st.batches (others_out st r one k b 
 
 -- An event that counts the batch in a block.
 
+pub zero_is : (c : ℤ) → is_zero c ≡ true → pos 0 ≡ c
+zero_is (pos n) e = ap pos (sym (eq_true n 0 e))
+zero_is (negsuc n) e = absurd (cc)
+
 -- where its count is 0, it gives its values up and adds nothing: that is its count too
 come_share : (k : ℕ) (batch : Batch) (count : ℤ) → is_in k batch ≡ true → share k (come batch (is_zero count) count) ≡ count
 come_share k batch count h = go (is_zero count) refl
   where
-    zero_is : (c : ℤ) → is_zero c ≡ true → pos 0 ≡ c
-    zero_is (pos n) e = ap pos (sym (eq_true n 0 e))
-    zero_is (negsuc n) e = absurd (cc)
-
     go : (up : Bool) → is_zero count ≡ up → share k (come batch up count) ≡ count
     go true e = zero_is count e
     go false e = share_all k (come batch false count) h

@@ -10,7 +10,7 @@ use Rattle.seize_machine.specs.declared.machine.event.Exchange.{Exchange}
 use Rattle.seize_machine.proofs.Facts.{Step, is_true, linked_named, named_grows, not_true, step_of, swapped}
 use Rattle.seize_words.specs.Atomic.{Takes as Took, entries}
 use Rattle.seize_words.specs.Blocks.{link_word}
-use Rattle.seize_words.specs.Book.{IsLegalList, after, blocks, links, rules}
+use Rattle.seize_words.specs.Book.{kind_of, IsLegalList, after, blocks, links, rules}
 use Rattle.seize_words.specs.Entry.{Entry}
 use Rattle.seize_words.specs.Homes.{IsVacant, home_of}
 use Rattle.seize_words.specs.Ledger.{AllKept, Held, renewed}
@@ -18,7 +18,7 @@ use Rattle.seize_words.specs.LinkWords.{IsIn, Takes, held_before, number}
 use Rattle.seize_words.specs.Links.{IsNewIn, at_link, is_at_most_one, value_in}
 use Rattle.seize_words.specs.Others.{state_of}
 use Rattle.seize_words.specs.Private.{own_of}
-use Rattle.seize_words.specs.Stepping.{Stepped, traded}
+use Rattle.seize_words.specs.Stepping.{Stepped, held_then}
 use Rattle.seize_words.specs.Tokens.{Name, start}
 use Rattle.seize_words.specs.Words.{IsKeyOf, Site}
 use Rattle.seize_words.specs.declared.activation.Activation.{Activation}
@@ -92,7 +92,7 @@ renewed_twice [] log = refl
 renewed_twice (x ∷ vs) log = ap (λ (hs : List (Held Entry)). record { kind = x.kind; key = x.key; own = log; label = x.label } ∷ hs) (renewed_twice vs log)
 
 module _ (link : Link) (a : Activation) (pass pass' : Pass) (in_ : IsIn link a pass) (keys keys' : Keys) (f : ℕ → ℕ) (v : ℕ) (ev : Option ℕ → Event) (trades : ℕ → Bool)
-    (told : Took (at_link pass.name (number link)) keys pass keys' pass' (a.life ∷ []) f v 0 (λ v log. ev (link_at (after (start pass.name) log) (number link))) trades) where
+    (told : Took (at_link pass.name (number link)) keys pass keys' pass' (a.life ∷ []) f v (entries pass 0 (λ v log. ev (link_at (after (start pass.name) log) (number link)))) trades) where
   abbrev event : ℕ → List Entry → Event
   event v log = ev (link_at (after (start pass.name) log) (number link))
 
@@ -111,8 +111,8 @@ module _ (link : Link) (a : Activation) (pass pass' : Pass) (in_ : IsIn link a p
   its_key : IsKeyOf (link_at (after (start pass.name) step.log) (number link)) step.since.1
   its_key = subst (λ (o : Option ℕ). IsKeyOf o step.since.1) held step.found.stands
 
-  had : (b : Bool) → trades v ≡ b → keys'.held ≡ renewed (traded b keys.held step.since.1) pass'.seen
-  had b e = step.keys ∙ ap (λ (c : Bool). renewed (traded c keys.held step.since.1) pass'.seen) e
+  had : (b : Bool) → trades v ≡ b → keys'.held ≡ renewed (held_then (kind_of links) b step.since.1 keys.held) pass'.seen
+  had b e = step.keys ∙ ap (λ (c : Bool). renewed (held_then (kind_of links) c step.since.1 keys.held) pass'.seen) e
 
   -- where the keys changed places, it came out
   pub came_out : trades v ≡ true → value_in keys'.held ≡ held_before taken
@@ -131,7 +131,7 @@ module _ (link : Link) (a : Activation) (pass pass' : Pass) (in_ : IsIn link a p
       subst (λ (z : State). (has w z.named ≡ true) × (has w z.loose ≡ true)) (sym (knows w out book ∙ step.noted.leads)) (out_loose pass.name.size now a.slot (number link) (exchange old) (step.noted.later, step.noted.answer) w st (stored old (step.found.shows ∙ ap link_word held)) linked named)
     where
       knows : (w : ℕ) → value_in keys'.held ≡ Some w → keys.name ≡ pass.name → state_of keys' ≡ after (start pass.name) pass'.seen
-      knows w out book = ap (λ (t : Name × List Entry). after (start t.0) t.1) (λ j. ((told.1 ∙ book) j, (ap own_of (step.keys) ∙ renewed_own (traded (trades v) keys.held step.since.1) pass'.seen w (sym (ap value_in step.keys) ∙ out)) j))
+      knows w out book = ap (λ (t : Name × List Entry). after (start t.0) t.1) (λ j. ((told.1 ∙ book) j, (ap own_of (step.keys) ∙ renewed_own (held_then (kind_of links) (trades v) step.since.1 keys.held) pass'.seen w (sym (ap value_in step.keys) ∙ out)) j))
 
   pub stayed : trades v ≡ false → value_in keys'.held ≡ value_in keys.held
   stayed e = ap value_in (had false e) ∙ same_value keys.held pass'.seen
@@ -148,7 +148,7 @@ module _ (link : Link) (a : Activation) (pass pass' : Pass) (in_ : IsIn link a p
       (new_later st (value_in keys.held) keys.held step.log pass'.seen step.found.before.legal new kept (step.noted.leads ∙ same))
 
   pub knows_all : keys'.held ≡ renewed keys'.held pass'.seen
-  knows_all = step.keys ∙ renewed_twice (traded (trades v) keys.held step.since.1) pass'.seen ∙ ap (λ (hs : List (Held Entry)). renewed hs pass'.seen) (sym step.keys)
+  knows_all = step.keys ∙ renewed_twice (held_then (kind_of links) (trades v) step.since.1 keys.held) pass'.seen ∙ ap (λ (hs : List (Held Entry)). renewed hs pass'.seen) (sym step.keys)
 
   -- and there is still at most one key
   pub still_one : is_at_most_one keys.held ≡ true → is_at_most_one keys'.held ≡ true

@@ -11,7 +11,7 @@ use Rattle.atomic_table.proofs.Lists as kit
 use Rattle.seize_words.specs.Atomic.{exchanged}
 use Rattle.seize_words.specs.Blocks.{link_word}
 use Rattle.seize_words.specs.Book.{IsLegalList, after, blocks, kinds}
-use Rattle.seize_words.specs.Entry.{Entry}
+use Rattle.seize_words.specs.Entry.{Entry, Made, Used}
 use Rattle.seize_words.specs.Homes.{home_of}
 use Rattle.seize_words.specs.Laws.{IsIn, ended, life}
 use Rattle.seize_words.specs.Ledger.{Held, WithKinds}
@@ -26,7 +26,8 @@ use Rattle.seize_words.proofs.Lives.{legal_first}
 -- there are as many links as at the beginning
 links_stay : (st : State) (log : List Entry) → IsLegalList st log → length (after st log).links ≡ length st.links
 links_stay st [] l = refl
-links_stay st (e ∷ log) l =
+links_stay st (Used u ∷ log) l = links_stay st log l
+links_stay st (Made e ∷ log) l =
     let w = legal_first st e log l in
     ap (λ (d : _). length (after d.0 log).links) w.2 ∙ links_stay (w.0).0 log w.3 ∙ links_length e.size st e.event w.0 (step_of _ _ _ _ w.1)
 
@@ -57,7 +58,7 @@ module _ (n : Name) (s a l : ℕ) (since seen : List Entry) (in_ : IsWithin n s 
       active (inl on) = on
       active (inr over) = absurd (found.none_ended a (inl refl) over)
 
-  pub may_read_link : (p size : ℕ) → MayStep (at_link n l) p seen [] (a ∷ []) [] (λ v. v) (λ v log. record { pass = p; size = size; event = ReadLink s l; life = 0 }) (λ v. false)
+  pub may_read_link : (p size : ℕ) → MayStep (at_link n l) p seen [] (a ∷ []) [] (λ v. v) (λ v log. Made (record { pass = p; size = size; event = ReadLink s l; life = 0 })) (λ v. false)
   may_read_link p size = (tt, (λ v t own log found. let w = within v p [] t log found in read_step n l v p size s seen [] (a ∷ []) t own log found w.0 w.1))
 
   all_blocks : (held : List (Held Entry)) → is_at_most_one held ≡ true → WithKinds kinds held
@@ -66,7 +67,7 @@ module _ (n : Name) (s a l : ℕ) (since seen : List Entry) (in_ : IsWithin n s 
   all_blocks (x ∷ y ∷ held) one = absurd (cc)
 
   pub may_swap_link : (p size new : ℕ) (held : List (Held Entry)) → is_at_most_one held ≡ true → IsNewIn st (value_in held) held → new ≡ link_word (value_in held)
-      → MayStep (at_link n l) p seen held (a ∷ []) [] (λ v. new) (λ v log. record { pass = p; size = size; event = ExchangeLink s l (Swap (value_in held)); life = 0 }) (λ v. true)
+      → MayStep (at_link n l) p seen held (a ∷ []) [] (λ v. new) (λ v log. Made (record { pass = p; size = size; event = ExchangeLink s l (Swap (value_in held)); life = 0 })) (λ v. true)
   may_swap_link p size new held one fresh word =
       (all_blocks held one, (λ v t own log found. let w = within v p held t log found in store_step n l v p size s seen held (a ∷ []) t own log found w.0 w.1 (value_in held) (Swap (value_in held)) refl fresh new word refl))
 
@@ -98,19 +99,19 @@ module _ (n : Name) (s a l : ℕ) (since seen : List Entry) (in_ : IsWithin n s 
 
   pub may_compare_link : (p size seen_word new : ℕ) (held : List (Held Entry)) → seen_word < 2 ^ 64 → is_at_most_one held ≡ true → IsNewIn st (value_in held) held → new ≡ link_word (value_in held)
       → MayStep (at_link n l) p seen held (a ∷ []) [] (exchanged seen_word new)
-      (λ v log. record { pass = p; size = size; event = ExchangeLink s l (Compare (compared seen_word (link_at (after st log) l)) (value_in held)); life = 0 }) (λ v. v == seen_word)
+      (λ v log. Made (record { pass = p; size = size; event = ExchangeLink s l (Compare (compared seen_word (link_at (after st log) l)) (value_in held)); life = 0 })) (λ v. v == seen_word)
   may_compare_link p size seen_word new held fits one fresh word = (all_blocks held one, step)
     where
       e : List Entry → Entry
-      e log = record { pass = p; size = size; event = ExchangeLink s l (Compare (compared seen_word (link_at (after st log) l)) (value_in held)); life = 0 }
+      e log = Made (record { pass = p; size = size; event = ExchangeLink s l (Compare (compared seen_word (link_at (after st log) l)) (value_in held)); life = 0 })
 
       step : (v : ℕ) (t : At) (own log : List Entry) → FoundAs (at_link n l) v p seen held (a ∷ []) t log
-          → IsStep (at_link n l) p held [] (exchanged seen_word new v) (record { pass = p; size = size; event = ExchangeLink s l (Compare (compared seen_word (link_at (after st log) l)) (value_in held)); life = 0 }) (v == seen_word) t own log
+          → IsStep (at_link n l) p held [] (exchanged seen_word new v) (Made (record { pass = p; size = size; event = ExchangeLink s l (Compare (compared seen_word (link_at (after st log) l)) (value_in held)); life = 0 })) (v == seen_word) t own log
       step v t own log found =
           let w = within v p held t log found in let old : Option ℕ = link_at (after st log) l in let is : v ≡ link_word old = found.shows ∙ ap link_word (same n l v p seen held (a ∷ []) t log found) in
-          let goal : ℕ → Type 0 = λ x. IsStep (at_link n l) p held [] x (record { pass = p; size = size; event = ExchangeLink s l (Compare (compared seen_word old) (value_in held)); life = 0 }) (v == seen_word) t own log in
+          let goal : ℕ → Type 0 = λ x. IsStep (at_link n l) p held [] x (Made (record { pass = p; size = size; event = ExchangeLink s l (Compare (compared seen_word old) (value_in held)); life = 0 })) (v == seen_word) t own log in
           kit.exchanged v seen_word new goal
-          (λ same. subst (λ (b : Bool). IsStep (at_link n l) p held [] new (record { pass = p; size = size; event = ExchangeLink s l (Compare (compared seen_word old) (value_in held)); life = 0 }) b t own log) (sym (equal v seen_word same))
+          (λ same. subst (λ (b : Bool). IsStep (at_link n l) p held [] new (Made (record { pass = p; size = size; event = ExchangeLink s l (Compare (compared seen_word old) (value_in held)); life = 0 })) b t own log) (sym (equal v seen_word same))
           (store_step n l v p size s seen held (a ∷ []) t own log found w.0 w.1 (value_in held) (Compare (compared seen_word old) (value_in held)) refl fresh new word (hit seen_word old (value_in held) (sym is ∙ same))))
-          (λ differs. subst (λ (b : Bool). IsStep (at_link n l) p held [] v (record { pass = p; size = size; event = ExchangeLink s l (Compare (compared seen_word old) (value_in held)); life = 0 }) b t own log) (sym (unequal v seen_word differs))
+          (λ differs. subst (λ (b : Bool). IsStep (at_link n l) p held [] v (Made (record { pass = p; size = size; event = ExchangeLink s l (Compare (compared seen_word old) (value_in held)); life = 0 })) b t own log) (sym (unequal v seen_word differs))
           (miss_step n l v p size s seen held (a ∷ []) t own log found w.0 w.1 (value_in held) (Compare (compared seen_word old) (value_in held)) refl fresh (missed seen_word old (value_in held) fits (λ x. differs (is ∙ x)))))

@@ -1,25 +1,35 @@
 -- What other crates may build on. All else in `proofs` is no interface, and may change.
-use Rattle.std.proofs.Common.{◌≡◌, ℕ, Bool, false, if◌then◌else◌, List, [], ◌∷◌, ◌++◌, Option, Some, sym, ap, ◌∙◌, subst, append-nil}
+use Rattle.std.proofs.Common.{◌≡◌, ℕ, ◌<◌, Bool, false, if◌then◌else◌, List, [], ◌∷◌, ◌++◌, Option, Some, refl, sym, ap, ◌∙◌, subst, append-nil, length, unwrap_or}
 use Rattle.std.specs.Prelude.{slice_index_or}
 use base.Growing.{prefix_trans}
 use mathlib.Core.List.{IsPrefix}
-use Rattle.seize_machine.specs.Machine.State.{State, slot_at}
+use Rattle.seize_machine.specs.Machine.State.{State, Rest, are_distinct, linked, slot_at}
 use Rattle.seize_machine.specs.Machine.Event.{Event}
+use Rattle.seize_machine.specs.Machine.History.{IsReached, first_of}
+use Rattle.seize_machine.specs.Machine.Laws.{walk_of}
 use Rattle.seize_machine.specs.Machine.Next.{next}
 use Rattle.seize_machine.specs.declared.machine.event.Answer.{Answer}
 use Rattle.seize_machine.proofs.Facts.{some_is}
 use Rattle.seize_words.specs.Adding.{private}
-use Rattle.seize_words.specs.Blocks.{Plan, front_of, no_plan, planned_by, plans}
-use Rattle.seize_words.specs.Book.{after, mine}
-use Rattle.seize_words.specs.Entry.{Entry}
+use Rattle.seize_words.specs.Blocks.{Plan, block_for, block_in, block_of, front_of, list_word, no_plan, planned_by, plans, serving}
+use Rattle.seize_words.specs.Book.{IsLegalList, after, mine}
+use Rattle.seize_words.specs.Chains.{front_block, served}
+use Rattle.seize_words.specs.Entry.{Deed, Entry, Made, Used}
+use Rattle.seize_words.specs.Headers.{Passes, Stores, Uses, using}
+use Rattle.seize_words.specs.Heads.{IsTrying}
+use Rattle.seize_words.specs.Homes.{home_of}
 use Rattle.seize_words.specs.Laws.{life, starts}
 use Rattle.seize_words.specs.LinkWords.{IsIn, Takes, number}
 use Rattle.seize_words.specs.Links.{IsWithin}
-use Rattle.seize_words.specs.Passes.{IsSame, mine_of}
+use Rattle.seize_words.specs.Passes.{IsSame, events_by, events_in, mine_of}
 use Rattle.seize_words.specs.Slots.{Moves, NotesAs, life_of, number_of, own_list, size_of, slot_of, start_of}
 use Rattle.seize_words.specs.Tokens.{Name, Noted, start}
 use Rattle.seize_words.proofs.Fronts.{front_there}
-use Rattle.seize_words.proofs.Plans.{plan_stays, plans_append}
+use Rattle.seize_words.proofs.Chains.{walking_there}
+use Rattle.seize_words.proofs.Lists.{reached_after}
+pub use Rattle.seize_words.proofs.Lists.{after_used}
+pub use Rattle.seize_words.proofs.Written.{plans_used}
+use Rattle.seize_words.proofs.Plans.{AllLess, blocks_stay, legal_prefix, plan_stays, plans_append, plans_long, saw_there, tried_there}
 use Rattle.seize_words.proofs.Stepped.{life_push}
 use Rattle.seize_words.specs.declared.activation.Activation.{Activation}
 use Rattle.seize_words.specs.declared.book.pass.Pass.{Pass}
@@ -27,10 +37,26 @@ use Rattle.seize_words.specs.declared.book.slot_key.SlotKey.{SlotKey}
 use Rattle.seize_words.specs.declared.link.Link.{Link}
 
 -- what was made with a pass has grown by the event and its answer
-pub grew : (pass pass' : Pass) (event : Event) → IsSame pass pass' → (noted : Noted pass.name pass.id pass.seen pass'.seen (private pass event))
-    → mine_of pass' ≡ mine_of pass ++ (private pass event, noted.answer) ∷ []
+pub grew : (pass pass' : Pass) (event : Event) → IsSame pass pass' → (noted : Noted pass.name pass.id pass.seen pass'.seen (Made (private pass event)))
+    → mine_of pass' ≡ mine_of pass ++ (Made (private pass event), noted.answer) ∷ []
 grew pass pass' event same noted =
     ap (λ (n : Name). mine (start n) pass'.id pass'.seen) same.0 ∙ ap (λ (p : ℕ). mine (start pass.name) p pass'.seen) same.1 ∙ noted.made
+
+-- and so have the events made with it, while a use of a field leaves them as they were
+
+events_append : (xs ys : List (Entry × Answer)) → events_in (xs ++ ys) ≡ events_in xs ++ events_in ys
+events_append [] ys = refl
+events_append ((Made d, answer) ∷ xs) ys = ap (λ (made : List (Deed × Answer)). (d, answer) ∷ made) (events_append xs ys)
+events_append ((Used u, answer) ∷ xs) ys = events_append xs ys
+
+pub events_grew : (pass pass' : Pass) (event : Event) → IsSame pass pass' → (noted : Noted pass.name pass.id pass.seen pass'.seen (Made (private pass event)))
+    → events_by pass' ≡ events_by pass ++ (private pass event, noted.answer) ∷ []
+events_grew pass pass' event same noted = ap events_in (grew pass pass' event same noted) ∙ events_append (mine_of pass) ((Made (private pass event), noted.answer) ∷ [])
+
+pub events_same : (key key' : SlotKey) (pass pass' : Pass) (f : ℕ) (stores : Option ℕ) → Uses key pass key' pass' f stores → events_by pass' ≡ events_by pass
+events_same key key' pass pass' f stores uses =
+    ap (λ (n : Name). events_in (mine (start n) pass'.id pass'.seen)) uses.same.0 ∙ ap (λ (p : ℕ). events_in (mine (start pass.name) p pass'.seen)) uses.same.1
+    ∙ ap events_in uses.noted.made ∙ events_append (mine_of pass) ((using key pass f stores, uses.noted.answer) ∷ []) ∙ append-nil (events_by pass)
 
 -- the slot's record after an event, where this is what the machine makes of the event
 pub moved : (key key' : SlotKey) (log : List Entry) (event : Event) (later : State) (answer : Answer) → Moves key key' log event later answer
@@ -43,27 +69,128 @@ pub answered : (key key' : SlotKey) (log : List Entry) (event : Event) (later : 
 answered key key' log event later answer moves d is = ap (λ (x : State × Answer). x.1) (some_is _ _ (sym moves.legal ∙ is))
 
 -- an event that begins no activation leaves the slot's last one as it was
-pub life_kept : (key key' : SlotKey) (pass pass' : Pass) (e : Entry) → NotesAs key pass key' pass' e → starts (number_of key) e.event ≡ false → life_of key' ≡ life_of key
+pub life_kept : (key key' : SlotKey) (pass pass' : Pass) (e : Deed) → NotesAs key pass key' pass' e → starts (number_of key) e.event ≡ false → life_of key' ≡ life_of key
 life_kept key key' pass pass' e noted none =
     let n = noted.2.0 in
-    ap (λ (k : ℕ). life k (own_list key')) noted.1.1 ∙ ap (life (number_of key)) (noted.1.2 ∙ n.appended) ∙ life_push 0 (number_of key) n.before e ∙ ap (λ (b : Bool). if b then e.life else life (number_of key) n.before) none ∙ noted.2.1.lived
+    ap (λ (k : ℕ). life k (own_list key')) noted.1.1 ∙ ap (life (number_of key)) (noted.1.2 ∙ n.appended) ∙ life_push (number_of key) n.before e ∙ ap (λ (b : Bool). if b then e.life else life (number_of key) n.before) none ∙ noted.2.1.lived
 
 -- the plans of the batches detached, after one event more
-pub planned_after : (st : State) (log : List Entry) (e : Entry) → plans st (log ++ e ∷ []) ≡ plans st log ++ planned_by (after st log) e.event
-planned_after st log e = plans_append st log (e ∷ []) ∙ ap (λ (ps : List Plan). plans st log ++ ps) (append-nil (planned_by (after st log) e.event))
+pub planned_after : (st : State) (log : List Entry) (e : Deed) → plans st (log ++ Made e ∷ []) ≡ plans st log ++ planned_by (after st log) e.event
+planned_after st log e = plans_append st log (Made e ∷ []) ∙ ap (λ (ps : List Plan). plans st log ++ ps) (append-nil (planned_by (after st log) e.event))
 
 -- the plan of a batch that was detached, and so its front, stays in all that the slot's key knows later
-pub plan_kept : (key key' : SlotKey) (pass pass' : Pass) (e : Entry) (b v : ℕ) → NotesAs key pass key' pass' e → front_of (start_of key) (own_list key) b ≡ Some v
+pub plan_kept : (key key' : SlotKey) (pass pass' : Pass) (e : Deed) (b v : ℕ) → NotesAs key pass key' pass' e → front_of (start_of key) (own_list key) b ≡ Some v
     → slice_index_or (plans (start_of key') (own_list key')) b no_plan ≡ slice_index_or (plans (start_of key) (own_list key)) b no_plan
 plan_kept key key' pass pass' e b v noted front =
     let n = noted.2.0 in let m = noted.2.1 in
-    let grows : IsPrefix (own_list key) (own_list key') = prefix_trans (own_list key) n.before (own_list key') m.knew (e ∷ [], sym (noted.1.2 ∙ n.appended)) in
+    let grows : IsPrefix (own_list key) (own_list key') = prefix_trans (own_list key) n.before (own_list key') m.knew (Made e ∷ [], sym (noted.1.2 ∙ n.appended)) in
     ap (λ (x : Name). slice_index_or (plans (start x) (own_list key')) b no_plan) noted.1.0
     ∙ sym (plan_stays (start_of key) (own_list key) (own_list key') b grows (front_there (start_of key) (own_list key) b v front))
 
 -- what a pass has seen begins with what it had seen before an event
 pub seen_grows : (n : Name) (p : ℕ) (seen seen' : List Entry) (e : Entry) → Noted n p seen seen' e → IsPrefix seen seen'
 seen_grows n p seen seen' e noted = prefix_trans seen noted.before seen' noted.grows (e ∷ [], sym noted.appended)
+
+-- A use of a field leaves a call where it was, which is about to insert its batch: at the same head, after the same word, with the same block.
+module _ (key key' : SlotKey) (pass pass' : Pass) (f : ℕ) (stores : Option ℕ) (uses : Uses key pass key' pass' f stores) (book : key.keys.name ≡ pass.name) where
+  pub grows : IsPrefix (own_list key) (own_list key')
+  grows = prefix_trans (own_list key) uses.noted.before (own_list key') uses.knew (using key pass f stores ∷ [], sym (uses.seen_by.2 ∙ uses.noted.appended))
+
+  legal_own : IsLegalList (start_of key) (own_list key)
+  legal_own =
+      legal_prefix (start_of key) (own_list key) (own_list key') grows
+      (subst (λ (t : Name × List Entry). IsLegalList (start t.0) t.1) (λ i. (sym book i, sym uses.seen_by.2 i)) uses.noted.legal)
+
+  pub reached_own : IsReached (after (start_of key) (own_list key))
+  reached_own = reached_after key.keys.name (own_list key) (ap (λ (n : Name). are_distinct (linked n.links)) book ∙ uses.noted.distinct) legal_own
+
+  pub planned_own : length (plans (start_of key) (own_list key)) ≡ length (after (start_of key) (own_list key)).batches
+  planned_own = plans_long key.keys.name (own_list key) legal_own
+
+  -- the plan of a batch that was detached
+  pub plan_same : (b : ℕ) → b < length (after (start_of key) (own_list key)).batches
+      → slice_index_or (plans (start_of key') (own_list key')) b no_plan ≡ slice_index_or (plans (start_of key) (own_list key)) b no_plan
+  plan_same b there =
+      ap (λ (n : Name). slice_index_or (plans (start n) (own_list key')) b no_plan) uses.seen_by.0
+      ∙ sym (plan_stays (start_of key) (own_list key) (own_list key') b grows (subst (λ (k : ℕ). b < k) (sym planned_own) there))
+
+  module _ (m seen block : ℕ) (t : IsTrying (start_of key) (number_of key) (own_list key) m seen block) where
+    pub tried : t.batch < length (after (start_of key) (own_list key)).batches
+    tried = tried_there (after (start_of key) (own_list key)) (number_of key) t.batch t.won m t.later t.saw t.queue reached_own t.trying
+
+    abbrev pub still_trying : IsTrying (start_of key') (number_of key') (own_list key') m seen block
+    still_trying = record {
+      batch = t.batch;
+      won = t.won;
+      later = t.later;
+      saw = t.saw;
+      queue = t.queue;
+      trying = ap (λ slot. slot.call) uses.slot ∙ t.trying;
+      is_seen =
+          t.is_seen
+          ∙ blocks_stay key.keys.name (own_list key) (own_list key') m t.saw grows
+          (subst (λ (k : ℕ). AllLess k t.saw) (sym planned_own) (saw_there (after (start_of key) (own_list key)) reached_own (number_of key) t.batch t.won m t.later t.saw t.queue t.trying))
+          ∙ ap (λ (n : Name). list_word (λ b. block_for (start n) (own_list key') b m) t.saw) (sym uses.seen_by.0);
+      is_block = t.is_block ∙ ap (λ (plan : Plan). block_in plan m) (sym (plan_same t.batch tried));
+    }
+
+    -- and the number of its batch's first block stays
+    pub front_same : front_block (plans (start_of key') (own_list key')) t.batch ≡ front_block (plans (start_of key) (own_list key)) t.batch
+    front_same = ap (λ (plan : Plan). block_of (unwrap_or (first_of plan.values) 0)) (plan_same t.batch tried)
+
+    -- so do its fields
+    pub field_same : (which : ℕ → ℕ) → which (home_of (served (plans (start_of key') (own_list key')) t.batch m)) ≡ which (home_of (served (plans (start_of key) (own_list key)) t.batch m))
+    field_same which = ap (λ (plan : Plan). which (home_of (serving m plan.slots plan.values))) (plan_same t.batch tried)
+
+  -- the fields in which it may store are the same
+  abbrev pub still_stores : (which : ℕ → ℕ) (g : ℕ) → Stores which g key → Stores which g key'
+  still_stores which g w =
+      let st = start_of key in let own = own_list key in
+      let t : IsTrying st (number_of key) own w.at (list_word (λ b. block_for st own b w.at) w.saw) (block_for st own w.batch w.at) =
+      record { batch = w.batch; won = w.won; later = w.later; saw = w.saw; queue = w.queue; trying = w.trying; is_seen = refl; is_block = refl } in
+      record {
+        batch = w.batch;
+        won = w.won;
+        at = w.at;
+        later = w.later;
+        saw = w.saw;
+        queue = w.queue;
+        trying = ap (λ slot. slot.call) uses.slot ∙ w.trying;
+        its = w.its ∙ sym (field_same w.at _ _ t which);
+      }
+
+  -- the plan of a batch that was detached, and so its front, stays
+  pub plan_used : (b v : ℕ) → front_of (start_of key) (own_list key) b ≡ Some v
+      → slice_index_or (plans (start_of key') (own_list key')) b no_plan ≡ slice_index_or (plans (start_of key) (own_list key)) b no_plan
+  plan_used b v front =
+      ap (λ (n : Name). slice_index_or (plans (start n) (own_list key')) b no_plan) uses.seen_by.0
+      ∙ sym (plan_stays (start_of key) (own_list key) (own_list key') b grows (front_there (start_of key) (own_list key) b v front))
+
+  -- It leaves a call where it was that is about to count down a batch: the batch's plan stays, and the same word leads to the rest.
+  module _ (batch : ℕ) (walk queue : List ℕ) (walking : (slot_of key).call ≡ Some (record { place = Rest [] (batch ∷ walk); queue = queue })) where
+    walked : AllLess (length (after (start_of key) (own_list key)).batches) (batch ∷ walk)
+    walked = subst (λ call. AllLess (length (after (start_of key) (own_list key)).batches) (walk_of call)) walking (walking_there (after (start_of key) (own_list key)) reached_own (number_of key))
+
+    pub plan_walked : slice_index_or (plans (start_of key') (own_list key')) batch no_plan ≡ slice_index_or (plans (start_of key) (own_list key)) batch no_plan
+    plan_walked = plan_same batch walked.0
+
+    pub word_walked : (m : ℕ) → list_word (λ b. block_for (start_of key') (own_list key') b m) walk ≡ list_word (λ b. block_for (start_of key) (own_list key) b m) walk
+    word_walked m =
+        ap (λ (n : Name). list_word (λ b. block_for (start n) (own_list key') b m) walk) uses.seen_by.0
+        ∙ sym (blocks_stay key.keys.name (own_list key) (own_list key') m walk grows (subst (λ (k : ℕ). AllLess k walk) (sym planned_own) walked.1))
+
+  -- the fields that it may load are the same
+  abbrev pub still_passes : (which : ℕ → ℕ) (g : ℕ) → Passes which g key → Passes which g key'
+  still_passes which g w = record {
+    batch = w.batch;
+    walk = w.walk;
+    queue = w.queue;
+    walking = ap (λ slot. slot.call) uses.slot ∙ w.walking;
+    its =
+        w.its
+        ∙ ap (λ (plan : Plan). which (home_of (serving (number_of key) plan.slots plan.values))) (sym (plan_walked w.batch w.walk w.queue w.walking))
+        ∙ ap (λ (m : ℕ). which (home_of (served (plans (start_of key') (own_list key')) w.batch m))) (sym uses.seen_by.1);
+  }
 
 -- an activation that a pass has seen to begin stays seen
 pub known_in : (link : Link) (a : Activation) (pass pass' : Pass) → IsIn link a pass → pass'.name ≡ pass.name → IsPrefix pass.seen pass'.seen → IsIn link a pass'

@@ -15,7 +15,7 @@ use Rattle.seize_machine.specs.declared.machine.event.Answer.{Answer}
 use Rattle.seize_machine.proofs.Facts.{Step, Stands, step_of, batches_length, values_kept, held_full}
 use Rattle.seize_words.specs.Blocks.{Plan, no_plan, plan_of, planned_by, plans, front_of}
 use Rattle.seize_words.specs.Book.{after, IsLegalList}
-use Rattle.seize_words.specs.Entry.{Entry, timed}
+use Rattle.seize_words.specs.Entry.{Entry, Made, Used, timed}
 use Rattle.seize_words.specs.Homes.{home_of, is_home, is_in}
 use Rattle.seize_words.specs.Tokens.{Name, start}
 use Rattle.seize_words.proofs.Lists.{reached_after, equal}
@@ -65,7 +65,8 @@ planned_step size st event d ps step old =
 
 planned_after : (st : State) (log : List Entry) (ps : List Plan) → IsLegalList st log → Planned st ps → Planned (after st log) (ps ++ plans st log)
 planned_after st [] ps l old = subst (Planned st) (sym (append-nil ps)) old
-planned_after st (e ∷ log) ps l old =
+planned_after st (Used u ∷ log) ps l old = planned_after st log ps l old
+planned_after st (Made e ∷ log) ps l old =
     let w = legal_first st e log l in
     let now = (done_by next st (timed e)).0 in
     let stepped : Planned now (ps ++ planned_by st e.event) = subst (λ (d : State × Answer). Planned d.0 (ps ++ planned_by st e.event)) (sym w.2) (planned_step e.size st e.event w.0 ps (step_of e.size st e.event w.0 w.1) old) in

@@ -6,7 +6,7 @@ use Rattle.seize_machine.specs.Machine.Next.{next, scheme, hand, of_call, handin
 use Rattle.seize_machine.specs.Machine.History.{handed_value, or_illegal}
 use Rattle.seize_machine.specs.declared.machine.event.Answer.{Answer}
 use Rattle.seize_machine.proofs.Facts.{some_is}
-use Rattle.seize_words.specs.Entry.{Entry}
+use Rattle.seize_words.specs.Entry.{Entry, Made, Deed}
 use Rattle.seize_words.specs.Book.{after, IsLegalList, Does}
 use Rattle.seize_words.specs.Adding.{private}
 use Rattle.seize_words.specs.Slots.{Notes, HandsOnce, hands_next, number_of, slot_of}
@@ -23,11 +23,11 @@ hands_it size st s v d is h = ap (λ (x : State × Answer). handed_value x.1) (s
 
 pub hands_once : (key key' : SlotKey) (pass pass' : Pass) (v : ℕ) → key.keys.name ≡ pass.name → hands_next (slot_of key) ≡ Some v → Notes key pass key' pass' (Hand (number_of key) []) → HandsOnce key pass' v
 hands_once key key' pass pass' v name is notes =
-    let noted = notes.2.0 in let moves = notes.2.1 in let n : Name = key.keys.name in let e : Entry = private pass (Hand (number_of key) []) in let log = noted.before in
-    let legal : IsLegalList (start n) (log ++ e ∷ []) = subst (λ (l : List Entry). IsLegalList (start n) l) noted.appended (subst (λ (m : Name). IsLegalList (start m) pass'.seen) (sym name) noted.legal) in
-    let front : IsLegalList (start n) log = legal_front (start n) log e legal in
+    let noted = notes.2.0 in let moves = notes.2.1 in let n : Name = key.keys.name in let e : Deed = private pass (Hand (number_of key) []) in let log = noted.before in
+    let legal : IsLegalList (start n) (log ++ Made e ∷ []) = subst (λ (l : List Entry). IsLegalList (start n) l) noted.appended (subst (λ (m : Name). IsLegalList (start m) pass'.seen) (sym name) noted.legal) in
+    let front : IsLegalList (start n) log = legal_front (start n) log (Made e) legal in
     let d : State × Answer = (noted.later, noted.answer) in
-    let does : Does (start n) log e d = ap (λ (m : Name). next m.size (after (start n) log) (Hand (number_of key) [])) (sym name) ∙ moves.legal in
+    let does : Does (start n) log (Made e) d = ap (λ (m : Name). next m.size (after (start n) log) (Hand (number_of key) [])) (sym name) ∙ moves.legal in
     let distinct : are_distinct (linked n.links) ≡ Rattle.std.proofs.Common.true = ap (λ (m : Name). are_distinct (linked m.links)) name ∙ noted.distinct in
     let hands = hands_it n.size (after (start n) log) (number_of key) v d (ap (λ slot. of_call handing_at slot.call) moves.was ∙ is) moves.legal in
     let parted = all_parted n.slots n.links distinct log e d v front does hands in

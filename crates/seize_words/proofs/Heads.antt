@@ -8,20 +8,21 @@ use Rattle.atomic_table.proofs.Lists as kit
 use Rattle.seize_machine.specs.Machine.State.{State, Slot, Call, Place, Head, Inactive, Active, Mark, Look, Try, Out, Rest, no_slot, slot_at, head_at, is_active, is_idle, waiting_at, linked, are_distinct}
 use Rattle.seize_machine.specs.Machine.Event.{Event, Enter, Insert, ReadHead, SwapOut}
 use Rattle.seize_machine.specs.Machine.Next.{in_turn, look, next, of_call, set_head}
-use Rattle.seize_machine.specs.Machine.History.{IsReached, done_by}
+use Rattle.seize_machine.specs.Machine.History.{IsReached, done_by, first_of}
 use Rattle.seize_machine.specs.Machine.Frames.{changes_slot, changes_used, changes_head_of, changes_link, slots_added}
 use Rattle.seize_machine.specs.declared.machine.event.Answer.{Answer}
 use Rattle.seize_machine.specs.declared.machine.event.Answer.TheVariants.{Done}
 use Rattle.seize_machine.specs.declared.machine.event.Try.{Try as Insertion}
 use Rattle.seize_machine.specs.declared.machine.event.Try.TheVariants.{Won, Lost}
-use Rattle.seize_machine.proofs.Facts.{Step, Stands, and_true, eq_true, go_on, head_frame, heads_length, is_true, next_of, slots_length, step_of}
+use Rattle.seize_machine.proofs.Facts.{Step, Stands, and_true, eq_true, go_on, head_frame, heads_length, is_true, next_of, slots_length, some_is, step_of}
 use Rattle.seize_words.specs.Atomic.{exchanged}
-use Rattle.seize_words.specs.Blocks.{block_for, head_word, list_word, plans, word_of}
+use Rattle.seize_words.specs.Blocks.{Plan, block_for, block_of, head_word, list_word, plans, word_of}
+use Rattle.seize_words.specs.Chains.{Leads, LeadsOn, first_field, front_block, next_field, served, told, written, written_at}
 use Rattle.seize_words.specs.Book.{Kept, TheSlot, Does, IsLegalList, after, births, heads, rules, slots}
-use Rattle.seize_words.specs.Entry.{Entry, timed}
+use Rattle.seize_words.specs.Entry.{Entry, Made, Used, Deed, timed}
 use Rattle.seize_words.specs.Fair.{Covers, pass_key}
 use Rattle.seize_words.specs.Heads.{IsTrying, found_end, reads, reads_at}
-use Rattle.seize_words.specs.Homes.{changes_count, changes_home}
+use Rattle.seize_words.specs.Homes.{changes_count, changes_home, home_of}
 use Rattle.seize_words.specs.Laws.{IsIn, life}
 use Rattle.seize_words.specs.Ledger.{Held, AllKept}
 use Rattle.seize_words.specs.Private.{is_one, key_of, label_of, own_of}
@@ -30,7 +31,7 @@ use Rattle.seize_words.specs.Tokens.{Name, start}
 use Rattle.seize_words.specs.Words.{Site}
 use Rattle.seize_words.proofs.Lives.{legal_first, life_kept}
 use Rattle.seize_words.proofs.Lists.{equal, unequal, after_push, legal_push, reached_after}
-use Rattle.seize_words.proofs.Plans.{AllLess, block_stays, blocks_stay, head_stays, legal_prefix, plans_long, saw_there, tried_there}
+use Rattle.seize_words.proofs.Plans.{AllLess, block_stays, blocks_stay, head_stays, legal_prefix, plan_stays, plans_long, saw_there, tried_there}
 use Rattle.seize_words.proofs.Private.{differ, only_is}
 use Rattle.seize_words.proofs.Sound.{none_named}
 
@@ -58,7 +59,8 @@ slots_grow st a b p l = subst (λ (z : List Entry). length (after st a).slots �
   where
     more : (st : State) (log : List Entry) → IsLegalList st log → length st.slots ≤ length (after st log).slots
     more st [] l = omega arith
-    more st (e ∷ log) l =
+    more st (Used u ∷ log) l = more st log l
+    more st (Made e ∷ log) l =
         let w = legal_first st e log l in
         let one : length (w.0).0.slots ≡ length st.slots + slots_added st e.event = slots_length e.size st e.event w.0 (step_of _ _ _ _ w.1) in
         let rest : length (w.0).0.slots ≤ length (after (w.0).0 log).slots = more (w.0).0 log w.3 in
@@ -67,7 +69,8 @@ slots_grow st a b p l = subst (λ (z : List Entry). length (after st a).slots �
 
     from : (st : State) (a more_ : List Entry) → IsLegalList st (a ++ more_) → length (after st a).slots ≤ length (after st (a ++ more_)).slots
     from st [] more_ l = more st more_ l
-    from st (e ∷ a) more_ l = from (done_by next st (timed e)).0 a more_ (and_true _ _ l).1
+    from st (Used u ∷ a) more_ l = from st a more_ l
+    from st (Made e ∷ a) more_ l = from (done_by next st (timed e)).0 a more_ (and_true _ _ l).1
 
 prefix_push : (log : List Entry) (e : Entry) → IsPrefix log (log ++ e ∷ [])
 prefix_push log e = (e ∷ [], refl)
@@ -80,11 +83,11 @@ module _ (n : Name) (m : ℕ) where
   At = List Entry × List (Held Entry)
 
   -- a head that the event leaves shows the same
-  unchanged : (log : List Entry) (e : Entry) (d : State × Answer) → are_distinct (linked n.links) ≡ true → IsLegalList st log → Does st log e d → changes_head_of m e.event ≡ false
-      → head_word st log m ≡ head_word st (log ++ e ∷ []) m
+  unchanged : (log : List Entry) (e : Deed) (d : State × Answer) → are_distinct (linked n.links) ≡ true → IsLegalList st log → Does st log (Made e) d → changes_head_of m e.event ≡ false
+      → head_word st log m ≡ head_word st (log ++ Made e ∷ []) m
   unchanged log e d distinct legal does same =
-      head_stays n m log (log ++ e ∷ []) distinct (legal_push st log e d legal does)
-      (prefix_push log e, sym (ap (λ (z : State). head_at z m) (after_push st log e d legal does) ∙ head_frame m e.size (after st log) e.event d (step_of e.size (after st log) e.event d does) same))
+      head_stays n m log (log ++ Made e ∷ []) distinct (legal_push st log (Made e) d legal does)
+      (prefix_push log (Made e), sym (ap (λ (z : State). head_at z m) (after_push st log (Made e) d legal does) ∙ head_frame m e.size (after st log) e.event d (step_of e.size (after st log) e.event d does) same))
 
   -- what the word holds is what the head shows
   shown : (v p : ℕ) (seen : List Entry) (held : List (Held Entry)) (t : At) (log : List Entry) → FoundAs (at_head n m) v p seen held [] t log → v ≡ head_word st log m
@@ -94,8 +97,8 @@ module _ (n : Name) (m : ℕ) where
   key s x own = record { kind = slots; key = s; own = own; label = x } ∷ []
 
   -- One event of the slot, with the slot's key.
-  module _ (p s x : ℕ) (slots_own own since log : List Entry) (lives : List ℕ) (w : ℕ) (e : Entry) (pe : e.pass ≡ p) (t : Touches s m e.event) (d : State × Answer) where
-    covers : Covers st (pass_key p own ∷ in_step (at_head n m) (key s x slots_own) (since, [])) log e
+  module _ (p s x : ℕ) (slots_own own since log : List Entry) (lives : List ℕ) (w : ℕ) (e : Deed) (pe : e.pass ≡ p) (t : Touches s m e.event) (d : State × Answer) where
+    covers : Covers st (pass_key p own ∷ in_step (at_head n m) (key s x slots_own) (since, [])) log (Made e)
     covers zero k b there = differ e.pass k (λ i. b.0 (refl, i ∙ pe))
     covers (suc zero) k b there = t.used
     covers (suc (suc zero)) k b there = t.slot k (λ i. b.1.1.0 (refl, i))
@@ -103,11 +106,12 @@ module _ (n : Name) (m : ℕ) where
     covers (suc (suc (suc (suc zero)))) k b there = t.link k
     covers (suc (suc (suc (suc (suc zero))))) k b there = (t.others (after st log) k).0
     covers (suc (suc (suc (suc (suc (suc zero)))))) k b there = (t.others (after st log) k).1
-    covers (suc (suc (suc (suc (suc (suc (suc r))))))) k b there = refl
+    covers (suc (suc (suc (suc (suc (suc (suc zero))))))) k b there = refl
+    covers (suc (suc (suc (suc (suc (suc (suc (suc r)))))))) k b there = refl
 
-    made : Does st log e d → EndsAmong lives log e.event → w ≡ head_word st (log ++ e ∷ []) m → IsStep (at_head n m) p (key s x slots_own) lives w e false (since, []) own log
-    made does ends shows = record {
-      fair = record { done = d; legal = does; covers = covers; names = λ many was there. (subst (λ (z : ℕ). z < many 0) (sym pe) there.0, (λ k le. (t.others (after st log) k).0), λ k le. (t.others (after st log) k).1); one = none_named e.size (after st log) e.event d (step_of _ _ _ _ does) (λ k. (t.others (after st log) k).1) };
+    made : Does st log (Made e) d → Leads (after st log) (plans st log) (told log) e.event → EndsAmong lives log (Made e) → w ≡ head_word st (log ++ Made e ∷ []) m → IsStep (at_head n m) p (key s x slots_own) lives w (Made e) false (since, []) own log
+    made does leads ends shows = record {
+      fair = record { done = d; legal = does; covers = covers; names = λ many was there. (subst (λ (z : ℕ). z < many 0) (sym pe) there.0, (λ k le. (t.others (after st log) k).0), (λ k le. (t.others (after st log) k).1), λ f le. refl); leads = leads; one = none_named e.size (after st log) e.event d (step_of _ _ _ _ does) (λ k. (t.others (after st log) k).1) };
       its = pe;
       no_births = t.births (after st log);
       ends = ends;
@@ -165,14 +169,14 @@ module _ (n : Name) (m : ℕ) where
   read_touches s = record { slot = λ k d. differ s k d; used = refl; head = λ k d. refl; link = λ k. refl; others = λ st k. (refl, refl); births = λ st. refl }
 
   pub may_read : (p size : ℕ) (seen : List Entry) (held : List (Held Entry)) → is_one slots held ≡ true → reads (slot_at (after st (own_of held)) (key_of held)) m ≡ true → m < length (after st seen).slots
-      → MayStep (at_head n m) p seen held [] [] (λ v. v) (λ v log. record { pass = p; size = size; event = ReadHead (key_of held) m; life = 0 }) (λ v. false)
+      → MayStep (at_head n m) p seen held [] [] (λ v. v) (λ v log. Made (record { pass = p; size = size; event = ReadHead (key_of held) m; life = 0 })) (λ v. false)
   unfolding MayStepAs
   may_read p size seen held one may there =
-      may_step p seen held [] (λ v. v) (λ v log. record { pass = p; size = size; event = ReadHead (key_of held) m; life = 0 }) one (λ v t own log found kept word.
+      may_step p seen held [] (λ v. v) (λ v log. Made (record { pass = p; size = size; event = ReadHead (key_of held) m; life = 0 })) one (λ v t own log found kept word.
       let s = key_of held in let le : length (after st seen).slots ≤ length (after st log).slots = slots_grow st seen log found.before.grows found.before.legal in
       let done = read_done size s (after st log) (ap (λ (x : Slot). reads x m) (sym kept.1.1) ∙ may) (omega (arith, le)) in
-      let e : Entry = record { pass = p; size = size; event = ReadHead s m; life = 0 } in
-      made p s (label_of held) (own_of held) own t.0 log [] v e refl (read_touches s) done.0 done.1 (λ a i. absurd i) (word ∙ unchanged log e done.0 found.distinct found.before.legal done.1 refl))
+      let e : Deed = record { pass = p; size = size; event = ReadHead s m; life = 0 } in
+      made p s (label_of held) (own_of held) own t.0 log [] v e refl (read_touches s) done.0 done.1 tt (λ a i. absurd i) (word ∙ unchanged log e done.0 found.distinct found.before.legal done.1 refl))
 
   -- The slot becomes active.
 
@@ -184,24 +188,24 @@ module _ (n : Name) (m : ℕ) where
   head_there log s distinct legal there = let l : s < length (after st log).slots = in_use (after st log) s there in
       let same : length (after st log).heads ≡ length (after st log).slots = heads_length (after st log) (reached_after n log distinct legal) in omega (arith, l, same)
 
-  set_word : (log : List Entry) (e : Entry) (d : State × Answer) (h : Head) (now : List Head) → IsLegalList st log → Does st log e d → d.0.heads ≡ set now m h → m < length now
-      → head_at (after st (log ++ e ∷ [])) m ≡ h
+  set_word : (log : List Entry) (e : Deed) (d : State × Answer) (h : Head) (now : List Head) → IsLegalList st log → Does st log (Made e) d → d.0.heads ≡ set now m h → m < length now
+      → head_at (after st (log ++ Made e ∷ [])) m ≡ h
   set_word log e d h now legal does is there =
-      ap (λ (z : State). head_at z m) (after_push st log e d legal does) ∙ ap (λ (hs : List Head). get_or hs m Inactive) is ∙ get_or-set_same now m h Inactive there
+      ap (λ (z : State). head_at z m) (after_push st log (Made e) d legal does) ∙ ap (λ (hs : List Head). get_or hs m Inactive) is ∙ get_or-set_same now m h Inactive there
 
   pub may_enter : (p size a : ℕ) (seen : List Entry) (held : List (Held Entry)) → is_one slots held ≡ true → is_idle (slot_at (after st (own_of held)) (key_of held)) ≡ true
       → is_active (head_at (after st (own_of held)) (key_of held)) ≡ false → key_of held ≡ m
-      → (lives : List ℕ) → MayStep (at_head n m) p seen held [] lives (λ v. 1) (λ v log. record { pass = p; size = size; event = Enter (key_of held); life = a }) (λ v. false)
+      → (lives : List ℕ) → MayStep (at_head n m) p seen held [] lives (λ v. 1) (λ v log. Made (record { pass = p; size = size; event = Enter (key_of held); life = a })) (λ v. false)
   unfolding MayStepAs
   may_enter p size a seen held one idle off is lives =
-      may_step p seen held lives (λ v. 1) (λ v log. record { pass = p; size = size; event = Enter (key_of held); life = a }) one (λ v t own log found kept word.
-      let s = key_of held in let now : State = after st log in let e : Entry = record { pass = p; size = size; event = Enter s; life = a } in
+      may_step p seen held lives (λ v. 1) (λ v log. Made (record { pass = p; size = size; event = Enter (key_of held); life = a })) one (λ v t own log found kept word.
+      let s = key_of held in let now : State = after st log in let e : Deed = record { pass = p; size = size; event = Enter s; life = a } in
       let idle_now : is_idle (slot_at now s) ≡ true = ap is_idle (sym kept.1.1) ∙ idle in
       let d : State × Answer = (set_head now s (Active []), Done) in
-      let does : Does st log e d = next_of size now (Enter s) d (Step.entered s idle_now (sym kept.1.2 ∙ off)) in
+      let does : Does st log (Made e) d = next_of size now (Enter s) d (Step.entered s idle_now (sym kept.1.2 ∙ off)) in
       let there : s < length now.heads = head_there log s found.distinct found.before.legal (λ x. let y : true ≡ false = sym idle_now ∙ ap is_idle x in cc) in
       let head = set_word log e d (Active []) now.heads found.before.legal does (ap (λ (k : ℕ). set now.heads k (Active [])) is) (subst (λ (k : ℕ). k < length now.heads) is there) in
-      made p s (label_of held) (own_of held) own t.0 log lives 1 e refl (enter_touches s is) d does (λ a i. absurd i) (sym (ap (word_of (λ b. block_for st (log ++ e ∷ []) b m)) head)))
+      made p s (label_of held) (own_of held) own t.0 log lives 1 e refl (enter_touches s is) d does tt (λ a i. absurd i) (sym (ap (word_of (λ b. block_for st (log ++ Made e ∷ []) b m)) head)))
 
   -- The slot leaves or refreshes.
 
@@ -214,19 +218,19 @@ module _ (n : Name) (m : ℕ) where
 
   pub may_leave : (p size a : ℕ) (stays : Bool) (queue seen_lives : List ℕ) (seen : List Entry) (held : List (Held Entry)) → is_one slots held ≡ true
       → Stands (after st (own_of held)) (key_of held) (Out stays) queue → key_of held ≡ m → IsIn seen_lives (life (key_of held) (own_of held))
-      → MayStep (at_head n m) p seen held [] seen_lives (λ v. if stays then 1 else 0) (λ v log. record { pass = p; size = size; event = SwapOut (key_of held); life = a }) (λ v. false)
+      → MayStep (at_head n m) p seen held [] seen_lives (λ v. if stays then 1 else 0) (λ v log. Made (record { pass = p; size = size; event = SwapOut (key_of held); life = a })) (λ v. false)
   unfolding MayStepAs
   may_leave p size a stays queue lives seen held one stands is among =
-      may_step p seen held lives (λ v. if stays then 1 else 0) (λ v log. record { pass = p; size = size; event = SwapOut (key_of held); life = a }) one (λ v t own log found kept word.
-      let s = key_of held in let now : State = after st log in let e : Entry = record { pass = p; size = size; event = SwapOut s; life = a } in let h : Head = if stays then Active [] else Inactive in
+      may_step p seen held lives (λ v. if stays then 1 else 0) (λ v log. Made (record { pass = p; size = size; event = SwapOut (key_of held); life = a })) one (λ v t own log found kept word.
+      let s = key_of held in let now : State = after st log in let e : Deed = record { pass = p; size = size; event = SwapOut s; life = a } in let h : Head = if stays then Active [] else Inactive in
       let stands_now : Stands now s (Out stays) queue = ap (λ (x : Slot). x.call) (sym kept.1.1) ∙ stands in
       let d : State × Answer = (go_on (set_head now s h) s (record { place = Rest [] (waiting_at (head_at now s)); queue = queue }), Done) in
-      let does : Does st log e d = next_of size now (SwapOut s) d (Step.swapped_out s stays queue stands_now) in
+      let does : Does st log (Made e) d = next_of size now (SwapOut s) d (Step.swapped_out s stays queue stands_now) in
       let there : s < length now.heads = head_there log s found.distinct found.before.legal (λ x. let y : Option.None ≡ (slot_at now s).call = sym (ap (λ (z : Slot). z.call) x) in let z : Option.None ≡ Some (record { place = Out stays; queue = queue }) = y ∙ stands_now in cc) in
       let head = set_word log e d h now.heads found.before.legal does (ap (λ (k : ℕ). set now.heads k h) is) (subst (λ (k : ℕ). k < length now.heads) is there) in
       let its : life s (own_of held) ≡ life s log = life_kept st s (own_of held) log kept in
-      made p s (label_of held) (own_of held) own t.0 log lives (if stays then 1 else 0) e refl (leave_touches s is) d does (λ b i. subst (IsIn lives) (its ∙ only_that (life s log) b i) among)
-      (left_word stays (λ b. block_for st (log ++ e ∷ []) b m) ∙ sym (ap (word_of (λ b. block_for st (log ++ e ∷ []) b m)) head)))
+      made p s (label_of held) (own_of held) own t.0 log lives (if stays then 1 else 0) e refl (leave_touches s is) d does tt (λ b i. subst (IsIn lives) (its ∙ only_that (life s log) b i) among)
+      (left_word stays (λ b. block_for st (log ++ Made e ∷ []) b m) ∙ sym (ap (word_of (λ b. block_for st (log ++ Made e ∷ []) b m)) head)))
     where
       only_that : (x b : ℕ) → IsIn (x ∷ []) b → x ≡ b
       only_that x b (inl e) = e
@@ -244,7 +248,16 @@ module _ (n : Name) (m : ℕ) where
   word_active block Inactive x [] other e = absurd (omega (arith, e))
   word_active block Inactive x (b ∷ bs) other e = absurd (omega (arith, e))
 
+  -- what a slot has written before it tries
+  abbrev pub Wrote : ℕ → List Entry → ℕ → ℕ → Type 0
+  Wrote s own next batch = written (after st own) (plans st own) (told own) s ≡ Some (next, front_block (plans st own) batch)
+
+  abbrev tried_batch : Place → ℕ
+  tried_batch (Try b won k later saw) = b
+  tried_batch _ = 0
+
   module _ (p size seen_word block : ℕ) (seen : List Entry) (held : List (Held Entry)) (tries : IsTrying st (key_of held) (own_of held) m seen_word block)
+      (wrote : Wrote (key_of held) (own_of held) seen_word tries.batch)
       (v : ℕ) (t : At) (own log : List Entry) (found : FoundAs (at_head n m) v p seen (key (key_of held) (label_of held) (own_of held)) [] t log) (kept : Kept st TheSlot (key_of held) (own_of held) log) (word : v ≡ head_word st log m) where
     abbrev s : ℕ
     s = key_of held
@@ -255,7 +268,7 @@ module _ (n : Name) (m : ℕ) where
     abbrev now : State
     now = after st log
 
-    abbrev inserts : Insertion → Entry
+    abbrev inserts : Insertion → Deed
     inserts end = record { pass = p; size = size; event = Insert s m end; life = 0 }
 
     own_legal : IsLegalList st then_own
@@ -278,27 +291,39 @@ module _ (n : Name) (m : ℕ) where
     saw_word = tries.is_seen ∙ blocks_stay n then_own log m tries.saw kept.0 (planned tries.saw (saw_there (after st then_own) reached_own s tries.batch tries.won m tries.later tries.saw tries.queue stands_own))
 
     abbrev Step_ : ℕ → Insertion → Type 0
-    Step_ w end = IsStep (at_head n m) p (key s (label_of held) then_own) [] w (record { pass = p; size = size; event = Insert s m end; life = 0 }) false (t.0, []) own log
+    Step_ w end = IsStep (at_head n m) p (key s (label_of held) then_own) [] w (Made (record { pass = p; size = size; event = Insert s m end; life = 0 })) false (t.0, []) own log
 
     lost : v ≢ seen_word → Step_ v Lost
     lost differs =
         let d : State × Answer = (go_on now s (record { place = Look tries.batch tries.won m tries.later; queue = tries.queue }), Done) in
         let other : head_at now m ≢ Active tries.saw = λ x. differs (word ∙ ap (word_of (λ b. block_for st log b m)) x ∙ sym saw_word) in
-        let does : Does st log (inserts Lost) d = next_of size now (Insert s m Lost) d (Step.lost s m tries.batch tries.won tries.later tries.saw tries.queue stands_now other) in
-        made p s (label_of held) then_own own t.0 log [] v (inserts Lost) refl (insert_touches s Lost) d does (λ a i. absurd i) (word ∙ unchanged log (inserts Lost) d found.distinct found.before.legal does refl)
+        let does : Does st log (Made (inserts Lost)) d = next_of size now (Insert s m Lost) d (Step.lost s m tries.batch tries.won tries.later tries.saw tries.queue stands_now other) in
+        made p s (label_of held) then_own own t.0 log [] v (inserts Lost) refl (insert_touches s Lost) d does tt (λ a i. absurd i) (word ∙ unchanged log (inserts Lost) d found.distinct found.before.legal does refl)
 
     won : v ≡ seen_word → Step_ (block + 2) Won
     won same =
         let active = word_active (λ b. block_for st log b m) (head_at now m) v tries.saw (λ b. block_for st log b m) (sym word ∙ same ∙ saw_word) in let waiting : List ℕ = active.0 in let b : ℕ = tries.batch in
         let d : State × Answer = (go_on (set_head now m (Active (b ∷ waiting))) s (record { place = look b (tries.won + 1) tries.later; queue = tries.queue }), Done) in
-        let does : Does st log (inserts Won) d = next_of size now (Insert s m Won) d (Step.inserted s m b tries.won tries.later tries.saw tries.queue waiting stands_now active.1) in
+        let does : Does st log (Made (inserts Won)) d = next_of size now (Insert s m Won) d (Step.inserted s m b tries.won tries.later tries.saw tries.queue waiting stands_now active.1) in
         let there : m < length now.heads = head_within waiting active.1 in
         let head = set_word log (inserts Won) d (Active (b ∷ waiting)) now.heads found.before.legal does refl there in
         let its : b < length (plans st then_own) = subst (λ (k : ℕ). b < k) (sym (plans_long n then_own own_legal)) (tried_there (after st then_own) s b tries.won m tries.later tries.saw tries.queue reached_own stands_own) in
-        let stays = block_stays st then_own (log ++ inserts Won ∷ []) b m (prefix_trans then_own log (log ++ inserts Won ∷ []) kept.0 (prefix_push log (inserts Won))) its in
-        made p s (label_of held) then_own own t.0 log [] (block + 2) (inserts Won) refl (insert_touches s Won) d does (λ a i. absurd i)
-        (ap (λ (k : ℕ). k + 2) (tries.is_block ∙ stays) ∙ sym (ap (word_of (λ b. block_for st (log ++ inserts Won ∷ []) b m)) head))
+        let stays = block_stays st then_own (log ++ Made (inserts Won) ∷ []) b m (prefix_trans then_own log (log ++ Made (inserts Won) ∷ []) kept.0 (prefix_push log (Made (inserts Won)))) its in
+        made p s (label_of held) then_own own t.0 log [] (block + 2) (inserts Won) refl (insert_touches s Won) d does (leads waiting active.1 (sym same ∙ word ∙ ap (word_of (λ c. block_for st log c m)) active.1)) (λ a i. absurd i)
+        (ap (λ (k : ℕ). k + 2) (tries.is_block ∙ stays) ∙ sym (ap (word_of (λ b. block_for st (log ++ Made (inserts Won) ∷ []) b m)) head))
       where
+        -- what the slot wrote is what waits there, and the block of the batch's front
+        leads : (waiting : List ℕ) → head_at now m ≡ Active waiting → seen_word ≡ list_word (λ c. block_for st log c m) waiting → Leads now (plans st log) (told log) (Insert s m Won)
+        leads waiting active seen_is c won later saw queue there stands head =
+            let b = tries.batch in
+            let same_call = some_is _ _ (sym stands_now ∙ stands) in
+            let same_head : waiting ≡ there = ap waiting_at (sym active ∙ head) in
+            let now_written : Some (told log (next_field (home_of (served (plans st log) b m))), told log (first_field (home_of (served (plans st log) b m)))) ≡ written now (plans st log) (told log) s = ap (of_call (written_at (plans st log) (told log))) (sym stands_now) in
+            let both = some_is _ _ (now_written ∙ sym kept.1.3 ∙ wrote) in
+            let its : b < length (plans st then_own) = subst (λ (k : ℕ). b < k) (sym (plans_long n then_own own_legal)) (tried_there (after st then_own) s b tries.won m tries.later tries.saw tries.queue reached_own stands_own) in
+            let goal : LeadsOn (plans st log) (told log) m b waiting = (ap (λ (t : ℕ × ℕ). t.0) both ∙ seen_is, ap (λ (t : ℕ × ℕ). t.1) both ∙ ap (λ (plan : Plan). block_of (unwrap_or (first_of plan.values) 0)) (plan_stays st then_own log b kept.0 its)) in
+            subst (λ (t : ℕ × List ℕ). LeadsOn (plans st log) (told log) m t.0 t.1) (λ i. (tried_batch (same_call i).place, same_head i)) goal
+
         head_within : (waiting : List ℕ) → head_at now m ≡ Active waiting → m < length now.heads
         head_within waiting e = go (cases_lt m (length now.heads))
           where
@@ -311,12 +336,12 @@ module _ (n : Name) (m : ℕ) where
         (λ same. subst (Step_ (block + 2)) (sym (ap (λ (c : Bool). if c then Won else Lost) (equal v seen_word same))) (won same))
         (λ differs. subst (Step_ v) (sym (ap (λ (c : Bool). if c then Won else Lost) (unequal v seen_word differs))) (lost differs))
 
-  pub may_insert : (p size seen_word block : ℕ) (seen : List Entry) (held : List (Held Entry)) → is_one slots held ≡ true → IsTrying st (key_of held) (own_of held) m seen_word block
-      → MayStep (at_head n m) p seen held [] [] (exchanged seen_word (block + 2)) (λ v log. record { pass = p; size = size; event = Insert (key_of held) m (found_end seen_word v); life = 0 }) (λ v. false)
+  pub may_insert : (p size seen_word block : ℕ) (seen : List Entry) (held : List (Held Entry)) → is_one slots held ≡ true → (tries : IsTrying st (key_of held) (own_of held) m seen_word block) → Wrote (key_of held) (own_of held) seen_word tries.batch
+      → MayStep (at_head n m) p seen held [] [] (exchanged seen_word (block + 2)) (λ v log. Made (record { pass = p; size = size; event = Insert (key_of held) m (found_end seen_word v); life = 0 })) (λ v. false)
   unfolding MayStepAs
-  may_insert p size seen_word block seen held one tries =
-      may_step p seen held [] (exchanged seen_word (block + 2)) (λ v log. record { pass = p; size = size; event = Insert (key_of held) m (found_end seen_word v); life = 0 }) one
-      (λ v t own log found kept word. either_way p size seen_word block seen held tries v t own log found kept word)
+  may_insert p size seen_word block seen held one tries wrote =
+      may_step p seen held [] (exchanged seen_word (block + 2)) (λ v log. Made (record { pass = p; size = size; event = Insert (key_of held) m (found_end seen_word v); life = 0 })) one
+      (λ v t own log found kept word. either_way p size seen_word block seen held tries wrote v t own log found kept word)
 
   -- What the word held is what the list said of the head just before.
   pub found_word : (v p : ℕ) (seen : List Entry) (held : List (Held Entry)) (t : At) (log : List Entry) → FoundAs (at_head n m) v p seen held [] t log → v ≡ head_word st log m

@@ -6,6 +6,7 @@ pub mod Lists
 pub mod Homes
 pub mod Sound
 pub mod Counts
+pub mod Deposits
 pub mod Goes
 pub mod Handed
 pub mod Lives
@@ -29,7 +30,12 @@ pub mod Facts
 pub mod Steps
 pub mod Plans
 pub mod Fronts
+pub mod Chains
+pub mod Serves
+pub mod Written
+pub mod Uses
 pub mod Heads
+pub mod Values
 pub mod Counting
 pub mod Counted
 pub mod Stepped

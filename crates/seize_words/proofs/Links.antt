@@ -10,7 +10,7 @@ use Rattle.seize_machine.specs.declared.machine.event.Exchange.{Exchange}
 use Rattle.seize_machine.proofs.Facts.{Step, eq_true, next_of, swapped}
 use Rattle.seize_words.specs.Blocks.{link_word}
 use Rattle.seize_words.specs.Book.{IsLegalList, Kept, TheBlock, after, blocks, rules, Does, kind_of}
-use Rattle.seize_words.specs.Entry.{Entry}
+use Rattle.seize_words.specs.Entry.{Entry, Made}
 use Rattle.seize_words.specs.Fair.{Covers, NamesHeld, pass_key}
 use Rattle.seize_words.specs.Ledger.{Held, AllKept, AllThere, Beside, renewed}
 use Rattle.seize_words.specs.Homes.{HasOne, IsVacant, home_of, is_home}
@@ -109,10 +109,10 @@ module _ (n : Name) (l : ℕ) where
   module _ (v p size s : ℕ) (seen : List Entry) (held : List (Held Entry)) (alive : List ℕ) (t : At) (own log : List Entry) (found : FoundAs (at_link n l) v p seen held alive t log)
       (on : is_active (head_at (after st log) s) ≡ true) (within : l < length (after st log).links) where
     reads : Entry
-    reads = record { pass = p; size = size; event = ReadLink s l; life = 0 }
+    reads = Made (record { pass = p; size = size; event = ReadLink s l; life = 0 })
 
     -- a read
-    pub read_step : IsStep (at_link n l) p held [] v (record { pass = p; size = size; event = ReadLink s l; life = 0 }) false t own log
+    pub read_step : IsStep (at_link n l) p held [] v (Made (record { pass = p; size = size; event = ReadLink s l; life = 0 })) false t own log
     unfolding reads
     read_step =
         let now : State = after st log in let d : State × Answer = (now, Held_ (link_at now l)) in
@@ -120,7 +120,7 @@ module _ (n : Name) (l : ℕ) where
         let push : link_at (after st (log ++ reads ∷ [])) l ≡ link_at now l = ap (λ (z : State). link_at z l) (after_push st log reads d found.before.legal does) in
         let is : link_at (after st t.0) l ≡ link_at (after st (log ++ reads ∷ [])) l = same v p seen held alive t log found ∙ sym push in
         record {
-          fair = record { done = d; legal = does; covers = covers; names = λ many was there. (there.0, (λ k le. refl), λ k le. refl); one = λ one. one };
+          fair = record { done = d; legal = does; covers = covers; names = λ many was there. (there.0, (λ k le. refl), (λ k le. refl), λ f le. refl); one = λ one. one; leads = tt };
           its = refl;
           no_births = refl;
           ends = λ a i. absurd i;
@@ -128,7 +128,7 @@ module _ (n : Name) (l : ℕ) where
           stands = subst (λ (o : Option ℕ). IsKeyOf o (renewed t.1 (log ++ reads ∷ []))) is (key_later (link_at (after st t.0) l) t.1 (log ++ reads ∷ []) found.stands);
         }
       where
-        covers : Covers st (pass_key p own ∷ in_step (at_link n l) held t) log (record { pass = p; size = size; event = ReadLink s l; life = 0 })
+        covers : Covers st (pass_key p own ∷ in_step (at_link n l) held t) log (Made (record { pass = p; size = size; event = ReadLink s l; life = 0 }))
         covers zero k beside there = differ p k (λ i. beside.0 (refl, i))
         covers (suc zero) k beside there = refl
         covers (suc (suc zero)) k beside there = refl
@@ -136,12 +136,13 @@ module _ (n : Name) (l : ℕ) where
         covers (suc (suc (suc (suc zero)))) k beside there = refl
         covers (suc (suc (suc (suc (suc zero))))) k beside there = refl
         covers (suc (suc (suc (suc (suc (suc zero)))))) k beside there = refl
-        covers (suc (suc (suc (suc (suc (suc (suc r))))))) k beside there = refl
+        covers (suc (suc (suc (suc (suc (suc (suc zero))))))) k beside there = refl
+        covers (suc (suc (suc (suc (suc (suc (suc (suc r)))))))) k beside there = refl
 
     -- An exchange, with the keys of the value that it would store.
     module _ (o : Option ℕ) (exchange : Exchange) (for : new_link exchange ≡ o) (new : IsNewIn st o held) where
       exchanges : Entry
-      exchanges = record { pass = p; size = size; event = ExchangeLink s l exchange; life = 0 }
+      exchanges = Made (record { pass = p; size = size; event = ExchangeLink s l exchange; life = 0 })
 
       abbrev now : State
       now = after st log
@@ -153,7 +154,7 @@ module _ (n : Name) (l : ℕ) where
       here : IsKeyOf (link_at now l) t.1
       here = subst (λ (x : Option ℕ). IsKeyOf x t.1) (same v p seen held alive t log found) found.stands
 
-      covers_exchange : Covers st all log (record { pass = p; size = size; event = ExchangeLink s l exchange; life = 0 })
+      covers_exchange : Covers st all log (Made (record { pass = p; size = size; event = ExchangeLink s l exchange; life = 0 }))
       covers_exchange zero k beside there = differ p k (λ i. beside.0 (refl, i))
       covers_exchange (suc zero) k beside there = refl
       covers_exchange (suc (suc zero)) k beside there = refl
@@ -162,13 +163,15 @@ module _ (n : Name) (l : ℕ) where
       covers_exchange (suc (suc (suc (suc (suc zero))))) k beside there = refl
       covers_exchange (suc (suc (suc (suc (suc (suc zero)))))) k beside there = let b = beside_both t.1 held blocks k beside.1.1 in
           or_both (is_home k (new_link exchange)) (is_home k (link_at now l)) (ap (is_home k) for ∙ other_value o held k (is_key st o held new) b.1) (other_value (link_at now l) t.1 k here b.0)
-      covers_exchange (suc (suc (suc (suc (suc (suc (suc r))))))) k beside there = refl
+      covers_exchange (suc (suc (suc (suc (suc (suc (suc zero))))))) k beside there = refl
+      covers_exchange (suc (suc (suc (suc (suc (suc (suc (suc r)))))))) k beside there = refl
 
-      names_exchange : NamesHeld st all log (record { pass = p; size = size; event = ExchangeLink s l exchange; life = 0 })
+      names_exchange : NamesHeld st all log (Made (record { pass = p; size = size; event = ExchangeLink s l exchange; life = 0 }))
       names_exchange many was there = let h = there_both many t.1 held there.1.1 in (
         there.0,
         (λ w le. refl),
-        λ w le. or_both (is_home w (new_link exchange)) (is_home w (link_at now l)) (ap (is_home w) for ∙ past_value many o held w (is_key st o held new) h.1 le) (past_value many (link_at now l) t.1 w here h.0 le),
+        (λ w le. or_both (is_home w (new_link exchange)) (is_home w (link_at now l)) (ap (is_home w) for ∙ past_value many o held w (is_key st o held new) h.1 le) (past_value many (link_at now l) t.1 w here h.0 le)),
+        λ f le. refl,
       )
 
       fresh : is_none_or_fresh now o ≡ true
@@ -182,7 +185,7 @@ module _ (n : Name) (l : ℕ) where
 
       -- it stores the value
       pub store_step : (w : ℕ) → w ≡ link_word o → is_stored (link_at now l) exchange ≡ true
-          → IsStep (at_link n l) p held [] w (record { pass = p; size = size; event = ExchangeLink s l exchange; life = 0 }) true t own log
+          → IsStep (at_link n l) p held [] w (Made (record { pass = p; size = size; event = ExchangeLink s l exchange; life = 0 })) true t own log
       unfolding exchanges
       store_step w word stored =
           let d : State × Answer = (swapped now l o, Held_ (link_at now l)) in
@@ -190,7 +193,7 @@ module _ (n : Name) (l : ℕ) where
           let does : Does st log exchanges d = next_of size now (ExchangeLink s l exchange) d step in
           let is : link_at (after st (log ++ exchanges ∷ [])) l ≡ o = ap (λ (z : State). link_at z l) (after_push st log exchanges d found.before.legal does) ∙ get_or-set_same now.links l o None within in
           record {
-            fair = record { done = d; legal = does; covers = covers_exchange; names = names_exchange; one = one_stored o new step };
+            fair = record { done = d; legal = does; covers = covers_exchange; names = names_exchange; one = one_stored o new step; leads = tt };
             its = refl;
             no_births = refl;
             ends = λ a i. absurd i;
@@ -200,14 +203,14 @@ module _ (n : Name) (l : ℕ) where
 
       -- it finds something else
       pub miss_step : is_stored (link_at now l) exchange ≡ false
-          → IsStep (at_link n l) p held [] v (record { pass = p; size = size; event = ExchangeLink s l exchange; life = 0 }) false t own log
+          → IsStep (at_link n l) p held [] v (Made (record { pass = p; size = size; event = ExchangeLink s l exchange; life = 0 })) false t own log
       unfolding exchanges
       miss_step stored =
           let d : State × Answer = (now, Held_ (link_at now l)) in
           let does : Does st log exchanges d = next_of size now (ExchangeLink s l exchange) d (Step.compared s l exchange (legal_link now s l on within) (ap (is_none_or_fresh now) for ∙ fresh, stored)) in
           let is : link_at (after st t.0) l ≡ link_at (after st (log ++ exchanges ∷ [])) l = same v p seen held alive t log found ∙ sym (ap (λ (z : State). link_at z l) (after_push st log exchanges d found.before.legal does)) in
           record {
-            fair = record { done = d; legal = does; covers = covers_exchange; names = names_exchange; one = λ one. one };
+            fair = record { done = d; legal = does; covers = covers_exchange; names = names_exchange; one = λ one. one; leads = tt };
             its = refl;
             no_births = refl;
             ends = λ a i. absurd i;

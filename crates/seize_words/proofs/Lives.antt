@@ -13,25 +13,34 @@ use denote.Steps.{nothing}
 use Rattle.seize_machine.specs.Machine.State.{State, Head, Inactive, Active, head_at, is_active}
 use Rattle.seize_machine.specs.Machine.Event.{Event, SwapOut}
 use Rattle.seize_machine.specs.Machine.Next.{next, can_link}
-use Rattle.seize_machine.specs.Machine.History.{Moment, done_by, or_illegal, is_legal, linked_value, is_link_event, is_swap_out, Found}
+use Rattle.seize_machine.specs.Machine.History.{Moment, are_legal, done_by, or_illegal, is_legal, linked_value, is_link_event, is_swap_out, Found}
 use Rattle.seize_machine.specs.Machine.Frames.{changes_head_of, changes_slot}
 use Rattle.seize_machine.specs.declared.machine.event.Answer.{Answer}
 use Rattle.seize_machine.proofs.Facts.{Step, step_of, head_frame, is_true, eq_true, and_true, some_is}
-use Rattle.seize_words.specs.Entry.{Entry, timed}
-use Rattle.seize_words.specs.Book.{Kept, TheSlot, by_slot, moments, after, IsLegalList}
-use Rattle.seize_words.specs.Laws.{AllParted, starts, life_from, life, lives_after, ended_by, ended_from, ended, none_alive, IsIn, AllOver}
-use Rattle.seize_words.specs.Fair.{EndsNone}
+use Rattle.seize_words.specs.Entry.{Entry, Made, Used, Deed, deeds, timed}
+use Rattle.seize_words.specs.Book.{Kept, TheSlot, acts, by_slot, moments, outcome, IsLegalList}
+use Rattle.seize_words.specs.Laws.{AllParted, starts, life_from, life, lives_after, ended_by, ended_from, ended_in, ended, none_alive, IsIn, AllOver}
 use Rattle.seize_words.specs.Tokens.{over}
-use Rattle.seize_words.proofs.Handed.{entry_of}
+use Rattle.seize_words.proofs.Handed.{entry_of, moments_of, state_of}
+use Rattle.seize_words.proofs.Lists.{deeds_append, deeds_prefix, deeds_used}
+
+-- events that are legal in this order
+abbrev IsLegalRun : State → List Deed → Type 0
+IsLegalRun st ds = are_legal (moments_of st ds) ≡ true
+
+-- the first of them
+legal_one : (st : State) (e : Deed) (ds : List Deed) → IsLegalRun st (e ∷ ds)
+    → (d : State × Answer) × (next e.size st e.event ≡ Some d) × (done_by next st (timed e) ≡ d) × IsLegalRun d.0 ds
+legal_one st e ds l = go (next e.size st e.event) refl
+  where
+    go : (o : Option (State × Answer)) → next e.size st e.event ≡ o → (d : State × Answer) × (next e.size st e.event ≡ Some d) × (done_by next st (timed e) ≡ d) × IsLegalRun d.0 ds
+    go Option.None n = let none : is_legal (done_by next st (timed e)).1 ≡ false = ap (λ o. is_legal (or_illegal st o).1) n in absurd (let x : true ≡ false = sym (and_true _ _ l).0 ∙ none in cc)
+    go (Some d) n = let is : done_by next st (timed e) ≡ d = ap (or_illegal st) n in (d, n, is, subst (λ (x : State × Answer). IsLegalRun x.0 ds) is (and_true _ _ l).1)
 
 -- the first event of a legal list
-pub legal_first : (st : State) (e : Entry) (log : List Entry) → IsLegalList st (e ∷ log)
+pub legal_first : (st : State) (e : Deed) (log : List Entry) → IsLegalList st (Made e ∷ log)
     → (d : State × Answer) × (next e.size st e.event ≡ Some d) × (done_by next st (timed e) ≡ d) × IsLegalList d.0 log
-legal_first st e log l = go (next e.size st e.event) refl
-  where
-    go : (o : Option (State × Answer)) → next e.size st e.event ≡ o → (d : State × Answer) × (next e.size st e.event ≡ Some d) × (done_by next st (timed e) ≡ d) × IsLegalList d.0 log
-    go Option.None n = let none : is_legal (done_by next st (timed e)).1 ≡ false = ap (λ o. is_legal (or_illegal st o).1) n in absurd (let x : true ≡ false = sym (and_true _ _ l).0 ∙ none in cc)
-    go (Some d) n = let is : done_by next st (timed e) ≡ d = ap (or_illegal st) n in (d, n, is, subst (λ (x : State × Answer). IsLegalList x.0 log) is (and_true _ _ l).1)
+legal_first st e log l = legal_one st e (deeds log) l
 
 -- a head that was active, where something else is put that is active
 still_active : (heads : List Head) (m t : ℕ) (waiting : List ℕ) → is_active (get_or heads t Inactive) ≡ true → is_active (get_or (set heads m (Active waiting)) t Inactive) ≡ true
@@ -68,18 +77,18 @@ active_on t size st event d step a out = go (is_true (changes_head_of t event))
     go (inr n) = (ap is_active (head_frame t size st event d step n) ∙ a, starts_none event n)
 
 -- the first SwapOut of an active slot ends its activation
-record Ends (a t i : ℕ) (log : List Entry) (life : ℕ) : Type 0 where
+record Ends (a t i : ℕ) (log : List Deed) (life : ℕ) : Type 0 where
   pub at : ℕ
   pub from : i ≤ at
-  pub entry : Entry
+  pub entry : Deed
   pub there : slice_get log at ≡ Some entry
   pub out : is_swap_out t entry.event ≡ true
   pub alive : life_from a t (take at log) ≡ life
 
-one_on : (a t i : ℕ) (x : Entry) (log : List Entry) (life : ℕ) → Ends (if starts t x.event then x.life else a) t i log life → Ends a t (suc i) (x ∷ log) life
+one_on : (a t i : ℕ) (x : Deed) (log : List Deed) (life : ℕ) → Ends (if starts t x.event then x.life else a) t i log life → Ends a t (suc i) (x ∷ log) life
 one_on a t i x log life w = let le : i ≤ w.at = w.from in record { at = suc w.at; from = omega arith; entry = w.entry; there = w.there; out = w.out; alive = w.alive }
 
-ends_first : (st : State) (log : List Entry) (a t p : ℕ) (f : Entry) → IsLegalList st log → is_active (head_at st t) ≡ true → slice_get log p ≡ Some f → is_swap_out t f.event ≡ true → Ends a t zero log a
+ends_first : (st : State) (log : List Deed) (a t p : ℕ) (f : Deed) → IsLegalRun st log → is_active (head_at st t) ≡ true → slice_get log p ≡ Some f → is_swap_out t f.event ≡ true → Ends a t zero log a
 ends_first st [] a t p f l on h out = absurd (cc)
 ends_first st (x ∷ log) a t p f l on h out = go (is_true (is_swap_out t x.event)) p h (λ st'. ends_first st' log a t)
   where
@@ -87,15 +96,15 @@ ends_first st (x ∷ log) a t p f l on h out = go (is_true (is_swap_out t x.even
     later w n = record { at = suc w.at; from = omega arith; entry = w.entry; there = w.there; out = w.out; alive = ap (λ (b : Bool). life_from (if b then x.life else a) t (take w.at log)) n ∙ w.alive }
 
     go : (is_swap_out t x.event ≡ true) ⊎ (is_swap_out t x.event ≡ false) → (p : ℕ) → slice_get (x ∷ log) p ≡ Some f
-        → ((st' : State) (p : ℕ) (f : Entry) → IsLegalList st' log → is_active (head_at st' t) ≡ true → slice_get log p ≡ Some f → is_swap_out t f.event ≡ true → Ends a t zero log a)
+        → ((st' : State) (p : ℕ) (f : Deed) → IsLegalRun st' log → is_active (head_at st' t) ≡ true → slice_get log p ≡ Some f → is_swap_out t f.event ≡ true → Ends a t zero log a)
         → Ends a t zero (x ∷ log) a
     go (inl y) p h ih = record { at = zero; from = omega arith; entry = x; there = refl; out = y; alive = refl }
-    go (inr n) zero h ih = absurd (let same : is_swap_out t x.event ≡ true = ap (λ (e : Entry). is_swap_out t e.event) (some_is _ _ h) ∙ out in let y : true ≡ false = sym same ∙ n in cc)
+    go (inr n) zero h ih = absurd (let same : is_swap_out t x.event ≡ true = ap (λ (e : Deed). is_swap_out t e.event) (some_is _ _ h) ∙ out in let y : true ≡ false = sym same ∙ n in cc)
     go (inr n) (suc p) h ih =
-        let w = legal_first st x log l in let next_on = active_on t x.size st x.event w.0 (step_of _ _ _ _ w.1) on n in
+        let w = legal_one st x log l in let next_on = active_on t x.size st x.event w.0 (step_of _ _ _ _ w.1) on n in
         later (ih w.0.0 p f w.3 next_on.0 h out) next_on.1
 
-ends_after : (st : State) (log : List Entry) (a t i p : ℕ) (f : Entry) → IsLegalList st log → is_active (head_at (after st (take i log)) t) ≡ true → i ≤ p → slice_get log p ≡ Some f → is_swap_out t f.event ≡ true
+ends_after : (st : State) (log : List Deed) (a t i p : ℕ) (f : Deed) → IsLegalRun st log → is_active (head_at (state_of st (take i log)) t) ≡ true → i ≤ p → slice_get log p ≡ Some f → is_swap_out t f.event ≡ true
     → Ends a t i log (life_from a t (take i log))
 ends_after st log a t zero p f l on le h out = ends_first st log a t p f l on h out
 ends_after st [] a t (suc i) p f l on le h out = absurd (cc)
@@ -108,9 +117,9 @@ pub in_right : (xs ys : List ℕ) (b : ℕ) → IsIn ys b → IsIn (xs ++ ys) b
 in_right [] ys b h = h
 in_right (x ∷ xs) ys b h = inr (in_right xs ys b h)
 
-pub is_ended : (lives : ℕ → ℕ) (log : List Entry) (t q : ℕ) (g : Entry) → slice_get log q ≡ Some g → is_swap_out t g.event ≡ true → IsIn (ended_from lives log) (life_from (lives t) t (take q log))
+pub is_ended : (lives : ℕ → ℕ) (log : List Deed) (t q : ℕ) (g : Deed) → slice_get log q ≡ Some g → is_swap_out t g.event ≡ true → IsIn (ended_from lives log) (life_from (lives t) t (take q log))
 is_ended lives [] t q g h out = absurd (cc)
-is_ended lives (x ∷ log) t zero g h out = go x.event (ap (λ (e : Entry). is_swap_out t e.event) (some_is _ _ h) ∙ out)
+is_ended lives (x ∷ log) t zero g h out = go x.event (ap (λ (e : Deed). is_swap_out t e.event) (some_is _ _ h) ∙ out)
   where
     go : (event : Event) → is_swap_out t event ≡ true → IsIn (ended_by lives event ++ ended_from (lives_after lives x) log) (lives t)
     go (Event.SwapOut s) o = inl (ap lives (eq_true s t o))
@@ -118,7 +127,7 @@ is_ended lives (x ∷ log) t zero g h out = go x.event (ap (λ (e : Entry). is_s
 is_ended lives (x ∷ log) t (suc q) g h out = in_right (ended_by lives x.event) (ended_from (lives_after lives x) log) _ (is_ended (lives_after lives x) log t q g h out)
 
 -- a slot that found something in a link was active
-was_active : (st : State) (t : ℕ) (e : Entry) (v : ℕ) → is_link_event t e.event ≡ true → linked_value (done_by next st (timed e)).1 ≡ Some v → is_active (head_at st t) ≡ true
+was_active : (st : State) (t : ℕ) (e : Deed) (v : ℕ) → is_link_event t e.event ≡ true → linked_value (done_by next st (timed e)).1 ≡ Some v → is_active (head_at st t) ≡ true
 was_active st t e v own h = go (next e.size st e.event) refl h
   where
     link : (s l : ℕ) → can_link st s l ≡ true → (s == t) ≡ true → is_active (head_at st t) ≡ true
@@ -139,28 +148,28 @@ pub all_over : (st : State) (log : List Entry) (v : ℕ) → IsLegalList st log 
 all_over st log v l parted a r =
     let i : ℕ = r.0 in let t : ℕ = r.1 in let f : Found (moments st log) t v i = r.2 in
     let w = parted t i f in let p : ℕ = w.0 in let before : i < p = w.1 in
-    let found = entry_of st log i f.0 f.1 in let out = entry_of st log p (w.3).0 (w.3).1 in
-    let active : is_active (head_at (after st (take i log)) t) ≡ true =
-    was_active (after st (take i log)) t found.0 v (ap (λ (m : Moment). is_link_event t m.timed.event) (sym found.2) ∙ f.2) (ap (λ (m : Moment). linked_value m.answer) (sym found.2) ∙ f.3) in
-    let x = ends_after st log 0 t i p out.0 l active (omega arith) out.1 (ap (λ (m : Moment). is_swap_out t m.timed.event) (sym out.2) ∙ (w.3).2) in
-    subst (IsIn (ended log)) (x.alive ∙ sym r.3) (is_ended none_alive log t x.at x.entry x.there x.out)
+    let found = entry_of st (deeds log) i f.0 f.1 in let out = entry_of st (deeds log) p (w.3).0 (w.3).1 in
+    let active : is_active (head_at (state_of st (take i (deeds log))) t) ≡ true =
+    was_active (state_of st (take i (deeds log))) t found.0 v (ap (λ (m : Moment). is_link_event t m.timed.event) (sym found.2) ∙ f.2) (ap (λ (m : Moment). linked_value m.answer) (sym found.2) ∙ f.3) in
+    let x = ends_after st (deeds log) 0 t i p out.0 l active (omega arith) out.1 (ap (λ (m : Moment). is_swap_out t m.timed.event) (sym out.2) ∙ (w.3).2) in
+    subst (IsIn (ended log)) (x.alive ∙ sym r.3) (is_ended none_alive (deeds log) t x.at x.entry x.there x.out)
 
 -- what an event adds to what has ended
-lives_by : (ℕ → ℕ) → List Entry → ℕ → ℕ
+lives_by : (ℕ → ℕ) → List Deed → ℕ → ℕ
 lives_by lives [] = lives
-lives_by lives (e ∷ log) = lives_by (lives_after lives e) log
+lives_by lives (e ∷ ds) = lives_by (lives_after lives e) ds
 
-ended_push : (lives : ℕ → ℕ) (log : List Entry) (e : Entry) → ended_from lives (log ++ e ∷ []) ≡ ended_from lives log ++ ended_by (lives_by lives log) e.event
+ended_by_last : (lives : ℕ → ℕ) (ds : List Deed) (e : Deed) → ended_from lives (ds ++ e ∷ []) ≡ ended_from lives ds ++ ended_by (lives_by lives ds) e.event
 unfolding lives_by
-ended_push lives [] e = append-nil (ended_by lives e.event)
-ended_push lives (x ∷ log) e =
-    ap (λ (l : List ℕ). ended_by lives x.event ++ l) (ended_push (lives_after lives x) log e)
-    ∙ sym (append_assoc (ended_by lives x.event) (ended_from (lives_after lives x) log) (ended_by (lives_by (lives_after lives x) log) e.event))
+ended_by_last lives [] e = append-nil (ended_by lives e.event)
+ended_by_last lives (x ∷ ds) e =
+    ap (λ (l : List ℕ). ended_by lives x.event ++ l) (ended_by_last (lives_after lives x) ds e)
+    ∙ sym (append_assoc (ended_by lives x.event) (ended_from (lives_after lives x) ds) (ended_by (lives_by (lives_after lives x) ds) e.event))
 
-lives_are : (lives : ℕ → ℕ) (log : List Entry) (t : ℕ) → lives_by lives log t ≡ life_from (lives t) t log
+lives_are : (lives : ℕ → ℕ) (ds : List Deed) (t : ℕ) → lives_by lives ds t ≡ life_from (lives t) t ds
 unfolding lives_by
 lives_are lives [] t = refl
-lives_are lives (e ∷ log) t = lives_are (lives_after lives e) log t
+lives_are lives (e ∷ ds) t = lives_are (lives_after lives e) ds t
 
 -- what has ended stays so
 in_grows : (xs ys zs : List ℕ) (b : ℕ) → (IsIn ys b → IsIn zs b) → IsIn (xs ++ ys) b → IsIn (xs ++ zs) b
@@ -168,20 +177,29 @@ in_grows [] ys zs b f h = f h
 in_grows (x ∷ xs) ys zs b f (inl e) = inl e
 in_grows (x ∷ xs) ys zs b f (inr h) = inr (in_grows xs ys zs b f h)
 
-ended_more : (lives : ℕ → ℕ) (log more : List Entry) (b : ℕ) → IsIn (ended_from lives log) b → IsIn (ended_from lives (log ++ more)) b
+ended_more : (lives : ℕ → ℕ) (ds more : List Deed) (b : ℕ) → IsIn (ended_from lives ds) b → IsIn (ended_from lives (ds ++ more)) b
 ended_more lives [] more b h = absurd h
-ended_more lives (e ∷ log) more b h = in_grows (ended_by lives e.event) _ _ b (ended_more (lives_after lives e) log more b) h
+ended_more lives (e ∷ ds) more b h = in_grows (ended_by lives e.event) _ _ b (ended_more (lives_after lives e) ds more b) h
 
 pub ended_grows : (log log' : List Entry) (b : ℕ) → IsPrefix log log' → IsIn (ended log) b → IsIn (ended log') b
-ended_grows log log' b grows h = subst (λ (l : List Entry). IsIn (ended l) b) grows.1 (ended_more none_alive log grows.0 b h)
+ended_grows log log' b grows h =
+    let p = deeds_prefix log log' grows in subst (λ (ds : List Deed). IsIn (ended_from none_alive ds) b) p.1 (ended_more none_alive (deeds log) p.0 b h)
 
--- an event that ends no activation
-same_ended : (log : List Entry) (e : Entry) → EndsNone e.event → ended (log ++ e ∷ []) ≡ ended log
-same_ended log e none = ended_push none_alive log e ∙ ap (λ (l : List ℕ). ended log ++ l) (none (lives_by none_alive log)) ∙ append-nil (ended log)
+-- and with one entry more
+ended_push : (log : List Entry) (e : Entry) → ended (log ++ e ∷ []) ≡ ended log ++ ended_in (lives_by none_alive (deeds log)) e
+ended_push log (Made x) = ap (ended_from none_alive) (deeds_append log (Made x ∷ [])) ∙ ended_by_last none_alive (deeds log) x
+ended_push log (Used u) = ap (ended_from none_alive) (deeds_used log u) ∙ sym (append-nil (ended log))
 
-out_ended : (log : List Entry) (e : Entry) (s : ℕ) → e.event ≡ SwapOut s → ended (log ++ e ∷ []) ≡ ended log ++ life s log ∷ []
+-- an entry that ends no activation
+abbrev pub EndsNothing : Entry → Type 0
+EndsNothing e = (lives : ℕ → ℕ) → ended_in lives e ≡ []
+
+same_ended : (log : List Entry) (e : Entry) → EndsNothing e → ended (log ++ e ∷ []) ≡ ended log
+same_ended log e none = ended_push log e ∙ ap (λ (l : List ℕ). ended log ++ l) (none (lives_by none_alive (deeds log))) ∙ append-nil (ended log)
+
+out_ended : (log : List Entry) (e : Deed) (s : ℕ) → e.event ≡ SwapOut s → ended (log ++ Made e ∷ []) ≡ ended log ++ life s log ∷ []
 out_ended log e s is =
-    ended_push none_alive log e ∙ ap (λ (x : Event). ended log ++ ended_by (lives_by none_alive log) x) is ∙ ap (λ (x : ℕ). ended log ++ x ∷ []) (lives_are none_alive log s)
+    ended_push log (Made e) ∙ ap (λ (x : Event). ended log ++ ended_by (lives_by none_alive (deeds log)) x) is ∙ ap (λ (x : ℕ). ended log ++ x ∷ []) (lives_are none_alive (deeds log) s)
 
 is_in : (xs : List ℕ) (x : ℕ) → IsIn xs x ⊎ ¬ (IsIn xs x)
 is_in [] x = inr (λ t. t)
@@ -191,11 +209,15 @@ is_in (y ∷ xs) x = go (ℕ_discrete y x) (is_in xs x)
     go (yes e) rest = inl (inl e)
     go (no n) rest = ⊎_elim (λ t. inl (inr t)) (λ m. inr (⊎_elim n m)) rest
 
--- The lifetime of a slot's last activation follows from the slot's own events.
+-- The lifetime of a slot's last activation follows from the slot's own entries.
+
+life_then : ℕ → ℕ → Entry → ℕ
+life_then a s (Made d) = if starts s d.event then d.life else a
+life_then a s (Used u) = a
 
 lives_in : ℕ → ℕ → List (Entry × Answer) → ℕ
 lives_in a s [] = a
-lives_in a s (x ∷ xs) = lives_in (if starts s x.0.event then x.0.life else a) s xs
+lives_in a s (x ∷ xs) = lives_in (life_then a s x.0) s xs
 
 life_in : ℕ → List (Entry × Answer) → ℕ
 life_in s xs = lives_in 0 s xs
@@ -206,24 +228,34 @@ starts_own s (Event.Enter t) h = h
 starts_own s (Event.SwapOut t) h = h
 starts_own s _ h = refl
 
+still : (a s : ℕ) (e : Entry) → acts s e ≡ false → life_then a s e ≡ a
+unfolding life_then
+still a s (Made d) h = ap (λ (b : Bool). if b then d.life else a) (starts_own s d.event h)
+still a s (Used u) h = refl
+
 life_by_slot : (st : State) (s : ℕ) (log : List Entry) → life s log ≡ life_in s (by_slot st s log)
-unfolding life_in lives_in
+unfolding life_in lives_in life_then
 life_by_slot st s log = from st 0 log
   where
-    from : (st : State) (a : ℕ) (log : List Entry) → life_from a s log ≡ lives_in a s (by_slot st s log)
-    from st a [] = refl
-    from st a (e ∷ log) = go (changes_slot s e.event) refl (λ b. from (done_by next st (timed e)).0 b log)
+    -- one entry before a list
+    one : (st : State) (a : ℕ) (e : Entry) (log : List Entry) → ((b : ℕ) → life_from b s (deeds log) ≡ lives_in b s (by_slot (or_illegal st (outcome st e)).0 s log))
+        → life_from (life_then a s e) s (deeds log) ≡ lives_in a s (by_slot st s (e ∷ log))
+    one st a e log ih = go (acts s e) refl
       where
-        rest : List (Entry × Answer)
-        rest = by_slot (done_by next st (timed e)).0 s log
+        later : List (Entry × Answer)
+        later = by_slot (or_illegal st (outcome st e)).0 s log
 
         x : Entry × Answer
-        x = (e, (done_by next st (timed e)).1)
+        x = (e, (or_illegal st (outcome st e)).1)
 
-        go : (c : Bool) → changes_slot s e.event ≡ c → ((b : ℕ) → life_from b s log ≡ lives_in b s (by_slot (done_by next st (timed e)).0 s log))
-            → life_from (if starts s e.event then e.life else a) s log ≡ lives_in a s (cond (changes_slot s e.event) (x ∷ by_slot (done_by next st (timed e)).0 s log) (by_slot (done_by next st (timed e)).0 s log))
-        go true h ih = ih (if starts s e.event then e.life else a) ∙ ap (λ (c : Bool). lives_in a s (cond c (x ∷ rest) rest)) (sym h)
-        go false h ih = ap (λ (b : Bool). life_from (if b then e.life else a) s log) (starts_own s e.event h) ∙ ih a ∙ ap (λ (c : Bool). lives_in a s (cond c (x ∷ rest) rest)) (sym h)
+        go : (c : Bool) → acts s e ≡ c → life_from (life_then a s e) s (deeds log) ≡ lives_in a s (cond (acts s e) (x ∷ by_slot (or_illegal st (outcome st e)).0 s log) (by_slot (or_illegal st (outcome st e)).0 s log))
+        go true h = ih (life_then a s e) ∙ ap (λ (c : Bool). lives_in a s (cond c (x ∷ later) later)) (sym h)
+        go false h = ap (λ (b : ℕ). life_from b s (deeds log)) (still a s e h) ∙ ih a ∙ ap (λ (c : Bool). lives_in a s (cond c (x ∷ later) later)) (sym h)
+
+    from : (st : State) (a : ℕ) (log : List Entry) → life_from a s (deeds log) ≡ lives_in a s (by_slot st s log)
+    from st a [] = refl
+    from st a (Made e ∷ log) = one st a (Made e) log (λ b. from (done_by next st (timed e)).0 b log)
+    from st a (Used u ∷ log) = one st a (Used u) log (λ b. from st b log)
 
 pub life_kept : (st : State) (s : ℕ) (a b : List Entry) → Kept st TheSlot s a b → life s a ≡ life s b
 life_kept st s a b kept = life_by_slot st s a ∙ ap (life_in s) kept.1.0 ∙ sym (life_by_slot st s b)
@@ -250,7 +282,7 @@ module _ {M : Type 1} {𝓤 : Ura M} (𝓛 : Logic 𝓤) where
       rewrite ! 1 (λ (z : ℕ). ‵ (fdead (z ∷ []))) e refl $ move ! (0 ∷ 2 ∷ []) $ fjoin ! $ done !
   over_one (x ∷ xs) b (inr h) = qed 𝓛 (‵ (fdead (x ∷ [])) ∷ ‵ (over xs) ∷ []) ∵ move ! (1 ∷ []) $ use1 𝓛 (‵ (over xs) ⊛ ‵ (fdead (b ∷ []))) (over_one xs b h) $ split ! $ move ! (2 ∷ 0 ∷ []) $ fjoin ! $ done !
 
-  pub stays : (log : List Entry) (e : Entry) (X : Pr) → EndsNone e.event → ⟦ over (ended log) ⟧ ∗ X ⊢ upd 𝓤 (⟦ over (ended (log ++ e ∷ [])) ⟧ ∗ X)
+  pub stays : (log : List Entry) (e : Entry) (X : Pr) → EndsNothing e → ⟦ over (ended log) ⟧ ∗ X ⊢ upd 𝓤 (⟦ over (ended (log ++ e ∷ [])) ⟧ ∗ X)
   stays log e X none = let Z : Pr = ⟦ over (ended (log ++ e ∷ [])) ⟧ ∗ X in qed 𝓛 (‵ (over (ended log)) ∷ raw X ∷ []) ∵ rewrite ! 0 (λ (l : List ℕ). ‵ (over l)) (sym (same_ended log e none)) refl $ suffices ! _ (upd_i 𝓤 Z) $ done !
 
   over_more : (xs : List ℕ) (b : ℕ) → ⟦ over xs ⟧ ∗ ⟦ fdead (b ∷ []) ⟧ ⊢ ⟦ over (xs ++ b ∷ []) ⟧
@@ -258,22 +290,26 @@ module _ {M : Type 1} {𝓤 : Ura M} (𝓛 : Logic 𝓤) where
   over_more (x ∷ xs) b = qed 𝓛 ((‵ (fdead (x ∷ [])) ⊛ ‵ (over xs)) ∷ ‵ (fdead (b ∷ [])) ∷ []) ∵ split ! $ move ! (1 ∷ 2 ∷ []) $ use2 𝓛 (‵ (over (xs ++ b ∷ []))) (over_more xs b) $ move ! (1 ∷ 0 ∷ []) $ fjoin ! $ done !
 
   -- who leaves or refreshes has ended its activation before, and says so in the step
-  pub leaves : (log : List Entry) (e : Entry) (s : ℕ) → e.event ≡ SwapOut s → ⟦ over (ended log) ⟧ ∗ ⟦ fdead (life s log ∷ []) ⟧ ⊢ ⟦ over (ended (log ++ e ∷ [])) ⟧
+  pub leaves : (log : List Entry) (e : Deed) (s : ℕ) → e.event ≡ SwapOut s → ⟦ over (ended log) ⟧ ∗ ⟦ fdead (life s log ∷ []) ⟧ ⊢ ⟦ over (ended (log ++ Made e ∷ [])) ⟧
   leaves log e s is = qed 𝓛 (‵ (over (ended log)) ∷ ‵ (fdead (life s log ∷ [])) ∷ []) ∵ use2 𝓛 (‵ (over (ended log ++ life s log ∷ []))) (over_more (ended log) (life s log)) $
       rewrite ! 0 (λ (l : List ℕ). ‵ (over l)) (sym (out_ended log e s is)) refl $ done !
 
-  -- an event that ends no activation but one of these lifetimes, which are over
-  pub ends_those : (log : List Entry) (e : Entry) (lives : List ℕ) → ((a : ℕ) → IsIn (ended_by (λ s. life s log) e.event) a → IsIn lives a)
+  -- an entry that ends no activation but one of these lifetimes, which are over
+  pub ends_those : (log : List Entry) (e : Entry) (lives : List ℕ) → ((a : ℕ) → IsIn (ended_in (λ s. life s log) e) a → IsIn lives a)
       → ⟦ over (ended log) ⟧ ∗ ⟦ over lives ⟧ ⊢ ⟦ over (ended (log ++ e ∷ [])) ⟧
-  ends_those log e lives among = go e.event refl among
+  ends_those log e lives among = by_entry e among
     where
-      none : {x : Event} → e.event ≡ x → EndsNone x → ⟦ over (ended log) ⟧ ∗ ⟦ over lives ⟧ ⊢ ⟦ over (ended (log ++ e ∷ [])) ⟧
-      none is ends = qed 𝓛 (‵ (over (ended log)) ∷ ‵ (over lives) ∷ []) ∵ rewrite ! 0 (λ (l : List ℕ). ‵ (over l)) (sym (same_ended log e (subst EndsNone (sym is) ends))) refl $ keep ! (0 ∷ []) $ done !
+      none : (e : Entry) → EndsNothing e → ⟦ over (ended log) ⟧ ∗ ⟦ over lives ⟧ ⊢ ⟦ over (ended (log ++ e ∷ [])) ⟧
+      none e ends = qed 𝓛 (‵ (over (ended log)) ∷ ‵ (over lives) ∷ []) ∵ rewrite ! 0 (λ (l : List ℕ). ‵ (over l)) (sym (same_ended log e ends)) refl $ keep ! (0 ∷ []) $ done !
 
-      go : (x : Event) → e.event ≡ x → ((a : ℕ) → IsIn (ended_by (λ s. life s log) x) a → IsIn lives a) → ⟦ over (ended log) ⟧ ∗ ⟦ over lives ⟧ ⊢ ⟦ over (ended (log ++ e ∷ [])) ⟧
-      go (Event.SwapOut s) is among = qed 𝓛 (‵ (over (ended log)) ∷ ‵ (over lives) ∷ []) ∵ move ! (1 ∷ []) $ use1 𝓛 (‵ (over lives) ⊛ ‵ (fdead (life s log ∷ []))) (over_one lives (life s log) (among (life s log) (inl refl))) $ split ! $
-          move ! (2 ∷ 1 ∷ []) $ use2 𝓛 (‵ (over (ended (log ++ e ∷ [])))) (leaves log e s is) $ keep ! (0 ∷ []) $ done !
-      go _ is among = none is (λ lives. refl)
+      go : (d : Deed) (x : Event) → d.event ≡ x → ((a : ℕ) → IsIn (ended_by (λ s. life s log) x) a → IsIn lives a) → ⟦ over (ended log) ⟧ ∗ ⟦ over lives ⟧ ⊢ ⟦ over (ended (log ++ Made d ∷ [])) ⟧
+      go d (Event.SwapOut s) is among = qed 𝓛 (‵ (over (ended log)) ∷ ‵ (over lives) ∷ []) ∵ move ! (1 ∷ []) $ use1 𝓛 (‵ (over lives) ⊛ ‵ (fdead (life s log ∷ []))) (over_one lives (life s log) (among (life s log) (inl refl))) $ split ! $
+          move ! (2 ∷ 1 ∷ []) $ use2 𝓛 (‵ (over (ended (log ++ Made d ∷ [])))) (leaves log d s is) $ keep ! (0 ∷ []) $ done !
+      go d _ is among = none (Made d) (λ alive. ap (ended_by alive) is)
+
+      by_entry : (e : Entry) → ((a : ℕ) → IsIn (ended_in (λ s. life s log) e) a → IsIn lives a) → ⟦ over (ended log) ⟧ ∗ ⟦ over lives ⟧ ⊢ ⟦ over (ended (log ++ e ∷ [])) ⟧
+      by_entry (Made d) among = go d d.event refl among
+      by_entry (Used u) among = none (Used u) (λ alive. refl)
 
   -- what is over may be had twice
   pub over_twice : (xs : List ℕ) → ⟦ over xs ⟧ ⊢ ⟦ over xs ⟧ ∗ ⟦ over xs ⟧

@@ -81,7 +81,7 @@ module _ {M : Type 1} {𝓤 : Ura M} (𝓛 : Logic 𝓤) (n : Name) (p : ℕ) wh
         use2 𝓛 (given (alone log) (‵ (gate_keeps n.gate log) ⊛ ‵ (gives seen))) (agrees 𝓛 n.gate log seen) $ learn ! (λ same. check ! same $ split ! $ move ! (2 ∷ 0 ∷ []) $ fjoin ! $ done !)
 
     before : (own log : List Entry) → mine st p own ≡ mine st p seen → Known (rules st) (pass_key p own ∷ held) seen log → alone log → Before n p seen held log
-    before own log past known same = record { legal = known.0.0; sound = known.0.1; grows = known.1; none_made = sym known.2.0.1 ∙ past; kept = known.2.1; alone = same }
+    before own log past known same = record { legal = known.0.0; sound = known.0.1; chained = known.0.2; grows = known.1; none_made = sym known.2.0.1 ∙ past; kept = known.2.1; alone = same }
 
     abbrev pub Looked : List Entry → Pr
     Looked log = guard 𝓤 (Before n p seen held log) (⟦ pass_owns n p log ⟧ ∗ ⟦ keys (renewed held log) ⟧)

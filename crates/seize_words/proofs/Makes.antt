@@ -11,7 +11,7 @@ use Rattle.seize_machine.specs.declared.machine.event.Answer.TheVariants.{Done}
 use Rattle.seize_machine.proofs.Facts.{heads_length, some_is}
 use Rattle.seize_table.specs.Place.{all_numbers}
 use Rattle.seize_words.specs.Ledger.{Held, renewed, born}
-use Rattle.seize_words.specs.Entry.{Entry}
+use Rattle.seize_words.specs.Entry.{Entry, Made, Deed}
 use Rattle.seize_words.specs.Book.{after, births, slots, heads, numbers, of_new_slot}
 use Rattle.seize_words.specs.Fair.{Before, Covers, Fair, MayAdd, pass_key}
 use Rattle.seize_words.specs.Private.{is_one, key_of, label_of, own_of}
@@ -20,11 +20,11 @@ use Rattle.seize_words.proofs.Lists.{equal}
 use Rattle.seize_words.proofs.Gives.{free_by, free_of, the_only}
 use Rattle.seize_words.proofs.Private.{only, only_is, differ}
 
-takes : ℕ → ℕ → ℕ → Entry
+takes : ℕ → ℕ → ℕ → Deed
 takes p size s = record { pass = p; size = size; event = Take s; life = 0 }
 
 covers : (st : State) (log : List Entry) (p size s j x : ℕ) (mine own : List Entry) → s ≡ length (after st log).slots → j ≡ 0
-    → Covers st (pass_key p mine ∷ record { kind = numbers; key = j; own = own; label = x } ∷ []) log (takes p size s)
+    → Covers st (pass_key p mine ∷ record { kind = numbers; key = j; own = own; label = x } ∷ []) log (Made (takes p size s))
 unfolding takes
 covers st log p size s j x mine own is z zero k b there = differ p k (λ i. b.0 (refl, i))
 covers st log p size s j x mine own is z (suc zero) k b there = absurd (b.1.0 (refl, the_only k j there.0 there.1 there.2 (let n : there.0 ≡ 1 = there.1 in omega (arith, z, n))))
@@ -33,7 +33,8 @@ covers st log p size s j x mine own is z (suc (suc (suc zero))) k b there = refl
 covers st log p size s j x mine own is z (suc (suc (suc (suc zero)))) k b there = refl
 covers st log p size s j x mine own is z (suc (suc (suc (suc (suc zero))))) k b there = refl
 covers st log p size s j x mine own is z (suc (suc (suc (suc (suc (suc zero)))))) k b there = refl
-covers st log p size s j x mine own is z (suc (suc (suc (suc (suc (suc (suc r))))))) k b there = refl
+covers st log p size s j x mine own is z (suc (suc (suc (suc (suc (suc (suc zero))))))) k b there = refl
+covers st log p size s j x mine own is z (suc (suc (suc (suc (suc (suc (suc (suc r)))))))) k b there = refl
 
 -- how many slots there are, and which number is free, follows from which are in use
 as_many : (a b : State) → used a ≡ used b → length a.slots ≡ length b.slots
@@ -82,15 +83,16 @@ module _ (n : Name) (b : List (Held Entry)) where
   unfolding takes made_by
   may_make p size seen one zero_is full few = subst (λ (hs : List (Held Entry)). MayAdd n p seen hs (takes p size s)) (sym (only_is numbers b one)) ((omega arith, tt), (λ lives. refl), (λ s. refl), fair)
     where
-      fair : (mine log : List Entry) → Before n p seen (only numbers b) log → Fair (start n) (pass_key p mine ∷ only numbers b) log (takes p size s)
+      fair : (mine log : List Entry) → Before n p seen (only numbers b) log → Fair (start n) (pass_key p mine ∷ only numbers b) log (Made (takes p size s))
       fair mine log before =
           let same : used old ≡ used (after (start n) log) = before.kept.0.1 in let many : s ≡ length (after (start n) log).slots = as_many old (after (start n) log) same in
           record {
             done = made_by (after (start n) log) s;
             legal = does size (after (start n) log) s many (sym full ∙ as_free old (after (start n) log) same) few;
             covers = covers (start n) log p size s (key_of b) (label_of b) mine (own_of b) many zero_is;
-            names = λ many was there. (there.0, (λ k le. refl), λ k le. refl);
+            names = λ many was there. (there.0, (λ k le. refl), (λ k le. refl), λ f le. refl);
             one = λ one. one;
+            leads = tt;
           }
 
   -- the keys that come with it

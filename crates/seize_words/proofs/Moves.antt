@@ -3,7 +3,9 @@ use Rattle.std.proofs.Common.{◌≡◌, ℕ, List, [], ◌∷◌, ◌++◌, sym
 use Rattle.seize_machine.specs.Machine.State.{State, slot_at, head_at, is_active}
 use Rattle.seize_machine.specs.Machine.Next.{next}
 use Rattle.seize_machine.specs.declared.machine.event.Answer.{Answer}
-use Rattle.seize_words.specs.Entry.{Entry}
+use Rattle.seize_words.specs.Blocks.{plans}
+use Rattle.seize_words.specs.Chains.{told, written}
+use Rattle.seize_words.specs.Entry.{Entry, Made, Deed}
 use Rattle.seize_words.specs.Ledger.{renewed}
 use Rattle.seize_words.specs.Book.{after, IsLegalList, Does, TheSlot, Kept, mine, slots}
 use Rattle.seize_words.specs.Homes.{IsSound}
@@ -19,7 +21,7 @@ use Rattle.seize_words.proofs.Lives.{life_kept}
 use Rattle.seize_words.proofs.Private.{after_one, one_kept}
 
 -- what a key knows, of the state that its list ends with
-now : {X : Type 0} (key key' : SlotKey) (n : Name) (e : Entry) (later : State) (log : List Entry) → key'.keys.name ≡ n → own_list key' ≡ log ++ e ∷ [] → after (start n) (log ++ e ∷ []) ≡ later
+now : {X : Type 0} (key key' : SlotKey) (n : Name) (e : Deed) (later : State) (log : List Entry) → key'.keys.name ≡ n → own_list key' ≡ log ++ Made e ∷ [] → after (start n) (log ++ Made e ∷ []) ≡ later
     → number_of key' ≡ number_of key → (f : State → ℕ → X) → f (after (start key'.keys.name) (own_list key')) (number_of key') ≡ f later (number_of key)
 now key key' n e later log name own push number f =
     ap (λ (m : Name). f (after (start m) (own_list key')) (number_of key')) name
@@ -31,10 +33,10 @@ in_book : {X : Type 0} {m n : Name} → m ≡ n → (log : List Entry) (f : Stat
 in_book e log f = ap (λ (z : Name). f (after (start z) log)) e
 
 -- where the slot had made no event since its key's list, and the key's list now ends with this one
-pub moves : (key key' : SlotKey) (n : Name) (e : Entry) (log : List Entry) (d : State × Answer) → key.keys.name ≡ n → key'.keys.name ≡ n → e.size ≡ n.size → IsLegalList (start n) log → Does (start n) log e d
-    → Kept (start n) TheSlot (number_of key) (own_list key) log → number_of key' ≡ number_of key → own_list key' ≡ log ++ e ∷ [] → Moves key key' log e.event d.0 d.1
+pub moves : (key key' : SlotKey) (n : Name) (e : Deed) (log : List Entry) (d : State × Answer) → key.keys.name ≡ n → key'.keys.name ≡ n → e.size ≡ n.size → IsLegalList (start n) log → Does (start n) log (Made e) d
+    → Kept (start n) TheSlot (number_of key) (own_list key) log → number_of key' ≡ number_of key → own_list key' ≡ log ++ Made e ∷ [] → Moves key key' log e.event d.0 d.1
 moves key key' n e log d name name' size legal does kept number own =
-    let k = number_of key in let same = kept.1 in let push = after_push (start n) log e d legal does in
+    let k = number_of key in let same = kept.1 in let push = after_push (start n) log (Made e) d legal does in
     record {
       knew = kept.0;
       lived = sym (life_kept (start n) k (own_list key) log kept);
@@ -62,4 +64,8 @@ stays key key' pass pass' book same is before one =
       lives = sym (life_kept (start pass.name) k (own_list key) pass'.seen kept_all);
       slot = in_book book pass'.seen (λ s. slot_at s k) ∙ sym kept.1 ∙ sym (in_book book (own_list key) (λ s. slot_at s k));
       active = in_book book pass'.seen (λ s. is_active (head_at s k)) ∙ sym kept.2 ∙ sym (in_book book (own_list key) (λ s. is_active (head_at s k)));
+      written =
+          ap (λ (t : Name × (List Entry × ℕ)). written (after (start t.0) t.1.0) (plans (start t.0) t.1.0) (told t.1.0) t.1.1)
+          (λ i. ((is.0 ∙ book) i, ((ap own_of is.1 ∙ known.1) i, (ap key_of is.1 ∙ known.0) i)))
+          ∙ sym kept.3 ∙ ap (λ (m : Name). written (after (start m) (own_list key)) (plans (start m) (own_list key)) (told (own_list key)) k) (sym book);
     }

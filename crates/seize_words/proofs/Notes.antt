@@ -1,19 +1,18 @@
 -- Events that no step of the code makes: the invariant is opened and closed beside the code. Assumes `Logic`.
-use Rattle.std.proofs.Common.{◌≡◌, ℕ, pos, List, [], ◌∷◌, ◌++◌, refl, sym, append-nil, arith}
+use Rattle.std.proofs.Common.{◌≡◌, ℕ, List, [], ◌∷◌, ◌++◌, refl, sym, append-nil, arith}
 use mathlib.Core.List.{IsPrefix}
 use seplogic.Ra.Ura.{Ura}
 use base.Logic.{SProp, ent, sep, ex, guard, upd, upd_i}
 use base.Fml.{Fml, ftrue, finv, fnamed}
 use types.Logic.{Logic, sem}
-use types.Kit.{‵, raw, ◌⊛◌, some, given, ◌$◌, ◌∵◌, !, qed, move, drop, split, split3, join, fsplit, fjoin, fpick, fpack, pick, learn, show, check, frame, assume, suffices, settle, done, use1, use2, use3}
+use types.Kit.{‵, raw, ◌⊛◌, some, given, later, ◌$◌, ◌∵◌, !, qed, move, keep, drop, split, split3, join, fsplit, fjoin, fpick, fpack, pick, learn, show, check, frame, assume, suffices, settle, done, use1, use2, use3, updating, await, now}
 use denote.Steps.{nothing}
-use Rattle.seize_machine.specs.Machine.State.{State, linked, are_distinct, has}
-use Rattle.seize_words.specs.Ledger.{fact, Held, reached, WithKinds}
+use Rattle.seize_machine.specs.Machine.State.{State, linked, are_distinct}
+use Rattle.seize_words.specs.Ledger.{fact, Held, reached, WithKinds, born}
 use Rattle.seize_words.specs.Entry.{Entry, entry_coded}
-use Rattle.seize_words.specs.Book.{after, mine, rules, passes, counts, blocks, kinds}
-use Rattle.seize_words.specs.Homes.{count_in, home_of}
-use Rattle.seize_words.specs.Tokens.{Name, rows, start, beside, inside, knows, key, Gate, many, gate_gives, pass_at, pass_holds, pass_owns}
-use Rattle.seize_words.proofs.Append.{mint, Minted, mint_both, MintedBoth}
+use Rattle.seize_words.specs.Book.{mine, rules, passes, kinds}
+use Rattle.seize_words.specs.Tokens.{Name, rows, start, beside, inside, knows, Gate, many, gate_gives, keys_own, pass_at, pass_holds, pass_owns}
+use Rattle.seize_words.proofs.Append.{MayMint, mint, Minted}
 use Rattle.seize_words.proofs.Goes.{kept_now}
 use Rattle.seize_words.proofs.Passes.{IsDistinct, keys, by_pass, MayMake, Tells, Trades, keys_after, Made}
 
@@ -82,28 +81,31 @@ module _ {M : Type 1} {𝓤 : Ura M} (𝓛 : Logic 𝓤) (n : Name) where
         -- [the pass; the keys; Y; the book]
         move ! (3 ∷ 0 ∷ []) $ fjoin ! $ show ! Noted log $ check ! made $ done !)))
 
+  -- new keys, picked by how many there are of each kind
+  abbrev pub Picks : Type 0
+  Picks = (ℕ → ℕ) → List (ℕ × ℕ)
+
+  abbrev pub NewKeys : List Entry → Picks → (ℕ → ℕ) × List Entry → Pr
+  NewKeys seen births t = guard 𝓤 (IsPrefix seen t.1 × ((r : ℕ) → (rules st).Sized r (t.0 r) t.1)) (⟦ keys_own n (born (births t.0) t.1) ⟧ ∗ ⟦ had t.1 ⟧)
+
+  pub new_keys : (seen : List Entry) (births : Picks) → ((sizes : ℕ → ℕ) → MayMint (rules st) kinds sizes (births sizes)) → ⟦ knows n ⟧ ∗ ⟦ had seen ⟧ ⊢ H.⇛ (ex 𝓤 (NewKeys seen births))
+  new_keys seen births may = let Z : Pr = ex 𝓤 (NewKeys seen births) in qed 𝓛 (‵ (knows n) ∷ ‵ (had seen) ∷ []) ∵ use1 𝓛 (‵ (finv J)) opens $ suffices ! _ (𝓛.invs.inv_acc J Z) $ frame ! $ assume ! (‵ J) $
+      use2 𝓛 (raw (upd 𝓤 (ex 𝓤 (Minted entry_coded (rules st) (beside n) n.log (rows n) 𝓛 seen births)))) (mint entry_coded (rules st) (beside n) n.log (rows n) 𝓛 seen births (kept_now st) may) $
+      settle 𝓛 (⟦ J ⟧ ∗ Z) (some (λ (t : (ℕ → ℕ) × List Entry). given ((rules st).Legal t.1 × IsPrefix seen t.1 × ((r : ℕ) → (rules st).Sized r (t.0 r) t.1)) (‵ J ⊛ ‵ (keys_own n (born (births t.0) t.1)) ⊛ ‵ (had t.1)))) $
+      suffices ! _ (upd_i 𝓤 (⟦ J ⟧ ∗ Z)) $ pick ! (λ t. learn ! (λ so. split ! $ frame ! $ show ! (NewKeys seen births) t $ check ! (so.1, so.2) $ done !))
+
+  -- what it gives, in a walk
+  abbrev pub minted : List Entry → Picks → types.Kit.Item 𝓤
+  minted seen births = later (some (λ (t : (ℕ → ℕ) × List Entry). given (IsPrefix seen t.1 × ((r : ℕ) → (rules st).Sized r (t.0 r) t.1)) (‵ (keys_own n (born (births t.0) t.1)) ⊛ ‵ (had t.1))))
+
   -- a pass that has made nothing yet and has seen as much, where many may append
   abbrev pub Another : List Entry → ℕ × List Entry → Pr
   Another seen t = guard 𝓤 (IsPrefix seen t.1 × (mine st t.0 t.1 ≡ [])) ⟦ pass_owns n t.0 t.1 ⟧
 
   pub another : (seen : List Entry) → n.gate ≡ many → ⟦ knows n ⟧ ∗ ⟦ had seen ⟧ ⊢ H.⇛ (ex 𝓤 (Another seen))
-  another seen free = let Z : Pr = ex 𝓤 (Another seen) in qed 𝓛 (‵ (knows n) ∷ ‵ (had seen) ∷ []) ∵ use1 𝓛 (‵ (knows n) ⊛ ‵ (knows n)) knows_twice $ split ! $
-      use1 𝓛 (‵ (finv J)) opens $ suffices ! _ (𝓛.invs.inv_acc J Z) $ frame ! $ assume ! (‵ J) $ move ! (0 ∷ 2 ∷ []) $
-      use2 𝓛 (raw (upd 𝓤 (ex 𝓤 (Minted entry_coded (rules st) (beside n) n.log (rows n) 𝓛 passes seen)))) (mint entry_coded (rules st) (beside n) n.log (rows n) 𝓛 passes seen (omega arith) (kept_now st) (λ log j h p le. h p (omega (arith, le)))) $
-      settle 𝓛 (⟦ J ⟧ ∗ Z) (some (λ (t : ℕ × List Entry). given ((rules st).Legal t.1 × IsPrefix seen t.1 × (rules st).Sized passes t.0 t.1) (‵ J ⊛ ‵ (key n passes t.0 t.1) ⊛ ‵ (had t.1)))) $
-      suffices ! _ (upd_i 𝓤 (⟦ J ⟧ ∗ Z)) $ pick ! (λ t. learn ! (λ so. split ! $ frame ! $ split ! $
+  another seen free = let births : Picks = λ sizes. (passes, sizes passes) ∷ [] in qed 𝓛 (‵ (knows n) ∷ ‵ (had seen) ∷ []) ∵ updating ! $ use1 𝓛 (‵ (knows n) ⊛ ‵ (knows n)) knows_twice $ split ! $
+      move ! (0 ∷ 2 ∷ []) $ use2 𝓛 (minted seen births) (new_keys seen births (λ sizes. (omega arith, (λ log j h p le. h p (omega (arith, le))), omega arith, tt))) $ await ! tt $ pick ! (λ t. learn ! (λ so. let p : ℕ = t.0 passes in split ! $ fsplit ! $ move ! (0 ∷ 2 ∷ 3 ∷ []) $
       -- [its key; what was reached; the book]
-      show ! (Another seen) t $ check ! (so.1, so.2 t.0 (omega arith)) $ nothing ! $ fpack ! (IsPrefix t.1 t.1 × (mine st t.0 t.1 ≡ mine st t.0 t.1)) (λ _. ftrue) (([], append-nil t.1), refl) $
+      now ! $ show ! (Another seen) (p, t.1) $ check ! (so.0, so.1 passes p (omega arith)) $ nothing ! $ fpack ! (IsPrefix t.1 t.1 × (mine st p t.1 ≡ mine st p t.1)) (λ _. ftrue) (([], append-nil t.1), refl) $
       nothing ! $ types.Kit.rewrite ! 0 (λ (g : Gate). ‵ (gate_gives g t.1)) (sym free) refl $ move ! (0 ∷ 1 ∷ []) $ fjoin ! $ move ! (2 ∷ 0 ∷ []) $ fjoin ! $ move ! (1 ∷ 0 ∷ []) $ fjoin ! $
-      fpack ! (List Entry) (pass_at n t.0 t.1) t.1 $ move ! (1 ∷ 0 ∷ []) $ fjoin ! $ done !))
-
-  -- the keys of a new block: no value of it was ever named, and none of its batches has a count
-  abbrev pub NewBlock : List Entry → ℕ × List Entry → Pr
-  NewBlock seen t = guard 𝓤 (IsPrefix seen t.1 × ((v : ℕ) → home_of v ≡ t.0 → has v (after st t.1).named ≡ Rattle.std.specs.Prelude.false) × (count_in (after st t.1) t.0 ≡ pos 0)) (⟦ key n blocks t.0 t.1 ⟧ ∗ ⟦ key n counts t.0 t.1 ⟧ ∗ ⟦ had t.1 ⟧)
-
-  pub new_block : (seen : List Entry) → ⟦ knows n ⟧ ∗ ⟦ had seen ⟧ ⊢ H.⇛ (ex 𝓤 (NewBlock seen))
-  new_block seen = let Z : Pr = ex 𝓤 (NewBlock seen) in qed 𝓛 (‵ (knows n) ∷ ‵ (had seen) ∷ []) ∵ use1 𝓛 (‵ (finv J)) opens $ suffices ! _ (𝓛.invs.inv_acc J Z) $ frame ! $ assume ! (‵ J) $
-      use2 𝓛 (raw (upd 𝓤 (ex 𝓤 (MintedBoth entry_coded (rules st) (beside n) n.log (rows n) 𝓛 blocks counts seen))))
-      (mint_both entry_coded (rules st) (beside n) n.log (rows n) 𝓛 blocks counts seen (λ e. omega (arith, e)) (omega arith) (omega arith) (kept_now st) (λ log j h v le. h v (omega (arith, le))) (λ log j h k le. h k (omega (arith, le)))) $
-      settle 𝓛 (⟦ J ⟧ ∗ Z) (some (λ (t : ℕ × List Entry). given ((rules st).Legal t.1 × IsPrefix seen t.1 × (rules st).Sized blocks t.0 t.1 × (rules st).Sized counts t.0 t.1) (‵ J ⊛ ‵ (key n blocks t.0 t.1) ⊛ ‵ (key n counts t.0 t.1) ⊛ ‵ (had t.1)))) $
-      suffices ! _ (upd_i 𝓤 (⟦ J ⟧ ∗ Z)) $ pick ! (λ t. learn ! (λ so. split ! $ frame ! $ show ! (NewBlock seen) t $ check ! (so.1, (λ v home. so.2 v (omega (arith, home))), so.3 t.0 (omega arith)) $ done !))
+      fpack ! (List Entry) (pass_at n p t.1) t.1 $ move ! (1 ∷ 0 ∷ []) $ fjoin ! $ keep ! (0 ∷ []) $ done !))

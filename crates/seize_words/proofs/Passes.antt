@@ -10,13 +10,13 @@ use types.Kit.{‵, raw, ◌⊛◌, some, given, ◌$◌, ◌∵◌, !, qed, mov
 use denote.Steps.{nothing}
 use Rattle.seize_machine.specs.Machine.State.{State, linked, are_distinct}
 use Rattle.seize_words.specs.Ledger.{Held, reached, WithKinds, renewed, born, Known}
-use Rattle.seize_words.specs.Entry.{Entry, entry_coded}
+use Rattle.seize_words.specs.Entry.{Entry, entry_coded, maker}
 use Rattle.seize_words.specs.Book.{after, mine, rules, kinds}
 use Rattle.seize_words.specs.Fair.{Before, Fair, pass_key}
 use Rattle.seize_words.specs.Laws.{ended}
 use Rattle.seize_words.specs.Tokens.{Name, rows, start, keys_own, over, beside, inside, IsSole, gate_keeps, gate_gives, pass_at, pass_holds, Noted}
 use Rattle.seize_words.proofs.Append.{appends, Appended}
-use Rattle.seize_words.proofs.Goes.{goes, kept_now, births_of, births_below}
+use Rattle.seize_words.proofs.Goes.{chained_push, goes, kept_now, births_of, births_below}
 use Rattle.seize_words.proofs.Gates.{agrees, follows}
 use Rattle.seize_words.proofs.Lists.{after_push, legal_push, selected_in}
 use Rattle.seize_words.proofs.Sound.{sound_push}
@@ -50,7 +50,7 @@ module _ {M : Type 1} {𝓤 : Ura M} (𝓛 : Logic 𝓤) (n : Name) where
 
   -- the event is fair with the pass and these keys
   abbrev pub MayMake : ℕ → List Entry → List (Held Entry) → (List Entry → Entry) → (List Entry → Type 0) → Type 0
-  MayMake p seen held ev Told = (own log : List Entry) → Before n p seen held log → Told log → Fair st (pass_key p own ∷ held) log (ev log) × ((ev log).pass ≡ p)
+  MayMake p seen held ev Told = (own log : List Entry) → Before n p seen held log → Told log → Fair st (pass_key p own ∷ held) log (ev log) × (maker (ev log) ≡ p)
 
   -- what its maker brings tells more of the list, beside what has ended; and it is traded
   abbrev pub Tells : ℕ → List Entry → List (Held Entry) → (List Entry → Type 0) → Pr → Type 1
@@ -73,7 +73,7 @@ module _ {M : Type 1} {𝓤 : Ura M} (𝓛 : Logic 𝓤) (n : Name) where
   abbrev pub IsDistinct : Type 0
   IsDistinct = are_distinct (linked n.links) ≡ true
 
-  made_now : IsDistinct → (p : ℕ) (seen : List Entry) (held : List (Held Entry)) (ev : List Entry → Entry) (log own : List Entry) → Before n p seen held log → Fair st (pass_key p own ∷ held) log (ev log) × ((ev log).pass ≡ p)
+  made_now : IsDistinct → (p : ℕ) (seen : List Entry) (held : List (Held Entry)) (ev : List Entry → Entry) (log own : List Entry) → Before n p seen held log → Fair st (pass_key p own ∷ held) log (ev log) × (maker (ev log) ≡ p)
       → Noted n p seen (log ++ ev log ∷ []) (ev log)
   made_now distinct p seen held ev log own before f =
       let fair : Fair st (pass_key p own ∷ held) log (ev log) = f.0 in
@@ -82,12 +82,13 @@ module _ {M : Type 1} {𝓤 : Ura M} (𝓛 : Logic 𝓤) (n : Name) where
         appended = refl;
         legal = legal_push st log (ev log) fair.done before.legal fair.legal;
         sound = sound_push st log (ev log) fair.done before.legal fair.legal fair.one before.sound;
+        chained = chained_push n log (ev log) fair.done distinct before.legal before.sound before.chained fair.legal fair.leads;
         grows = before.grows;
         later = fair.done.0;
         answer = fair.done.1;
         does = fair.legal;
         leads = after_push st log (ev log) fair.done before.legal fair.legal;
-        made = selected_in (λ a. a.0.pass == p) st log (ev log) fair.done fair.legal (is p (ev log).pass f.1) ∙ ap (λ l. l ++ (ev log, fair.done.1) ∷ []) before.none_made;
+        made = selected_in (λ a. maker a.0 == p) st log (ev log) fair.done fair.legal (is p (maker (ev log)) f.1) ∙ ap (λ l. l ++ (ev log, fair.done.1) ∷ []) before.none_made;
         alone = before.alone;
         distinct = distinct;
       }
@@ -113,7 +114,7 @@ module _ {M : Type 1} {𝓤 : Ura M} (𝓛 : Logic 𝓤) (n : Name) where
       now log = log ++ ev log ∷ []
 
       before : (log : List Entry) → Known (rules st) all seen log → (IsSole n.gate → log ≡ seen) → Before n p seen held log
-      before log known alone = record { legal = known.0.0; sound = known.0.1; grows = known.1; none_made = sym known.2.0.1 ∙ past.1; kept = known.2.1; alone = alone }
+      before log known alone = record { legal = known.0.0; sound = known.0.1; chained = known.0.2; grows = known.1; none_made = sym known.2.0.1 ∙ past.1; kept = known.2.1; alone = alone }
 
       tells_all : Tells p seen held Told X → (log : List Entry) → Known (rules st) all seen log → ⟦ beside n log ⟧ ∗ (⟦ gives seen ⟧ ∗ X) ⊢ guard 𝓤 (ToldAll log) (⟦ beside n log ⟧ ∗ (⟦ gives seen ⟧ ∗ X))
       tells_all tells log known = qed 𝓛 (‵ (beside n log) ∷ (‵ (gives seen) ⊛ raw X) ∷ []) ∵ fsplit ! $ move ! (2 ∷ []) $ split ! $
@@ -139,8 +140,8 @@ module _ {M : Type 1} {𝓤 : Ura M} (𝓛 : Logic 𝓤) (n : Name) where
         move ! (2 ∷ 4 ∷ []) $ fjoin ! $ move ! (1 ∷ 4 ∷ []) $ join ! $ move ! (2 ∷ 0 ∷ []) $ join ! $ move ! (2 ∷ 1 ∷ 0 ∷ []) $
         use3 𝓛 (raw (upd 𝓤 (ex 𝓤 (Appended entry_coded (rules st) (beside n) n.log (rows n) 𝓛 (all own past) seen ev (births_of st ev) (ToldAll own past) (λ log. ⟦ gives own past (now own past log) ⟧ ∗ Y log)))))
         (appends entry_coded (rules st) (beside n) n.log (rows n) 𝓛 (all own past) seen ev (births_of st ev) (ToldAll own past) (⟦ gives own past seen ⟧ ∗ X) (λ log. ⟦ gives own past (now own past log) ⟧ ∗ Y log)
-        (omega arith, within) (λ log. births_below (after st log) (ev log).event) (kept_now st)
-        (goes st (all own past) seen ev (ToldAll own past) (λ log known told. (may own log (before own past log known told.0) told.1).0)) (tells_all own past tells) (trades_all own past trades)) $
+        (omega arith, within) (λ log. births_below (after st log) (ev log)) (kept_now st)
+        (goes n distinct (all own past) seen ev (ToldAll own past) (λ log known told. (may own log (before own past log known told.0) told.1).0)) (tells_all own past tells) (trades_all own past trades)) $
         settle 𝓛 Z (some (λ (log : List Entry). given (Known (rules st) (all own past) seen log × ToldAll own past log)
         (‵ J ⊛ ‵ (keys (renewed (all own past) (now own past log) ++ born (births_of st ev log) (now own past log))) ⊛ ‵ (had (now own past log)) ⊛ (‵ (gives own past (now own past log)) ⊛ raw (Y log))))) $
         suffices ! _ (upd_i 𝓤 Z) $ pick ! (λ log. learn ! (λ known. let log' : List Entry = now own past log in let b = before own past log known.0 known.1.0 in

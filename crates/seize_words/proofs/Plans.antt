@@ -13,7 +13,7 @@ use Rattle.seize_machine.specs.declared.machine.event.Answer.{Answer}
 use Rattle.seize_machine.proofs.Facts.{Step, Stands, counted, eq_true, slot_frame, some_is, step_of, batches_length, reached_holds, tries_tidy, head_frame, is_true, and_true}
 use Rattle.seize_words.specs.Blocks.{Plan, no_plan, planned_by, plans, block_in, block_for, list_word, word_of, head_word}
 use Rattle.seize_words.specs.Book.{Kept, TheHead, IsLegalList, after}
-use Rattle.seize_words.specs.Entry.{Entry, timed}
+use Rattle.seize_words.specs.Entry.{Entry, Made, Used, timed}
 use Rattle.seize_words.specs.Tokens.{Name, start}
 use Rattle.seize_words.proofs.Lists.{reached_after}
 use Rattle.seize_words.proofs.Lives.{legal_first}
@@ -22,7 +22,8 @@ use Rattle.seize_words.proofs.Lives.{legal_first}
 
 pub plans_append : (st : State) (a b : List Entry) → plans st (a ++ b) ≡ plans st a ++ plans (after st a) b
 plans_append st [] b = refl
-plans_append st (e ∷ a) b =
+plans_append st (Used u ∷ a) b = plans_append st a b
+plans_append st (Made e ∷ a) b =
     let now = (done_by next st (timed e)).0 in
     ap (λ (ps : List Plan). planned_by st e.event ++ ps) (plans_append now a b) ∙ sym (append_assoc (planned_by st e.event) (plans now a) (plans (after now a) b))
 
@@ -36,7 +37,8 @@ length_both (x ∷ xs) ys = let rest : length (xs ++ ys) ≡ length xs + length 
 
 many_plans : (st : State) (log : List Entry) → IsLegalList st log → length st.batches + length (plans st log) ≡ length (after st log).batches
 many_plans st [] l = omega arith
-many_plans st (e ∷ log) l =
+many_plans st (Used u ∷ log) l = many_plans st log l
+many_plans st (Made e ∷ log) l =
     let w = legal_first st e log l in let now = (done_by next st (timed e)).0 in
     let same : length now.batches ≡ length st.batches + length (planned_by st e.event) =
     ap (λ (d : State × Answer). length d.0.batches) w.2 ∙ batches_length e.size st e.event w.0 (step_of _ _ _ _ w.1) ∙ ap (λ (k : ℕ). length st.batches + k) (sym (planned_many st e.event)) in
@@ -248,7 +250,8 @@ both_true false y e f = absurd (cc)
 
 legal_beginning : (st : State) (own more : List Entry) → IsLegalList st (own ++ more) → IsLegalList st own
 legal_beginning st [] more l = refl
-legal_beginning st (e ∷ own) more l = let a = and_true _ _ l in both_true _ _ a.0 (legal_beginning (done_by next st (timed e)).0 own more a.1)
+legal_beginning st (Used u ∷ own) more l = legal_beginning st own more l
+legal_beginning st (Made e ∷ own) more l = let a = and_true _ _ l in both_true _ _ a.0 (legal_beginning (done_by next st (timed e)).0 own more a.1)
 
 pub legal_prefix : (st : State) (own log : List Entry) → IsPrefix own log → IsLegalList st log → IsLegalList st own
 legal_prefix st own log grows l = legal_beginning st own grows.0 (subst (IsLegalList st) (sym grows.1) l)

@@ -8,12 +8,15 @@ use Rattle.seize_machine.specs.Machine.Frames.{changes_slot}
 use Rattle.seize_machine.specs.declared.machine.event.Answer.{Answer}
 use Rattle.seize_machine.proofs.Facts.{is_true, eq_true, step_of}
 use Rattle.seize_words.specs.Ledger.{Held, AllKept, WithKinds, renewed, born}
-use Rattle.seize_words.specs.Entry.{Entry}
+use Rattle.seize_words.specs.Blocks.{plans}
+use Rattle.seize_words.specs.Chains.{told}
+use Rattle.seize_words.specs.Entry.{Entry, Made, Deed}
 use Rattle.seize_words.specs.Book.{after, births, TheSlot, Kept, kinds, rules, slots}
 use Rattle.seize_words.specs.Fair.{Added, Before, Covers, Fair, EndsNone, StartsNone, MayAdd, pass_key}
 use Rattle.seize_words.specs.Others.{MakesNone}
 use Rattle.seize_words.specs.Private.{IsOwn, IsOpen, is_one, key_of, label_of, own_of}
 use Rattle.seize_words.specs.Tokens.{Name, start}
+use Rattle.seize_words.proofs.Chains.{unled}
 use Rattle.seize_words.proofs.Sound.{none_named}
 
 -- the one key there is
@@ -38,13 +41,6 @@ after_one r [] seen one = absurd (cc)
 after_one r (x ∷ y ∷ held) seen one = absurd (cc)
 after_one r (x ∷ []) seen one = (refl, refl)
 
--- the key and those that the event made
-pub one_and_born : (r : ℕ) (held : List (Held Entry)) (births : List (ℕ × ℕ)) (seen : List Entry) → is_one r held ≡ true
-    → (key_of (take 1 (renewed held seen ++ born births seen)) ≡ key_of held) × (own_of (take 1 (renewed held seen ++ born births seen)) ≡ seen) × (drop 1 (renewed held seen ++ born births seen) ≡ born births seen)
-one_and_born r [] births seen h = absurd (cc)
-one_and_born r (x ∷ y ∷ held) births seen h = absurd (cc)
-one_and_born r (x ∷ []) births seen h = (refl, refl, refl)
-
 -- what it knew just before
 pub one_kept : (st : State) (held : List (Held Entry)) (log : List Entry) → is_one slots held ≡ true → AllKept (rules st) held log → Kept st TheSlot (key_of held) (own_of held) log
 one_kept st held log h kept = (subst (λ (hs : List (Held Entry)). AllKept (rules st) hs log) (only_is slots held h) kept).0
@@ -61,8 +57,8 @@ of_other (Event.ReadLink s l) k h = refl
 of_other (Event.ExchangeLink s l exchange) k h = refl
 of_other _ k h = h
 
-covers : (st : State) (log : List Entry) (e : Entry) (p s : ℕ) (mine own : List Entry) → e.pass ≡ p → IsOwn s e.event
-    → Covers st (pass_key p mine ∷ record { kind = slots; key = s; own = own; label = 0 } ∷ []) log e
+covers : (st : State) (log : List Entry) (e : Deed) (p s : ℕ) (mine own : List Entry) → e.pass ≡ p → IsOwn s e.event
+    → Covers st (pass_key p mine ∷ record { kind = slots; key = s; own = own; label = 0 } ∷ []) log (Made e)
 covers st log e p s mine own pe private zero k b there = differ e.pass k (λ i. b.0 (refl, i ∙ pe))
 covers st log e p s mine own pe private (suc zero) k b there = private.1
 covers st log e p s mine own pe private (suc (suc zero)) k b there = of_other e.event k (differ (slot_of e.event) k (λ i. b.1.0 (refl, i ∙ private.0)))
@@ -70,7 +66,8 @@ covers st log e p s mine own pe private (suc (suc (suc zero))) k b there = (priv
 covers st log e p s mine own pe private (suc (suc (suc (suc zero)))) k b there = (private.2 k).1
 covers st log e p s mine own pe private (suc (suc (suc (suc (suc zero))))) k b there = (private.3 (after st log) k).0
 covers st log e p s mine own pe private (suc (suc (suc (suc (suc (suc zero)))))) k b there = (private.3 (after st log) k).1
-covers st log e p s mine own pe private (suc (suc (suc (suc (suc (suc (suc r))))))) k b there = refl
+covers st log e p s mine own pe private (suc (suc (suc (suc (suc (suc (suc zero))))))) k b there = refl
+covers st log e p s mine own pe private (suc (suc (suc (suc (suc (suc (suc (suc r)))))))) k b there = refl
 
 ends_none : (s : ℕ) (event : Event) → IsOwn s event → EndsNone event
 ends_none s (Event.SwapOut t) private lives = absurd (let x : (t == t) ≡ false = (private.2 t).0 in grind arith)
@@ -88,20 +85,21 @@ does size st event h = go (next size st event) refl h
     go Option.None e n = absurd (cc)
     go (Some d) e n = (d, e)
 
-pub may_add : (n : Name) (p : ℕ) (seen : List Entry) (held : List (Held Entry)) (e : Entry) → is_one slots held ≡ true → e.pass ≡ p → IsOwn (key_of held) e.event
+pub may_add : (n : Name) (p : ℕ) (seen : List Entry) (held : List (Held Entry)) (e : Deed) → is_one slots held ≡ true → e.pass ≡ p → IsOwn (key_of held) e.event
     → IsOpen (slot_at (after (start n) (own_of held)) (key_of held)) (is_active (head_at (after (start n) (own_of held)) (key_of held))) (key_of held) e.size e.event
     → MayAdd n p seen held e
 may_add n p seen held e one pe private open_ = subst (λ (hs : List (Held Entry)). MayAdd n p seen hs e) (sym (only_is slots held one)) ((omega arith, tt), ends_none (key_of held) e.event private, starts_none (key_of held) e.event private, fair)
   where
-    fair : (own log : List Entry) → Before n p seen (only slots held) log → Fair (start n) (pass_key p own ∷ only slots held) log e
+    fair : (own log : List Entry) → Before n p seen (only slots held) log → Fair (start n) (pass_key p own ∷ only slots held) log (Made e)
     fair mine log before =
         let k = before.kept.0.1 in let d = does e.size (after (start n) log) e.event (open_ (after (start n) log) (sym k.1) (sym k.2)) in
         record {
           done = d.0;
           legal = d.1;
           covers = covers (start n) log e p (key_of held) mine (own_of held) pe private;
-          names = λ many was there. (subst (λ (z : ℕ). z < many 0) (sym pe) there.0, (λ j le. (private.3 (after (start n) log) j).0), λ j le. (private.3 (after (start n) log) j).1);
+          names = λ many was there. (subst (λ (z : ℕ). z < many 0) (sym pe) there.0, (λ j le. (private.3 (after (start n) log) j).0), (λ j le. (private.3 (after (start n) log) j).1), λ f le. refl);
           one = none_named e.size (after (start n) log) e.event d.0 (step_of _ _ _ _ d.1) (λ j. (private.3 (after (start n) log) j).1);
+          leads = unled (after (start n) log) (plans (start n) log) (told log) e.event (λ j. (private.2 j).0);
         }
 
 -- A slot's key, and others after it.
@@ -125,7 +123,7 @@ parted [] b seen h = absurd (cc)
 parted (x ∷ y ∷ a) b seen h = absurd (cc)
 parted (x ∷ []) b seen h = record { number = refl; own = refl; others = append-nil (renewed b seen) }
 
-pub held_after : (n : Name) (p : ℕ) (seen seen' : List Entry) (held held' a b : List (Held Entry)) (e : Entry) → held ≡ a ++ b → MakesNone n p seen (a ++ b) e.event
+pub held_after : (n : Name) (p : ℕ) (seen seen' : List Entry) (held held' a b : List (Held Entry)) (e : Deed) → held ≡ a ++ b → MakesNone n p seen (a ++ b) e.event
     → Added n p seen seen' held held' e → held' ≡ all_after a b seen'
 held_after n p seen seen' held held' a b e joined none added =
     let log = added.noted.before in

@@ -11,7 +11,7 @@ use Rattle.seize_machine.specs.declared.machine.event.Job.{Job}
 use Rattle.seize_machine.specs.declared.machine.event.Job.TheVariants.{Retire}
 use Rattle.seize_machine.proofs.Facts.{Step, next_of, step_of, beginning, eq_true, gone_named, is_true, loose_named}
 use Rattle.seize_words.specs.Ledger.{Held, renewed}
-use Rattle.seize_words.specs.Entry.{Entry}
+use Rattle.seize_words.specs.Entry.{Entry, Made, Deed}
 use Rattle.seize_words.specs.Book.{IsLegalList, after, blocks, slots}
 use Rattle.seize_words.specs.Fair.{Before, Covers, Fair, MayAdd, pass_key}
 use Rattle.seize_words.specs.Homes.{HasOne, IsVacant, home_of}
@@ -26,11 +26,11 @@ use Rattle.seize_words.proofs.Lists.{legal_front, reached_after}
 use Rattle.seize_words.proofs.Private.{after_one, only, only_is, differ}
 use Rattle.seize_words.proofs.Sound.{has_last, new_named, old_named, pushed, vacant_later}
 
-retires : ℕ → ℕ → ℕ → ℕ → Entry
+retires : ℕ → ℕ → ℕ → ℕ → Deed
 retires p size s v = record { pass = p; size = size; event = Begin s (Retire v); life = 0 }
 
 covers : (st : State) (log : List Entry) (p size v : ℕ) (mine : List Entry) (a b : List (Held Entry)) → key_of b ≡ home_of v
-    → Covers st (pass_key p mine ∷ (only slots a ++ only blocks b)) log (retires p size (key_of a) v)
+    → Covers st (pass_key p mine ∷ (only slots a ++ only blocks b)) log (Made (retires p size (key_of a) v))
 unfolding retires
 covers st log p size v mine a b home zero k other there = differ p k (λ i. other.0 (refl, i))
 covers st log p size v mine a b home (suc zero) k other there = refl
@@ -39,7 +39,8 @@ covers st log p size v mine a b home (suc (suc (suc zero))) k other there = refl
 covers st log p size v mine a b home (suc (suc (suc (suc zero)))) k other there = refl
 covers st log p size v mine a b home (suc (suc (suc (suc (suc zero))))) k other there = refl
 covers st log p size v mine a b home (suc (suc (suc (suc (suc (suc zero)))))) k other there = differ (home_of v) k (λ i. other.1.1.0 (refl, i ∙ sym home))
-covers st log p size v mine a b home (suc (suc (suc (suc (suc (suc (suc r))))))) k other there = refl
+covers st log p size v mine a b home (suc (suc (suc (suc (suc (suc (suc zero))))))) k other there = refl
+covers st log p size v mine a b home (suc (suc (suc (suc (suc (suc (suc (suc r)))))))) k other there = refl
 
 -- what was named afterwards was, or is this one
 added : (v : ℕ) (named : List ℕ) (u : ℕ) → has u (with_named named v) ≡ true → (u ≡ v) ⊎ (has u named ≡ true)
@@ -60,7 +61,7 @@ may_retire n p size seen a b one one' home idle may =
     (subst (λ (hs : List (Held Entry)). MayAdd n p seen (only slots a ++ hs) (retires p size (key_of a) (label_of b))) (sym (only_is blocks b one'))
     ((omega arith, (omega arith, tt)), (λ lives. refl), (λ s. refl), fair))
   where
-    fair : (mine log : List Entry) → Before n p seen (only slots a ++ only blocks b) log → Fair (start n) (pass_key p mine ∷ (only slots a ++ only blocks b)) log (retires p size (key_of a) (label_of b))
+    fair : (mine log : List Entry) → Before n p seen (only slots a ++ only blocks b) log → Fair (start n) (pass_key p mine ∷ (only slots a ++ only blocks b)) log (Made (retires p size (key_of a) (label_of b)))
     fair mine log before =
         let st : State = after (start n) log in let s : ℕ = key_of a in let v : ℕ = label_of b in
         let slot = before.kept.0.1 in let value = before.kept.1.0.1 v (sym home) in
@@ -71,7 +72,8 @@ may_retire n p size seen a b one one' home idle may =
           done = d;
           legal = next_of size st (Begin s (Retire v)) d step;
           covers = covers (start n) log p size v mine a b home;
-          names = λ many was there. (there.0, (λ k le. refl), λ k le. later (home_of v) k (many blocks) (subst (λ (z : ℕ). z < many blocks) home there.1.1.0) le);
+          names = λ many was there. (there.0, (λ k le. refl), (λ k le. later (home_of v) k (many blocks) (subst (λ (z : ℕ). z < many blocks) home there.1.1.0) le), λ f le. refl);
+          leads = tt;
           one = ⊎_elim (λ h. new_named size st (Begin s (Retire v)) d v step (added v st.named)
               (subst (IsVacant st) home (vacant_later (start n) (own_of b) log (key_of b) before.legal before.kept.1.0 (subst (IsVacant (after (start n) (own_of b))) (sym home) h.1))))
               (λ h. old_named size st (Begin s (Retire v)) d step (λ u is. ⊎_elim (λ e. subst (λ (w : ℕ). has w st.named ≡ true) (sym e) (sym value.0 ∙ h.0)) (λ i. i) (added v st.named u is))) may;
@@ -109,10 +111,10 @@ renewed_label [] seen = refl
 renewed_label (x ∷ xs) seen = refl
 
 -- and so does its key know
-pub spent : (pass : Pass) (seen' : List Entry) (value value' : Keys) (s : ℕ) (noted : Noted pass.name pass.id pass.seen seen' (private pass (Begin s (Retire (label_of value.held)))))
+pub spent : (pass : Pass) (seen' : List Entry) (value value' : Keys) (s : ℕ) (noted : Noted pass.name pass.id pass.seen seen' (Made (private pass (Begin s (Retire (label_of value.held))))))
     → is_one blocks value.held ≡ true → value.name ≡ pass.name → value'.name ≡ value.name → value'.held ≡ renewed value.held seen' → IsSpent (label_of value'.held) (state_of value')
 spent pass seen' value value' s noted one book name held =
-    let v : ℕ = label_of value.held in let e : Entry = private pass (Begin s (Retire v)) in
+    let v : ℕ = label_of value.held in let e : Deed = private pass (Begin s (Retire v)) in
     let now = subst (IsSpent v) (sym noted.leads) (spends e.size (after (start pass.name) noted.before) v e.event (noted.later, noted.answer) (step_of _ _ _ _ noted.does) (itself v)) in
     let known = ap own_of held ∙ renewed_own value.held seen' one in
     subst (λ (st : State). IsSpent (label_of value'.held) st) (sym (ap (λ (n : Name). after (start n) (own_of value'.held)) (name ∙ book) ∙ ap (λ (l : List Entry). after (start pass.name) l) known))
@@ -135,7 +137,7 @@ not_gone size st _ _ _ r (Step.begun_retire s v idle may) = ⊎_elim (λ unnamed
 not_gone size st _ _ _ r (Step.begun_other s job place idle which from) = absurd (let x : Option.None ≡ Some place = from.1 in cc)
 
 -- and all others of its block were, as its key knows
-pub last : (pass : Pass) (seen' : List Entry) (value : ValueKey) (keys' : Keys) (s : ℕ) (noted : Noted pass.name pass.id pass.seen seen' (private pass (Begin s (Retire (value_of value))))) → value.keys.name ≡ pass.name
+pub last : (pass : Pass) (seen' : List Entry) (value : ValueKey) (keys' : Keys) (s : ℕ) (noted : Noted pass.name pass.id pass.seen seen' (Made (private pass (Begin s (Retire (value_of value)))))) → value.keys.name ≡ pass.name
     → IsSpent (label_of keys'.held) (state_of keys') → keys'.name ≡ value.keys.name → keys'.held ≡ renewed value.keys.held seen' → IsLastIn (label_of keys'.held) (state_of keys')
 last pass seen' value keys' s noted book spent name held w home other named = go (is_true (has w now.gone))
   where
@@ -154,7 +156,7 @@ last pass seen' value keys' s noted book spent name held w home other named = go
     alive : has v now.gone ≡ false
     alive =
         let st : State = after (start pass.name) noted.before in let e = private pass (Begin s (Retire (value_of value))) in
-        let legal = legal_front (start pass.name) noted.before e (subst (IsLegalList (start pass.name)) noted.appended noted.legal) in
+        let legal = legal_front (start pass.name) noted.before (Made e) (subst (IsLegalList (start pass.name)) noted.appended noted.legal) in
         subst (λ (t : ℕ × State). has t.0 t.1.gone ≡ false) (λ j. (sym its j, sym (is_now ∙ noted.leads) j))
         (not_gone e.size st s (value_of value) (noted.later, noted.answer) (reached_after pass.name noted.before noted.distinct legal) (step_of _ _ _ _ noted.does))
 

@@ -8,8 +8,8 @@ use Rattle.seize_machine.specs.Machine.Frames.{slots_added}
 use Rattle.seize_machine.specs.Machine.History.{done_by}
 use Rattle.seize_machine.specs.Machine.Next.{next}
 use Rattle.seize_machine.specs.declared.machine.event.Answer.{Answer}
-use Rattle.seize_machine.proofs.Facts.{Step, eq_true, gone_grows, is_true, slots_length, step_of, value_frame}
-use Rattle.seize_words.specs.Entry.{Entry, timed}
+use Rattle.seize_machine.proofs.Facts.{Step, eq_true, gone_grows, is_true, slots_length, some_is, step_of, value_frame}
+use Rattle.seize_words.specs.Entry.{Entry, Made, Used, timed}
 use Rattle.seize_words.specs.Book.{IsLegalList, Does, Kept, TheBlock, after}
 use Rattle.seize_words.specs.Homes.{HasOne, IsSound, IsVacant, changes_home, home_of}
 use Rattle.seize_words.proofs.Homes.{home_value}
@@ -26,13 +26,15 @@ not_gone v size st event d step h = go (is_true (has v st.gone))
 
 gone_after : (st : State) (more : List Entry) (v : ℕ) → IsLegalList st more → has v st.gone ≡ true → has v (after st more).gone ≡ true
 gone_after st [] v l h = h
-gone_after st (e ∷ more) v l h =
+gone_after st (Used u ∷ more) v l h = gone_after st more v l h
+gone_after st (Made e ∷ more) v l h =
     let w = legal_first st e more l in
     subst (λ (d : State × Answer). has v (after d.0 more).gone ≡ true) (sym w.2) (gone_after (w.0).0 more v w.3 (gone_grows v e.size st e.event w.0 (step_of _ _ _ _ w.1) h))
 
 gone_on : (st : State) (own more : List Entry) (v : ℕ) → IsLegalList st (own ++ more) → has v (after st own).gone ≡ true → has v (after st (own ++ more)).gone ≡ true
 gone_on st [] more v l h = gone_after st more v l h
-gone_on st (e ∷ own) more v l h =
+gone_on st (Used u ∷ own) more v l h = gone_on st own more v l h
+gone_on st (Made e ∷ own) more v l h =
     let w = legal_first st e (own ++ more) l in
     gone_on (done_by next st (timed e)).0 own more v (subst (λ (d : State × Answer). IsLegalList d.0 (own ++ more)) (sym w.2) w.3) h
 
@@ -106,7 +108,11 @@ few_added size st event _ _ few = omega (arith, few)
 few_kept : (size : ℕ) (st : State) (event : Event) (d : State × Answer) → Step size st event d → length st.slots ≤ all_numbers → length (d.0).slots ≤ all_numbers
 few_kept size st event d step few = subst (λ (n : ℕ). n ≤ all_numbers) (sym (slots_length size st event d step)) (few_added size st event d step few)
 
+few_still : (st : State) (log : List Entry) (e : Entry) (d : State × Answer) → Does st log e d → length (after st log).slots ≤ all_numbers → length (d.0).slots ≤ all_numbers
+few_still st log (Made x) d h few = few_kept x.size (after st log) x.event d (step_of _ _ _ _ h) few
+few_still st log (Used u) d h few = subst (λ (z : State). length z.slots ≤ all_numbers) (ap (λ (x : State × Answer). x.0) (some_is _ _ h)) few
+
 -- so does a longer list
 pub sound_push : (st : State) (log : List Entry) (e : Entry) (d : State × Answer) → IsLegalList st log → Does st log e d → (HasOne (after st log) → HasOne d.0) → IsSound (after st log) → IsSound (after st (log ++ e ∷ []))
 sound_push st log e d l h one sound =
-    subst IsSound (sym (after_push st log e d l h)) (record { one = one sound.one; few = few_kept e.size (after st log) e.event d (step_of _ _ _ _ h) sound.few })
+    subst IsSound (sym (after_push st log e d l h)) (record { one = one sound.one; few = few_still st log e d h sound.few })

@@ -1,10 +1,10 @@
 -- What is known after an atomic step on a head's word by a slot's holder.
 use Rattle.std.proofs.Common.{if◌then◌else◌, arith, ◌≡◌, ℕ, Bool, true, false, List, [], ◌∷◌, ◌++◌, sym, refl, ap, ◌∙◌, subst}
 use Rattle.seize_machine.specs.Machine.State.{Head, Inactive, Active, head_at, is_active}
-use Rattle.seize_words.specs.Atomic.{Events, Takes, entries}
+use Rattle.seize_words.specs.Atomic.{Events, Takes, deed, entries}
 use Rattle.seize_words.specs.Blocks.{block_for, head_word, word_of}
 use Rattle.seize_words.specs.Book.{IsLegalList, after, heads, rules, slots}
-use Rattle.seize_words.specs.Entry.{Entry}
+use Rattle.seize_words.specs.Entry.{Entry, Made, Deed, deeds}
 use Rattle.seize_words.specs.Ledger.{Held, AllKept, renewed}
 use Rattle.seize_words.specs.Laws.{life, life_from, starts}
 use Rattle.seize_words.specs.Reservations.{IsActivationOf}
@@ -18,6 +18,7 @@ use Rattle.seize_words.specs.declared.book.keys.Keys.{Keys}
 use Rattle.seize_words.specs.declared.book.pass.Pass.{Pass}
 use Rattle.seize_words.specs.declared.book.slot_key.SlotKey.{SlotKey}
 use Rattle.seize_words.proofs.Heads.{at_head, found_word}
+use Rattle.seize_words.proofs.Lists.{deeds_append}
 use Rattle.seize_words.proofs.Moves.{moves}
 use Rattle.seize_words.proofs.Private.{after_one, one_kept, same_kind}
 
@@ -31,14 +32,14 @@ key_then key keys' seen' is = record { keys = keys'; one = ap (is_one slots) is 
 
 -- a word with no key beside its own
 module _ (r m : ℕ) (key key' : SlotKey) (pass pass' : Pass) (f : ℕ → ℕ) (v life : ℕ) (event : Events)
-    (told : Takes (record { name = pass.name; kind = r; number = m }) key.keys pass key'.keys pass' [] f v life event (λ _. false)) where
+    (told : Takes (record { name = pass.name; kind = r; number = m }) key.keys pass key'.keys pass' [] f v (entries pass life event) (λ _. false)) where
   abbrev step : Stepped (record { name = pass.name; kind = r; number = m }) pass.id pass.seen pass'.seen key.keys.held key'.keys.held [] v (f v) (entries pass life event) (λ _. false)
   step = told.2
 
   -- the slot's holder added the entry
   pub moved : step.since.1 ≡ [] → IsOf key pass → IsAfter key pass' key' × Moves key key' step.noted.before (event v step.log) step.noted.later step.noted.answer
   moved none book =
-      let noted = step.noted in let e = entries pass life event v step.log in
+      let noted = step.noted in let e : Deed = deed pass life event v step.log in
       let kept_then = subst (λ (vs : List (Held Entry)). AllKept (rules (start pass.name)) (vs ++ key.keys.held) step.log) none step.found.before.kept.1 in
       let one = after_one slots key.keys.held pass'.seen key.one in
       let number = ap key_of step.keys ∙ one.0 in let own = ap own_of step.keys ∙ one.1 in
@@ -49,13 +50,13 @@ module _ (r m : ℕ) (key key' : SlotKey) (pass pass' : Pass) (f : ℕ → ℕ) 
       )
 
 -- a head's
-pub noted_by : (m : ℕ) (key key' : SlotKey) (pass pass' : Pass) (f : ℕ → ℕ) (v life : ℕ) (event : Events) (told : Takes (at_head pass.name m) key.keys pass key'.keys pass' [] f v life event (λ _. false))
-    → IsOf key pass → NotesAs key pass key' pass' (entries pass life event v told.2.log)
+pub noted_by : (m : ℕ) (key key' : SlotKey) (pass pass' : Pass) (f : ℕ → ℕ) (v life : ℕ) (event : Events) (told : Takes (at_head pass.name m) key.keys pass key'.keys pass' [] f v (entries pass life event) (λ _. false))
+    → IsOf key pass → NotesAs key pass key' pass' (deed pass life event v told.2.log)
 noted_by m key key' pass pass' f v life event told book =
     let parts = moved heads m key key' pass pass' f v life event told told.2.found.stands book in (told.0, parts.0, (told.2.noted, parts.1))
 
 -- the word shows it afterwards, and what it held the list showed just before
-module _ (m : ℕ) (pass pass' : Pass) (keys keys' : Keys) (f : ℕ → ℕ) (v life : ℕ) (event : Events) (told : Takes (at_head pass.name m) keys pass keys' pass' [] f v life event (λ _. false)) where
+module _ (m : ℕ) (pass pass' : Pass) (keys keys' : Keys) (f : ℕ → ℕ) (v life : ℕ) (event : Events) (told : Takes (at_head pass.name m) keys pass keys' pass' [] f v (entries pass life event) (λ _. false)) where
   pub shows_after : f v ≡ head_word (start pass.name) pass'.seen m
   shows_after = told.2.left
 
@@ -69,19 +70,22 @@ module _ (m : ℕ) (pass pass' : Pass) (keys keys' : Keys) (f : ℕ → ℕ) (v 
 
 -- An activation has begun with the last event.
 
-pub life_push : (a s : ℕ) (log : List Entry) (e : Entry) → life_from a s (log ++ e ∷ []) ≡ (if starts s e.event then e.life else life_from a s log)
-life_push a s [] e = refl
-life_push a s (x ∷ log) e = life_push (if starts s x.event then x.life else a) s log e
+pub life_push : (s : ℕ) (log : List Entry) (e : Deed) → life s (log ++ Made e ∷ []) ≡ (if starts s e.event then e.life else life s log)
+life_push s log e = ap (life_from 0 s) (deeds_append log (Made e ∷ [])) ∙ from 0 (deeds log)
+  where
+    from : (a : ℕ) (ds : List Deed) → life_from a s (ds ++ e ∷ []) ≡ (if starts s e.event then e.life else life_from a s ds)
+    from a [] = refl
+    from a (x ∷ ds) = from (if starts s x.event then x.life else a) ds
 
 active_word : (block : ℕ → ℕ) (h : Head) → 1 ≡ word_of block h → is_active h ≡ true
 active_word block (Active waiting) e = refl
 active_word block Inactive e = absurd (omega (arith, e))
 
-pub activation_is : (m : ℕ) (pass pass' : Pass) (keys keys' : Keys) (f : ℕ → ℕ) (v life : ℕ) (event : Events) (told : Takes (at_head pass.name m) keys pass keys' pass' [] f v life event (λ _. false))
+pub activation_is : (m : ℕ) (pass pass' : Pass) (keys keys' : Keys) (f : ℕ → ℕ) (v life : ℕ) (event : Events) (told : Takes (at_head pass.name m) keys pass keys' pass' [] f v (entries pass life event) (λ _. false))
     → f v ≡ 1 → starts m (event v told.2.log) ≡ true → is_one slots keys.held ≡ true → keys.name ≡ pass.name → key_of keys.held ≡ m
     → (key' : SlotKey) (a : Activation) → key'.keys ≡ keys' → a.name ≡ keys.name → a.slot ≡ key_of keys.held → a.since ≡ own_of keys'.held → a.life ≡ life → IsActivationOf key' a
 activation_is m pass pass' keys keys' f v life_ event told one begins is_slot book is_m key' a same name slot since its =
-    let step = told.2 in let e : Entry = entries pass life_ event v step.log in let after_it = after_one slots keys.held pass'.seen is_slot in
+    let step = told.2 in let e : Deed = deed pass life_ event v step.log in let after_it = after_one slots keys.held pass'.seen is_slot in
     let number = ap key_of step.keys ∙ after_it.0 in let own = ap own_of step.keys ∙ after_it.1 in let all = since ∙ own in
     record {
       book = name ∙ sym (ap (λ (k : Keys). k.name) same ∙ told.1);
@@ -92,7 +96,7 @@ activation_is m pass pass' keys keys' f v life_ event told one begins is_slot bo
           ∙ active_word (λ b. block_for (start pass.name) pass'.seen b m) (head_at (after (start pass.name) pass'.seen) m) (sym one ∙ step.left);
       its =
           ap (λ (t : ℕ × List Entry). life t.0 t.1) (λ j. ((slot ∙ is_m) j, (all ∙ step.noted.appended) j))
-          ∙ life_push 0 m step.noted.before e
-          ∙ ap (λ (b : Bool). if b then life_ else life_from 0 m step.noted.before) begins
+          ∙ life_push m step.noted.before e
+          ∙ ap (λ (b : Bool). if b then life_ else life m step.noted.before) begins
           ∙ sym its;
     }

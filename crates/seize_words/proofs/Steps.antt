@@ -1,6 +1,7 @@
 -- **The step of a word**: one atomic step on the word, and with it one event in the list. Whatever the word holds and whatever the list is by
 -- then, the holder of a pass and of some keys adds the event with the word's own keys beside theirs. Assumes `Logic`.
-use Rattle.std.proofs.Common.{◌≡◌, ℕ, zero, suc, ◌<◌, Bool, true, false, List, [], ◌∷◌, ◌++◌, refl, sym, ap, subst, arith, append-nil, Option, Some, None}
+use Rattle.std.proofs.Common.{◌≡◌, ℕ, zero, suc, ◌<◌, Bool, true, false, List, [], ◌∷◌, ◌++◌, take, refl, sym, ◌∙◌, ap, subst, arith, append-nil, Option, Some, None}
+use Rattle.std.specs.Prelude.{drop as past}
 use seplogic.Ra.Ura.{Ura}
 use base.Logic.{SProp, ent, sep, ex, guard, upd, upd_i}
 use base.Fml.{Lft, Share, Fml, ftrue, fsep, fex, flft, fbor}
@@ -14,13 +15,14 @@ use Rattle.seize_machine.specs.Machine.State.{State, link_at}
 use Rattle.seize_machine.proofs.Facts.{eq_true}
 use Rattle.seize_words.specs.Ledger.{fact, Held, right, WithKinds, renewed, born}
 use Rattle.seize_words.specs.Entry.{Entry, entry_coded}
-use Rattle.seize_words.specs.Book.{Kind, ThePass, TheNumbers, TheSlot, TheHead, TheLink, TheCount, TheBlock, Nothing, after, kinds, kind_of, blocks}
+use Rattle.seize_words.specs.Book.{Kind, ThePass, TheNumbers, TheSlot, TheHead, TheLink, TheCount, TheBlock, TheField, Nothing, after, kinds, kind_of, blocks}
 use Rattle.seize_words.specs.Laws.{ended}
 use Rattle.seize_words.specs.Fair.{Before}
 use Rattle.seize_words.specs.Private.{is_one}
-use Rattle.seize_words.specs.Stepping.{in_step, FoundAs, NoneEnded, traded, IsStep, MayStep, Stepped}
+use Rattle.seize_words.specs.Stepping.{in_step, FoundAs, NoneEnded, beside_then, held_then, staying, IsStep, MayStep, Stepped}
 use Rattle.seize_words.specs.Tokens.{Name, rows, start, inside, knows, keys_own, over, pass_holds, pass_owns}
 use Rattle.seize_words.specs.Words.{Site, Shows, ShowsOf, Stands, StandsOf, IsKeyOf, word_knows, word_lies, word_reading}
+use Rattle.seize_words.proofs.Values.{blocks_within}
 use Rattle.seize_words.proofs.Lives.{ends_those, living, none_over}
 use Rattle.seize_words.proofs.Notes.{knows_twice}
 use Rattle.seize_words.proofs.Passes.{IsDistinct, by_pass, keys_after, Made}
@@ -34,7 +36,8 @@ kind_within st (suc (suc (suc zero))) k v log so = omega arith
 kind_within st (suc (suc (suc (suc zero)))) k v log so = omega arith
 kind_within st (suc (suc (suc (suc (suc zero))))) k v log so = omega arith
 kind_within st (suc (suc (suc (suc (suc (suc zero)))))) k v log so = absurd so
-kind_within st (suc (suc (suc (suc (suc (suc (suc r))))))) k v log so = absurd so
+kind_within st (suc (suc (suc (suc (suc (suc (suc zero))))))) k v log so = omega arith
+kind_within st (suc (suc (suc (suc (suc (suc (suc (suc r)))))))) k v log so = absurd so
 
 one_within : (held : List (Held Entry)) → is_one blocks held ≡ true → WithKinds kinds held
 one_within [] one = absurd (cc)
@@ -52,8 +55,9 @@ beside_within st ThePass k log vs so = subst (WithKinds kinds) (sym so) tt
 beside_within st TheNumbers k log vs so = subst (WithKinds kinds) (sym so) tt
 beside_within st TheSlot k log vs so = subst (WithKinds kinds) (sym so) tt
 beside_within st TheHead k log vs so = subst (WithKinds kinds) (sym so) tt
-beside_within st TheCount k log vs so = subst (WithKinds kinds) (sym so) tt
+beside_within st TheCount k log vs so = blocks_within vs so.1
 beside_within st TheBlock k log vs so = subst (WithKinds kinds) (sym so) tt
+beside_within st TheField f log vs so = subst (WithKinds kinds) (sym so) tt
 beside_within st Nothing k log vs so = subst (WithKinds kinds) (sym so) tt
 
 both_within : (a b : List (Held Entry)) → WithKinds kinds a → WithKinds kinds b → WithKinds kinds (a ++ b)
@@ -107,11 +111,33 @@ module _ {M : Type 1} {𝓤 : Ura M} (𝓛 : Logic 𝓤) (site : Site) where
   joins [] b = qed 𝓛 (‵ ftrue ∷ ‵ (keys b) ∷ []) ∵ keep ! (1 ∷ []) $ done !
   joins (x ∷ a) b = qed 𝓛 ((‵ (one x) ⊛ ‵ (keys a)) ∷ ‵ (keys b) ∷ []) ∵ split ! $ move ! (1 ∷ 2 ∷ []) $ use2 𝓛 (‵ (keys (a ++ b))) (joins a b) $ move ! (1 ∷ 0 ∷ []) $ fjoin ! $ done !
 
+  parted : (m : ℕ) (held : List (Held Entry)) → ⟦ keys held ⟧ ⊢ ⟦ keys (take m held) ⟧ ∗ ⟦ keys (past m held) ⟧
+  parted zero held = qed 𝓛 (‵ (keys held) ∷ []) ∵ nothing ! $ done !
+  parted (suc m) [] = qed 𝓛 (‵ ftrue ∷ []) ∵ nothing ! $ done !
+  parted (suc m) (x ∷ held) = qed 𝓛 ((‵ (one x) ⊛ ‵ (keys held)) ∷ []) ∵ split ! $ move ! (1 ∷ []) $ use1 𝓛 (‵ (keys (take m held)) ⊛ ‵ (keys (past m held))) (parted m held) $ split ! $ move ! (2 ∷ 0 ∷ []) $ fjoin ! $ done !
+
+  -- the right is to the kind and number, so the list that a key knows is no part of where it goes
+  renewed_take : (m : ℕ) (held : List (Held Entry)) (log : List Entry) → take m (renewed held log) ≡ renewed (take m held) log
+  renewed_take zero held log = refl
+  renewed_take (suc m) [] log = refl
+  renewed_take (suc m) (x ∷ held) log = ap (λ (hs : List (Held Entry)). record { kind = x.kind; key = x.key; own = log; label = x.label } ∷ hs) (renewed_take m held log)
+
+  renewed_past : (m : ℕ) (held : List (Held Entry)) (log : List Entry) → past m (renewed held log) ≡ renewed (past m held) log
+  renewed_past zero held log = refl
+  renewed_past (suc m) [] log = refl
+  renewed_past (suc m) (x ∷ held) log = renewed_past m held log
+
   -- what stands beside the word afterwards, and what the holder has
-  trade : (trades : Bool) (a b : List (Held Entry)) (log : List Entry) → ⟦ keys (renewed (a ++ b) log) ⟧ ⊢ ⟦ keys (renewed (traded trades a b) log) ⟧ ∗ ⟦ keys (renewed (traded trades b a) log) ⟧
-  trade false a b log = qed 𝓛 (‵ (keys (renewed (a ++ b) log)) ∷ []) ∵ rewrite ! 0 (λ (hs : List (Held Entry)). ‵ (keys hs)) (renewed_append a b log) refl $ by ! (parts (renewed a log) (renewed b log))
-  trade true a b log = qed 𝓛 (‵ (keys (renewed (a ++ b) log)) ∷ []) ∵ rewrite ! 0 (λ (hs : List (Held Entry)). ‵ (keys hs)) (renewed_append a b log) refl $
-      use1 𝓛 (‵ (keys (renewed a log)) ⊛ ‵ (keys (renewed b log))) (parts (renewed a log) (renewed b log)) $ split ! $ move ! (1 ∷ 0 ∷ []) $ done !
+  trade : (kind : Kind) (trades : Bool) (vs held : List (Held Entry)) (log : List Entry)
+      → ⟦ keys (renewed (vs ++ held) log) ⟧ ⊢ ⟦ keys (renewed (beside_then kind trades vs held) log) ⟧ ∗ ⟦ keys (renewed (held_then kind trades vs held) log) ⟧
+  trade kind false vs held log = qed 𝓛 (‵ (keys (renewed (vs ++ held) log)) ∷ []) ∵ rewrite ! 0 (λ (hs : List (Held Entry)). ‵ (keys hs)) (renewed_append vs held log) refl $ by ! (parts (renewed vs log) (renewed held log))
+  trade kind true vs held log = let m : ℕ = staying kind in qed 𝓛 (‵ (keys (renewed (vs ++ held) log)) ∷ []) ∵ rewrite ! 0 (λ (hs : List (Held Entry)). ‵ (keys hs)) (renewed_append vs held log) refl $
+      use1 𝓛 (‵ (keys (renewed vs log)) ⊛ ‵ (keys (renewed held log))) (parts (renewed vs log) (renewed held log)) $ split ! $ move ! (1 ∷ []) $
+      use1 𝓛 (‵ (keys (take m (renewed held log))) ⊛ ‵ (keys (past m (renewed held log)))) (parted m (renewed held log)) $ split ! $
+      -- [those that stay with the holder; the others; those that stood beside the word]
+      move ! (0 ∷ 2 ∷ []) $ use2 𝓛 (‵ (keys (take m (renewed held log) ++ renewed vs log))) (joins (take m (renewed held log)) (renewed vs log)) $
+      rewrite ! 0 (λ (hs : List (Held Entry)). ‵ (keys hs)) (ap (λ (hs : List (Held Entry)). hs ++ renewed vs log) (renewed_take m held log) ∙ sym (renewed_append (take m held) vs log)) refl $ move ! (1 ∷ []) $
+      rewrite ! 0 (λ (hs : List (Held Entry)). ‵ (keys hs)) (renewed_past m held log) refl $ done !
 
   module _ (p : ℕ) (seen : List Entry) (held : List (Held Entry)) (alive lives : List ℕ) (r : Share) (f : ℕ → ℕ) (entry : ℕ → List Entry → Entry) (trades : ℕ → Bool) where
     -- what is had after a step that found v: the list is `t.0`, and the holder's keys are `t.1`
@@ -152,7 +178,7 @@ module _ {M : Type 1} {𝓤 : Ura M} (𝓛 : Logic 𝓤) (site : Site) where
       now log = log ++ ev log ∷ []
 
       abbrev had : List Entry → At
-      had log = (now log, renewed (traded (trades v) held t.1) (now log))
+      had log = (now log, renewed (held_then (kind_of site.kind) (trades v) t.1 held) (now log))
 
       stepped : (log : List Entry) → Made 𝓛 n p seen all ev told log → Stepped site p seen (now log) held (had log).1 alive v (f v) entry trades
       stepped log made = record { log = log; noted = made.0; is_log = made.1; since = t; found = found log made.2 made.3; left = (step log log made.2 made.3).shows; keys = refl }
@@ -168,10 +194,10 @@ module _ {M : Type 1} {𝓤 : Ura M} (𝓛 : Logic 𝓤) (site : Site) where
           split ! $ move ! (1 ∷ []) $ split3 ! $
           -- [the pass; the keys; the tokens; J; the word]
           move ! (1 ∷ []) $ rewrite ! 0 (λ (bs : List (ℕ × ℕ)). ‵ (keys (renewed all log' ++ born bs log'))) is.no_births refl $ rewrite ! 0 (λ (hs : List (Held Entry)). ‵ (keys hs)) (append-nil (renewed all log')) refl $
-          fsplit ! $ move ! (1 ∷ []) $ use1 𝓛 (‵ (keys (renewed (traded (trades v) t.1 held) log')) ⊛ ‵ (keys (had log).1)) (trade (trades v) t.1 held log') $ split ! $
+          fsplit ! $ move ! (1 ∷ []) $ use1 𝓛 (‵ (keys (renewed (beside_then (kind_of site.kind) (trades v) t.1 held) log')) ⊛ ‵ (keys (had log).1)) (trade (kind_of site.kind) (trades v) t.1 held log') $ split ! $
           -- [the keys beside the word; the holder's; the word's own; the pass; the tokens; J; the word]
-          move ! (2 ∷ 0 ∷ []) $ fjoin ! $ nothing ! $ fpack ! (Shows site (f v) log' × Stands site log' (renewed (traded (trades v) t.1 held) log')) (λ _. ftrue) (is.shows, is.stands) $ move ! (0 ∷ 1 ∷ []) $ fjoin ! $
-          fpack ! At (word_knows site (f v)) (log', renewed (traded (trades v) t.1 held) log') $ move ! (5 ∷ 0 ∷ []) $ fjoin ! $ fpack ! ℕ (word_lies site b o) (f v) $ frame ! $
+          move ! (2 ∷ 0 ∷ []) $ fjoin ! $ nothing ! $ fpack ! (Shows site (f v) log' × Stands site log' (renewed (beside_then (kind_of site.kind) (trades v) t.1 held) log')) (λ _. ftrue) (is.shows, is.stands) $ move ! (0 ∷ 1 ∷ []) $ fjoin ! $
+          fpack ! At (word_knows site (f v)) (log', renewed (beside_then (kind_of site.kind) (trades v) t.1 held) log') $ move ! (5 ∷ 0 ∷ []) $ fjoin ! $ fpack ! ℕ (word_lies site b o) (f v) $ frame ! $
           -- [the holder's keys; the pass; the tokens; J]
           move ! (3 ∷ []) $ frame ! $ move ! (0 ∷ 2 ∷ []) $ fjoin ! $ move ! (1 ∷ 0 ∷ []) $ fjoin ! $ nothing ! $ fpack ! (Stepped site p seen log' held (had log).1 alive v (f v) entry trades) (λ _. ftrue) (stepped log made) $ move ! (0 ∷ 1 ∷ []) $ fjoin ! $
           fpack ! At (heard v) (had log) $ keep ! (0 ∷ []) $ done !))

@@ -9,7 +9,7 @@ use Rattle.seize_machine.specs.Machine.Next.{next, set_head}
 use Rattle.seize_machine.specs.declared.machine.event.Answer.{Answer}
 use Rattle.seize_machine.specs.declared.machine.event.Answer.TheVariants.{Done}
 use Rattle.seize_machine.proofs.Facts.{Stands, Step, go_on, next_of, out_active, some_is}
-use Rattle.seize_words.specs.Atomic.{Takes}
+use Rattle.seize_words.specs.Atomic.{Takes, entries}
 use Rattle.seize_words.specs.Blocks.{block_for, list_word, word_of}
 use Rattle.seize_words.specs.Book.{Kept, TheSlot, after, heads, rules}
 use Rattle.seize_words.specs.Entry.{Entry}
@@ -29,7 +29,7 @@ shows_list : (block : ℕ → ℕ) (h : Head) → is_active h ≡ true → word_
 shows_list block (Active waiting) on = refl
 shows_list block Inactive on = absurd (cc)
 
-module _ (m : ℕ) (key key' : SlotKey) (pass pass' : Pass) (f : ℕ → ℕ) (v life : ℕ) (told : Takes (at_head pass.name m) key.keys pass key'.keys pass' [] f v life (λ v log. SwapOut (number_of key)) (λ _. false)) (book : IsOf key pass)
+module _ (m : ℕ) (key key' : SlotKey) (pass pass' : Pass) (f : ℕ → ℕ) (v life : ℕ) (told : Takes (at_head pass.name m) key.keys pass key'.keys pass' [] f v (entries pass life (λ v log. SwapOut (number_of key))) (λ _. false)) (book : IsOf key pass)
     (own : number_of key ≡ m) (stays : Bool) (queue : List ℕ) (out : Stands (after (start pass.name) (own_list key)) (number_of key) (Out stays) queue) where
   abbrev st : State
   st = start pass.name

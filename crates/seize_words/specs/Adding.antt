@@ -8,7 +8,7 @@
 --     Parts keys keys' other'          the other has all but the first
 use Rattle.std.specs.Prelude.{◌≡◌, [], ◌++◌, take, drop}
 use Rattle.seize_machine.specs.Machine.Event.{Event}
-use Rattle.seize_words.specs.Entry.{Entry}
+use Rattle.seize_words.specs.Entry.{Deed}
 use Rattle.seize_words.specs.Ledger.{WithKinds, renewed}
 use Rattle.seize_words.specs.Book.{kinds}
 use Rattle.seize_words.specs.Fair.{Before, MayAdd, Added}
@@ -16,7 +16,7 @@ use Rattle.seize_words.specs.Passes.{IsSame}
 use Rattle.seize_words.specs.declared.book.keys.Keys.{Keys}
 use Rattle.seize_words.specs.declared.book.pass.Pass.{Pass}
 
-abbrev pub private : Pass → Event → Entry
+abbrev pub private : Pass → Event → Deed
 private pass event = record { pass = pass.id; size = pass.name.size; event = event; life = 0 }
 
 abbrev pub Asks : Keys → Pass → Event → Type 0

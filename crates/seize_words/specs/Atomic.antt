@@ -1,16 +1,16 @@
 -- The words in which the contracts of atomic steps speak.
 --     exchanged seen new v          what a compare and exchange leaves that found v
 --     plus k v, minus k v           what an addition or a subtraction of k leaves that found v, round 2^64
---     entries pass life event v log     the entry of a step that found v in the word, where the list was this just before
---     MayTake word keys pass alive lives f life event trades     the holder of the keys may take the step with the pass: see MayStep
---     Takes word keys pass keys' pass' alive f v life event trades     the step was taken and found v: see Stepped
+--     entries pass life event v log     the entry of an event by a step that found v in the word, where the list was this just before
+--     MayTake word keys pass alive lives f entry trades     the holder of the keys may take the step with the pass: see MayStep
+--     Takes word keys pass keys' pass' alive f v entry trades     the step was taken and found v: see Stepped
 --     MayTakeIn, TakesIn            the same where the activation has not ended
 --     site_of keys, IsWordOf keys bits     which word the keys are of;  a word that holds this stands for what they know
 use Rattle.std.specs.Prelude.{◌≡◌, ℕ, ◌+◌, ◌-◌, ◌%◌, ◌^◌, Bool, List, [], ◌∷◌, drop}
 use lib.Dec.{eqb}
 use prog.Atomic.{either}
 use Rattle.seize_machine.specs.Machine.Event.{Event}
-use Rattle.seize_words.specs.Entry.{Entry}
+use Rattle.seize_words.specs.Entry.{Entry, Made, Deed}
 use Rattle.seize_words.specs.Ledger.{Held}
 use Rattle.seize_words.specs.Private.{key_of, own_of}
 use Rattle.seize_words.specs.Passes.{IsSame}
@@ -32,27 +32,33 @@ minus k v = (v + (2 ^ 64 - k)) % 2 ^ 64
 abbrev pub Events : Type 0
 Events = ℕ → List Entry → Event
 
+-- what is added, by what the step finds and the list just before
+abbrev pub Entries : Type 0
+Entries = ℕ → List Entry → Entry
+
+abbrev pub deed : Pass → ℕ → Events → ℕ → List Entry → Deed
+deed pass life event v log = record { pass = pass.id; size = pass.name.size; event = event v log; life = life }
+
 abbrev pub entries : Pass → ℕ → Events → ℕ → List Entry → Entry
-entries pass life event v log = record { pass = pass.id; size = pass.name.size; event = event v log; life = life }
+entries pass life event v log = Made (deed pass life event v log)
 
-abbrev pub MayTake : Site → Keys → Pass → List ℕ → List ℕ → (ℕ → ℕ) → ℕ → Events → (ℕ → Bool) → Type 0
-MayTake word keys pass alive lives f life event trades =
+abbrev pub MayTake : Site → Keys → Pass → List ℕ → List ℕ → (ℕ → ℕ) → Entries → (ℕ → Bool) → Type 0
+MayTake word keys pass alive lives f entry trades =
     (word.name ≡ pass.name) × (keys.name ≡ pass.name)
-    × MayStep word pass.id pass.seen keys.held alive lives f (entries pass life event) trades
+    × MayStep word pass.id pass.seen keys.held alive lives f entry trades
 
-abbrev pub Takes : Site → Keys → Pass → Keys → Pass → List ℕ → (ℕ → ℕ) → ℕ → ℕ → Events → (ℕ → Bool) → Type 0
-Takes word keys pass keys' pass' alive f v life event trades =
+abbrev pub Takes : Site → Keys → Pass → Keys → Pass → List ℕ → (ℕ → ℕ) → ℕ → Entries → (ℕ → Bool) → Type 0
+Takes word keys pass keys' pass' alive f v entry trades =
     IsSame pass pass' × (keys'.name ≡ keys.name)
-    × Stepped word pass.id pass.seen pass'.seen keys.held keys'.held alive v (f v) (entries pass life event) trades
+    × Stepped word pass.id pass.seen pass'.seen keys.held keys'.held alive v (f v) entry trades
 
 -- the same where the activation has not ended
 
-abbrev pub MayTakeIn : Site → Keys → Pass → Activation → (ℕ → ℕ) → ℕ → Events → (ℕ → Bool) → Type 0
-MayTakeIn word keys pass activation f life event trades = MayTake word keys pass (activation.life ∷ []) [] f life event trades
+abbrev pub MayTakeIn : Site → Keys → Pass → Activation → (ℕ → ℕ) → Entries → (ℕ → Bool) → Type 0
+MayTakeIn word keys pass activation f entry trades = MayTake word keys pass (activation.life ∷ []) [] f entry trades
 
-abbrev pub TakesIn : Site → Keys → Pass → Keys → Pass → Activation → (ℕ → ℕ) → ℕ → ℕ → Events → (ℕ → Bool) → Type 0
-TakesIn word keys pass keys' pass' activation f v life event trades =
-    Takes word keys pass keys' pass' (activation.life ∷ []) f v life event trades
+abbrev pub TakesIn : Site → Keys → Pass → Keys → Pass → Activation → (ℕ → ℕ) → ℕ → Entries → (ℕ → Bool) → Type 0
+TakesIn word keys pass keys' pass' activation f v entry trades = Takes word keys pass keys' pass' (activation.life ∷ []) f v entry trades
 
 -- The word that some keys are of: the first is its own, and the others stand beside it.
 

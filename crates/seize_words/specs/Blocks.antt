@@ -11,8 +11,8 @@ use Rattle.seize_machine.specs.Machine.State.{State, Slot, Place, Mark, Head, In
 use Rattle.seize_machine.specs.Machine.Event.{Event, Detach}
 use Rattle.seize_machine.specs.Machine.Next.{next, of_call}
 use Rattle.seize_machine.specs.Machine.History.{done_by, first_of}
-use Rattle.seize_words.specs.Entry.{Entry, timed}
-use Rattle.seize_words.specs.Book.{after}
+use Rattle.seize_words.specs.After.{after}
+use Rattle.seize_words.specs.Entry.{Entry, Made, Used, timed}
 
 -- Two values that were in one block one after the other have names that differ by a multiple of this.
 abbrev pub block_of : ℕ → ℕ
@@ -38,7 +38,8 @@ planned_by st _ = []
 
 abbrev pub plans : State → List Entry → List Plan
 plans st [] = []
-plans st (e ∷ log) = planned_by st e.event ++ plans (done_by next st (timed e)).0 log
+plans st (Made d ∷ log) = planned_by st d.event ++ plans (done_by next st (timed d)).0 log
+plans st (Used u ∷ log) = plans st log
 
 -- the value with which a plan is carried out at slot m
 abbrev pub serving : ℕ → List ℕ → List ℕ → ℕ

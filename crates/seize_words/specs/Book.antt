@@ -1,50 +1,36 @@
--- The book: the list of the machine's events that threads share, from an opening on, and what the holder of a key knows of it.
---     after st log        the machine after the list, which began at st
---     IsLegalList st log  each event is legal, after those before it
---     Does st log e d     after the list, the event is legal and does this
---     answered st log     the entries with their answers, in order
---     mine st p log       those made with pass p;  by_slot st s log   those of slot s, but for its events on links
+-- The book: the list of entries that threads share, from an opening on, and what the holder of a key knows of it.
+--     mine st p log       the entries made with pass p, with their answers;  by_slot st s log   those of slot s, but for events on links
 --     Same st kind k a b  lists a and b say the same of key k
---     touches st e kind k the event may change what the list says of it
+--     touches st e kind k the entry may change what the list says of it
 --     rules st            the rules of the list
-use Rattle.std.specs.Prelude.{◌≡◌, ℕ, zero, suc, ◌≤◌, Bool, true, false, ◌==◌, pos, List, [], ◌∷◌, length, Some, if◌then◌else◌}
+use Rattle.std.specs.Prelude.{◌≡◌, ℕ, zero, suc, ◌≤◌, Bool, false, ◌==◌, pos, List, [], ◌∷◌, length, if◌then◌else◌}
 use Rattle.std.specs.List.{filter}
 use mathlib.Core.List.{IsPrefix}
 use Rattle.seize_machine.specs.Machine.State.{State, slot_at, head_at, link_at, is_active, has}
 use Rattle.seize_machine.specs.Machine.Event.{Event, Take}
-use Rattle.seize_machine.specs.Machine.Next.{next}
-use Rattle.seize_machine.specs.Machine.History.{Moment, done_by, history, end_of, are_legal}
 use Rattle.seize_machine.specs.Machine.Frames.{changes_slot, used, changes_used, changes_head_of, changes_link}
 use Rattle.seize_machine.specs.declared.machine.event.Answer.{Answer}
 use Rattle.seize_words.specs.Ledger.{Rules}
-use Rattle.seize_words.specs.Entry.{Entry, timed, events_of}
+pub use Rattle.seize_words.specs.After.{moments, after, IsLegalList, outcome, Does, answered}
+use Rattle.seize_words.specs.Entry.{Entry, Made, Used, maker}
+use Rattle.seize_words.specs.Blocks.{plans}
+use Rattle.seize_words.specs.Chains.{Chained, told, uses, written}
+use Rattle.seize_words.specs.Deposits.{deposit}
 use Rattle.seize_words.specs.Homes.{IsSound, changes_count, changes_home, count_in, home_of}
 
-abbrev pub moments : State → List Entry → List Moment
-moments st log = history next st (events_of log)
-
-abbrev pub after : State → List Entry → State
-after st log = end_of st (moments st log)
-
-abbrev pub IsLegalList : State → List Entry → Type 0
-IsLegalList st log = are_legal (moments st log) ≡ true
-
--- what a legal event does after the list
-abbrev pub Does : State → List Entry → Entry → State × Answer → Type 0
-Does st log e d = next e.size (after st log) e.event ≡ Some d
-
-abbrev pub answered : State → List Entry → List (Entry × Answer)
-answered st [] = []
-answered st (e ∷ log) = let done = done_by next st (timed e) in (e, done.1) ∷ answered done.0 log
+-- the slot's own entries: all events that may change its record, and its uses of fields
+abbrev pub acts : ℕ → Entry → Bool
+acts s (Made d) = changes_slot s d.event
+acts s (Used u) = u.slot == s
 
 abbrev pub mine : State → ℕ → List Entry → List (Entry × Answer)
-mine st p log = filter (λ a. a.0.pass == p) (answered st log)
+mine st p log = filter (λ a. maker a.0 == p) (answered st log)
 
 abbrev pub by_slot : State → ℕ → List Entry → List (Entry × Answer)
-by_slot st s log = filter (λ a. changes_slot s a.0.event) (answered st log)
+by_slot st s log = filter (λ a. acts s a.0) (answered st log)
 
--- The kinds of keys. There is one key of the numbers; of the others, one for each pass, slot made, head and link, and two for each
--- block: that of its values, and that of the count of the batch whose first value lies in it.
+-- The kinds of keys. There is one key of the numbers; of the others, one for each pass, slot made, head and link, and four for each
+-- block: that of its values, that of the count of the batch whose first value lies in it, and those of the two fields of its header.
 pub data Kind : Type 0 where
   ThePass : Kind
   TheNumbers : Kind
@@ -53,6 +39,7 @@ pub data Kind : Type 0 where
   TheLink : Kind
   TheCount : Kind
   TheBlock : Kind
+  TheField : Kind
   Nothing : Kind
 
 abbrev pub passes : ℕ
@@ -76,8 +63,11 @@ counts = 5
 abbrev pub blocks : ℕ
 blocks = 6
 
+abbrev pub fields : ℕ
+fields = 7
+
 abbrev pub kinds : ℕ
-kinds = 7
+kinds = 8
 
 abbrev pub kind_of : ℕ → Kind
 kind_of zero = ThePass
@@ -87,10 +77,12 @@ kind_of (suc (suc (suc zero))) = TheHead
 kind_of (suc (suc (suc (suc zero)))) = TheLink
 kind_of (suc (suc (suc (suc (suc zero))))) = TheCount
 kind_of (suc (suc (suc (suc (suc (suc zero)))))) = TheBlock
+kind_of (suc (suc (suc (suc (suc (suc (suc zero))))))) = TheField
 kind_of _ = Nothing
 
--- what the list says of a key: of a pass what was made with it, of a block which of its values were ever named, and which of them are
--- between a link and their retirement
+-- what the list says of a key: of a pass what was made with it; of a slot its record, whether it is active, and what was last stored in
+-- the fields of the block that its call is about to insert; of a block which of its values were ever named, and which of them are between a
+-- link and their retirement; of a field what was last stored there
 abbrev pub Same : State → Kind → ℕ → List Entry → List Entry → Type 0
 Same st ThePass p a b = mine st p a ≡ mine st p b
 Same st TheNumbers k a b = used (after st a) ≡ used (after st b)
@@ -98,12 +90,14 @@ Same st TheSlot s a b =
     (by_slot st s a ≡ by_slot st s b)
     × (slot_at (after st a) s ≡ slot_at (after st b) s)
     × (is_active (head_at (after st a) s) ≡ is_active (head_at (after st b) s))
+    × (written (after st a) (plans st a) (told a) s ≡ written (after st b) (plans st b) (told b) s)
 Same st TheHead m a b = head_at (after st a) m ≡ head_at (after st b) m
 Same st TheLink l a b = link_at (after st a) l ≡ link_at (after st b) l
-Same st TheCount k a b = count_in (after st a) k ≡ count_in (after st b) k
+Same st TheCount k a b = (count_in (after st a) k ≡ count_in (after st b) k) × (deposit (after st a) k ≡ deposit (after st b) k)
 Same st TheBlock k a b =
     (v : ℕ) → home_of v ≡ k
     → (has v (after st a).named ≡ has v (after st b).named) × (has v (after st a).loose ≡ has v (after st b).loose)
+Same st TheField f a b = told a f ≡ told b f
 Same st Nothing k a b = Unit {0}
 
 -- what the holder of a key knows, who last appended when the list was `own`
@@ -111,34 +105,37 @@ abbrev pub Kept : State → Kind → ℕ → List Entry → List Entry → Type 
 Kept st kind k own log = IsPrefix own log × Same st kind k own log
 
 abbrev pub touches : State → Entry → Kind → ℕ → Bool
-touches st e ThePass p = e.pass == p
-touches st e TheNumbers k = changes_used e.event
-touches st e TheSlot s = changes_slot s e.event
-touches st e TheHead m = changes_head_of m e.event
-touches st e TheLink l = changes_link l e.event
-touches st e TheCount k = changes_count st k e.event
-touches st e TheBlock k = changes_home st k e.event
-touches st e Nothing k = false
+touches st e ThePass p = maker e == p
+touches st e TheSlot s = acts s e
+touches st e TheField f = uses f e
+touches st (Made d) TheNumbers k = changes_used d.event
+touches st (Made d) TheHead m = changes_head_of m d.event
+touches st (Made d) TheLink l = changes_link l d.event
+touches st (Made d) TheCount k = changes_count st k d.event
+touches st (Made d) TheBlock k = changes_home st k d.event
+touches st _ _ k = false
 
--- how many keys of a kind there are: of passes more than made an event, of blocks more than have values that were named or counts
+-- how many keys of a kind there are: of passes more than made an event, of blocks more than have values that were named, counts, or
+-- fields that were used
 abbrev pub Sized : State → Kind → ℕ → List Entry → Type 0
 Sized st ThePass n log = (p : ℕ) → n ≤ p → mine st p log ≡ []
 Sized st TheNumbers n log = n ≡ 1
 Sized st TheSlot n log = n ≡ length (after st log).slots
 Sized st TheHead n log = n ≡ length (after st log).slots
 Sized st TheLink n log = n ≡ length (after st log).links
-Sized st TheCount n log = (k : ℕ) → n ≤ k → count_in (after st log) k ≡ pos 0
+Sized st TheCount n log = (k : ℕ) → n ≤ k → (count_in (after st log) k ≡ pos 0) × (deposit (after st log) k ≡ [])
 Sized st TheBlock n log = (v : ℕ) → n ≤ home_of v → has v (after st log).named ≡ false
+Sized st TheField n log = (f : ℕ) → n ≤ f → told log f ≡ 0
 Sized st Nothing n log = Unit {0}
 
 abbrev pub rules : State → Rules Entry
 rules st = record {
-  Legal = λ log. IsLegalList st log × IsSound (after st log);
+  Legal = λ log. IsLegalList st log × IsSound (after st log) × Chained (after st log) (plans st log) (told log);
   Kept = λ r. Kept st (kind_of r);
   Sized = λ r. Sized st (kind_of r);
 }
 
--- The keys that an event makes, by kind and number: a new slot's and its head's.
+-- The keys that an entry makes, by kind and number: a new slot's and its head's.
 
 abbrev pub of_new_slot : State → List (ℕ × ℕ)
 of_new_slot st = (slots, length st.slots) ∷ (heads, length st.slots) ∷ []
@@ -146,3 +143,7 @@ of_new_slot st = (slots, length st.slots) ∷ (heads, length st.slots) ∷ []
 abbrev pub births : State → Event → List (ℕ × ℕ)
 births st (Take s) = if s == length st.slots then of_new_slot st else []
 births st _ = []
+
+abbrev pub births_by : State → Entry → List (ℕ × ℕ)
+births_by st (Made d) = births st d.event
+births_by st (Used u) = []

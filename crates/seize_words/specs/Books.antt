@@ -3,26 +3,34 @@
 --     OpensAlone book pass numbers rest links size     a new book to which this pass alone may append
 --     IsNew pass                               nothing was made with it
 --     IsNewBlock keys number                   the key of a block with this number no value of which was ever named, labelled with one of
---                                              them; and that of its count, which is 0
+--                                              them; that of its count, which is 0; and those of its fields, in which nothing was stored
 --     IsNextIn value number                    it was never named, all values that lay in its block before were reclaimed, and this is the
 --                                              number by which words hold the block
 --     IsFirstIn value number                   and no value of its home was ever named
 --     MakesNext value pass value' pass'        it is for the next value of the block, and the pass has looked at the list
---     IsCountFor count value                   it is that of the value's block, and the count is 0
+--     IsCountFor count value                   it is that of the value's block, the count is 0, and no keys stand beside it
+--     AreOf book keys                          these keys are of the book
+--     IsFieldFor which field value             it is that of this field of the value's block, and nothing was stored there
 use Rattle.std.specs.Prelude.{◌≡◌, ℕ, pos, false, List, [], ◌∷◌}
 use mathlib.Core.List.{IsPrefix}
 use Rattle.seize_machine.specs.Machine.State.{has}
 use Rattle.seize_words.specs.Entry.{Entry}
+use Rattle.seize_words.specs.Ledger.{Held}
 use Rattle.seize_words.specs.Blocks.{block_of}
-use Rattle.seize_words.specs.Counts.{count_known, home_in}
+use Rattle.seize_words.specs.Counts.{count_known, deposit_known, home_in}
+use Rattle.seize_words.specs.Headers.{told_known}
+use Rattle.seize_words.specs.Deposits.{deposit}
 use Rattle.seize_words.specs.Homes.{IsVacant, count_in, home_of}
-use Rattle.seize_words.specs.Others.{is_named, state_of, value_of}
-use Rattle.seize_words.specs.Book.{after, counts, blocks}
+use Rattle.seize_words.specs.Others.{book_of, is_named, state_of, value_of}
+use Rattle.seize_words.specs.Book.{after, counts, blocks, fields}
+use Rattle.seize_words.specs.Chains.{first_field, next_field, told}
 use Rattle.seize_words.specs.Tokens.{many, IsSole, start}
-use Rattle.seize_words.specs.Private.{own_of}
+use Rattle.seize_words.specs.Private.{key_of, own_of}
 use Rattle.seize_words.specs.Begin.{BeganWith, first_keys, first_links}
 use Rattle.seize_words.specs.Passes.{IsSame, MadeNone, mine_of}
+use Rattle.seize_words.specs.declared.book.block_keys.BlockKeys.{BlockKeys}
 use Rattle.seize_words.specs.declared.book.count_key.CountKey.{CountKey}
+use Rattle.seize_words.specs.declared.book.field_key.FieldKey.{FieldKey}
 use Rattle.seize_words.specs.declared.book.keys.Keys.{Keys}
 use Rattle.seize_words.specs.declared.book.link_keys.LinkKeys.{LinkKeys}
 use Rattle.seize_words.specs.declared.book.numbers_key.NumbersKey.{NumbersKey}
@@ -56,15 +64,22 @@ Opens book numbers rest links size = IsMany book × HasKeys book numbers rest li
 abbrev pub OpensAlone : Book → Pass → NumbersKey → LinkKeys → ℕ → ℕ → Type 0
 OpensAlone book pass numbers rest links size = IsAlone book pass × HasKeys book numbers rest links size
 
+-- the keys of the block with home k: that of its values, labelled with this one, and those of its count and of its fields
+abbrev pub of_block : ℕ → ℕ → List Entry → List (Held Entry)
+of_block value k own =
+    record { kind = blocks; key = k; own = own; label = value } ∷ record { kind = counts; key = k; own = own; label = 0 }
+    ∷ record { kind = fields; key = next_field k; own = own; label = 0 }
+    ∷ record { kind = fields; key = first_field k; own = own; label = 0 } ∷ []
+
 pub record IsNewBlock (keys : Keys) (number : ℕ) : Type 0 where
   pub value : ℕ
   pub own : List Entry
-  pub held : keys.held
-      ≡ record { kind = blocks; key = home_of value; own = own; label = value }
-      ∷ record { kind = counts; key = home_of value; own = own; label = 0 } ∷ []
+  pub held : keys.held ≡ of_block value (home_of value) own
   pub numbered : block_of value ≡ number
   pub none_named : (v : ℕ) → home_of v ≡ home_of value → has v (after (start keys.name) own).named ≡ false
-  pub no_count : count_in (after (start keys.name) own) (home_of value) ≡ pos 0
+  pub no_count
+      : (count_in (after (start keys.name) own) (home_of value) ≡ pos 0) × (deposit (after (start keys.name) own) (home_of value) ≡ [])
+  pub none_told : (told own (next_field (home_of value)) ≡ 0) × (told own (first_field (home_of value)) ≡ 0)
 
 -- it was never named, all values that lay in its block before were reclaimed, and words hold the block by this number
 abbrev pub IsNextIn : ValueKey → ℕ → Type 0
@@ -84,4 +99,12 @@ MakesNext value pass value' pass' =
 
 -- the count of its block, which is 0
 abbrev pub IsCountFor : CountKey → ValueKey → Type 0
-IsCountFor count value = (home_in count ≡ home_of (value_of value)) × (count_known count ≡ pos 0)
+IsCountFor count value = (home_in count ≡ home_of (value_of value)) × (count_known count ≡ pos 0) × (deposit_known count ≡ [])
+
+abbrev pub IsFieldFor : (ℕ → ℕ) → FieldKey → ValueKey → Type 0
+IsFieldFor which field value = (key_of field.keys.held ≡ which (home_of (value_of value))) × (told_known field ≡ 0)
+
+abbrev pub AreOf : Book → BlockKeys → Type 0
+AreOf book keys =
+    (book_of keys.value ≡ book.name) × (keys.count.keys.name ≡ book.name) × (keys.next.keys.name ≡ book.name)
+    × (keys.first.keys.name ≡ book.name)

@@ -1,14 +1,21 @@
 -- The words in which the contracts of counts speak. A batch's count stands with the block in which its first value lies.
---     home_in key, count_known key      the block whose count it is the key of, and the count, as the key knows
+--     home_in key, count_known key      the block whose count it is the key of, and the count, as the key knows;  deposit_known key    the
+--                                       values whose keys stand beside it
 --     home count                        the block whose count it is;  IsOfBook count pass     it is of the pass's book
 --     IsCountOf count key               it is the key's
 --     IsAdding, AddsTo key count won    the slot's call is about to add so many insertions won to the count of a batch, which is this one
 --     IsWalking, Walks key count        the slot's call is about to count down the next batch of its walk, whose count is this one
 --     Counts key pass key' pass' event zero     the event was noted, its answer is a count, and this says whether it is 0;
 --                                               it lies between minus and plus the number of numbers
+--     AreOfBook values pass                     the keys are of the pass's book
+--     values_in key b                           the values with which batch b was detached, as the slot's key knows
+--     AddsWith key count won values             the slot's call adds to this count, and the keys are those of the batch's values
+--     Leaves values pass' values' zero          the keys stay where the count came to 0, and else they stand with the count
+--     Takes key b pass' values' zero            the keys of the batch's values come out where the count came to 0
 --     GivesUp key key' b walk queue zero        the slot's call goes on with this walk and queue; the values with which the batch was
 --                                               detached are given up to it if the count came to 0, and else none are
 use Rattle.std.specs.Prelude.{◌≡◌, ℕ, ℤ, Bool, if◌then◌else◌, List, [], ◌∷◌, Some, slice_index_or}
+use Rattle.std.specs.List.{Contains}
 use Rattle.seize_machine.specs.Machine.State.{State, Add, Rest, slot_at}
 use Rattle.seize_machine.specs.Machine.Event.{Event}
 use Rattle.seize_machine.specs.Machine.Next.{is_zero}
@@ -16,20 +23,28 @@ use Rattle.seize_machine.specs.declared.machine.event.Answer.TheVariants.{Count 
 use Rattle.seize_words.specs.Blocks.{IsNear, front_of, no_plan, plans}
 use Rattle.seize_words.specs.Book.{after}
 use Rattle.seize_words.specs.Entry.{Entry}
+use Rattle.seize_words.specs.Deposits.{deposit}
 use Rattle.seize_words.specs.Homes.{count_in, home_of}
-use Rattle.seize_words.specs.Others.{state_of}
+use Rattle.seize_words.specs.Ledger.{renewed}
+use Rattle.seize_words.specs.Others.{IsLastIn, state_of}
 use Rattle.seize_words.specs.Private.{key_of}
 use Rattle.seize_words.specs.Slots.{Notes, number_of, own_list, slot_of, start_of}
+use Rattle.seize_words.specs.Tokens.{start}
+use Rattle.seize_words.specs.Values.{book_in, values_of}
 use Rattle.seize_words.specs.declared.batch.Count.{Count}
 use Rattle.seize_words.specs.declared.book.count_key.CountKey.{CountKey}
 use Rattle.seize_words.specs.declared.book.pass.Pass.{Pass}
 use Rattle.seize_words.specs.declared.book.slot_key.SlotKey.{SlotKey}
+use Rattle.seize_words.specs.declared.book.value_keys.ValueKeys.{ValueKeys}
 
 abbrev pub home_in : CountKey → ℕ
 home_in key = key_of key.keys.held
 
 abbrev pub count_known : CountKey → ℤ
 count_known key = count_in (state_of key.keys) (home_in key)
+
+abbrev pub deposit_known : CountKey → List ℕ
+deposit_known key = deposit (state_of key.keys) (home_in key)
 
 abbrev pub home : Count → ℕ
 home count = count.word.number
@@ -64,11 +79,34 @@ AddsTo key count won = IsAdding (start_of key) (number_of key) (own_list key) (h
 abbrev pub Walks : SlotKey → Count → Type 0
 Walks key count = IsWalking (start_of key) (number_of key) (own_list key) (home count)
 
+-- Keys of the batch's values.
+
+abbrev pub AreOfBook : ValueKeys → Pass → Type 0
+AreOfBook values pass = book_in values ≡ pass.name
+
+-- the values with which a batch was detached, as the slot's key knows
+abbrev pub values_in : SlotKey → ℕ → List ℕ
+values_in key b = (slice_index_or (plans (start_of key) (own_list key)) b no_plan).values
+
+abbrev pub AddsWith : SlotKey → Count → ℕ → ValueKeys → Type 0
+AddsWith key count won values = (a : AddsTo key count won) × (values_of values ≡ values_in key a.batch)
+
+-- they are the same keys, and know all that the pass has seen, where the count came to 0; and else they stand with the count
+abbrev pub Leaves : ValueKeys → Pass → ValueKeys → Bool → Type 0
+Leaves values pass' values' zero =
+    (book_in values' ≡ pass'.name) × (values'.keys.held ≡ renewed (if zero then values.keys.held else []) pass'.seen)
+
+-- those of the batch's values where the count came to 0, and else none. All others that lay in their blocks were reclaimed
+abbrev pub Takes : SlotKey → ℕ → Pass → ValueKeys → Bool → Type 0
+Takes key b pass' values' zero =
+    (book_in values' ≡ pass'.name) × (values'.keys.held ≡ renewed values'.keys.held pass'.seen)
+    × (values_of values' ≡ (if zero then values_in key b else []))
+    × ((v : ℕ) → Contains (values_of values') v → IsLastIn v (after (start pass'.name) pass'.seen))
+
 abbrev pub Counts : SlotKey → Pass → SlotKey → Pass → Event → Bool → Type 0
 Counts key pass key' pass' event zero =
     (notes : Notes key pass key' pass' event) × ((count : ℤ) × (notes.2.0.answer ≡ Counted count) × (zero ≡ is_zero count) × IsNear count)
 
 abbrev pub GivesUp : SlotKey → SlotKey → ℕ → List ℕ → List ℕ → Bool → Type 0
 GivesUp key key' b walk queue zero =
-    let values = (slice_index_or (plans (start_of key) (own_list key)) b no_plan).values in
-    (slot_of key').call ≡ Some (record { place = Rest (if zero then values else []) walk; queue = queue })
+    (slot_of key').call ≡ Some (record { place = Rest (if zero then values_in key b else []) walk; queue = queue })

@@ -1,6 +1,11 @@
--- One event in the list that threads share, and a code for it.
-use Rattle.std.specs.Prelude.{◌≡◌, ℕ, List, ◌⊎◌, map}
-use Rattle.std.specs.Coded.{Coded, code_by, coded_ℕ, coded_list, coded×, coded⊎}
+-- What the list that threads share consists of, and a code for it.
+--     Deed         an event of the machine that was made
+--     Use          a use of a field of a block's header (see `Chains`), which is no event of the machine: it was read, or this was stored
+--     Entry        either
+--     maker e      the pass that it was made with
+--     deeds log, events_of log     the events of a list, in order
+use Rattle.std.specs.Prelude.{◌≡◌, ℕ, List, [], ◌∷◌, ◌⊎◌, Option, map}
+use Rattle.std.specs.Coded.{Coded, code_by, coded_ℕ, coded_list, coded_option, coded×, coded⊎}
 use mathlib.Core.Path.{refl}
 use mathlib.Core.Logic.{inl, inr}
 use Rattle.seize_machine.specs.Machine.Event.{Event, Take, Give, Enter, Begin, Put, ReadHead, Detach, Insert, AddCount, SwapOut, SubCount, Hand, Return, ReadLink, ExchangeLink}
@@ -11,17 +16,37 @@ use Rattle.seize_machine.specs.declared.machine.event.Event.TheVariants.{Take as
 use Rattle.seize_machine.specs.contracts.machine.event.Event.{the_row}
 
 -- an event with the size at it, the pass that it was made with, and, where it begins an activation, the lifetime of that
-pub record Entry : Type 0 where
+pub record Deed : Type 0 where
   pub pass : ℕ
   pub size : ℕ
   pub event : Event
   pub life : ℕ
 
-abbrev pub timed : Entry → Timed
-timed e = record { size = e.size; event = e.event }
+-- by this slot, with this pass
+pub record Use : Type 0 where
+  pub pass : ℕ
+  pub slot : ℕ
+  pub field : ℕ
+  pub stores : Option ℕ
+
+pub data Entry : Type 0 where
+  Made : Deed → Entry
+  Used : Use → Entry
+
+abbrev pub maker : Entry → ℕ
+maker (Made d) = d.pass
+maker (Used u) = u.pass
+
+abbrev pub deeds : List Entry → List Deed
+deeds [] = []
+deeds (Made d ∷ log) = d ∷ deeds log
+deeds (Used u ∷ log) = deeds log
+
+abbrev pub timed : Deed → Timed
+timed d = record { size = d.size; event = d.event }
 
 abbrev pub events_of : List Entry → List Timed
-events_of log = map timed log
+events_of log = map timed (deeds log)
 
 -- The code: that of the event as programs write it, but for a Hand, whose list programs have elsewhere.
 
@@ -66,8 +91,29 @@ back (ExchangeLink s l exchange) = refl
 abbrev pub event_coded : Coded Event
 event_coded = code_by (Written ⊎ (ℕ × List ℕ)) (coded⊎ the_row.coded (coded× coded_ℕ (coded_list coded_ℕ))) written read_back back
 
-abbrev pub entry_coded : Coded Entry
-entry_coded = code_by (ℕ × (ℕ × (ℕ × Event))) (coded× coded_ℕ (coded× coded_ℕ (coded× coded_ℕ event_coded)))
-    (λ e. (e.pass, (e.size, (e.life, e.event))))
+abbrev pub deed_coded : Coded Deed
+deed_coded = code_by (ℕ × (ℕ × (ℕ × Event))) (coded× coded_ℕ (coded× coded_ℕ (coded× coded_ℕ event_coded)))
+    (λ d. (d.pass, (d.size, (d.life, d.event))))
     (λ t. record { pass = t.0; size = t.1.0; event = t.1.1.1; life = t.1.1.0 })
     (λ _. refl)
+
+abbrev pub use_coded : Coded Use
+use_coded = code_by (ℕ × (ℕ × (ℕ × Option ℕ))) (coded× coded_ℕ (coded× coded_ℕ (coded× coded_ℕ (coded_option coded_ℕ))))
+    (λ u. (u.pass, (u.slot, (u.field, u.stores))))
+    (λ t. record { pass = t.0; slot = t.1.0; field = t.1.1.0; stores = t.1.1.1 })
+    (λ _. refl)
+
+abbrev pub of_either : Deed ⊎ Use → Entry
+of_either (inl d) = Made d
+of_either (inr u) = Used u
+
+abbrev pub as_either : Entry → Deed ⊎ Use
+as_either (Made d) = inl d
+as_either (Used u) = inr u
+
+pub either_back : (e : Entry) → of_either (as_either e) ≡ e
+either_back (Made d) = refl
+either_back (Used u) = refl
+
+abbrev pub entry_coded : Coded Entry
+entry_coded = code_by (Deed ⊎ Use) (coded⊎ deed_coded use_coded) as_either of_either either_back

@@ -1,6 +1,7 @@
--- What an event has to be, so that the holder of a pass and of some keys may add it.
---     Before n p seen held log   what is known of the list just before the event
---     Fair st held log e         the event is legal then; the keys that it touches are held, and it changes no block but theirs
+-- What an entry has to be, so that the holder of a pass and of some keys may add it.
+--     Before n p seen held log   what is known of the list just before the entry
+--     Fair st held log e         the entry is legal then; the keys that it touches are held, and it changes no block but theirs; and it
+--                                keeps what the list keeps beside being legal
 --     MayAdd n p seen held e     it is fair whatever the list is by then, and it neither ends nor begins an activation
 --     Added n p seen seen' held held' e     it was added: see Noted; the keys know of it, and its own keys were made
 use Rattle.std.specs.Prelude.{◌≡◌, ℕ, ◌<◌, ◌≤◌, false, List, [], ◌∷◌, ◌++◌}
@@ -9,9 +10,11 @@ use Rattle.seize_machine.specs.Machine.State.{State}
 use Rattle.seize_machine.specs.Machine.Event.{Event}
 use Rattle.seize_machine.specs.declared.machine.event.Answer.{Answer}
 use Rattle.seize_words.specs.Ledger.{Held, Beside, IsThere, AllThere, AllKept, WithKinds, renewed, born}
-use Rattle.seize_words.specs.Entry.{Entry}
-use Rattle.seize_words.specs.Book.{after, IsLegalList, Does, mine, kind_of, touches, Sized, rules, births, passes, counts, blocks, kinds}
-use Rattle.seize_words.specs.Homes.{HasOne, IsSound, changes_count, changes_home}
+use Rattle.seize_words.specs.Entry.{Entry, Made, Deed, maker}
+use Rattle.seize_words.specs.Book.{after, IsLegalList, Does, mine, TheCount, TheBlock, TheField, kind_of, touches, Sized, rules, births, passes, counts, blocks, fields, kinds}
+use Rattle.seize_words.specs.Blocks.{plans}
+use Rattle.seize_words.specs.Chains.{Chained, IsLed, told}
+use Rattle.seize_words.specs.Homes.{HasOne, IsSound}
 use Rattle.seize_words.specs.Laws.{ended_by, starts}
 use Rattle.seize_words.specs.Tokens.{Name, start, IsSole, Noted}
 
@@ -21,6 +24,7 @@ pass_key p own = record { kind = passes; key = p; own = own; label = 0 }
 pub record Before (n : Name) (p : ℕ) (seen : List Entry) (held : List (Held Entry)) (log : List Entry) : Type 0 where
   pub legal : IsLegalList (start n) log
   pub sound : IsSound (after (start n) log)
+  pub chained : Chained (after (start n) log) (plans (start n) log) (told log)
   pub grows : IsPrefix seen log
   pub none_made : mine (start n) p log ≡ mine (start n) p seen
   pub kept : AllKept (rules (start n)) held log
@@ -29,12 +33,13 @@ pub record Before (n : Name) (p : ℕ) (seen : List Entry) (held : List (Held En
 abbrev pub Covers : State → List (Held Entry) → List Entry → Entry → Type 0
 Covers st held log e = (r k : ℕ) → Beside held r k → IsThere (rules st) r k log → touches (after st log) e (kind_of r) k ≡ false
 
--- the event is made with a pass whose key is there; and it changes the values and the count of no block but those whose keys are
+-- the pass has a key; and no entry is of the values, the count or a field of a block but those that have keys
 abbrev pub NamesHeld : State → List (Held Entry) → List Entry → Entry → Type 0
 NamesHeld st held log e = (many : ℕ → ℕ) → ((r : ℕ) → Sized st (kind_of r) (many r) log) → AllThere many held
-    → (e.pass < many passes)
-    × ((k : ℕ) → many counts ≤ k → changes_count (after st log) k e.event ≡ false)
-    × ((k : ℕ) → many blocks ≤ k → changes_home (after st log) k e.event ≡ false)
+    → (maker e < many passes)
+    × ((k : ℕ) → many counts ≤ k → touches (after st log) e TheCount k ≡ false)
+    × ((k : ℕ) → many blocks ≤ k → touches (after st log) e TheBlock k ≡ false)
+    × ((f : ℕ) → many fields ≤ f → touches (after st log) e TheField f ≡ false)
 
 pub record Fair (st : State) (held : List (Held Entry)) (log : List Entry) (e : Entry) : Type 0 where
   pub done : State × Answer
@@ -43,6 +48,7 @@ pub record Fair (st : State) (held : List (Held Entry)) (log : List Entry) (e : 
   pub names : NamesHeld st held log e
   -- all earlier values of a home were reclaimed where it names one
   pub one : HasOne (after st log) → HasOne done.0
+  pub leads : IsLed (after st log) (plans st log) (told log) e
 
 -- it neither ends nor begins an activation
 abbrev pub EndsNone : Event → Type 0
@@ -51,12 +57,12 @@ EndsNone event = (lives : ℕ → ℕ) → ended_by lives event ≡ []
 abbrev pub StartsNone : Event → Type 0
 StartsNone event = (s : ℕ) → starts s event ≡ false
 
-abbrev pub MayAdd : Name → ℕ → List Entry → List (Held Entry) → Entry → Type 0
-MayAdd n p seen held e =
-    WithKinds kinds held × EndsNone e.event × StartsNone e.event
-    × ((own log : List Entry) → Before n p seen held log → Fair (start n) (pass_key p own ∷ held) log e)
+abbrev pub MayAdd : Name → ℕ → List Entry → List (Held Entry) → Deed → Type 0
+MayAdd n p seen held d =
+    WithKinds kinds held × EndsNone d.event × StartsNone d.event
+    × ((own log : List Entry) → Before n p seen held log → Fair (start n) (pass_key p own ∷ held) log (Made d))
 
-pub record Added (n : Name) (p : ℕ) (seen seen' : List Entry) (held held' : List (Held Entry)) (e : Entry) : Type 0 where
-  pub noted : Noted n p seen seen' e
+pub record Added (n : Name) (p : ℕ) (seen seen' : List Entry) (held held' : List (Held Entry)) (d : Deed) : Type 0 where
+  pub noted : Noted n p seen seen' (Made d)
   pub before : Before n p seen held noted.before
-  pub keys : held' ≡ renewed held seen' ++ born (births (after (start n) noted.before) e.event) seen'
+  pub keys : held' ≡ renewed held seen' ++ born (births (after (start n) noted.before) d.event) seen'

@@ -29,7 +29,7 @@ reads slot m = unwrap_or (of_call (reads_at m) slot.call) false
 abbrev pub IsMade : Site → List Entry → Type 0
 IsMade word list = word.number < length (after (start word.name) list).slots
 
--- where the list was `own` at the last event of slot s
+-- where the list was `own` at the last entry of slot s
 pub record IsTrying (st : State) (s : ℕ) (own : List Entry) (m seen block : ℕ) : Type 0 where
   pub batch : ℕ
   pub won : ℕ

@@ -10,15 +10,15 @@ use Rattle.std.specs.Prelude.{◌≡◌, ℕ, ◌==◌, Bool, false, List, [], �
 use Rattle.seize_machine.specs.Machine.State.{State}
 use Rattle.seize_machine.specs.Machine.Event.{Event, Enter, SwapOut}
 use Rattle.seize_machine.specs.Machine.History.{Found, Reclaimed, HasParted}
-use Rattle.seize_words.specs.Entry.{Entry}
-use Rattle.seize_words.specs.Book.{moments}
+use Rattle.seize_words.specs.After.{moments}
+use Rattle.seize_words.specs.Entry.{Entry, Made, Used, Deed, deeds}
 
 abbrev pub NotHanded : State → List Entry → ℕ → Type 0
 NotHanded st log v = (c : ℕ) → ¬ (Reclaimed (moments st log) v c)
 
 -- each slot that found v in a link has left or refreshed since
 abbrev pub AllParted : State → List Entry → ℕ → Type 0
-AllParted st log v = (s i : ℕ) → Found (moments st log) s v i → HasParted (moments st log) s i (length log)
+AllParted st log v = (s i : ℕ) → Found (moments st log) s v i → HasParted (moments st log) s i (length (deeds log))
 
 -- whether the event begins an activation of slot s; one that swaps a head out does where it refreshes, and else the lifetime is not used
 abbrev pub starts : ℕ → Event → Bool
@@ -26,33 +26,38 @@ starts s (Enter t) = t == s
 starts s (SwapOut t) = t == s
 starts s _ = false
 
-abbrev pub life_from : ℕ → ℕ → List Entry → ℕ
+abbrev pub life_from : ℕ → ℕ → List Deed → ℕ
 life_from a s [] = a
-life_from a s (e ∷ log) = life_from (if starts s e.event then e.life else a) s log
+life_from a s (d ∷ ds) = life_from (if starts s d.event then d.life else a) s ds
 
 abbrev pub life : ℕ → List Entry → ℕ
-life s log = life_from 0 s log
+life s log = life_from 0 s (deeds log)
 
-abbrev pub lives_after : (ℕ → ℕ) → Entry → ℕ → ℕ
-lives_after lives e s = if starts s e.event then e.life else lives s
+abbrev pub lives_after : (ℕ → ℕ) → Deed → ℕ → ℕ
+lives_after lives d s = if starts s d.event then d.life else lives s
 
 abbrev pub ended_by : (ℕ → ℕ) → Event → List ℕ
 ended_by lives (SwapOut s) = lives s ∷ []
 ended_by lives _ = []
 
-abbrev pub ended_from : (ℕ → ℕ) → List Entry → List ℕ
+abbrev pub ended_from : (ℕ → ℕ) → List Deed → List ℕ
 ended_from lives [] = []
-ended_from lives (e ∷ log) = ended_by lives e.event ++ ended_from (lives_after lives e) log
+ended_from lives (d ∷ ds) = ended_by lives d.event ++ ended_from (lives_after lives d) ds
+
+-- and by an entry
+abbrev pub ended_in : (ℕ → ℕ) → Entry → List ℕ
+ended_in lives (Made d) = ended_by lives d.event
+ended_in lives (Used u) = []
 
 -- at an opening no slot is active
 abbrev pub none_alive : ℕ → ℕ
 none_alive s = 0
 
 abbrev pub ended : List Entry → List ℕ
-ended log = ended_from none_alive log
+ended log = ended_from none_alive (deeds log)
 
 abbrev pub Reader : State → List Entry → ℕ → ℕ → Type 0
-Reader st log v a = (i : ℕ) × (s : ℕ) × Found (moments st log) s v i × (a ≡ life s (take i log))
+Reader st log v a = (i : ℕ) × (s : ℕ) × Found (moments st log) s v i × (a ≡ life_from 0 s (take i (deeds log)))
 
 abbrev pub IsIn : List ℕ → ℕ → Type 0
 IsIn [] a = ⊥

@@ -1,6 +1,7 @@
 pub mod Ledger
 pub mod Entry
 pub mod Homes
+pub mod After
 pub mod Book
 pub mod Laws
 pub mod Tokens
@@ -11,13 +12,17 @@ pub mod Passes
 pub mod Adding
 pub mod Slots
 pub mod Others
+pub mod Chains
 pub mod Counts
+pub mod Deposits
 pub mod Batches
 pub mod Books
 pub mod Blocks
 pub mod Words
 pub mod Stepping
 pub mod Heads
+pub mod Headers
+pub mod Values
 pub mod Atomic
 pub mod Reservations
 pub mod Links

@@ -16,7 +16,7 @@ use Rattle.seize_words.specs.Adding.{private}
 use Rattle.seize_words.specs.Begin.{first_links}
 use Rattle.seize_words.specs.Blocks.{link_word}
 use Rattle.seize_words.specs.Book.{after}
-use Rattle.seize_words.specs.Entry.{Entry}
+use Rattle.seize_words.specs.Entry.{Entry, Made}
 use Rattle.seize_words.specs.Laws.{life}
 use Rattle.seize_words.specs.Ledger.{renewed}
 use Rattle.seize_words.specs.Links.{IsNewIn, IsWithin, compared, value_in}
@@ -62,7 +62,8 @@ IsDuring a n list = (is_active (head_at (after (start n) list) a.slot) ≡ true)
 pub record Takes (link : Link) (a : Activation) (pass pass' : Pass) (event : Option ℕ → Event) (v : ℕ) : Type 0 where
   pub same : IsSame pass pass'
   pub before : List Entry
-  pub noted : Noted pass.name pass.id pass.seen pass'.seen (private pass (event (link_at (after (start pass.name) before) (number link))))
+  pub noted
+      : Noted pass.name pass.id pass.seen pass'.seen (Made (private pass (event (link_at (after (start pass.name) before) (number link)))))
   pub is_before : noted.before ≡ before
   pub during : IsDuring a pass.name before
   pub found : v ≡ link_word (link_at (after (start pass.name) before) (number link))

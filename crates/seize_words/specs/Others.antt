@@ -1,6 +1,5 @@
 -- The words in which contracts speak of the keys that a slot's holder needs beside its own.
---     is_named value, is_loose value    whether the value was ever named, and whether it came out of a link and no call began to retire it,
---                                       as its key knows
+--     is_named value                    whether the value was ever named, as its key knows
 --     book_of value                     its book
 --     MayBegin v st                     it was never named, and all values that lay in its block before were reclaimed; or it was named,
 --                                       and is loose;  MayRetire value    so it is, as its key knows
@@ -49,9 +48,6 @@ book_of value = value.keys.name
 
 abbrev pub is_named : ValueKey → Bool
 is_named value = has (value_of value) (state_of value.keys).named
-
-abbrev pub is_loose : ValueKey → Bool
-is_loose value = has (value_of value) (state_of value.keys).loose
 
 abbrev pub MayBegin : ℕ → State → Type 0
 MayBegin v st = ((has v st.named ≡ false) × IsVacant st (home_of v)) ⊎ ((has v st.named ≡ true) × (has v st.loose ≡ true))

@@ -1,13 +1,14 @@
 -- The words in which the contracts of passes speak.
 --     IsSame pass pass'      it is the same pass of the same book
 --     mine_of pass           what was made with it, with the answers
+--     events_by pass         the events among these
 --     MadeNone pass pass'    nothing was made with it
 --     Meets pass other pass' other'    both have seen the longer of what they had, and nothing was made with either
 --     Longer a b c           c is the longer of two lists of which one is a beginning of the other
-use Rattle.std.specs.Prelude.{◌≡◌, List, ◌⊎◌}
+use Rattle.std.specs.Prelude.{◌≡◌, List, [], ◌∷◌, ◌⊎◌}
 use mathlib.Core.List.{IsPrefix}
 use Rattle.seize_machine.specs.declared.machine.event.Answer.{Answer}
-use Rattle.seize_words.specs.Entry.{Entry}
+use Rattle.seize_words.specs.Entry.{Entry, Made, Used, Deed}
 use Rattle.seize_words.specs.Book.{mine}
 use Rattle.seize_words.specs.Tokens.{start}
 use Rattle.seize_words.specs.declared.book.pass.Pass.{Pass}
@@ -17,6 +18,15 @@ IsSame pass pass' = (pass'.name ≡ pass.name) × (pass'.id ≡ pass.id)
 
 abbrev pub mine_of : Pass → List (Entry × Answer)
 mine_of pass = mine (start pass.name) pass.id pass.seen
+
+-- the events among entries, with their answers
+abbrev pub events_in : List (Entry × Answer) → List (Deed × Answer)
+events_in [] = []
+events_in ((Made d, answer) ∷ made) = (d, answer) ∷ events_in made
+events_in ((Used u, answer) ∷ made) = events_in made
+
+abbrev pub events_by : Pass → List (Deed × Answer)
+events_by pass = events_in (mine_of pass)
 
 abbrev pub MadeNone : Pass → Pass → Type 0
 MadeNone pass pass' = mine_of pass' ≡ mine_of pass

@@ -3,7 +3,8 @@
 --     MayRead key head pass       the slot's call reads this head next, and the pass has seen that its slot is there
 --     Shows head list v           the list says that the head's word is v
 --     FoundBefore head pass' v    all that the pass has seen shows v, without its last event
---     TriesAt key head seen block     the slot's call is about to insert its batch here: see IsTrying. The block's number fits beside 2
+--     TriesAt key head seen block     the slot's call is about to insert its batch here: see IsTrying. The block leads on
+--                                 to what the slot saw, and to its batch's first block. The block's number fits beside 2
 --     IsOwn head key, IsOut key stays     it is the slot's own head;  the slot's call is about to swap it out
 --     WalksOn head key' v queue           the slot's call walks the batches that the word v of the head shows, and goes on with this queue
 --     IsLastOf key a                      it is the slot's last activation
@@ -18,7 +19,8 @@ use Rattle.seize_words.specs.Adding.{private}
 use Rattle.seize_machine.specs.Machine.State.{Inactive, Out, Rest, head_at, is_active}
 use Rattle.seize_words.specs.Blocks.{block_for, head_word, list_word}
 use Rattle.seize_words.specs.Book.{after, heads}
-use Rattle.seize_words.specs.Entry.{Entry}
+use Rattle.seize_words.specs.Entry.{Entry, Made, Deed}
+use Rattle.seize_words.specs.Headers.{HasWritten}
 use Rattle.seize_words.specs.Heads.{IsMade, IsTrying, reads}
 use Rattle.seize_words.specs.Laws.{life}
 use Rattle.seize_words.specs.Others.{Follows, state_of}
@@ -49,7 +51,8 @@ abbrev pub FoundBefore : Head → Pass → ℕ → Type 0
 FoundBefore head pass' v = (before : List Entry) × (last : Entry) × (pass'.seen ≡ before ++ last ∷ []) × Shows head before v
 
 abbrev pub TriesAt : SlotKey → Head → ℕ → ℕ → Type 0
-TriesAt key head seen block = IsTrying (start_of key) (number_of key) (own_list key) (slot head) seen block × (block + 2 < 2 ^ 64)
+TriesAt key head seen block =
+    (t : IsTrying (start_of key) (number_of key) (own_list key) (slot head) seen block) × HasWritten key seen t.batch × (block + 2 < 2 ^ 64)
 
 -- Activations.
 
@@ -70,7 +73,7 @@ abbrev pub IsLastOf : SlotKey → Activation → Type 0
 IsLastOf key a = (a.name ≡ key.keys.name) × (a.slot ≡ number_of key) × (a.life ≡ life_of key)
 
 -- the entry of an event that begins an activation with this lifetime
-abbrev pub beginning : Pass → ℕ → Event → Entry
+abbrev pub beginning : Pass → ℕ → Event → Deed
 beginning pass life event = record { pass = pass.id; size = pass.name.size; event = event; life = life }
 
 -- it has begun with what the key knows last
@@ -94,7 +97,7 @@ IsFull numbers = (first_free (state_of numbers.keys).slots ≡ made_of numbers) 
 pub record MakesSlot (numbers : NumbersKey) (pass : Pass) (numbers' : NumbersKey) (pass' : Pass) (key : SlotKey) (head : Head)
     : Type 0 where
   pub same : IsSame pass pass'
-  pub noted : Noted pass.name pass.id pass.seen pass'.seen (private pass (Take (made_of numbers)))
+  pub noted : Noted pass.name pass.id pass.seen pass'.seen (Made (private pass (Take (made_of numbers))))
   pub follows : Follows numbers.keys pass' numbers'.keys
   pub book : (key.keys.name ≡ pass.name) × (head.word.name ≡ pass.name)
   pub number : (number_of key ≡ made_of numbers) × (slot head ≡ made_of numbers)

@@ -4,10 +4,11 @@
 --     own_list key         the list at the slot's last event;  start_of key, size_of key     its book's opening and batch size
 --     IsAfter key pass' key'     it is the same key, and knows all that the pass has seen
 --     slot_of key, active_of key     the slot's record as its key knows it, and whether it is active
+--     written_of key       what was last stored in the fields of the block with which the slot's call is about to insert its batch
 --     life_of key          the lifetime of the slot's last activation, as its key knows
 --     Moves key key' log event later answer     after this list, which goes on from what the key knew, with the same last activation of
 --                          the slot, the event took the slot from where its key knew it to where it knows it now
---     NotesAs key pass key' pass' e     the slot's holder added this one entry with the pass: see Noted and Moves
+--     NotesAs key pass key' pass' d     the slot's holder added this one event with the pass: see Noted and Moves
 --     Notes key pass key' pass' event     and it is one of an event that begins no activation
 --     Looks key pass key' pass'     the pass and the key have seen a legal list, which goes on from what they knew and in which the slot is
 --                          as the key said; nothing was made with the pass
@@ -21,7 +22,9 @@ use Rattle.seize_machine.specs.Machine.Event.{Event}
 use Rattle.seize_machine.specs.Machine.Next.{next, of_call, handing_at}
 use Rattle.seize_machine.specs.declared.machine.event.Answer.{Answer}
 use Rattle.seize_machine.specs.Machine.History.{done_by, handed_value}
-use Rattle.seize_words.specs.Entry.{Entry, timed}
+use Rattle.seize_words.specs.Blocks.{plans}
+use Rattle.seize_words.specs.Chains.{told, written}
+use Rattle.seize_words.specs.Entry.{Entry, Made, Deed, timed}
 use Rattle.seize_words.specs.Book.{after, IsLegalList}
 use Rattle.seize_words.specs.Homes.{IsSound}
 use Rattle.seize_words.specs.Laws.{NotHanded, AllParted, AllOver, life}
@@ -50,6 +53,11 @@ start_of key = start key.keys.name
 abbrev pub slot_of : SlotKey → Slot
 slot_of key = slot_at (after (start_of key) (own_list key)) (number_of key)
 
+-- what was last stored in the next and first fields of the block with which the slot's call is about to insert its batch
+abbrev pub written_of : SlotKey → Option (ℕ × ℕ)
+written_of key =
+    let own = own_list key in written (after (start_of key) own) (plans (start_of key) own) (told own) (number_of key)
+
 abbrev pub active_of : SlotKey → Bool
 active_of key = is_active (head_at (after (start_of key) (own_list key)) (number_of key))
 
@@ -72,10 +80,10 @@ pub record Moves (key key' : SlotKey) (log : List Entry) (event : Event) (later 
   pub is : slot_of key' ≡ slot_at later (number_of key)
   pub is_now_active : active_of key' ≡ is_active (head_at later (number_of key))
 
-abbrev pub NotesAs : SlotKey → Pass → SlotKey → Pass → Entry → Type 0
-NotesAs key pass key' pass' e =
+abbrev pub NotesAs : SlotKey → Pass → SlotKey → Pass → Deed → Type 0
+NotesAs key pass key' pass' d =
     IsSame pass pass' × IsAfter key pass' key'
-    × ((noted : Noted pass.name pass.id pass.seen pass'.seen e) × Moves key key' noted.before e.event noted.later noted.answer)
+    × ((noted : Noted pass.name pass.id pass.seen pass'.seen (Made d)) × Moves key key' noted.before d.event noted.later noted.answer)
 
 abbrev pub Notes : SlotKey → Pass → SlotKey → Pass → Event → Type 0
 Notes key pass key' pass' event = NotesAs key pass key' pass' (private pass event)
@@ -92,6 +100,7 @@ pub record Looks (key : SlotKey) (pass : Pass) (key' : SlotKey) (pass' : Pass) :
   pub lives : life (number_of key) pass'.seen ≡ life_of key
   pub slot : slot_at (after (start_of key) pass'.seen) (number_of key) ≡ slot_of key
   pub active : is_active (head_at (after (start_of key) pass'.seen) (number_of key)) ≡ active_of key
+  pub written : written_of key' ≡ written_of key
 
 -- the value that the slot's call is about to hand to its reclaimer
 abbrev pub hands_next : Slot → Option ℕ
@@ -101,8 +110,8 @@ hands_next slot = of_call handing_at slot.call
 -- refreshed since, and the activations in which they found it are over.
 pub record HandsOnce (key : SlotKey) (pass' : Pass) (v : ℕ) : Type 0 where
   pub before : List Entry
-  pub last : Entry
-  pub ends : pass'.seen ≡ before ++ last ∷ []
+  pub last : Deed
+  pub ends : pass'.seen ≡ before ++ Made last ∷ []
   pub hands : handed_value (done_by next (after (start_of key) before) (timed last)).1 ≡ Some v
   pub not_handed : NotHanded (start_of key) before v
   pub all_parted : AllParted (start_of key) before v

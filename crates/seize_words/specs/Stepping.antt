@@ -4,15 +4,14 @@
 --     MayStep site p seen held alive lives f entry trades     whatever it finds in the word, and whatever the list is by then: with f of
 --                              it in the word, and this entry added, all is as it has to be (IsStep). It ends no activation but those
 --                              that have the lifetimes `lives`. Where it trades, the holder's keys stay with the word, for those that
---                              stood there
+--                              stood there; at a count all but the slot's
 --     Stepped site p seen seen' held held' alive v w entry trades   the step was taken, found v and left w
-use Rattle.std.specs.Prelude.{◌≡◌, ℕ, Bool, true, if◌then◌else◌, List, [], ◌∷◌, ◌++◌}
+use Rattle.std.specs.Prelude.{◌≡◌, ℕ, take, drop, Bool, true, if◌then◌else◌, List, [], ◌∷◌, ◌++◌}
 use Rattle.seize_machine.specs.Machine.State.{linked, are_distinct}
-use Rattle.seize_machine.specs.Machine.Event.{Event}
 use Rattle.seize_words.specs.Ledger.{Held, WithKinds, renewed}
-use Rattle.seize_words.specs.Entry.{Entry}
-use Rattle.seize_words.specs.Book.{after, births, kinds}
-use Rattle.seize_words.specs.Laws.{IsIn, ended, ended_by, life}
+use Rattle.seize_words.specs.Entry.{Entry, maker}
+use Rattle.seize_words.specs.Book.{Kind, TheCount, after, births_by, kind_of, kinds}
+use Rattle.seize_words.specs.Laws.{IsIn, ended, ended_in, life}
 use Rattle.seize_words.specs.Tokens.{start, Noted}
 use Rattle.seize_words.specs.Fair.{Before, Fair, pass_key}
 use Rattle.seize_words.specs.Words.{Site, Shows, Stands, site_keys}
@@ -40,21 +39,29 @@ pub record FoundAs (site : Site) (v p : ℕ) (seen : List Entry) (held : Keys) (
   pub distinct : are_distinct (linked site.name.links) ≡ true
 
 -- each activation that the event ends has one of these lifetimes
-abbrev pub EndsAmong : List ℕ → List Entry → Event → Type 0
-EndsAmong lives log event = (a : ℕ) → IsIn (ended_by (λ s. life s log) event) a → IsIn lives a
+abbrev pub EndsAmong : List ℕ → List Entry → Entry → Type 0
+EndsAmong lives log e = (a : ℕ) → IsIn (ended_in (λ s. life s log) e) a → IsIn lives a
 
--- the keys that stand beside the word's own afterwards, and those of the holder
-abbrev pub traded : Bool → List (Held Entry) → List (Held Entry) → List (Held Entry)
-traded trades vs held = if trades then held else vs
+-- so many of the holder's keys stay with the holder where others are traded: at a count the slot's
+abbrev pub staying : Kind → ℕ
+staying TheCount = 1
+staying _ = 0
+
+-- the keys that stand beside the word's own afterwards, and those that the holder has
+abbrev pub beside_then : Kind → Bool → Keys → Keys → Keys
+beside_then kind trades vs held = if trades then drop (staying kind) held else vs
+
+abbrev pub held_then : Kind → Bool → Keys → Keys → Keys
+held_then kind trades vs held = if trades then take (staying kind) held ++ vs else held
 
 pub record IsStep (site : Site) (p : ℕ) (held : Keys) (lives : List ℕ) (w : ℕ) (e : Entry) (trades : Bool) (t : At) (own log : List Entry)
     : Type 0 where
   pub fair : Fair (start site.name) (pass_key p own ∷ in_step site held t) log e
-  pub its : e.pass ≡ p
-  pub no_births : births (after (start site.name) log) e.event ≡ []
-  pub ends : EndsAmong lives log e.event
+  pub its : maker e ≡ p
+  pub no_births : births_by (after (start site.name) log) e ≡ []
+  pub ends : EndsAmong lives log e
   pub shows : Shows site w (log ++ e ∷ [])
-  pub stands : Stands site (log ++ e ∷ []) (renewed (traded trades t.1 held) (log ++ e ∷ []))
+  pub stands : Stands site (log ++ e ∷ []) (renewed (beside_then (kind_of site.kind) trades t.1 held) (log ++ e ∷ []))
 
 abbrev pub MayStep : Site → ℕ → List Entry → List (Held Entry) → List ℕ → List ℕ → (ℕ → ℕ) → (ℕ → List Entry → Entry) → (ℕ → Bool) → Type 0
 MayStep site p seen held alive lives f entry trades =
@@ -70,4 +77,4 @@ pub record Stepped (site : Site) (p : ℕ) (seen seen' : List Entry) (held held'
   pub since : At
   pub found : FoundAs site v p seen held alive since log
   pub left : Shows site w seen'
-  pub keys : held' ≡ renewed (traded (trades v) held since.1) seen'
+  pub keys : held' ≡ renewed (held_then (kind_of site.kind) (trades v) since.1 held) seen'

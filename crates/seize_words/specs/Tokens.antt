@@ -3,7 +3,7 @@
 --     inside        what stands in its invariant;  knows   that there is this invariant, for good
 --     pass_owns     a pass: its key, a beginning of the list that it has seen, and at a closed gate the list itself
 --     keys_own      keys, in a given order
---     Noted         one event was appended with a pass
+--     Noted         one entry was appended with a pass
 use Rattle.std.specs.Prelude.{◌≡◌, ℕ, true, List, [], ◌∷◌, ◌++◌, Option, slice_index_or}
 use Rattle.std.specs.Coded.{Coded, code_by, coded_ℕ, coded×, coded_list, coded_option}
 use mathlib.Core.Path.{refl}
@@ -16,6 +16,8 @@ use Rattle.seize_machine.specs.declared.machine.event.Answer.{Answer}
 use Rattle.seize_words.specs.Ledger.{Held, fact, logs, right, rights, reached, contents}
 use Rattle.seize_words.specs.Entry.{Entry, entry_coded}
 use Rattle.seize_words.specs.Book.{IsLegalList, Does, after, mine, passes, rules}
+use Rattle.seize_words.specs.Blocks.{plans}
+use Rattle.seize_words.specs.Chains.{Chained, told}
 use Rattle.seize_words.specs.Homes.{IsSound}
 use Rattle.seize_words.specs.Laws.{ended}
 
@@ -54,6 +56,7 @@ pub record Name : Type 0 where
   pub link_keys : ℕ
   pub count_keys : ℕ
   pub block_keys : ℕ
+  pub field_keys : ℕ
   pub gate : Gate
   -- the batch size at each event that is added
   pub size : ℕ
@@ -65,7 +68,7 @@ abbrev nth : List ℕ → ℕ → ℕ
 nth xs i = slice_index_or xs i 0
 
 abbrev pub rows : Name → List ℕ
-rows n = n.pass_keys ∷ n.number_keys ∷ n.slot_keys ∷ n.head_keys ∷ n.link_keys ∷ n.count_keys ∷ n.block_keys ∷ []
+rows n = n.pass_keys ∷ n.number_keys ∷ n.slot_keys ∷ n.head_keys ∷ n.link_keys ∷ n.count_keys ∷ n.block_keys ∷ n.field_keys ∷ []
 
 abbrev pub name_coded : Coded Name
 name_coded =
@@ -83,6 +86,7 @@ name_coded =
       link_keys = nth t.0 8;
       count_keys = nth t.0 9;
       block_keys = nth t.0 10;
+      field_keys = nth t.0 11;
       gate = t.1.0;
       links = t.1.1;
     })
@@ -140,7 +144,7 @@ held_coded =
     code_by (ℕ × (ℕ × (ℕ × List Entry))) (coded× coded_ℕ (coded× coded_ℕ (coded× coded_ℕ (coded_list entry_coded))))
     (λ h. (h.kind, (h.key, (h.label, h.own)))) (λ t. record { kind = t.0; key = t.1.0; label = t.1.1.0; own = t.1.1.1 }) (λ _. refl)
 
--- Event e was added with pass p. It took the machine to this state, with this answer, and this state is where all that the pass has seen
+-- Entry e was added with pass p. It took the machine to this state, with this answer, and this state is where all that the pass has seen
 -- leads. Nothing had been made with the pass since it had seen its beginning, and where it is alone nothing at all had been added. The
 -- links of the book's opening are distinct, so that the laws hold of its list.
 pub record Noted (n : Name) (p : ℕ) (seen seen' : List Entry) (e : Entry) : Type 0 where
@@ -148,6 +152,7 @@ pub record Noted (n : Name) (p : ℕ) (seen seen' : List Entry) (e : Entry) : Ty
   pub appended : seen' ≡ before ++ e ∷ []
   pub legal : IsLegalList (start n) seen'
   pub sound : IsSound (after (start n) seen')
+  pub chained : Chained (after (start n) seen') (plans (start n) seen') (told seen')
   pub grows : IsPrefix seen before
   pub later : State
   pub answer : Answer

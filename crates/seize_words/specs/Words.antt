@@ -1,12 +1,15 @@
--- What a word of the book is. A word stands for one head, link or count: its value shows what the list says of it. The word's key stands
--- beside it, in the word's own invariant, so whoever takes an atomic step on the word may add the event that changes these in that very
--- step, and nobody else may.
+-- What a word of the book is. A word stands for one head, link, count or field: its value shows what the list says of it. The word's key
+-- stands beside it, in the word's own invariant, so whoever takes an atomic step on the word may add the entry that changes these in that
+-- very step, and nobody else may.
 --     Site                   which word it is: its book, and the kind and number of what it stands for
+--     IsField site           it is that of a field
 --     Shows site v log       the value v is what the list says
---     Stands site log vs     these are the other keys that stand beside it: of a link that of the block of the value in it
+--     Stands site log vs     these are the other keys that stand beside it: of a link that of the block of the value in it, of a count
+--                            those of the blocks of the batch's values, once its call has added to it
 --     site_keys site since vs     its keys, its own first, which knows the list as it was at the last step on the word
 --     word_owns site v       what stands beside the memory of a word with this value;  word_shares    what a `&` to it is
-use Rattle.std.specs.Prelude.{◌≡◌, ℕ, true, List, [], ◌∷◌, Option, Some, None}
+use Rattle.std.specs.Prelude.{◌≡◌, ℕ, ◌==◌, Bool, true, ◌&&◌, map, List, [], ◌∷◌, Option, Some, None}
+use Rattle.std.specs.List.{list_all}
 use Rattle.std.specs.Coded.{Coded, code_by, coded_ℕ, coded×}
 use mathlib.Core.Path.{refl}
 use base.Before.{before}
@@ -16,8 +19,10 @@ use Rattle.core.specs.Sync.RawAtomic.{word}
 use Rattle.seize_machine.specs.Machine.State.{State, link_at}
 use Rattle.seize_words.specs.Ledger.{Held, fact}
 use Rattle.seize_words.specs.Entry.{Entry}
-use Rattle.seize_words.specs.Book.{Kind, TheHead, TheLink, TheCount, kind_of, after, blocks}
+use Rattle.seize_words.specs.Book.{Kind, TheHead, TheLink, TheCount, TheField, kind_of, after, blocks, fields}
 use Rattle.seize_words.specs.Blocks.{count_word, head_word, link_word}
+use Rattle.seize_words.specs.Chains.{told}
+use Rattle.seize_words.specs.Deposits.{deposit}
 use Rattle.seize_words.specs.Homes.{count_in, home_of}
 use Rattle.seize_words.specs.Private.{is_one, key_of, label_of}
 use Rattle.seize_words.specs.Tokens.{Name, name_coded, start, keys_own}
@@ -26,6 +31,9 @@ pub record Site : Type 0 where
   pub name : Name
   pub kind : ℕ
   pub number : ℕ
+
+abbrev pub IsField : Site → Type 0
+IsField site = site.kind ≡ fields
 
 abbrev pub site_coded : Coded Site
 site_coded =
@@ -36,6 +44,7 @@ abbrev pub ShowsOf : State → Kind → ℕ → ℕ → List Entry → Type 0
 ShowsOf st TheHead m v log = v ≡ head_word st log m
 ShowsOf st TheLink l v log = v ≡ link_word (link_at (after st log) l)
 ShowsOf st TheCount k v log = v ≡ count_word (count_in (after st log) k)
+ShowsOf st TheField f v log = v ≡ told log f
 ShowsOf st _ k v log = ⊥
 
 abbrev pub Shows : Site → ℕ → List Entry → Type 0
@@ -46,8 +55,20 @@ abbrev pub IsKeyOf : Option ℕ → List (Held Entry) → Type 0
 IsKeyOf None vs = vs ≡ []
 IsKeyOf (Some v) vs = (is_one blocks vs ≡ true) × (key_of vs ≡ home_of v) × (label_of vs ≡ v)
 
+-- each is the key of a block, with the name of a value on it that lies there
+abbrev pub are_of_blocks : List (Held Entry) → Bool
+are_of_blocks vs = list_all (λ h. (h.kind == blocks) && (h.key == home_of h.label)) vs
+
+abbrev pub labels_of : List (Held Entry) → List ℕ
+labels_of vs = map (λ h. h.label) vs
+
+-- and these are the values
+abbrev pub AreKeysOf : List ℕ → List (Held Entry) → Type 0
+AreKeysOf values vs = (labels_of vs ≡ values) × (are_of_blocks vs ≡ true)
+
 abbrev pub StandsOf : State → Kind → ℕ → List Entry → List (Held Entry) → Type 0
 StandsOf st TheLink l log vs = IsKeyOf (link_at (after st log) l) vs
+StandsOf st TheCount k log vs = AreKeysOf (deposit (after st log) k) vs
 StandsOf st _ k log vs = vs ≡ []
 
 abbrev pub Stands : Site → List Entry → List (Held Entry) → Type 0

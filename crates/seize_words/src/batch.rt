@@ -4,7 +4,7 @@ ghost use Rattle.std.specs.Prelude.{◌≡◌, [], pos};
 ghost use Rattle.seize_machine.specs.Machine.Event.{AddCount, SubCount};
 ghost use Rattle.seize_words.specs.Batches.{IsCount};
 
-use crate::book::{CountKey, Pass, SlotKey};
+use crate::book::{CountKey, Pass, SlotKey, ValueKeys};
 use crate::word::Word;
 use std::marker::Brand;
 
@@ -18,12 +18,13 @@ pub struct Count {
 }
 
 impl Count {
-    ghost use Rattle.seize_words.specs.Counts.{AddsTo, Counts, GivesUp, IsCountOf, IsOfBook, Walks, count_known};
+    ghost use Rattle.seize_words.specs.Counts.{AddsTo, AddsWith, AreOfBook, Counts, GivesUp, IsCountOf, IsOfBook, Leaves, Takes, Walks, count_known, deposit_known};
     ghost use Rattle.seize_words.specs.Slots.{IsOf, number_of};
+    ghost use Rattle.seize_words.specs.Values.{IsEmpty};
 
     /// The word of a block's count, which is 0.
     pub fn new(key: CountKey) -> Count
-        requires { count_known key ≡ pos 0 }
+        requires { (count_known key ≡ pos 0) × (deposit_known key ≡ []) }
         ensures { IsCountOf result key }
     {
         let mut keys = key.keys;
@@ -33,26 +34,34 @@ impl Count {
     }
 
     /// Adds the insertions won to the batch's count: the event `AddCount` of the slot that detached the batch. It says whether the count
-    /// is 0 then. If it is, nobody holds the batch, and its values are given up to the slot's call.
-    pub fn add(&self, won: u64, key: &mut SlotKey, pass: &mut Pass) -> bool
-        requires book { IsOf key.old pass.old × IsOfBook self.now pass.old }
-        requires adds { AddsTo key.old self.now won }
+    /// is 0 then. If it is, nobody holds the batch, its values are given up to the slot's call, and their keys stay with the caller. If it
+    /// isn't, the keys go to whoever gives the batch up.
+    pub fn add(&self, won: u64, key: &mut SlotKey, values: &mut ValueKeys, pass: &mut Pass) -> bool
+        requires book { IsOf key.old pass.old × IsOfBook self.now pass.old × AreOfBook values.old pass.old }
+        requires adds { AddsWith key.old self.now won values.old }
         ensures counts { Counts key.old pass.old key.new pass.new (AddCount (number_of key.old)) result }
         ensures gives { (adds : AddsTo key.old self.now won) → GivesUp key.old key.new adds.batch [] adds.queue result }
+        ensures keys { Leaves values.old pass.new values.new result }
     {
-        let old = self.word.add::<Brand>(won, &mut key.keys, pass);
+        let both = &mut key.keys;
+        both.join(&mut values.keys);
+        let old = self.word.add::<Brand>(won, both, pass);
+        both.part(&mut values.keys);
         old.wrapping_add(won) == 0
     }
 
     /// Counts the batch down that the slot's walk comes to: the event `SubCount`. It says whether the count is 0 then. If it is, nobody
-    /// else holds the batch, and its values are given up to the slot's call.
-    pub fn subtract(&self, key: &mut SlotKey, pass: &mut Pass) -> bool
-        requires book { IsOf key.old pass.old × IsOfBook self.now pass.old }
+    /// else holds the batch, and its values are given up to the slot's call, with their keys.
+    pub fn subtract(&self, key: &mut SlotKey, values: &mut ValueKeys, pass: &mut Pass) -> bool
+        requires book { IsOf key.old pass.old × IsOfBook self.now pass.old × IsEmpty values.old pass.old }
         requires walks { Walks key.old self.now }
         ensures counts { Counts key.old pass.old key.new pass.new (SubCount (number_of key.old)) result }
         ensures gives { (walks : Walks key.old self.now) → GivesUp key.old key.new walks.batch walks.walk walks.queue result }
+        ensures keys { (walks : Walks key.old self.now) → Takes key.old walks.batch pass.new values.new result }
     {
-        let old = self.word.subtract::<Brand>(1, &mut key.keys, pass);
+        let both = &mut key.keys;
+        let old = self.word.subtract::<Brand>(1, both, pass);
+        both.part(&mut values.keys);
         old == 1
     }
 }

@@ -1,11 +1,13 @@
-//! The book: one list of the machine's events, which all threads share, and the rights to add to it. Nothing here has bytes.
+//! The book: one list of entries, which all threads share, and the rights to add to it. Nothing here has bytes.
 //!
-//! A `Book` shows that there is one list, and begins it. A `Pass` has seen a beginning of the list, and its holder adds events under its
-//! id. A key lets its holder make the events of what it is the key of, and know what the list says of it, whatever others add: a
-//! `SlotKey` those of a slot. An event that a word changes by is added in the word's own atomic step; a private event, which no word
-//! shows, by a call that does nothing else.
+//! An entry is an event of the machine, or a use of a field of a block, which is none. A `Book` shows that there is one list, and begins
+//! it. A `Pass` has seen a beginning of the list, and its holder adds entries under its id. A key lets its holder make the entries of what
+//! it is the key of, and know what the list says of it, whatever others add: a `SlotKey` those of a slot. An entry by a step on a word is
+//! added in that very step; a private event, which no word shows, by a call that does nothing else.
 
+mod block_keys;
 mod count_key;
+mod field_key;
 mod keys;
 mod link_keys;
 mod numbers_key;
@@ -13,8 +15,11 @@ mod pass;
 mod slot_key;
 mod token;
 mod value_key;
+mod value_keys;
 
+pub use block_keys::BlockKeys;
 pub use count_key::CountKey;
+pub use field_key::FieldKey;
 pub use keys::Keys;
 pub use link_keys::LinkKeys;
 pub use numbers_key::NumbersKey;
@@ -22,3 +27,4 @@ pub use pass::Pass;
 pub use slot_key::SlotKey;
 pub use token::Book;
 pub use value_key::ValueKey;
+pub use value_keys::ValueKeys;

@@ -1,4 +1,4 @@
-//! The list of the machine's events that threads share, and what their holders know of it.
+//! The list that threads share, of the machine's events and of uses of blocks' fields, and what their holders know of it.
 //!
 //! `book` is the list with its keys and passes, which have no bytes. `word` is the memory that threads change by atomic steps.
 #![tactic(auto)]
@@ -6,6 +6,7 @@
 pub mod activation;
 pub mod batch;
 pub mod book;
+pub mod header;
 pub mod link;
 pub mod reservation;
 mod word;

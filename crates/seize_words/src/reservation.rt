@@ -59,7 +59,8 @@ impl Head {
     }
 
     /// Inserts the slot's batch with this block if the head's word is still what was seen: the event `Insert`. It gives the word that it
-    /// found; the insertion is won if that is what was seen.
+    /// found; the insertion is won if that is what was seen. Before each try, also after a loss, the call has stored what it saw in the
+    /// block's next field, and the number of its batch's first block in its first field.
     pub fn insert(&self, seen: u64, block: u64, key: &mut SlotKey, pass: &mut Pass) -> u64
         requires book { IsOf key.old pass.old × IsOfBook self.now pass.old }
         requires tries { TriesAt key.old self.now seen block }

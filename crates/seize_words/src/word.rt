@@ -1,10 +1,10 @@
-//! Words: the memory that threads change by single atomic steps. A word stands for a head, link or count of the book. Its keys stand
-//! beside it, so an atomic step on it is an event in the list, which the holder of a pass adds in that very step. Heads, links and counts
-//! are made of it.
+//! Words: the memory that threads change by single atomic steps. A word stands for a head, link, count or field of the book. Its keys
+//! stand beside it, so an atomic step on it is an entry in the list, which the holder of a pass adds in that very step. Heads, links,
+//! counts and fields are made of it.
 ghost use Rattle.std.specs.Prelude.{◌≡◌, ℕ, ◌<◌, ◌==◌, ◌^◌, Bool, false, if◌then◌else◌, List, []};
 ghost use base.Fml.{fsep, fex};
-ghost use Rattle.seize_machine.specs.Machine.Event.{Event, Return};
-ghost use Rattle.seize_words.specs.Entry.{Entry};
+ghost use Rattle.seize_machine.specs.Machine.Event.{Return};
+ghost use Rattle.seize_words.specs.Entry.{Entry, Made};
 ghost use Rattle.seize_words.specs.Words.{Site, site_coded, word_owns, word_shares};
 
 use crate::activation::{Activation, Ended};
@@ -31,21 +31,17 @@ impl Move for Word {
     ghost own_val = { λ w vs. fex ℕ (λ n. fsep (Fields.own_val (record { bits = n }) vs) (word_owns w n)) };
 }
 
-/// The event of an atomic step, by what the step found in the word and what the list was just before; the lifetime of the activation that
-/// it begins; and whether the keys that stand beside the word's own change places with the holder's. A caller passes `Brand`, and its proof
-/// picks them; those below stand where none are picked.
+/// The entry of an atomic step, by what the step found in the word and what the list was just before; and whether the keys that stand
+/// beside the word's own change places with the holder's. A caller passes `Brand`, and its proof picks them; those below stand where none
+/// are picked.
 pub(crate) trait Finds {
-    ghost event: { ℕ → List Entry → Event };
-
-    ghost life: { ℕ };
+    ghost entry: { ℕ → List Entry → Entry };
 
     ghost trades: { ℕ → Bool };
 }
 
 impl Finds for Brand {
-    ghost event = { λ v log. Return 0 };
-
-    ghost life = { 0 };
+    ghost entry = { λ v log. Made (record { pass = 0; size = 0; event = Return 0; life = 0 }) };
 
     ghost trades = { λ v. false };
 }
@@ -63,8 +59,8 @@ impl Word {
 
     /// Reads the word.
     pub(crate) fn load<P: Finds>(&self, keys: &mut Keys, pass: &mut Pass) -> u64
-        requires { MayTake self.now keys.old pass.old [] [] (λ v. v) P.life P.event P.trades }
-        ensures { Takes self.now keys.old pass.old keys.new pass.new [] (λ v. v) result P.life P.event P.trades }
+        requires { MayTake self.now keys.old pass.old [] [] (λ v. v) P.entry P.trades }
+        ensures { Takes self.now keys.old pass.old keys.new pass.new [] (λ v. v) result P.entry P.trades }
     {
         unsafe { raw::load::<Brand>(self as *const Self as *const u64, SeqCst) }
     }
@@ -76,8 +72,8 @@ impl Word {
         activation: &Activation,
         pass: &mut Pass,
     ) -> u64
-        requires { MayTakeIn self.now keys.old pass.old activation.now (λ v. v) P.life P.event P.trades }
-        ensures { TakesIn self.now keys.old pass.old keys.new pass.new activation.now (λ v. v) result P.life P.event P.trades }
+        requires { MayTakeIn self.now keys.old pass.old activation.now (λ v. v) P.entry P.trades }
+        ensures { TakesIn self.now keys.old pass.old keys.new pass.new activation.now (λ v. v) result P.entry P.trades }
     {
         unsafe { raw::load::<Brand>(self as *const Self as *const u64, SeqCst) }
     }
@@ -90,8 +86,8 @@ impl Word {
         activation: &Activation,
         pass: &mut Pass,
     ) -> u64
-        requires { MayTakeIn self.now keys.old pass.old activation.now (λ v. new) P.life P.event P.trades }
-        ensures { TakesIn self.now keys.old pass.old keys.new pass.new activation.now (λ v. new) result P.life P.event P.trades }
+        requires { MayTakeIn self.now keys.old pass.old activation.now (λ v. new) P.entry P.trades }
+        ensures { TakesIn self.now keys.old pass.old keys.new pass.new activation.now (λ v. new) result P.entry P.trades }
     {
         unsafe { raw::swap::<Brand>(self as *const Self as *const u64, new, SeqCst) }
     }
@@ -105,8 +101,8 @@ impl Word {
         activation: &Activation,
         pass: &mut Pass,
     ) -> u64
-        requires { MayTakeIn self.now keys.old pass.old activation.now (exchanged seen new) P.life P.event P.trades }
-        ensures { TakesIn self.now keys.old pass.old keys.new pass.new activation.now (exchanged seen new) result P.life P.event P.trades }
+        requires { MayTakeIn self.now keys.old pass.old activation.now (exchanged seen new) P.entry P.trades }
+        ensures { TakesIn self.now keys.old pass.old keys.new pass.new activation.now (exchanged seen new) result P.entry P.trades }
     {
         unsafe { exchange::<Brand>(self as *const Self as *const u64, seen, new) }
     }
@@ -119,8 +115,8 @@ impl Word {
         ended: &mut Ended,
         pass: &mut Pass,
     ) -> u64
-        requires { MayTake self.now keys.old pass.old [] ended.old.lives (λ v. new) P.life P.event P.trades }
-        ensures { Takes self.now keys.old pass.old keys.new pass.new [] (λ v. new) result P.life P.event P.trades }
+        requires { MayTake self.now keys.old pass.old [] ended.old.lives (λ v. new) P.entry P.trades }
+        ensures { Takes self.now keys.old pass.old keys.new pass.new [] (λ v. new) result P.entry P.trades }
     {
         unsafe { raw::swap::<Brand>(self as *const Self as *const u64, new, SeqCst) }
     }
@@ -133,24 +129,32 @@ impl Word {
         keys: &mut Keys,
         pass: &mut Pass,
     ) -> u64
-        requires { MayTake self.now keys.old pass.old [] [] (exchanged seen new) P.life P.event P.trades }
-        ensures { Takes self.now keys.old pass.old keys.new pass.new [] (exchanged seen new) result P.life P.event P.trades }
+        requires { MayTake self.now keys.old pass.old [] [] (exchanged seen new) P.entry P.trades }
+        ensures { Takes self.now keys.old pass.old keys.new pass.new [] (exchanged seen new) result P.entry P.trades }
     {
         unsafe { exchange::<Brand>(self as *const Self as *const u64, seen, new) }
     }
 
+    /// Stores `new` and gives what the word held.
+    pub(crate) fn replace<P: Finds>(&self, new: u64, keys: &mut Keys, pass: &mut Pass) -> u64
+        requires { MayTake self.now keys.old pass.old [] [] (λ v. new) P.entry P.trades }
+        ensures { Takes self.now keys.old pass.old keys.new pass.new [] (λ v. new) result P.entry P.trades }
+    {
+        unsafe { raw::swap::<Brand>(self as *const Self as *const u64, new, SeqCst) }
+    }
+
     /// Adds to the word, round 2^64, and gives what it held.
     pub(crate) fn add<P: Finds>(&self, added: u64, keys: &mut Keys, pass: &mut Pass) -> u64
-        requires { MayTake self.now keys.old pass.old [] [] (plus added) P.life P.event P.trades }
-        ensures { Takes self.now keys.old pass.old keys.new pass.new [] (plus added) result P.life P.event P.trades }
+        requires { MayTake self.now keys.old pass.old [] [] (plus added) P.entry P.trades }
+        ensures { Takes self.now keys.old pass.old keys.new pass.new [] (plus added) result P.entry P.trades }
     {
         unsafe { raw::fetch_add::<Brand>(self as *const Self as *const u64, added, SeqCst) }
     }
 
     /// Subtracts from the word, round 2^64, and gives what it held.
     pub(crate) fn subtract<P: Finds>(&self, less: u64, keys: &mut Keys, pass: &mut Pass) -> u64
-        requires { MayTake self.now keys.old pass.old [] [] (minus less) P.life P.event P.trades }
-        ensures { Takes self.now keys.old pass.old keys.new pass.new [] (minus less) result P.life P.event P.trades }
+        requires { MayTake self.now keys.old pass.old [] [] (minus less) P.entry P.trades }
+        ensures { Takes self.now keys.old pass.old keys.new pass.new [] (minus less) result P.entry P.trades }
     {
         unsafe { raw::fetch_sub::<Brand>(self as *const Self as *const u64, less, SeqCst) }
     }

@@ -1,3 +1,4 @@
+pub mod Both
 pub mod Insertions
 pub mod Flushes
 pub mod Leaves

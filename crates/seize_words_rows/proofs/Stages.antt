@@ -1,7 +1,8 @@
 -- What one event does to what is known by a caller who has a book alone.
-use Rattle.std.proofs.Common.{◌≡◌, ℕ, List, [], ◌∷◌, ◌++◌, Some, refl, sym, ap, ◌∙◌, subst}
+use Rattle.std.proofs.Common.{◌≡◌, ℕ, Bool, true, false, if◌then◌else◌, List, [], ◌∷◌, ◌++◌, Option, Some, refl, sym, ap, ◌∙◌, subst}
 use Rattle.std.specs.Prelude.{slice_index_or}
-use Rattle.seize_machine.specs.Machine.State.{State, slot_at, head_at}
+use mathlib.Core.List.{cons≢nil}
+use Rattle.seize_machine.specs.Machine.State.{Call, Place, Rest, State, slot_at, head_at}
 use Rattle.seize_machine.specs.Machine.Event.{Event, ReadHead, Take}
 use Rattle.seize_machine.specs.Machine.Next.{next}
 use Rattle.seize_machine.specs.Machine.History.{first_of}
@@ -11,7 +12,9 @@ use Rattle.seize_machine.proofs.Facts.{some_is}
 use Rattle.seize_words.specs.Adding.{private}
 use Rattle.seize_words.specs.Blocks.{Plan, block_in, front_of, head_word, no_plan, planned_by, plans, word_of}
 use Rattle.seize_words.specs.Book.{after}
-use Rattle.seize_words.specs.Entry.{Entry}
+use Rattle.seize_words.specs.Counts.{Leaves, values_in}
+use Rattle.seize_words.specs.Entry.{Deed, Entry, Made, Use, Used}
+use Rattle.seize_words.specs.Headers.{Uses}
 use Rattle.seize_words.specs.Ledger.{Held, renewed}
 use Rattle.seize_words.specs.Others.{Follows, value_of}
 use Rattle.seize_words.specs.Passes.{IsSame}
@@ -19,20 +22,24 @@ use Rattle.seize_words.specs.Private.{label_of}
 use Rattle.seize_words.specs.Reservations.{FoundBefore, MakesSlot, Shows, beginning, made_of, slot}
 use Rattle.seize_words.specs.Slots.{Notes, NotesAs, number_of, own_list, slot_of, start_of}
 use Rattle.seize_words.specs.Tokens.{Name, Noted, start}
+use Rattle.seize_words.specs.Values.{Nexts, Pushes, book_in, values_of}
+use Rattle.seize_words.specs.Words.{labels_of}
 use Rattle.seize_words.specs.declared.book.numbers_key.NumbersKey.{NumbersKey}
 use Rattle.seize_words.specs.declared.book.pass.Pass.{Pass}
 use Rattle.seize_words.specs.declared.book.slot_key.SlotKey.{SlotKey}
 use Rattle.seize_words.specs.declared.book.value_key.ValueKey.{ValueKey}
+use Rattle.seize_words.specs.declared.book.value_keys.ValueKeys.{ValueKeys}
 use Rattle.seize_words.specs.declared.reservation.Head.{Head}
-use Rattle.seize_words.proofs.Facts.{planned_after}
+use Rattle.seize_words.proofs.Facts.{after_used, planned_after, plans_used}
+use Rattle.seize_words_rows.specs.Attempts.{UsesBoth}
 use Rattle.seize_words_rows.specs.Stages.{Goes, IsAt, Knows, Leads, Sees, Stage, word_at}
 
 -- said of the pass's own book
-goes_on : (pass pass' : Pass) (e : Entry) (from to : Stage) (answer : Answer) → IsSame pass pass' → (noted : Noted pass.name pass.id pass.seen pass'.seen e) → e.size ≡ pass.name.size → Sees pass.name pass from → Goes from e.event to answer
+goes_on : (pass pass' : Pass) (e : Deed) (from to : Stage) (answer : Answer) → IsSame pass pass' → (noted : Noted pass.name pass.id pass.seen pass'.seen (Made e)) → e.size ≡ pass.name.size → Sees pass.name pass from → Goes from e.event to answer
     → Sees pass.name pass' to
 goes_on pass pass' e from to answer same noted size sees goes =
     let n = pass.name in let st = start n in
-    let appended : pass'.seen ≡ pass.seen ++ e ∷ [] = noted.appended ∙ ap (λ (log : List Entry). log ++ e ∷ []) (noted.alone sees.alone) in
+    let appended : pass'.seen ≡ pass.seen ++ Made e ∷ [] = noted.appended ∙ ap (λ (log : List Entry). log ++ Made e ∷ []) (noted.alone sees.alone) in
     let does : next from.size from.state e.event ≡ Some (noted.later, noted.answer) =
     ap (λ (k : ℕ). next k from.state e.event) (sym (size ∙ sees.leads.size))
     ∙ ap (λ (now : State). next e.size now e.event) (sym sees.leads.state)
@@ -51,7 +58,7 @@ goes_on pass pass' e from to answer same noted size sees goes =
     }
 
 -- what is known of the pass after an event of a slot
-pub passes : (n : Name) (pass pass' : Pass) (e : Entry) (from to : Stage) (answer : Answer) → IsSame pass pass' → (noted : Noted pass.name pass.id pass.seen pass'.seen e) → e.size ≡ pass.name.size → Sees n pass from → Goes from e.event to answer
+pub passes : (n : Name) (pass pass' : Pass) (e : Deed) (from to : Stage) (answer : Answer) → IsSame pass pass' → (noted : Noted pass.name pass.id pass.seen pass'.seen (Made e)) → e.size ≡ pass.name.size → Sees n pass from → Goes from e.event to answer
     → Sees n pass' to
 passes n pass pass' e from to answer same noted size sees goes =
     subst (λ (m : Name). Sees m pass' to) sees.book (goes_on pass pass' e from to answer same noted size (subst (λ (m : Name). Sees m pass from) (sym sees.book) sees) goes)
@@ -68,6 +75,32 @@ steps n key key' pass pass' s life event from known to answer notes sees knows g
         leads = subst (λ (log : List Entry). IsAt n log to) (sym notes.1.2) now.leads;
       },
     )
+
+-- A use of a field leaves what is known, and the slot's key knows it too.
+pub uses_field : (n : Name) (key key' : SlotKey) (pass pass' : Pass) (s f : ℕ) (v : Option ℕ) (now known : Stage) → Uses key pass key' pass' f v → Sees n pass now → Knows n key s known → Leads n pass' key' s now
+uses_field n key key' pass pass' s f v now known uses sees knows =
+    let u : Use = record { pass = pass.id; slot = number_of key; field = f; stores = v } in
+    let noted = subst (λ (m : Name). Noted m pass.id pass.seen pass'.seen (Used u)) sees.book uses.noted in
+    let appended : pass'.seen ≡ pass.seen ++ Used u ∷ [] = noted.appended ∙ ap (λ (log : List Entry). log ++ Used u ∷ []) (noted.alone sees.alone) in
+    let leads : IsAt n pass'.seen now =
+    record {
+      size = sees.leads.size;
+      state = ap (after (start n)) appended ∙ after_used (start n) pass.seen u ∙ sees.leads.state;
+      planned = ap (plans (start n)) appended ∙ plans_used (start n) pass.seen u ∙ sees.leads.planned;
+    } in (
+      record { book = uses.same.0 ∙ sees.book; alone = sees.alone; leads = leads },
+      record {
+        book = uses.seen_by.0 ∙ knows.book;
+        number = uses.seen_by.1 ∙ knows.number;
+        leads = subst (λ (log : List Entry). IsAt n log now) (sym uses.seen_by.2) leads;
+      },
+    )
+
+-- so do the uses of two
+pub uses_both : (n : Name) (key key' : SlotKey) (pass pass' : Pass) (s f g : ℕ) (v w : Option ℕ) (now known : Stage) → UsesBoth key pass key' pass' f v g w → Sees n pass now → Knows n key s known → Leads n pass' key' s now
+uses_both n key key' pass pass' s f g v w now known uses sees knows =
+    let first = uses_field n key uses.mid pass uses.between s f v now known uses.one sees knows in
+    uses_field n uses.mid key' uses.between pass' s g w now now uses.two first.0 first.1
 
 -- The slot's record, as its key knows it.
 
@@ -142,3 +175,55 @@ same_value value value' pass' follows = ap label_of follows.1 ∙ same_labels va
 -- the batch's first value, as the key knows
 pub front_is : (n : Name) (key : SlotKey) (s b v : ℕ) (stage : Stage) → Knows n key s stage → first_of (slice_index_or stage.plans b no_plan).values ≡ Some v → front_of (start_of key) (own_list key) b ≡ Some v
 front_is n key s b v stage knows first = ap (λ (ps : List Plan). first_of (slice_index_or ps b no_plan).values) (planned_is n key s stage knows) ∙ first
+
+-- and all its values
+pub values_are : (n : Name) (key : SlotKey) (s b : ℕ) (stage : Stage) → Knows n key s stage → values_in key b ≡ (slice_index_or stage.plans b no_plan).values
+values_are n key s b stage knows = ap (λ (ps : List Plan). (slice_index_or ps b no_plan).values) (planned_is n key s stage knows)
+
+-- a pass that nothing was made with
+pub sees_still : (n : Name) (pass pass' : Pass) (stage : Stage) → pass' ≡ pass → Sees n pass stage → Sees n pass' stage
+sees_still n pass pass' stage same sees = subst (λ (p : Pass). Sees n p stage) (sym same) sees
+
+-- Keys of values.
+
+same_all : (held : List (Held Entry)) (log : List Entry) → labels_of (renewed held log) ≡ labels_of held
+same_all [] log = refl
+same_all (h ∷ held) log = ap (λ (ls : List ℕ). h.label ∷ ls) (same_all held log)
+
+-- those that stay with whoever adds to a count that is 0 then
+pub keys_stay : (n : Name) (values values' : ValueKeys) (pass' : Pass) (zero : Bool) → zero ≡ true → Leaves values pass' values' zero → pass'.name ≡ n
+    → (label_of values'.keys.held ≡ label_of values.keys.held) × (book_in values' ≡ n) × (values_of values' ≡ values_of values)
+keys_stay n values values' pass' zero is leaves book =
+    let held : values'.keys.held ≡ renewed values.keys.held pass'.seen = leaves.1 ∙ ap (λ (b : Bool). renewed (if b then values.keys.held else []) pass'.seen) is in
+    (ap label_of held ∙ same_labels values.keys.held pass'.seen, leaves.0 ∙ book, ap labels_of held ∙ same_all values.keys.held pass'.seen)
+
+-- a batch whose values are given up came to 0
+abbrev pub rests : List ℕ → List ℕ → List ℕ → Option Call
+rests given walk queue = Some (record { place = Rest given walk; queue = queue })
+
+pub came_to_zero : (zero : Bool) (values given : List ℕ) (v : ℕ) (walk queue : List ℕ) → rests (if zero then values else []) walk queue ≡ rests (v ∷ given) walk queue → zero ≡ true
+came_to_zero true values given v walk queue e = refl
+came_to_zero false values given v walk queue e = absurd (let none : [] ≡ v ∷ given = ap (λ (call : Call). gives call.place) (some_is _ _ e) in cons≢nil (sym none))
+  where
+    gives : Place → List ℕ
+    gives (Rest given walk) = given
+    gives _ = []
+
+-- the one key, taken out and put back
+pub taken_and_back : (values : ValueKeys) (value : ValueKey) (rest : ValueKeys) (value' : ValueKey) (values' : ValueKeys) → Nexts values value rest → Pushes rest value' values' → values_of values ≡ label_of values.keys.held ∷ []
+    → label_of values'.keys.held ≡ value_of value'
+taken_and_back values value rest value' values' nexts pushes one =
+    let none : values_of rest ≡ [] = ap tail_of (sym nexts.2 ∙ one) in
+    first_label values'.keys.held (value_of value') (pushes.1 ∙ ap (λ (ls : List ℕ). ls ++ value_of value' ∷ []) none)
+  where
+    tail_of : List ℕ → List ℕ
+    tail_of [] = []
+    tail_of (x ∷ xs) = xs
+
+    first_label : (held : List (Held Entry)) (v : ℕ) → labels_of held ≡ v ∷ [] → label_of held ≡ v
+    first_label [] v e = absurd (cons≢nil (sym e))
+    first_label (h ∷ held) v e = ap head_of e
+      where
+        head_of : List ℕ → ℕ
+        head_of [] = 0
+        head_of (x ∷ xs) = x

@@ -1,18 +1,22 @@
 -- The stages of the worked run. Slot 0 reads, slot 1 retires value v alone.
 --     book_in heads      the book of the heads;  AreHeads heads    they are of one book, and of slots 0 and 1
 --     value_in block     the value of the block
---     IsLaid n block     its count is of the book, and stands with it;  IsNewBlock n block     and its value was never named
+--     IsLaid n block     its count and fields are of the book, and stand with it;  IsNewBlock n block     and its value was never named
 --     book_of words, value_of words     their book and their block's value;  AreWords words     they are as said above
 --     StandsAt words pass now key s last     the pass has seen the one stage, and slot s made its last event at the other
 --     opened .. over v   the stages, in order
 use Rattle.std.specs.Prelude.{◌≡◌, ℕ, ℤ, pos, negsuc, true, false, List, [], ◌∷◌, Some, None}
 use Rattle.seize_machine.specs.Machine.State.{Slot, Head, Inactive, Active, Batch, Place, Append, Mark, Look, Try, Add, Out, Rest}
 use Rattle.seize_words.specs.Blocks.{block_of}
+use Rattle.seize_words.specs.Chains.{first_field, next_field}
 use Rattle.seize_words.specs.Counts.{home}
+use Rattle.seize_words.specs.Headers.{number}
 use Rattle.seize_words.specs.Homes.{home_of}
 use Rattle.seize_words.specs.Others as others
+use Rattle.seize_words.specs.Private.{label_of}
 use Rattle.seize_words.specs.Reservations.{slot}
 use Rattle.seize_words.specs.Tokens.{Name}
+use Rattle.seize_words.specs.Values as values
 use Rattle.seize_words.specs.declared.book.pass.Pass.{Pass}
 use Rattle.seize_words.specs.declared.book.slot_key.SlotKey.{SlotKey}
 use Rattle.seize_words_rows.specs.Stages.{Knows, Sees, Stage}
@@ -27,14 +31,26 @@ abbrev pub AreHeads : Heads → Type 0
 AreHeads heads = (heads.retirer.word.name ≡ book_in heads) × (slot heads.reader ≡ 0) × (slot heads.retirer ≡ 1)
 
 abbrev pub value_in : Block → ℕ
-value_in block = others.value_of block.value
+value_in block = label_of block.values.keys.held
+
+-- the fields are of this book, and the block's
+abbrev pub HasFields : Name → Block → Type 0
+HasFields n block =
+    (block.next.word.name ≡ n) × (block.first.word.name ≡ n) × (number block.next ≡ next_field (home_of (value_in block)))
+    × (number block.first ≡ first_field (home_of (value_in block)))
+
+-- the keys are of this book, and that of the value is the only one
+abbrev pub HasKey : Name → Block → Type 0
+HasKey n block = (values.book_in block.values ≡ n) × (values.values_of block.values ≡ value_in block ∷ [])
 
 -- the block has number 5, and its count, of this book, is that of the batch whose first value lies there
 abbrev pub IsLaid : Name → Block → Type 0
-IsLaid n block = (block.count.word.name ≡ n) × (home block.count ≡ home_of (value_in block)) × (block_of (value_in block) ≡ 5)
+IsLaid n block =
+    (block.count.word.name ≡ n) × (home block.count ≡ home_of (value_in block)) × (block_of (value_in block) ≡ 5) × HasFields n block
+    × HasKey n block
 
 abbrev pub IsNewBlock : Name → Block → Type 0
-IsNewBlock n block = IsLaid n block × (block.value.keys.name ≡ n) × others.MayRetire block.value
+IsNewBlock n block = IsLaid n block × others.MayBegin (value_in block) (others.state_of block.values.keys)
 
 abbrev pub book_of : Words → Name
 book_of words = book_in words.heads

@@ -70,7 +70,7 @@ impl Swapper {
         let mut left: u64 = 0;
         for block in first..first + EACH {
             let seen = link.read(&activation, &mut pass);
-            let mut value = MaybeKey::some(book.block(block).0);
+            let mut value = MaybeKey::some(book.block(block).value);
             let old = link.compare_exchange(seen, block + 1, &mut value, &activation, &mut pass);
             if old == seen {
                 left = left.wrapping_add(block + 1).wrapping_sub(old);
@@ -89,7 +89,7 @@ impl Swapper {
             book,
             mut pass,
         } = self;
-        let mut value = MaybeKey::some(book.block(block).0);
+        let mut value = MaybeKey::some(book.block(block).value);
         into.swap(block + 1, &mut value, &activation, &mut pass);
         for _ in 0..TURNS {
             if from.read(&activation, &mut pass) != 0 {
@@ -116,7 +116,7 @@ fn swap_each(
 {
     let mut left: u64 = 0;
     for block in first..first + count {
-        let mut value = MaybeKey::some(book.block(block).0);
+        let mut value = MaybeKey::some(book.block(block).value);
         let old = link.swap(block + 1, &mut value, activation, pass);
         left = left.wrapping_add(block + 1).wrapping_sub(old);
     }

@@ -5,10 +5,15 @@ ghost use Rattle.seize_words_rows.specs.Visits.{MayVisit};
 use crate::exchanges::{EACH, Swapper, read_many, share_many};
 use crate::leaving::{Visitor, leave_head};
 use crate::row::{open_row, read_row, visit_many};
+use crate::walking::block_at;
 use crate::worked_run;
 use seize_words::activation::Activation;
 use seize_words::batch::Count;
-use seize_words::book::{Book, CountKey, Keys, LinkKeys, NumbersKey, Pass, SlotKey, ValueKey};
+use seize_words::book::{
+    BlockKeys, Book, CountKey, FieldKey, Keys, LinkKeys, NumbersKey, Pass, SlotKey, ValueKey,
+    ValueKeys,
+};
+use seize_words::header::Field;
 use seize_words::link::{Link, MaybeKey};
 use seize_words::reservation::Head;
 use std::mem::size_of;
@@ -39,7 +44,10 @@ fn tokens_have_no_bytes(rt: HostRuntime) {
     assert_eq!(rt;
         size_of::<SlotKey>()
             + size_of::<ValueKey>()
+            + size_of::<ValueKeys>()
+            + size_of::<BlockKeys>()
             + size_of::<CountKey>()
+            + size_of::<FieldKey>()
             + size_of::<NumbersKey>()
             + size_of::<LinkKeys>()
             + size_of::<MaybeKey>()
@@ -48,12 +56,13 @@ fn tokens_have_no_bytes(rt: HostRuntime) {
     );
 }
 
-// A head, a link and a count are one word each.
+// A head, a link, a count and a field are one word each.
 #[test]
 fn words_have_eight_bytes(rt: HostRuntime) {
     assert_eq!(rt; size_of::<Head>(), 8);
     assert_eq!(rt; size_of::<Link>(), 8);
     assert_eq!(rt; size_of::<Count>(), 8);
+    assert_eq!(rt; size_of::<Field>(), 8);
 }
 
 // One slot enters and reads a link, which is empty.
@@ -87,7 +96,7 @@ fn a_swapped_value_comes_out(rt: HostRuntime) {
     let link = Link::next(&mut links);
     let (mut key, head) = Head::make(&mut numbers, &mut pass);
     let activation = head.enter(&mut key, &mut pass);
-    let mut value = MaybeKey::some(book.block(5).0);
+    let mut value = MaybeKey::some(book.block(5).value);
     assert_eq!(rt; link.swap(6, &mut value, &activation, &mut pass), 0);
     let mut none = MaybeKey::none(&mut pass);
     assert_eq!(rt; link.swap(0, &mut none, &activation, &mut pass), 6);
@@ -187,7 +196,7 @@ fn a_last_insertion_is_added(rt: HostRuntime) {
     worked_run::retire(&words.heads, &mut retirer, &mut words.block, &mut pass);
     worked_run::mark(&words, &mut retirer, &mut pass);
     worked_run::detach(&words, &mut retirer, &mut pass);
-    let done = worked_run::insert_and_add(&words, &mut retirer, &mut pass);
+    let done = worked_run::insert_and_add(&mut words, &mut retirer, &mut pass);
     assert_eq!(rt; done, Some(false));
     drop((reader, retirer, words, activation));
 }
@@ -218,7 +227,7 @@ fn threads_share_one_activation(rt: HostRuntime) {
     let link = Link::next(&mut links);
     let mut one = Swapper::enter(&book, &mut numbers, &link);
     book.learn(&mut one.pass);
-    let mut value = MaybeKey::some(book.block(999_999).0);
+    let mut value = MaybeKey::some(book.block(999_999).value);
     link.swap(1_000_000, &mut value, &one.activation, &mut one.pass);
     let (shared, book, activation) = (&link, &book, &one.activation);
     let (left, sum) = thread::join(
@@ -258,8 +267,8 @@ fn each_thread_sees_what_the_other_put_in(rt: HostRuntime) {
     drop((links, numbers));
 }
 
-// One slot reads while another retires a value: the batch goes into the reader's list, is counted down to -1, and up to 0, which gives it
-// up.
+// One slot reads while another retires a value: the batch goes into the reader's list, which leads to its block and ends there, is counted
+// down to -1, and up to 0, which gives it up.
 #[test]
 fn a_batch_is_counted_down_and_up(rt: HostRuntime) {
     let (mut reader, mut retirer, mut words, mut pass) = worked_run::begin();
@@ -267,13 +276,14 @@ fn a_batch_is_counted_down_and_up(rt: HostRuntime) {
     worked_run::retire(&words.heads, &mut retirer, &mut words.block, &mut pass);
     assert_eq!(rt; worked_run::mark(&words, &mut retirer, &mut pass), (1, 0));
     assert_eq!(rt; worked_run::detach(&words, &mut retirer, &mut pass), 1);
+    worked_run::store(&words, &mut retirer, &mut pass);
     assert_eq!(rt; worked_run::insert(&words, &mut retirer, &mut pass), 1);
-    assert_eq!(rt;
-        worked_run::leave(&words, &mut reader, activation, &mut pass),
-        7
-    );
+    let list = worked_run::leave(&words, &mut reader, activation, &mut pass);
+    assert_eq!(rt; (list, block_at(list)), (7, Some(5)));
+    let fields = worked_run::load(&words, &mut reader, &mut pass);
+    assert_eq!(rt; (fields, block_at(fields.0)), ((1, 5), None));
     assert!(rt; !worked_run::count_down(&words, &mut reader, &mut pass));
-    assert!(rt; worked_run::count_up(&words, &mut retirer, &mut pass));
+    assert!(rt; worked_run::count_up(&mut words, &mut retirer, &mut pass));
     worked_run::hand(&words, &mut retirer, &mut pass);
     drop((reader, retirer, words));
 }

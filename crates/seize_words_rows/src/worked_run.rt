@@ -1,20 +1,24 @@
 //! A worked run: one slot reads, and another retires a value. The batch is detached, inserted at the reader's head, counted down below 0
 //! by the reader and up to 0 by the other, which gives it up and hands its value to its reclaimer.
 //!
-//! It shows that what heads and counts ask of their callers can be met: it has all that a retirement and a leave take, on words. Each
-//! function makes one or two of the events. The book is open to one pass alone, so its holder knows the whole list: how many slots there
-//! are when a value is put, which of them are active, and what waits in a list that comes out. So the contracts say which words are found.
-ghost use Rattle.std.specs.Prelude.{◌≡◌, true, false};
+//! It shows that what heads, fields and counts ask of their callers can be met: it has all that a retirement and a leave take, on words.
+//! Each function makes one or two of the events. The book is open to one pass alone, so its holder knows the whole list: how many slots
+//! there are when a value is put, which of them are active, and what waits in a list that comes out. So the contracts say which words are
+//! found.
+ghost use Rattle.std.specs.Prelude.{◌≡◌, true, false, Some};
+ghost use Rattle.seize_words.specs.Slots.{written_of};
 ghost use Rattle.seize_words.specs.Reservations.{IsFull, IsLastOf, made_of};
 ghost use Rattle.seize_words_rows.specs.Runs.{AreHeads, IsLaid, IsNewBlock, StandsAt, book_in, book_of, value_in};
 ghost use Rattle.seize_words_rows.specs.Runs.{entered, one_made, opened, put, two_made};
 ghost use Rattle.seize_words_rows.specs.Runs.{counted_up, inserted, left, looked, marked, over, reader_over};
 ghost use Rattle.seize_words_rows.specs.Stages.{Knows, Leads, Sees};
 
-use crate::attempts::insert_last;
+use crate::attempts::{Attempt, insert_last, prepare};
+use crate::walking::look_on;
 use seize_words::activation::Activation;
 use seize_words::batch::Count;
-use seize_words::book::{Book, NumbersKey, Pass, SlotKey, ValueKey};
+use seize_words::book::{BlockKeys, Book, NumbersKey, Pass, SlotKey, ValueKeys};
+use seize_words::header::Field;
 use seize_words::reservation::Head;
 
 /// The number of the one block.
@@ -27,11 +31,13 @@ pub struct Heads {
     pub retirer: Head,
 }
 
-/// A block: the key of the value that lies in it, and the word of its count.
+/// A block: the key of the value that lies in it, alone among keys of values, and the words of its count and of its two fields.
 #[derive(Drop)]
 pub struct Block {
-    pub value: ValueKey,
+    pub values: ValueKeys,
     pub count: Count,
+    pub next: Field,
+    pub first: Field,
 }
 
 /// All words of the run.
@@ -57,14 +63,21 @@ fn make_slots(numbers: &mut NumbersKey, pass: &mut Pass) -> (SlotKey, SlotKey, H
     (reader, retirer, heads)
 }
 
-// Makes the block, whose count is 0.
+// Makes the block, whose count is 0. Nothing was stored in its fields.
 fn make_block(book: &Book) -> Block
     ensures { IsNewBlock book.now.name result }
 {
-    let (value, key) = book.block(BLOCK);
-    Block {
+    let BlockKeys {
         value,
-        count: Count::new(key),
+        count,
+        next,
+        first,
+    } = book.block(BLOCK);
+    Block {
+        values: ValueKeys::of(value),
+        count: Count::new(count),
+        next: Field::new(next),
+        first: Field::new(first),
     }
 }
 
@@ -96,7 +109,9 @@ pub fn retire(heads: &Heads, retirer: &mut SlotKey, block: &mut Block, pass: &mu
     ensures laid { IsLaid (book_in heads.now) block.new }
     ensures leads { Leads (book_in heads.now) pass.new retirer.new 1 (put (value_in block.new)) }
 {
-    retirer.begin_retire(&mut block.value, pass);
+    let mut value = block.values.next();
+    retirer.begin_retire(&mut value, pass);
+    block.values.push(value);
     retirer.put(pass);
 }
 
@@ -120,26 +135,50 @@ pub fn detach(words: &Words, retirer: &mut SlotKey, pass: &mut Pass) -> u64
     words.heads.reader.read(retirer, pass)
 }
 
+/// It stores in the block's fields the word that it saw, and the number of the batch's first block, which is this one.
+pub fn store(words: &Words, retirer: &mut SlotKey, pass: &mut Pass)
+    requires stands { StandsAt words.now pass.old looked retirer.old 1 looked }
+    ensures stored { written_of retirer.new ≡ Some (1, 5) }
+    ensures stands { StandsAt words.now pass.new looked retirer.new 1 looked }
+{
+    prepare(
+        &words.block.next,
+        &words.block.first,
+        1,
+        BLOCK,
+        retirer,
+        pass,
+    );
+}
+
 /// It inserts the batch there. It gives the word that it found, which is the one that it saw.
 pub fn insert(words: &Words, retirer: &mut SlotKey, pass: &mut Pass) -> u64
     requires stands { StandsAt words.now pass.old looked retirer.old 1 looked }
+    requires stored { written_of retirer.old ≡ Some (1, 5) }
     ensures found { result ≡ 1 }
     ensures stands { StandsAt words.now pass.new inserted retirer.new 1 inserted }
 {
     words.heads.reader.insert(1, BLOCK, retirer, pass)
 }
 
-/// It inserts the batch there as its call would that knows nothing of other slots: if it is won, the count is added to at once.
-pub fn insert_and_add(words: &Words, retirer: &mut SlotKey, pass: &mut Pass) -> Option<bool>
-    requires stands { StandsAt words.now pass.old looked retirer.old 1 looked }
+/// It inserts the batch there as its call would that knows nothing of other slots: it stores in the fields before, and if the insertion is
+/// won, the count is added to at once.
+pub fn insert_and_add(words: &mut Words, retirer: &mut SlotKey, pass: &mut Pass) -> Option<bool>
+    requires stands { StandsAt words.old pass.old looked retirer.old 1 looked }
 {
     insert_last(
         &words.heads.reader,
+        &words.block.next,
+        &words.block.first,
         &words.block.count,
-        1,
-        BLOCK,
-        0,
+        Attempt {
+            seen: 1,
+            block: BLOCK,
+            front: BLOCK,
+            won: 0,
+        },
         retirer,
+        &mut words.block.values,
         pass,
     )
 }
@@ -155,24 +194,37 @@ pub fn leave(words: &Words, reader: &mut SlotKey, activation: Activation, pass: 
     words.heads.reader.leave(activation, reader, pass)
 }
 
+/// The reader loads the block's fields: the list ends with it, and it is the first block of the batch.
+pub fn load(words: &Words, reader: &mut SlotKey, pass: &mut Pass) -> (u64, u64)
+    requires stands { StandsAt words.now pass.old left reader.old 0 left }
+    ensures found { (result.0 ≡ 1) × (result.1 ≡ 5) }
+    ensures stands { StandsAt words.now pass.new left reader.new 0 left }
+{
+    look_on(&words.block.next, &words.block.first, reader, pass)
+}
+
 /// It counts the batch down to -1, and its call is over. It gives nothing up.
 pub fn count_down(words: &Words, reader: &mut SlotKey, pass: &mut Pass) -> bool
     requires stands { StandsAt words.now pass.old left reader.old 0 left }
     ensures zero { result ≡ false }
     ensures stands { StandsAt words.now pass.new reader_over reader.new 0 reader_over }
 {
-    let zero = words.block.count.subtract(reader, pass);
+    let mut values = ValueKeys::new(pass);
+    let zero = words.block.count.subtract(reader, &mut values, pass);
     reader.finish(pass);
     zero
 }
 
-/// The other slot adds its one insertion. The count is 0 with that, and the batch is given up.
-pub fn count_up(words: &Words, retirer: &mut SlotKey, pass: &mut Pass) -> bool
-    requires stands { StandsAt words.now pass.old reader_over retirer.old 1 inserted }
+/// The other slot adds its one insertion. The count is 0 with that, and the batch is given up, with the key of its value.
+pub fn count_up(words: &mut Words, retirer: &mut SlotKey, pass: &mut Pass) -> bool
+    requires stands { StandsAt words.old pass.old reader_over retirer.old 1 inserted }
     ensures zero { result ≡ true }
-    ensures stands { StandsAt words.now pass.new counted_up retirer.new 1 counted_up }
+    ensures stands { StandsAt words.new pass.new counted_up retirer.new 1 counted_up }
 {
-    words.block.count.add(1, retirer, pass)
+    words
+        .block
+        .count
+        .add(1, retirer, &mut words.block.values, pass)
 }
 
 /// It hands the value to its reclaimer, and its call is over.

@@ -1,4 +1,4 @@
-//! Passes. It uses nothing of the other modules; the keys beside it add events with a pass.
+//! Passes. It uses nothing of the other modules; the keys beside it add entries with a pass.
 ghost use Rattle.std.specs.Prelude.{◌≡◌, ℕ, List};
 ghost use base.Stored.{coded_list};
 ghost use Rattle.seize_words.specs.Entry.{Entry, entry_coded};
@@ -6,7 +6,7 @@ ghost use Rattle.seize_words.specs.Tokens.{Name, name_coded, pass_owns};
 
 use std::marker::{Model, PhantomData};
 
-/// What its holder has seen of the list, and the right to add events under its id.
+/// What its holder has seen of the list, and the right to add entries under its id.
 pub struct Pass {
     pub(super) marker: PhantomData<()>,
     /// The book.

@@ -12,8 +12,9 @@ use crate::book::pass::Pass;
 use crate::book::value_key::ValueKey;
 use std::marker::Brand;
 
-/// The right to the events of one slot, but for those on links, which whoever has a guard of the slot may make. It knows the slot's
-/// record, and whether the slot is active, whatever others add.
+/// The right to the events of one slot, but for those on links, which whoever has a guard of the slot may make, and to its uses of fields.
+/// It knows the slot's record, whether the slot is active, and what was last stored in the fields of the block that its call is about to
+/// insert, whatever others add.
 #[derive(Drop)]
 pub struct SlotKey {
     pub(crate) keys: Keys,

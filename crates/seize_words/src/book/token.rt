@@ -6,7 +6,9 @@ ghost use Rattle.seize_words.specs.Begin.{book_owns};
 ghost use Rattle.seize_words.specs.Entry.{Entry, entry_coded};
 ghost use Rattle.seize_words.specs.Tokens.{Name, many, name_coded};
 
+use crate::book::block_keys::BlockKeys;
 use crate::book::count_key::CountKey;
+use crate::book::field_key::FieldKey;
 use crate::book::keys::Keys;
 use crate::book::link_keys::LinkKeys;
 use crate::book::numbers_key::NumbersKey;
@@ -31,8 +33,8 @@ impl Model for Book {
 
 impl Book {
     ghost use mathlib.Core.List.{IsPrefix};
-    ghost use Rattle.seize_words.specs.Books.{Begins, IsAlone, IsCountFor, IsFirstIn, IsMany, IsNew, IsNewBlock, Opens, OpensAlone};
-    ghost use Rattle.seize_words.specs.Others.{book_of};
+    ghost use Rattle.seize_words.specs.Books.{AreOf, Begins, IsAlone, IsCountFor, IsFieldFor, IsFirstIn, IsMany, IsNew, IsNewBlock, Opens, OpensAlone};
+    ghost use Rattle.seize_words.specs.Chains.{first_field, next_field};
 
     /// A new book, of which any number of passes may be made, the key of its numbers, and those of its links. It has no slot yet, and its
     /// links are empty. A slot attempts its batch when that has `size` values, at least one.
@@ -113,22 +115,32 @@ impl Book {
         ensures { (self.new.name ≡ self.old.name) × (self.new.seen ≡ pass.old.seen) × (pass.new ≡ pass.old) }
     {}
 
-    /// The key of a new block's values, and that of its count. Words hold this number for it, which fits beside the 2 of a head's word.
-    /// None of its values was ever named, and the key is for one of them. Without the count's key no batch can be counted whose first value
-    /// lies in the block.
-    pub fn block(&self, number: u64) -> (ValueKey, CountKey)
+    /// The key of a new block's values, that of its count, and those of its next and first fields. Words hold this number for it, which
+    /// fits beside the 2 of a head's word. None of its values was ever named, and the key is for one of them. Without the other keys no
+    /// batch can be counted whose first value lies in the block, and none inserted with it.
+    pub fn block(&self, number: u64) -> BlockKeys
         requires { number + 2 < 2 ^ 64 }
-        ensures value { IsFirstIn result.0 number }
-        ensures count { IsCountFor result.1 result.0 }
-        ensures book { (book_of result.0 ≡ self.now.name) × (result.1.keys.name ≡ self.now.name) }
+        ensures value { IsFirstIn result.value number }
+        ensures count { IsCountFor result.count result.value }
+        ensures fields { IsFieldFor next_field result.next result.value × IsFieldFor first_field result.first result.value }
+        ensures book { AreOf self.now result }
     {
         let mut value = self.block_keys(number);
         let mut count = value.none();
+        let mut next = value.none();
+        let mut first = value.none();
         value.part(&mut count);
-        (ValueKey { keys: value }, CountKey { keys: count })
+        count.part(&mut next);
+        next.part(&mut first);
+        BlockKeys {
+            value: ValueKey { keys: value },
+            count: CountKey { keys: count },
+            next: FieldKey { keys: next },
+            first: FieldKey { keys: first },
+        }
     }
 
-    // The keys of a new block: that of its values, and that of its count.
+    // The keys of a new block, in this order.
     fn block_keys(&self, number: u64) -> Keys
         ensures { IsNewBlock result number × (result.name ≡ self.now.name) }
     {

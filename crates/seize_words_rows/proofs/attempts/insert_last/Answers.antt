@@ -1,4 +1,4 @@
-use Rattle.std.proofs.Common.{◌≡◌, ◌≢◌, ℕ, ◌+◌, Bool, true, false, ◌==◌, if◌then◌else◌, [], Some, ap, ◌∙◌, subst, arith}
+use Rattle.std.proofs.Common.{◌≡◌, ◌≢◌, ℕ, ◌+◌, Bool, true, false, ◌==◌, if◌then◌else◌, [], Some, sym, ap, ◌∙◌, subst, arith}
 use Rattle.seize_machine.specs.Machine.State.{Add, Look, Rest}
 use Rattle.seize_machine.specs.Machine.Event.{Insert}
 use Rattle.seize_machine.specs.Machine.History.{first_of}
@@ -12,9 +12,12 @@ use Rattle.seize_words.specs.Slots.{Notes, number_of}
 use Rattle.seize_words.specs.declared.batch.Count.{Count}
 use Rattle.seize_words.specs.declared.book.pass.Pass.{Pass}
 use Rattle.seize_words.specs.declared.book.slot_key.SlotKey.{SlotKey}
+use Rattle.seize_words.specs.declared.header.Field.{Field}
 use Rattle.seize_words.specs.declared.reservation.Head.{Head}
 use Rattle.seize_words.proofs.Facts.{plan_kept}
 use Rattle.seize_words_rows.specs.Attempts.{IsLastTry}
+use Rattle.seize_words_rows.specs.declared.attempts.Attempt.{Attempt}
+use Rattle.seize_words_rows.proofs.Both.{last_try_both, may_insert, plan_both, same_both}
 use Rattle.seize_words_rows.proofs.Insertions.{lost_call, won_call}
 use Rattle.seize_words_rows.proofs.attempts.insert_last.Goals as goal
 
@@ -29,9 +32,9 @@ abbrev Inserts : SlotKey → SlotKey → Pass → Pass → Head → Insertion �
 Inserts key key' pass pass' head end = Notes key pass key' pass' (Insert (number_of key) (slot head) end)
 
 -- after a won one the insertions are about to be added
-abbrev adds_then : (key key' : SlotKey) (pass pass' : Pass) (head : Head) (count : Count) (seen block won : ℕ) (t : IsLastTry key head count seen block won) → Inserts key key' pass pass' head Won → AddsTo key' count (won + 1)
-adds_then key key' pass pass' head count seen block won t noted =
-    let r = t.tries.0 in let n = noted.2.0 in
+abbrev adds_then : (key key' : SlotKey) (pass pass' : Pass) (head : Head) (next first : Field) (count : Count) (attempt : Attempt) (t : IsLastTry key head next first count attempt) → Inserts key key' pass pass' head Won → AddsTo key' count (attempt.won + 1)
+adds_then key key' pass pass' head next first count attempt t noted =
+    let r = t.tries in let n = noted.2.0 in
     record {
       batch = r.batch;
       front = t.front;
@@ -41,29 +44,44 @@ adds_then key key' pass pass' head count seen block won t noted =
       its_home = t.its_home;
     }
 
-pub returns-then-insert-seen-clause-ends : goal.returns-then-insert-seen-clause-ends
-returns-then-insert-seen-clause-ends c =
-    λ t. let key = c.args.key.now in let pass = c.args.pass.now in let head = c.args.head.now in let r = t.tries.0 in let key' = c.insert.new.key in
-    let noted = subst (λ (end : Insertion). Inserts key key' pass c.insert.new.pass head end) (ends_lost c.args.seen c.insert.result c.if-insert-seen.true) c.insert.ensures.noted in let n = noted.2.0 in
+pub insert-requires-clause-tries : goal.insert-requires-clause-tries
+insert-requires-clause-tries c =
+    let key = c.args.key.now in let head = c.args.head.now in let next = c.args.next.now in let first = c.args.first.now in let count = c.args.count.now in let attempt = c.args.attempt in let ready = c.prepare.new.key in
+    may_insert ready head next first count attempt (last_try_both key ready c.args.pass.now c.prepare.new.pass _ _ _ _ c.prepare.ensures.uses c.requires.book.0 head next first count attempt c.requires.tries.0) c.prepare.ensures.written
+
+pub returns-then-insert-attempt-clause-ends : goal.returns-then-insert-attempt-clause-ends
+returns-then-insert-attempt-clause-ends c =
+    λ given. let key = c.prepare.new.key in let pass = c.prepare.new.pass in let head = c.args.head.now in let attempt = c.args.attempt in let key' = c.insert.new.key in
+    let uses = c.prepare.ensures.uses in let same = same_both c.args.key.now key c.args.pass.now pass _ _ _ _ uses c.requires.book.0 in
+    let t = last_try_both c.args.key.now key c.args.pass.now pass _ _ _ _ uses c.requires.book.0 head c.args.next.now c.args.first.now c.args.count.now attempt given in let r = t.tries in
+    let noted = subst (λ (end : Insertion). Inserts key key' pass c.insert.new.pass head end) (ends_lost attempt.seen c.insert.result c.if-insert-attempt.true) c.insert.ensures.noted in let n = noted.2.0 in
     record {
-      its = (noted.1.0, noted.1.1);
+      its = (noted.1.0 ∙ same.0, noted.1.1 ∙ same.1);
       stands = lost_call key key' (slot head) n.before n.later n.answer r.batch r.won r.later r.saw r.queue r.trying t.last noted.2.1
           ∙ ap (λ (k : ℕ). Some (record { place = Look r.batch k (slot head) []; queue = r.queue })) t.won_so_far;
     }
 
 pub add-requires-clause-adds : goal.add-requires-clause-adds
 add-requires-clause-adds c =
-    let key = c.args.key.now in let pass = c.args.pass.now in let head = c.args.head.now in let key' = c.insert.new.key in
-    adds_then key key' pass c.insert.new.pass head c.args.count.now c.args.seen c.args.block c.args.won c.requires.tries
-    (subst (λ (end : Insertion). Inserts key key' pass c.insert.new.pass head end) (ends_won c.args.seen c.insert.result c.if-insert-seen.false) c.insert.ensures.noted)
+    let key = c.prepare.new.key in let pass = c.prepare.new.pass in let head = c.args.head.now in let attempt = c.args.attempt in let key' = c.insert.new.key in let given = c.requires.tries.0 in
+    let uses = c.prepare.ensures.uses in
+    let t = last_try_both c.args.key.now key c.args.pass.now pass _ _ _ _ uses c.requires.book.0 head c.args.next.now c.args.first.now c.args.count.now attempt given in
+    let noted = subst (λ (end : Insertion). Inserts key key' pass c.insert.new.pass head end) (ends_won attempt.seen c.insert.result c.if-insert-attempt.false) c.insert.ensures.noted in
+    let planned = plan_kept key key' pass c.insert.new.pass _ t.tries.batch t.front noted t.its_front ∙ plan_both c.args.key.now key c.args.pass.now pass _ _ _ _ uses c.requires.book.0 t.tries.batch given.front given.its_front in (
+      adds_then key key' pass c.insert.new.pass head c.args.next.now c.args.first.now c.args.count.now attempt t noted,
+      c.requires.tries.1 ∙ sym (ap (λ (p : Plan). p.values) planned),
+    )
 
 pub returns-clause-ends : goal.returns-clause-ends
 returns-clause-ends c =
-    λ t. let key = c.args.key.now in let pass = c.args.pass.now in let head = c.args.head.now in let r = t.tries.0 in let key' = c.insert.new.key in
-    let noted = subst (λ (end : Insertion). Inserts key key' pass c.insert.new.pass head end) (ends_won c.args.seen c.insert.result c.if-insert-seen.false) c.insert.ensures.noted in
+    λ given. let key = c.prepare.new.key in let pass = c.prepare.new.pass in let head = c.args.head.now in let attempt = c.args.attempt in let key' = c.insert.new.key in
+    let uses = c.prepare.ensures.uses in let same = same_both c.args.key.now key c.args.pass.now pass _ _ _ _ uses c.requires.book.0 in
+    let t = last_try_both c.args.key.now key c.args.pass.now pass _ _ _ _ uses c.requires.book.0 head c.args.next.now c.args.first.now c.args.count.now attempt given in let r = t.tries in
+    let noted = subst (λ (end : Insertion). Inserts key key' pass c.insert.new.pass head end) (ends_won attempt.seen c.insert.result c.if-insert-attempt.false) c.insert.ensures.noted in
+    let planned = plan_kept key key' pass c.insert.new.pass _ r.batch t.front noted t.its_front ∙ plan_both c.args.key.now key c.args.pass.now pass _ _ _ _ uses c.requires.book.0 r.batch given.front given.its_front in
     let added = c.add.ensures.counts.0 in
     record {
-      its = (added.1.0 ∙ noted.1.0, added.1.1 ∙ noted.1.1);
-      stands = c.add.ensures.gives (adds_then key key' pass c.insert.new.pass head c.args.count.now c.args.seen c.args.block c.args.won t noted)
-          ∙ ap (λ (p : Plan). Some (record { place = Rest (if c.add.result then p.values else []) []; queue = r.queue })) (plan_kept key key' pass c.insert.new.pass _ r.batch t.front noted t.its_front);
+      its = (added.1.0 ∙ noted.1.0 ∙ same.0, added.1.1 ∙ noted.1.1 ∙ same.1);
+      stands = c.add.ensures.gives (adds_then key key' pass c.insert.new.pass head c.args.next.now c.args.first.now c.args.count.now attempt t noted)
+          ∙ ap (λ (p : Plan). Some (record { place = Rest (if c.add.result then p.values else []) []; queue = r.queue })) planned;
     }

@@ -4,6 +4,7 @@ use Rattle.seize_machine.specs.declared.machine.event.Answer.TheVariants.{Done}
 use Rattle.seize_machine.specs.declared.machine.event.Job.TheVariants.{Flush}
 use Rattle.seize_words.proofs.Facts.{grew}
 use Rattle.seize_words.specs.Adding.{private}
+use Rattle.seize_words.specs.Entry.{Made}
 use Rattle.seize_words.specs.Passes.{mine_of}
 use Rattle.seize_words.specs.Slots.{number_of, slot_of}
 use Rattle.seize_words.specs.Tokens.{Name}
@@ -30,7 +31,7 @@ returns-clause-made c =
     ap (λ (n : Name). record { pass = mid.id; size = n.size; event = Return t; life = 0 }) first.0.0
     ∙ ap (λ (p : ℕ). record { pass = p; size = pass.name.size; event = Return t; life = 0 }) first.0.1
     ∙ ap (λ (k : ℕ). record { pass = pass.id; size = pass.name.size; event = Return k; life = 0 }) first.1.1 in
-    two ∙ ap (λ l. l ++ (private mid (Return t), last.2.0.answer) ∷ []) one ∙ append_assoc (mine_of pass) _ _
-    ∙ ap (λ e. mine_of pass ++ (private pass (Begin s Flush), first.2.0.answer) ∷ (e, last.2.0.answer) ∷ []) same
-    ∙ ap (λ a. mine_of pass ++ (private pass (Begin s Flush), a) ∷ (private pass (Return s), last.2.0.answer) ∷ []) begins.1
-    ∙ ap (λ a. mine_of pass ++ (private pass (Begin s Flush), Done) ∷ (private pass (Return s), a) ∷ []) ends.1
+    two ∙ ap (λ l. l ++ (Made (private mid (Return t)), last.2.0.answer) ∷ []) one ∙ append_assoc (mine_of pass) _ _
+    ∙ ap (λ e. mine_of pass ++ (Made (private pass (Begin s Flush)), first.2.0.answer) ∷ (Made e, last.2.0.answer) ∷ []) same
+    ∙ ap (λ a. mine_of pass ++ (Made (private pass (Begin s Flush)), a) ∷ (Made (private pass (Return s)), last.2.0.answer) ∷ []) begins.1
+    ∙ ap (λ a. mine_of pass ++ (Made (private pass (Begin s Flush)), Done) ∷ (Made (private pass (Return s)), a) ∷ []) ends.1

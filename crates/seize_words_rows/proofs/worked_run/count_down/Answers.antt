@@ -4,7 +4,7 @@ use Rattle.seize_machine.specs.Machine.Event.{Return, SubCount}
 use Rattle.seize_machine.specs.declared.machine.event.Answer.TheVariants.{Count, Done}
 use Rattle.seize_words_rows.specs.Runs.{book_of, counted_down, left, reader_over, value_of}
 use Rattle.seize_words_rows.proofs.Runs.{counts_down, returns_reader}
-use Rattle.seize_words_rows.proofs.Stages.{front_is, record_is, steps}
+use Rattle.seize_words_rows.proofs.Stages.{front_is, record_is, sees_still, steps}
 use Rattle.seize_words_rows.proofs.worked_run.count_down.Goals as goal
 
 pub subtract-zero-requires-clause-walks : goal.subtract-zero-requires-clause-walks
@@ -23,6 +23,6 @@ subtract-zero-requires-clause-walks c =
 pub returns-clause-stands : goal.returns-clause-stands
 returns-clause-stands c =
     let words = c.args.words.now in let n = book_of words in let v = value_of words in let one = c.subtract-zero in let two = c.finish in
-    let first = steps n c.args.reader.now one.new.key c.args.pass.now one.new.pass 0 0 (λ s. SubCount s) (left v) (left v) (counted_down v) (Count (negsuc 0)) one.ensures.counts.0 c.requires.stands.1 c.requires.stands.2 (counts_down v) in
+    let first = steps n c.args.reader.now one.new.key c.new-values.new.pass one.new.pass 0 0 (λ s. SubCount s) (left v) (left v) (counted_down v) (Count (negsuc 0)) one.ensures.counts.0 (sees_still n c.args.pass.now c.new-values.new.pass (left v) c.new-values.ensures.1 c.requires.stands.1) c.requires.stands.2 (counts_down v) in
     let last = steps n one.new.key two.new.self one.new.pass two.new.pass 0 0 (λ s. Return s) (counted_down v) (counted_down v) (reader_over v) Done two.ensures.noted first.0 first.1 (returns_reader v) in
     (c.requires.stands.0, last.0, last.1)

@@ -1,26 +1,57 @@
-use Rattle.std.proofs.Common.{pos, [], ap, refl, sym}
+use Rattle.std.proofs.Common.{◌≡◌, ℕ, pos, [], ◌∷◌, ap, refl, sym, subst, ◌∙◌}
 use Rattle.seize_machine.specs.Machine.State.{Slot}
 use Rattle.seize_machine.specs.Machine.Event.{AddCount}
 use Rattle.seize_machine.specs.declared.machine.event.Answer.TheVariants.{Count}
-use Rattle.seize_words_rows.specs.Runs.{book_of, counted_up, inserted, reader_over, value_of}
+use Rattle.seize_words.specs.Blocks.{block_of}
+use Rattle.seize_words.specs.Chains.{first_field, next_field}
+use Rattle.seize_words.specs.Counts.{AddsTo, home}
+use Rattle.seize_words.specs.Headers.{number}
+use Rattle.seize_words.specs.Homes.{home_of}
+use Rattle.seize_words.specs.Tokens.{Name}
+use Rattle.seize_words.specs.Values.{book_in, values_of}
+use Rattle.seize_words.specs.declared.book.pass.Pass.{Pass}
+use Rattle.seize_words.specs.declared.book.slot_key.SlotKey.{SlotKey}
+use Rattle.seize_words.specs.declared.book.value_keys.ValueKeys.{ValueKeys}
+use Rattle.seize_words_rows.specs.Runs.{AreHeads, AreWords, book_of, counted_up, inserted, reader_over, value_of}
+use Rattle.seize_words_rows.specs.Stages.{Knows, Sees}
+use Rattle.seize_words_rows.specs.declared.worked_run.Words.{Words}
 use Rattle.seize_words_rows.proofs.Runs.{counts_up}
-use Rattle.seize_words_rows.proofs.Stages.{front_is, record_is, steps}
+use Rattle.seize_words_rows.proofs.Stages.{came_to_zero, front_is, keys_stay, record_is, steps, values_are}
 use Rattle.seize_words_rows.proofs.worked_run.count_up.Goals as goal
 
-pub add-requires-clause-adds : goal.add-requires-clause-adds
-add-requires-clause-adds c =
-    let words = c.args.words.now in let n = book_of words in let v = value_of words in let key = c.args.retirer.now in let knows = c.requires.stands.2 in
+-- the slot's call is about to add to this count
+abbrev adds : (words : Words) (key : SlotKey) → AreWords words → Knows (book_of words) key 1 (inserted (value_of words)) → AddsTo key words.block.count 1
+adds words key are knows =
+    let n = book_of words in let v = value_of words in
     record {
       batch = 0;
       front = v;
       queue = [];
       adding = ap (λ (r : Slot). r.call) (record_is n key 1 (inserted v) knows);
       its_front = front_is n key 1 0 v (inserted v) knows refl;
-      its_home = sym c.requires.stands.0.1.1;
+      its_home = sym are.1.1;
     }
+
+pub add-requires-clause-adds : goal.add-requires-clause-adds
+add-requires-clause-adds c =
+    let words = c.args.words.now in let key = c.args.retirer.now in let stands = c.requires.stands in (
+      adds words key stands.0 stands.2,
+      stands.0.1.4.1 ∙ sym (values_are (book_of words) key 1 0 (inserted (value_of words)) stands.2),
+    )
 
 pub returns-clause-stands : goal.returns-clause-stands
 returns-clause-stands c =
-    let words = c.args.words.now in let n = book_of words in let v = value_of words in let one = c.add in
+    let words = c.args.words.now in let n = book_of words in let v = value_of words in let one = c.add in let laid = c.requires.stands.0.1 in
     let after = steps n c.args.retirer.now one.new.key c.args.pass.now one.new.pass 1 0 (λ s. AddCount s) (reader_over v) (inserted v) (counted_up v) (Count (pos 0)) one.ensures.counts.0 c.requires.stands.1 c.requires.stands.2 (counts_up v) in
-    (c.requires.stands.0, after.0, after.1)
+    let zero = came_to_zero one.result _ [] v [] [] (sym (one.ensures.gives (adds words c.args.retirer.now c.requires.stands.0 c.requires.stands.2)) ∙ ap (λ (r : Slot). r.call) (record_is n one.new.key 1 (counted_up v) after.1)) in
+    let stay = keys_stay n words.block.values one.new.values one.new.pass one.result zero one.ensures.keys after.0.book in
+    subst (λ (k : ℕ). AreAt n words one.new.values one.new.pass one.new.key k) (sym stay.0) ((c.requires.stands.0.0, (laid.0, laid.1, laid.2, laid.3, (stay.1, stay.2 ∙ laid.4.1))), after.0, after.1)
+  where
+    -- with the block's value by this name
+    AreAt : Name → Words → ValueKeys → Pass → SlotKey → ℕ → Type 0
+    AreAt n words values pass key k =
+        (AreHeads words.heads
+        × ((words.block.count.word.name ≡ n) × (home words.block.count ≡ home_of k) × (block_of k ≡ 5)
+        × ((words.block.next.word.name ≡ n) × (words.block.first.word.name ≡ n) × (number words.block.next ≡ next_field (home_of k)) × (number words.block.first ≡ first_field (home_of k)))
+        × ((book_in values ≡ n) × (values_of values ≡ k ∷ []))))
+        × Sees n pass (counted_up k) × Knows n key 1 (counted_up k)

@@ -5,13 +5,16 @@ use Rattle.seize_words.specs.Heads.{found_end}
 use Rattle.seize_words.specs.Reservations.{slot}
 use Rattle.seize_words_rows.specs.Runs.{book_of, inserted, looked, value_of}
 use Rattle.seize_words_rows.specs.Stages.{Goes}
+use Rattle.seize_words_rows.proofs.Both.{may_insert}
 use Rattle.seize_words_rows.proofs.Runs.{inserts}
 use Rattle.seize_words_rows.proofs.Stages.{found, steps}
 use Rattle.seize_words_rows.proofs.Tries.{last_try}
 use Rattle.seize_words_rows.proofs.worked_run.insert.Goals as goal
 
 pub insert-requires-clause-tries : goal.insert-requires-clause-tries
-insert-requires-clause-tries c = (last_try c.args.words.now c.args.retirer.now c.requires.stands.0 c.requires.stands.2).tries
+insert-requires-clause-tries c =
+    let words = c.args.words.now in let block = words.block in let key = c.args.retirer.now in
+    may_insert key words.heads.reader block.next block.first block.count _ (last_try words key c.requires.stands.0 c.requires.stands.2) c.requires.stored
 
 pub returns-clause-stands : goal.returns-clause-stands
 returns-clause-stands c =

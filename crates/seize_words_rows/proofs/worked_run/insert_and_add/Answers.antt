@@ -1,5 +1,12 @@
+use Rattle.std.proofs.Common.{sym, ◌∙◌}
+use Rattle.seize_words_rows.specs.Runs.{book_of, looked, value_of}
+use Rattle.seize_words_rows.proofs.Stages.{values_are}
 use Rattle.seize_words_rows.proofs.Tries.{last_try}
 use Rattle.seize_words_rows.proofs.worked_run.insert_and_add.Goals as goal
 
 pub insert_last-requires-clause-tries : goal.insert_last-requires-clause-tries
-insert_last-requires-clause-tries c = last_try c.args.words.now c.args.retirer.now c.requires.stands.0 c.requires.stands.2
+insert_last-requires-clause-tries c =
+    let words = c.args.words.now in let v = value_of words in let stands = c.requires.stands in (
+      last_try words c.args.retirer.now stands.0 stands.2,
+      stands.0.1.4.1 ∙ sym (values_are (book_of words) c.args.retirer.now 1 0 (looked v) stands.2),
+    )

@@ -1,35 +1,52 @@
-use Rattle.std.proofs.Common.{false, [], refl, sym, subst}
+use Rattle.std.proofs.Common.{◌==◌, not, [], sym, refl, ◌∙◌, ap}
 use Rattle.seize_machine.specs.Machine.Event.{AddCount}
-use Rattle.seize_words.specs.Atomic.{Takes, plus}
+use Rattle.seize_words.specs.Atomic.{plus}
 use Rattle.seize_words.specs.Counts.{home}
 use Rattle.seize_words.specs.Private.{key_of, own_of}
-use Rattle.seize_words.specs.Stepping.{MayStep}
-use Rattle.seize_words.specs.Words.{Site}
+use Rattle.seize_words.specs.Words.{are_of_blocks}
 use Rattle.seize_words.proofs.Counting.{may_add_count}
-use Rattle.seize_words.proofs.Counted.{added, adding_in, counts_so, gives_so, is_at_count}
-use Rattle.seize_words.proofs.Stepped.{key_then}
+use Rattle.seize_words.proofs.Counted.{added, adding_in, counts_so, gives_so, in_pass, joined_may, joined_step, left_with, still_blocks}
 use Rattle.seize_words.proofs.batch.Count.add.Goals as goal
 
 pub add-old-requires : goal.add-old-requires
 add-old-requires c =
-    let count = c.args.self.now in let key = c.args.key.now in let pass = c.args.pass.now in let held = key.keys.held in let book = c.requires.book in
-    let adds = adding_in key.keys.name pass.name (key_of held) (own_of held) (home count) c.args.won book.0 c.requires.adds in (
+    let count = c.args.self.now in let key = c.args.key.now in let pass = c.args.pass.now in let held = key.keys.held in let values = c.args.values.now in let book = c.requires.book in let s = key_of held in
+    let adds = adding_in key.keys.name pass.name s (own_of held) (home count) c.args.won book.0 c.requires.adds.0 in
+    let these = in_pass key.keys.name pass.name (own_of held) adds.batch book.0 in
+    let may = may_add_count pass.name (home count) pass.id pass.name.size c.args.won pass.seen held values.keys.held key.one adds (c.requires.adds.1 ∙ these, values.each) in (
       book.1,
-      book.0,
-      subst (λ (w : Site). MayStep w pass.id pass.seen held [] [] (plus c.args.won) (λ v log. record { pass = pass.id; size = pass.name.size; event = AddCount (key_of held); life = 0 }) (λ v. false))
-          (sym (is_at_count count.word pass.name book.1 count.count)) (may_add_count pass.name (home count) pass.id pass.name.size c.args.won pass.seen held key.one adds),
+      c.join.ensures.0 ∙ book.0,
+      joined_may count.word key values.keys.held c.join.new.self.held pass (plus c.args.won) (λ s. AddCount s) (λ v. not (plus c.args.won v == 0)) book.1 count.count c.join.ensures.2 may,
     )
+
+pub invariant_of-values : goal.invariant_of-values
+invariant_of-values c =
+    let count = c.args.self.now in let key = c.args.key.now in let pass = c.args.pass.now in let pass' = c.add-old.new.pass in let keys' = c.add-old.new.keys in let v = c.add-old.result in let values = c.args.values.now in let won = c.args.won in
+    let step = joined_step count.word key values.keys.held c.join.new.self.held keys'.held pass pass' (plus won) v (λ s. AddCount s) (λ v. not (plus won v == 0)) c.requires.book.1 count.count c.join.ensures.2 c.add-old.ensures.2 in
+    let adds = adding_in key.keys.name pass.name (key_of key.keys.held) (own_of key.keys.held) (home count) won c.requires.book.0 c.requires.adds.0 in
+    record { each = ap are_of_blocks (c.part.ensures.3 ∙ left_with (home count) won key values.keys.held keys'.held pass pass' v step adds) ∙ still_blocks (plus won v == 0) values.keys.held pass'.seen values.each }
 
 pub returns-clause-counts : goal.returns-clause-counts
 returns-clause-counts c =
-    let count = c.args.self.now in let key = c.args.key.now in let pass = c.args.pass.now in let pass' = c.add-old.new.pass in let keys' = c.add-old.new.keys in let v = c.add-old.result in let s = key_of key.keys.held in let k = home count in
-    let told = subst (λ (w : Site). Takes w key.keys pass keys' pass' [] (plus c.args.won) v 0 (λ v log. AddCount s) (λ v. false)) (is_at_count count.word pass.name c.requires.book.1 count.count) c.add-old.ensures in
-    let adds = adding_in key.keys.name pass.name s (own_of key.keys.held) k c.args.won c.requires.book.0 c.requires.adds in
-    counts_so k key _ pass pass' (plus c.args.won) v (AddCount s) adds.batch [] adds.queue told c.requires.book.0 (added k c.args.won key keys' pass pass' v told adds) _ refl
+    let count = c.args.self.now in let key = c.args.key.now in let pass = c.args.pass.now in let pass' = c.add-old.new.pass in let keys' = c.add-old.new.keys in let v = c.add-old.result in let values = c.args.values.now in let won = c.args.won in let k = home count in
+    let step = joined_step count.word key values.keys.held c.join.new.self.held keys'.held pass pass' (plus won) v (λ s. AddCount s) (λ v. not (plus won v == 0)) c.requires.book.1 count.count c.join.ensures.2 c.add-old.ensures.2 in
+    let adds = adding_in key.keys.name pass.name (key_of key.keys.held) (own_of key.keys.held) k won c.requires.book.0 c.requires.adds.0 in
+    counts_so k key _ values.keys.held keys'.held pass pass' (plus won) v (AddCount (key_of key.keys.held)) (λ v. not (plus won v == 0)) adds.batch [] adds.queue step c.add-old.ensures.0
+    (c.part.ensures.0 ∙ c.add-old.ensures.1 ∙ c.join.ensures.0) c.part.ensures.2 c.requires.book.0 (added k won key values.keys.held keys'.held pass pass' v (λ v. not (plus won v == 0)) step adds) _ refl
 
 pub returns-clause-gives : goal.returns-clause-gives
 returns-clause-gives c adds_ =
-    let count = c.args.self.now in let key = c.args.key.now in let pass = c.args.pass.now in let pass' = c.add-old.new.pass in let keys' = c.add-old.new.keys in let v = c.add-old.result in let s = key_of key.keys.held in let k = home count in
-    let told = subst (λ (w : Site). Takes w key.keys pass keys' pass' [] (plus c.args.won) v 0 (λ v log. AddCount s) (λ v. false)) (is_at_count count.word pass.name c.requires.book.1 count.count) c.add-old.ensures in
-    let adds = adding_in key.keys.name pass.name s (own_of key.keys.held) k c.args.won c.requires.book.0 adds_ in
-    gives_so k key (key_then key keys' pass'.seen told.2.keys) pass pass' (plus c.args.won) v (AddCount s) adds.batch [] adds.queue told c.requires.book.0 (added k c.args.won key keys' pass pass' v told adds) _ refl
+    let count = c.args.self.now in let key = c.args.key.now in let pass = c.args.pass.now in let pass' = c.add-old.new.pass in let keys' = c.add-old.new.keys in let v = c.add-old.result in let values = c.args.values.now in let won = c.args.won in let k = home count in
+    let step = joined_step count.word key values.keys.held c.join.new.self.held keys'.held pass pass' (plus won) v (λ s. AddCount s) (λ v. not (plus won v == 0)) c.requires.book.1 count.count c.join.ensures.2 c.add-old.ensures.2 in
+    let adds = adding_in key.keys.name pass.name (key_of key.keys.held) (own_of key.keys.held) k won c.requires.book.0 adds_ in
+    gives_so k key (record { keys = c.part.new.self; one = c.key-1.given.0 }) values.keys.held keys'.held pass pass' (plus won) v (AddCount (key_of key.keys.held)) (λ v. not (plus won v == 0)) adds.batch [] adds.queue step c.add-old.ensures.0
+    (c.part.ensures.0 ∙ c.add-old.ensures.1 ∙ c.join.ensures.0) c.part.ensures.2 c.requires.book.0 (added k won key values.keys.held keys'.held pass pass' v (λ v. not (plus won v == 0)) step adds) _ refl
+
+pub returns-clause-keys : goal.returns-clause-keys
+returns-clause-keys c =
+    let count = c.args.self.now in let key = c.args.key.now in let pass = c.args.pass.now in let pass' = c.add-old.new.pass in let keys' = c.add-old.new.keys in let v = c.add-old.result in let values = c.args.values.now in let won = c.args.won in let k = home count in
+    let step = joined_step count.word key values.keys.held c.join.new.self.held keys'.held pass pass' (plus won) v (λ s. AddCount s) (λ v. not (plus won v == 0)) c.requires.book.1 count.count c.join.ensures.2 c.add-old.ensures.2 in
+    let adds = adding_in key.keys.name pass.name (key_of key.keys.held) (own_of key.keys.held) k won c.requires.book.0 c.requires.adds.0 in (
+      c.part.ensures.1 ∙ c.add-old.ensures.1 ∙ c.join.ensures.0 ∙ c.requires.book.0 ∙ sym c.add-old.ensures.0.0,
+      c.part.ensures.3 ∙ left_with k won key values.keys.held keys'.held pass pass' v step adds,
+    )

@@ -1,13 +1,16 @@
-use Rattle.std.proofs.Common.{false, [], sym, subst}
+use Rattle.std.proofs.Common.{ℕ, ◌==◌, Bool, true, false, if◌then◌else◌, List, [], sym, ◌∙◌, ap, subst, append-nil}
+use Rattle.std.specs.List.{Contains}
 use Rattle.seize_machine.specs.Machine.Event.{SubCount}
-use Rattle.seize_words.specs.Atomic.{Takes, minus}
+use Rattle.seize_words.specs.Atomic.{minus}
+use Rattle.seize_words.specs.Book.{after}
 use Rattle.seize_words.specs.Counts.{home}
+use Rattle.seize_words.specs.Others.{IsLastIn}
 use Rattle.seize_words.specs.Private.{key_of, own_of}
-use Rattle.seize_words.specs.Stepping.{MayStep}
-use Rattle.seize_words.specs.Words.{Site}
+use Rattle.seize_words.specs.Tokens.{Name, start}
+use Rattle.seize_words.specs.Words.{are_of_blocks, labels_of}
+use Rattle.seize_words.specs.declared.book.slot_key.SlotKey.{SlotKey}
 use Rattle.seize_words.proofs.Counting.{may_subtract_count}
-use Rattle.seize_words.proofs.Counted.{counts_so, gives_so, is_at_count, subtracted, walking_in, was_one}
-use Rattle.seize_words.proofs.Stepped.{key_then}
+use Rattle.seize_words.proofs.Counted.{all_blocks, all_last, counts_so, gives_so, joined_may, joined_step, labels_are, not_in_none, others_are, renewed_twice, subtracted, values_known, walking_in, was_one}
 use Rattle.seize_words.proofs.batch.Count.subtract.Goals as goal
 
 pub subtract-old-requires : goal.subtract-old-requires
@@ -16,20 +19,51 @@ subtract-old-requires c =
     let walks = walking_in key.keys.name pass.name (key_of held) (own_of held) (home count) book.0 c.requires.walks in (
       book.1,
       book.0,
-      subst (λ (w : Site). MayStep w pass.id pass.seen held [] [] (minus 1) (λ v log. record { pass = pass.id; size = pass.name.size; event = SubCount (key_of held); life = 0 }) (λ v. false))
-          (sym (is_at_count count.word pass.name book.1 count.count)) (may_subtract_count pass.name (home count) pass.id pass.name.size pass.seen held key.one walks),
+      joined_may count.word key [] held pass (minus 1) (λ s. SubCount s) (λ v. minus 1 v == 0) book.1 count.count (sym (append-nil held))
+          (may_subtract_count pass.name (home count) pass.id pass.name.size pass.seen held key.one walks),
     )
+
+pub invariant_of-values : goal.invariant_of-values
+invariant_of-values c =
+    let count = c.args.self.now in let key = c.args.key.now in let pass = c.args.pass.now in let pass' = c.subtract-old.new.pass in let keys' = c.subtract-old.new.keys in let v = c.subtract-old.result in let held = key.keys.held in
+    let step = joined_step count.word key [] held keys'.held pass pass' (minus 1) v (λ s. SubCount s) (λ v. minus 1 v == 0) c.requires.book.1 count.count (sym (append-nil held)) c.subtract-old.ensures.2 in
+    let walks = walking_in key.keys.name pass.name (key_of held) (own_of held) (home count) c.requires.book.0 c.requires.walks in
+    record { each = ap are_of_blocks c.part.ensures.3 ∙ all_blocks (home count) key keys'.held pass pass' v step walks c.requires.book.0 }
 
 pub returns-clause-counts : goal.returns-clause-counts
 returns-clause-counts c =
-    let count = c.args.self.now in let key = c.args.key.now in let pass = c.args.pass.now in let pass' = c.subtract-old.new.pass in let keys' = c.subtract-old.new.keys in let v = c.subtract-old.result in let s = key_of key.keys.held in let k = home count in
-    let told = subst (λ (w : Site). Takes w key.keys pass keys' pass' [] (minus 1) v 0 (λ v log. SubCount s) (λ v. false)) (is_at_count count.word pass.name c.requires.book.1 count.count) c.subtract-old.ensures in
-    let walks = walking_in key.keys.name pass.name s (own_of key.keys.held) k c.requires.book.0 c.requires.walks in
-    counts_so k key _ pass pass' (minus 1) v (SubCount s) walks.batch walks.walk walks.queue told c.requires.book.0 (subtracted k key keys' pass pass' v told walks) _ (was_one v c.subtract-old.type_inv)
+    let count = c.args.self.now in let key = c.args.key.now in let pass = c.args.pass.now in let pass' = c.subtract-old.new.pass in let keys' = c.subtract-old.new.keys in let v = c.subtract-old.result in let held = key.keys.held in let k = home count in
+    let step = joined_step count.word key [] held keys'.held pass pass' (minus 1) v (λ s. SubCount s) (λ v. minus 1 v == 0) c.requires.book.1 count.count (sym (append-nil held)) c.subtract-old.ensures.2 in
+    let walks = walking_in key.keys.name pass.name (key_of held) (own_of held) k c.requires.book.0 c.requires.walks in
+    counts_so k key _ [] keys'.held pass pass' (minus 1) v (SubCount (key_of held)) (λ v. minus 1 v == 0) walks.batch walks.walk walks.queue step c.subtract-old.ensures.0
+    (c.part.ensures.0 ∙ c.subtract-old.ensures.1) c.part.ensures.2 c.requires.book.0 (subtracted k key [] keys'.held pass pass' v (λ v. minus 1 v == 0) step walks) _ (was_one v c.subtract-old.type_inv)
 
 pub returns-clause-gives : goal.returns-clause-gives
 returns-clause-gives c walks_ =
-    let count = c.args.self.now in let key = c.args.key.now in let pass = c.args.pass.now in let pass' = c.subtract-old.new.pass in let keys' = c.subtract-old.new.keys in let v = c.subtract-old.result in let s = key_of key.keys.held in let k = home count in
-    let told = subst (λ (w : Site). Takes w key.keys pass keys' pass' [] (minus 1) v 0 (λ v log. SubCount s) (λ v. false)) (is_at_count count.word pass.name c.requires.book.1 count.count) c.subtract-old.ensures in
-    let walks = walking_in key.keys.name pass.name s (own_of key.keys.held) k c.requires.book.0 walks_ in
-    gives_so k key (key_then key keys' pass'.seen told.2.keys) pass pass' (minus 1) v (SubCount s) walks.batch walks.walk walks.queue told c.requires.book.0 (subtracted k key keys' pass pass' v told walks) _ (was_one v c.subtract-old.type_inv)
+    let count = c.args.self.now in let key = c.args.key.now in let pass = c.args.pass.now in let pass' = c.subtract-old.new.pass in let keys' = c.subtract-old.new.keys in let v = c.subtract-old.result in let held = key.keys.held in let k = home count in
+    let step = joined_step count.word key [] held keys'.held pass pass' (minus 1) v (λ s. SubCount s) (λ v. minus 1 v == 0) c.requires.book.1 count.count (sym (append-nil held)) c.subtract-old.ensures.2 in
+    let walks = walking_in key.keys.name pass.name (key_of held) (own_of held) k c.requires.book.0 walks_ in
+    gives_so k key (record { keys = c.part.new.self; one = c.key-1.given.0 }) [] keys'.held pass pass' (minus 1) v (SubCount (key_of held)) (λ v. minus 1 v == 0) walks.batch walks.walk walks.queue step c.subtract-old.ensures.0
+    (c.part.ensures.0 ∙ c.subtract-old.ensures.1) c.part.ensures.2 c.requires.book.0 (subtracted k key [] keys'.held pass pass' v (λ v. minus 1 v == 0) step walks) _ (was_one v c.subtract-old.type_inv)
+
+-- in the pass's book, and with whether the count came to 0 as the call tells it
+pub returns-clause-keys : goal.returns-clause-keys
+returns-clause-keys c walks_ =
+    let count = c.args.self.now in let key = c.args.key.now in let pass = c.args.pass.now in let pass' = c.subtract-old.new.pass in let keys' = c.subtract-old.new.keys in let v = c.subtract-old.result in let held = key.keys.held in let k = home count in
+    let step = joined_step count.word key [] held keys'.held pass pass' (minus 1) v (λ s. SubCount s) (λ v. minus 1 v == 0) c.requires.book.1 count.count (sym (append-nil held)) c.subtract-old.ensures.2 in
+    let walks = walking_in key.keys.name pass.name (key_of held) (own_of held) k c.requires.book.0 walks_ in
+    let counting = subtracted k key [] keys'.held pass pass' v (λ v. minus 1 v == 0) step walks in let name = c.part.ensures.0 ∙ c.subtract-old.ensures.1 in
+    let key' : SlotKey = record { keys = c.part.new.self; one = c.key-1.given.0 } in
+    let known = values_known k key key' [] keys'.held pass pass' (minus 1) v (SubCount (key_of held)) (λ v. minus 1 v == 0) walks.batch walks.walk walks.queue step c.subtract-old.ensures.0 name c.part.ensures.2 c.requires.book.0 counting in
+    let zero = was_one v c.subtract-old.type_inv in
+    let labels = ap labels_of c.part.ensures.3 ∙ labels_are k key keys'.held pass pass' v step walks c.requires.book.0 in (
+      c.part.ensures.1 ∙ c.subtract-old.ensures.1 ∙ c.requires.book.0 ∙ sym c.subtract-old.ensures.0.0,
+      renewed_twice (minus 1 v == 0) step.since.1 c.part.new.other.held pass'.seen (c.part.ensures.3 ∙ others_are k key keys'.held pass pass' v step walks c.requires.book.0),
+      labels ∙ ap (λ (t : Bool × List ℕ). if t.0 then t.1 else []) (λ i. (sym zero i, known i)),
+      (λ u in_it. subst (λ (n : Name). IsLastIn u (after (start n) pass'.seen)) (sym c.subtract-old.ensures.0.0)
+          (given _ _ (minus 1 v == 0) u (subst (λ (ls : List ℕ). Contains ls u) labels in_it) (all_last k key keys'.held pass pass' v step walks c.requires.book.0 u))),
+    )
+  where
+    given : (P : Type 0) (values : List ℕ) (z : Bool) (u : ℕ) → Contains (if z then values else []) u → (Contains values u → P) → P
+    given P values true u in_it last = last in_it
+    given P values false u in_it last = absurd (not_in_none u in_it)

@@ -2,7 +2,8 @@ use Rattle.std.proofs.Common.{ℕ, ◌==◌, [], ◌∷◌, Option, refl, sym, �
 use Rattle.seize_machine.specs.Machine.State.{link_at}
 use Rattle.seize_machine.specs.Machine.Event.{Event, ExchangeLink}
 use Rattle.seize_machine.specs.declared.machine.event.Exchange.TheVariants.{Compare}
-use Rattle.seize_words.specs.Atomic.{Events, Takes as Took, exchanged}
+use Rattle.seize_words.specs.Entry.{Made}
+use Rattle.seize_words.specs.Atomic.{Events, Takes as Took, exchanged, entries}
 use Rattle.seize_words.specs.Book.{after}
 use Rattle.seize_words.specs.LinkWords.{holds, number}
 use Rattle.seize_words.specs.Links.{IsNewIn, compared}
@@ -29,7 +30,7 @@ exchange_in-requires c =
       in_.book.0,
       c.requires.new.0 ∙ in_.book.0,
       subst (λ (t : Site). MayStep t pass.id pass.seen held (a.life ∷ []) [] (exchanged c.args.seen c.args.new)
-          (λ v log. record { pass = pass.id; size = pass.name.size; event = events pass.name a.slot l c.args.seen (holds value) v log; life = 0 }) (λ v. v == c.args.seen))
+          (λ v log. Made (record { pass = pass.id; size = pass.name.size; event = events pass.name a.slot l c.args.seen (holds value) v log; life = 0 })) (λ v. v == c.args.seen))
           (sym (is_at link.word pass.name in_.book.0 link.link)) may,
     )
 
@@ -37,7 +38,7 @@ pub returns : goal.returns
 returns c =
     let link = c.args.self.now in let a = c.args.activation.now in let pass = c.args.pass.now in let in_ = c.requires.within in let l = number link in let value = c.args.value.now in let seen = c.args.seen in
     let pass' = c.exchange_in.new.pass in let keys' = c.exchange_in.new.keys in let v = c.exchange_in.result in let f = exchanged seen c.args.new in let ev = by_held a.slot l seen (holds value) in
-    let told = subst (λ (t : Site). Took t value.keys pass keys' pass' (a.life ∷ []) f v 0 (events pass.name a.slot l seen (holds value)) (λ v. v == seen)) (is_at link.word pass.name in_.book.0 link.link) c.exchange_in.ensures in
+    let told = subst (λ (t : Site). Took t value.keys pass keys' pass' (a.life ∷ []) f v (entries pass 0 (events pass.name a.slot l seen (holds value))) (λ v. v == seen)) (is_at link.word pass.name in_.book.0 link.link) c.exchange_in.ensures in
     record {
       exchanges = (
         taken link a pass pass' in_ value.keys keys' f v ev (λ v. v == seen) told,
@@ -61,5 +62,5 @@ pub invariant_of-value : goal.invariant_of-value
 invariant_of-value c =
     let link = c.args.self.now in let a = c.args.activation.now in let pass = c.args.pass.now in let in_ = c.requires.within in let l = number link in let value = c.args.value.now in let seen = c.args.seen in
     let pass' = c.exchange_in.new.pass in let keys' = c.exchange_in.new.keys in let v = c.exchange_in.result in let f = exchanged seen c.args.new in let ev = by_held a.slot l seen (holds value) in
-    let told = subst (λ (t : Site). Took t value.keys pass keys' pass' (a.life ∷ []) f v 0 (events pass.name a.slot l seen (holds value)) (λ v. v == seen)) (is_at link.word pass.name in_.book.0 link.link) c.exchange_in.ensures in
+    let told = subst (λ (t : Site). Took t value.keys pass keys' pass' (a.life ∷ []) f v (entries pass 0 (events pass.name a.slot l seen (holds value))) (λ v. v == seen)) (is_at link.word pass.name in_.book.0 link.link) c.exchange_in.ensures in
     record { value = still_one link a pass pass' in_ value.keys keys' f v ev (λ v. v == seen) told value.value }

@@ -5,7 +5,7 @@ use Rattle.seize_machine.specs.Machine.Event.{Take}
 use Rattle.seize_machine.specs.Machine.Next.{first_free}
 use Rattle.seize_words.specs.Adding.{Adds, Asks, private}
 use Rattle.seize_words.specs.Book.{after, heads, numbers, slots}
-use Rattle.seize_words.specs.Entry.{Entry}
+use Rattle.seize_words.specs.Entry.{Entry, Made}
 use Rattle.seize_words.specs.Fair.{Added, MayAdd}
 use Rattle.seize_words.specs.Ledger.{Held, renewed}
 use Rattle.seize_words.specs.Others.{state_of}
@@ -86,7 +86,7 @@ returns c =
     record {
       made = record {
         same = t.same;
-        noted = subst (λ (n : Name). Noted n pass.id pass.seen c.note.new.pass.seen (private pass (Take (made_of number)))) c.requires.book t.added.noted;
+        noted = subst (λ (n : Name). Noted n pass.id pass.seen c.note.new.pass.seen (Made (private pass (Take (made_of number))))) c.requires.book t.added.noted;
         follows = (c.part.ensures.0 ∙ t.name, first ∙ sym (ap (λ (hs : List (Held Entry)). renewed hs c.note.new.pass.seen) (only_is numbers k.held number.one)));
         book = (c.part-2.ensures.0 ∙ c.part.ensures.1 ∙ t.name ∙ c.requires.book, c.of.ensures.0 ∙ c.part-2.ensures.1 ∙ c.part.ensures.1 ∙ t.name ∙ c.requires.book);
         number = (ap key_of key, c.of.ensures.1 ∙ ap key_of head);

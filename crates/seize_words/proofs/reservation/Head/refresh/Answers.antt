@@ -2,10 +2,10 @@ use Rattle.std.proofs.Common.{◌≡◌, ℕ, true, false, List, [], ◌∷◌, 
 use Rattle.seize_machine.specs.Machine.State.{Out}
 use Rattle.seize_machine.specs.Machine.Event.{SwapOut}
 use Rattle.seize_machine.proofs.Facts.{Stands}
-use Rattle.seize_words.specs.Atomic.{Takes}
+use Rattle.seize_words.specs.Atomic.{Takes, entries}
 use Rattle.seize_words.specs.Blocks.{head_word}
 use Rattle.seize_words.specs.Book.{after}
-use Rattle.seize_words.specs.Entry.{Entry}
+use Rattle.seize_words.specs.Entry.{Entry, Made}
 use Rattle.seize_words.specs.Laws.{IsIn, life}
 use Rattle.seize_words.specs.Private.{key_of, own_of}
 use Rattle.seize_words.specs.Reservations.{slot}
@@ -28,15 +28,15 @@ swap-word-requires c =
     let its = subst (λ (ls : List ℕ). IsIn ls (life s (own_of held))) (sym c.renew-ended.ensures.2) (inl c.requires.last.2) in (
       book.1,
       book.0,
-      subst (λ (w : Site). MayStep w pass.id pass.seen held [] lives (λ v. 1) (λ v log. record { pass = pass.id; size = pass.name.size; event = SwapOut s; life = next }) (λ v. false))
+      subst (λ (w : Site). MayStep w pass.id pass.seen held [] lives (λ v. 1) (λ v log. Made (record { pass = pass.id; size = pass.name.size; event = SwapOut s; life = next })) (λ v. false))
           (sym (is_at_head head.word pass.name book.1 head.head)) (may_leave pass.name m pass.id pass.name.size next true c.requires.refreshing.0 lives pass.seen held key.one out (sym book.2) its),
     )
 
 -- what the step tells, said of the key and of the activation as they are in the end
 told : (word : Site) (m s : ℕ) (pass pass' : Pass) (old k' new : Keys) (v next life : ℕ) → word ≡ at_head pass.name m → k' ≡ new → next ≡ life
-    → Takes word old pass k' pass' [] (λ v. 1) v next (λ v log. SwapOut s) (λ v. false) → Takes (at_head pass.name m) old pass new pass' [] (λ v. 1) v life (λ v log. SwapOut s) (λ v. false)
+    → Takes word old pass k' pass' [] (λ v. 1) v (entries pass next (λ v log. SwapOut s)) (λ v. false) → Takes (at_head pass.name m) old pass new pass' [] (λ v. 1) v (entries pass life (λ v log. SwapOut s)) (λ v. false)
 told word m s pass pass' old k' new v next life w b i =
-    subst (λ (t : Site × (Keys × ℕ)). Takes t.0 old pass t.1.0 pass' [] (λ v. 1) v t.1.1 (λ v log. SwapOut s) (λ v. false)) (λ j. (w j, (b j, i j)))
+    subst (λ (t : Site × (Keys × ℕ)). Takes t.0 old pass t.1.0 pass' [] (λ v. 1) v (entries pass t.1.1 (λ v log. SwapOut s)) (λ v. false)) (λ j. (w j, (b j, i j)))
 
 pub returns-clause-noted : goal.returns-clause-noted
 returns-clause-noted c =

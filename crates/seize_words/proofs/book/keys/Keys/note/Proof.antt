@@ -3,7 +3,7 @@ use Rattle.seize_words.proofs.Kit.{ℕ, List, [], ◌∷◌, refl, sym, proved, 
 use mir.Syntax.{a_type, dcons, dnil}
 use mir.MapTy.{inst_fn}
 use denote.Param.{bounded}
-use Rattle.seize_words.specs.Entry.{Entry}
+use Rattle.seize_words.specs.Entry.{Entry, Deed}
 use Rattle.seize_words.specs.Ledger.{Held}
 use Rattle.seize_words.specs.Adding.{Asks, private}
 use Rattle.seize_words.specs.Fair.{Added}
@@ -38,7 +38,7 @@ note_spec 𝓤 𝓛 𝓜 𝓡 wired P LP g d _ =
     -- [the rights; the keys; its cell, in four entries; the pass, in two; its token; the other tokens]
     move ! (6 ∷ 7 ∷ 8 ∷ []) $ opens ! tt Pass.the_row rb ro (λ vs1. move ! (1 ∷ []) $ fsplit ! $ move ! (1 ∷ []) $
     -- [what the pass owns; the pass; its cell, in four entries; the rights; the keys; its cell; the other tokens]
-    let e : Entry = private r g.event in
+    let e : Deed = private r g.event in
     move ! (0 ∷ 6 ∷ []) $ use2 𝓛 (later (some (λ (t : List Entry × List (Held Entry)). given (Added r.name r.id r.seen t.0 p.held t.1 e) (‵ (pass_owns r.name r.id t.0) ⊛ ‵ (keys_own r.name t.1)))))
     (adds 𝓛 r.name r.id r.seen p.held e refl asked.1) $ await ! tt $ pick ! (λ t. learn ! (λ so. split ! $
     -- [what the pass owns; the rights; the pass; its cell, in four entries; the keys; its cell; the other tokens]

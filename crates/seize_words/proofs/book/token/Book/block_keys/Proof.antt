@@ -3,13 +3,15 @@ use Rattle.seize_words.proofs.Kit.{◌^◌, ◌<◌, vint, w64, u64, uint_vals, 
 use Rattle.std.specs.Prelude.{false, pos}
 use Rattle.seize_machine.specs.Machine.State.{has}
 use Rattle.seize_words.specs.Entry.{Entry}
-use Rattle.seize_words.specs.Book.{after, blocks, counts}
-use Rattle.seize_words.specs.Books.{IsNewBlock}
+use Rattle.seize_words.specs.Book.{after}
+use Rattle.seize_words.specs.Books.{IsNewBlock, of_block}
+use Rattle.seize_words.specs.Chains.{first_field, next_field, told}
+use Rattle.seize_words.specs.Deposits.{deposit}
 use Rattle.seize_words.specs.Homes.{count_in, home_of}
 use Rattle.seize_words.specs.Tokens.{Name, start, keys_own}
 use Rattle.seize_words.specs.contracts.book.keys.Keys as Keys
 use Rattle.seize_words.specs.contracts.book.token.Book as Book
-use Rattle.seize_words.proofs.Books.{block, block_keys}
+use Rattle.seize_words.proofs.Books.{IsUnused, block, block_keys}
 use Rattle.seize_words.proofs.Homes.{another_of}
 use Rattle.seize_words.proofs.Fields.{Token, token, token_made, ends}
 use Rattle.seize_words.specs.contracts.book.token.Book.block_keys.{ended, clauses}
@@ -18,17 +20,19 @@ use Rattle.seize_words.proofs.book.token.Book.block_keys.Statement.{statement}
 use Rattle.seize_words.proofs.book.token.Book.block_keys.Code as code
 
 -- the keys are those of a new block, labelled with a value that has the number
-its : (number : ℕ) (small : number < 2 ^ 64) (n : Name) (t : ℕ × List Entry) → ((v : ℕ) → home_of v ≡ t.0 → has v (after (start n) t.1).named ≡ false) × (count_in (after (start n) t.1) t.0 ≡ pos 0)
-    → IsNewBlock (record { marker = record {}; name = n; held = record { kind = blocks; key = t.0; own = t.1; label = (another_of t.0 number 0 small).0 } ∷ record { kind = counts; key = t.0; own = t.1; label = 0 } ∷ [] }) number
+its : (number : ℕ) (small : number < 2 ^ 64) (n : Name) (t : ℕ × List Entry)
+    → ((v : ℕ) → home_of v ≡ t.0 → has v (after (start n) t.1).named ≡ false) × ((count_in (after (start n) t.1) t.0 ≡ pos 0) × (deposit (after (start n) t.1) t.0 ≡ [])) × (told t.1 (next_field t.0) ≡ 0) × (told t.1 (first_field t.0) ≡ 0)
+    → IsNewBlock (record { marker = record {}; name = n; held = of_block (another_of t.0 number 0 small).0 t.0 t.1 }) number
 its number small n t new =
     let v = another_of t.0 number 0 small in
     record {
       value = v.0;
       own = t.1;
-      held = ap (λ (k : ℕ). record { kind = blocks; key = k; own = t.1; label = v.0 } ∷ record { kind = counts; key = k; own = t.1; label = 0 } ∷ []) (sym v.1);
+      held = ap (λ (k : ℕ). of_block v.0 k t.1) (sym v.1);
       numbered = v.2;
       none_named = λ w home. new.0 w (home ∙ v.1);
-      no_count = ap (count_in (after (start n) t.1)) v.1 ∙ new.1;
+      no_count = (ap (count_in (after (start n) t.1)) v.1 ∙ new.1.0, ap (deposit (after (start n) t.1)) v.1 ∙ new.1.1);
+      none_told = (ap (λ (k : ℕ). told t.1 (next_field k)) v.1 ∙ new.2, ap (λ (k : ℕ). told t.1 (first_field k)) v.1 ∙ new.3);
     }
 
 pub block_keys_spec : {M : Type 1} → statement M
@@ -44,7 +48,7 @@ block_keys_spec 𝓤 𝓛 𝓜 𝓡 wired =
     keep ! (0 ∷ 2 ∷ []) $
     enter ! 𝓣.C 𝓣.Λ fn (vptr pb po ∷ vint w64 number ∷ []) Post $ alloc_all ! (λ l. pass_all ! refl ((tt, tt), ((tt, record { fits = are.1.0.1 }), tt)) $
     let value : ℕ → ℕ = λ k. (another_of k number 0 are.1.0.1).0 in
-    use1 𝓛 (later (some (λ (t : ℕ × List Entry). given (((v : ℕ) → home_of v ≡ t.0 → has v (after (start b.name) t.1).named ≡ false) × (count_in (after (start b.name) t.1) t.0 ≡ pos 0)) (‵ (keys_own b.name (block_keys 𝓛 b.name (value t.0) t)))))) (block 𝓛 b.name b.seen value) $ await ! tt $ pick ! (λ t. learn ! (λ new.
+    use1 𝓛 (later (some (λ (t : ℕ × List Entry). given (IsUnused 𝓛 b.name t) (‵ (keys_own b.name (block_keys 𝓛 b.name (value t.0) t)))))) (block 𝓛 b.name b.seen value) $ await ! tt $ pick ! (λ t. learn ! (λ new.
     -- [what the keys own; the tokens]
     let r : Keys.the_row.Denot = record { marker = record {}; name = b.name; held = block_keys 𝓛 b.name (value t.0) t } in
     sets ! (agg ! (no_more !)) refl (tt, tt) $ sets ! (agg ! (and_then ! (get ! refl) (no_more !))) refl (tt, (tt, tt)) $

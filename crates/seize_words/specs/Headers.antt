@@ -1,0 +1,109 @@
+-- The words in which the contracts of headers speak. A block's header has two fields beside its count: the next block of a slot's list, and
+-- the first block of the batch.
+--     told_known key                    what was last stored in the field, as its key knows
+--     number field, IsFieldOf field key, IsOfBook field pass     which field it is;  it is the key's;  it is of the pass's book
+--     next_of key, first_of key         what was last stored in the next and in the first field of the block with which the slot's call is
+--                                       about to insert its batch (`written_of`)
+--     Stores which f key                f is that field of that block, which is `next_field` or `first_field`
+--     MayStore field key, Wrote field key key' value     it is one of them;  the value was stored there, and not in the other
+--     Passes which f key                the slot's call is about to count down the next batch of its walk, and f is that field of the block
+--                                       with which this was inserted
+--     MayLoad field key, Shows field key v     it is one of them;  v leads on through the rest of the walk, or to the batch's first block
+--     HasWritten key next batch         these are stored: this next, and the first block of this batch
+--     Uses key pass key' pass' f stores   the entry was noted: the slot loaded the field, or stored this; and its record is as it was,
+--                                       and so is whether it is active, and its last activation
+use Rattle.std.specs.Prelude.{◌≡◌, ℕ, List, [], ◌∷◌, Option, Some, unwrap_or, ◌⊎◌}
+use mathlib.Core.List.{IsPrefix}
+use Rattle.seize_machine.specs.Machine.State.{State, Rest, Try, slot_at}
+use Rattle.seize_words.specs.Blocks.{block_for, list_word, plans}
+use Rattle.seize_words.specs.Book.{after}
+use Rattle.seize_words.specs.Chains.{first_field, front_block, next_field, served, told}
+use Rattle.seize_words.specs.Entry.{Entry, Used}
+use Rattle.seize_words.specs.Homes.{home_of}
+use Rattle.seize_words.specs.Passes.{IsSame}
+use Rattle.seize_words.specs.Private.{key_of, own_of}
+use Rattle.seize_words.specs.Slots.{IsAfter, active_of, life_of, number_of, own_list, slot_of, start_of, written_of}
+use Rattle.seize_words.specs.Tokens.{Noted}
+use Rattle.seize_words.specs.declared.book.field_key.FieldKey.{FieldKey}
+use Rattle.seize_words.specs.declared.book.pass.Pass.{Pass}
+use Rattle.seize_words.specs.declared.book.slot_key.SlotKey.{SlotKey}
+use Rattle.seize_words.specs.declared.header.Field.{Field}
+
+abbrev pub told_known : FieldKey → ℕ
+told_known key = told (own_of key.keys.held) (key_of key.keys.held)
+
+abbrev pub number : Field → ℕ
+number field = field.word.number
+
+abbrev pub IsFieldOf : Field → FieldKey → Type 0
+IsFieldOf field key = (field.word.name ≡ key.keys.name) × (number field ≡ key_of key.keys.held)
+
+abbrev pub IsOfBook : Field → Pass → Type 0
+IsOfBook field pass = field.word.name ≡ pass.name
+
+-- Before an insertion.
+
+abbrev pub next_of : SlotKey → ℕ
+next_of key = (unwrap_or (written_of key) (0, 0)).0
+
+abbrev pub first_of : SlotKey → ℕ
+first_of key = (unwrap_or (written_of key) (0, 0)).1
+
+-- where the list was `own` at the last entry of slot s
+pub record IsStoring (st : State) (s : ℕ) (own : List Entry) (which : ℕ → ℕ) (f : ℕ) : Type 0 where
+  pub batch : ℕ
+  pub won : ℕ
+  pub at : ℕ
+  pub later : List ℕ
+  pub saw : List ℕ
+  pub queue : List ℕ
+  pub trying : (slot_at (after st own) s).call ≡ Some (record { place = Try batch won at later saw; queue = queue })
+  pub its : f ≡ which (home_of (served (plans st own) batch at))
+
+abbrev pub Stores : (ℕ → ℕ) → ℕ → SlotKey → Type 0
+Stores which f key = IsStoring (start_of key) (number_of key) (own_list key) which f
+
+abbrev pub MayStore : Field → SlotKey → Type 0
+MayStore field key = Stores next_field (number field) key ⊎ Stores first_field (number field) key
+
+abbrev pub Wrote : Field → SlotKey → SlotKey → ℕ → Type 0
+Wrote field key key' value =
+    (Stores next_field (number field) key → written_of key' ≡ Some (value, first_of key))
+    × (Stores first_field (number field) key → written_of key' ≡ Some (next_of key, value))
+
+abbrev pub HasWritten : SlotKey → ℕ → ℕ → Type 0
+HasWritten key next batch = written_of key ≡ Some (next, front_block (plans (start_of key) (own_list key)) batch)
+
+-- In a walk.
+
+pub record IsPassing (st : State) (s : ℕ) (own : List Entry) (which : ℕ → ℕ) (f : ℕ) : Type 0 where
+  pub batch : ℕ
+  pub walk : List ℕ
+  pub queue : List ℕ
+  pub walking : (slot_at (after st own) s).call ≡ Some (record { place = Rest [] (batch ∷ walk); queue = queue })
+  pub its : f ≡ which (home_of (served (plans st own) batch s))
+
+abbrev pub Passes : (ℕ → ℕ) → ℕ → SlotKey → Type 0
+Passes which f key = IsPassing (start_of key) (number_of key) (own_list key) which f
+
+abbrev pub MayLoad : Field → SlotKey → Type 0
+MayLoad field key = Passes next_field (number field) key ⊎ Passes first_field (number field) key
+
+abbrev pub Shows : Field → SlotKey → ℕ → Type 0
+Shows field key v =
+    ((w : Passes next_field (number field) key) → v ≡ list_word (λ b. block_for (start_of key) (own_list key) b (number_of key)) w.walk)
+    × ((w : Passes first_field (number field) key) → v ≡ front_block (plans (start_of key) (own_list key)) w.batch)
+
+-- The entry.
+
+abbrev pub using : SlotKey → Pass → ℕ → Option ℕ → Entry
+using key pass f stores = Used (record { pass = pass.id; slot = number_of key; field = f; stores = stores })
+
+pub record Uses (key : SlotKey) (pass : Pass) (key' : SlotKey) (pass' : Pass) (f : ℕ) (stores : Option ℕ) : Type 0 where
+  pub same : IsSame pass pass'
+  pub seen_by : IsAfter key pass' key'
+  pub noted : Noted pass.name pass.id pass.seen pass'.seen (using key pass f stores)
+  pub knew : IsPrefix (own_list key) noted.before
+  pub slot : slot_of key' ≡ slot_of key
+  pub active : active_of key' ≡ active_of key
+  pub life : life_of key' ≡ life_of key

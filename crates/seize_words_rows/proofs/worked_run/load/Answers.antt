@@ -1,0 +1,45 @@
+use Rattle.std.proofs.Common.{◌≡◌, ℕ, List, [], sym, ap, ◌∙◌}
+use Rattle.seize_machine.specs.Machine.State.{Slot}
+use Rattle.seize_words.specs.Blocks.{Plan}
+use Rattle.seize_words.specs.Chains.{first_field, front_block, next_field, served}
+use Rattle.seize_words.specs.Homes.{home_of}
+use Rattle.seize_words.specs.Slots.{number_of}
+use Rattle.seize_words.specs.declared.book.slot_key.SlotKey.{SlotKey}
+use Rattle.seize_words_rows.specs.Attempts.{home_for}
+use Rattle.seize_words_rows.specs.Runs.{AreWords, book_of, left, value_of}
+use Rattle.seize_words_rows.specs.Stages.{Knows}
+use Rattle.seize_words_rows.specs.Walks.{IsAtBlock}
+use Rattle.seize_words_rows.specs.declared.worked_run.Words.{Words}
+use Rattle.seize_words_rows.proofs.Stages.{planned_is, record_is, uses_both}
+use Rattle.seize_words_rows.proofs.worked_run.load.Goals as goal
+
+-- the reader's call is about to count down the batch that was inserted with the block
+abbrev at_block : (words : Words) (key : SlotKey) → AreWords words → Knows (book_of words) key 0 (left (value_of words)) → IsAtBlock key words.block.next words.block.first
+at_block words key are knows =
+    let n = book_of words in let v = value_of words in
+    let home : home_for key 0 (number_of key) ≡ home_of v =
+    ap (λ (ps : List Plan). home_of (served ps 0 (number_of key))) (planned_is n key 0 (left v) knows) ∙ ap (λ (m : ℕ). home_of (served (left v).plans 0 m)) knows.number in
+    record {
+      batch = 0;
+      walk = [];
+      queue = [];
+      walking = ap (λ (r : Slot). r.call) (record_is n key 0 (left v) knows);
+      its_next = are.1.3.2 ∙ ap next_field (sym home);
+      its_first = are.1.3.3 ∙ ap first_field (sym home);
+    }
+
+pub look_on-requires-clause-at : goal.look_on-requires-clause-at
+look_on-requires-clause-at c = at_block c.args.words.now c.args.reader.now c.requires.stands.0 c.requires.stands.2
+
+pub returns-clause-found : goal.returns-clause-found
+returns-clause-found c =
+    let words = c.args.words.now in let n = book_of words in let v = value_of words in let one = c.look_on in let stands = c.requires.stands in
+    let after = uses_both n c.args.reader.now one.new.key c.args.pass.now one.new.pass 0 _ _ _ _ (left v) (left v) one.ensures.uses stands.1 stands.2 in
+    let on = one.ensures.goes_on (at_block words c.args.reader.now stands.0 stands.2) in
+    (on.rest, on.front ∙ ap (λ (ps : List Plan). front_block ps 0) (planned_is n one.new.key 0 (left v) after.1) ∙ stands.0.1.2)
+
+pub returns-clause-stands : goal.returns-clause-stands
+returns-clause-stands c =
+    let words = c.args.words.now in let n = book_of words in let v = value_of words in let one = c.look_on in let stands = c.requires.stands in
+    let after = uses_both n c.args.reader.now one.new.key c.args.pass.now one.new.pass 0 _ _ _ _ (left v) (left v) one.ensures.uses stands.1 stands.2 in
+    (stands.0, after.0, after.1)

@@ -1,0 +1,37 @@
+-- Where a walk by words stands.
+--     word_for key bs      the word that leads to these batches of the slot, as its key knows
+--     LeadsTo block bs k   this is the number of the first one's block, where there is one
+--     IsAtBlock key next first     the slot's call is about to count down a batch of its walk, and these are the fields of the block with
+--                          which the batch was inserted
+--     GoesOn at key' v w   it is the same slot's key, and its call is there still; v leads to the rest of the walk, and w is the number of
+--                          the batch's first block
+use Rattle.std.specs.Prelude.{◌≡◌, ℕ, List, [], ◌∷◌, Option, Some, None}
+use Rattle.seize_machine.specs.Machine.State.{Rest}
+use Rattle.seize_words.specs.Blocks.{block_for, list_word, plans}
+use Rattle.seize_words.specs.Chains.{first_field, front_block, next_field}
+use Rattle.seize_words.specs.Headers.{number}
+use Rattle.seize_words.specs.Slots.{number_of, own_list, slot_of, start_of}
+use Rattle.seize_words.specs.declared.book.slot_key.SlotKey.{SlotKey}
+use Rattle.seize_words.specs.declared.header.Field.{Field}
+use Rattle.seize_words_rows.specs.Attempts.{home_for}
+
+abbrev pub word_for : SlotKey → List ℕ → ℕ
+word_for key bs = list_word (λ b. block_for (start_of key) (own_list key) b (number_of key)) bs
+
+abbrev pub LeadsTo : (ℕ → ℕ) → List ℕ → Option ℕ → Type 0
+LeadsTo block [] k = k ≡ None
+LeadsTo block (b ∷ bs) k = k ≡ Some (block b)
+
+pub record IsAtBlock (key : SlotKey) (next first : Field) : Type 0 where
+  pub batch : ℕ
+  pub walk : List ℕ
+  pub queue : List ℕ
+  pub walking : (slot_of key).call ≡ Some (record { place = Rest [] (batch ∷ walk); queue = queue })
+  pub its_next : number next ≡ next_field (home_for key batch (number_of key))
+  pub its_first : number first ≡ first_field (home_for key batch (number_of key))
+
+pub record GoesOn {key : SlotKey} {next first : Field} (at : IsAtBlock key next first) (key' : SlotKey) (v w : ℕ) : Type 0 where
+  pub its : (key'.keys.name ≡ key.keys.name) × (number_of key' ≡ number_of key)
+  pub slot : slot_of key' ≡ slot_of key
+  pub rest : v ≡ word_for key' at.walk
+  pub front : w ≡ front_block (plans (start_of key') (own_list key')) at.batch
