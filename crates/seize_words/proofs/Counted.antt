@@ -8,7 +8,7 @@ use Rattle.seize_machine.specs.Machine.Event.{AddCount, Event, SubCount}
 use Rattle.seize_machine.specs.Machine.History.{IsReached}
 use Rattle.seize_machine.specs.Machine.Next.{is_zero, next}
 use Rattle.seize_machine.specs.declared.machine.event.Answer.{Answer}
-use Rattle.seize_machine.proofs.Facts.{Stands, Step, batched_named, is_true, some_is, step_of}
+use Rattle.seize_machine.proofs.Facts.{Stands, batched_named, is_true, some_is}
 use Rattle.seize_words.specs.Adding.{private}
 use Rattle.seize_words.specs.Atomic.{deed, entries, minus, plus}
 use Rattle.seize_words.specs.Blocks.{Plan, count_word, front_of, no_plan, plans}
@@ -35,7 +35,7 @@ use Rattle.seize_words.proofs.Lists.{after_push, equal, reached_after, unequal}
 use Rattle.seize_words.proofs.Moves.{moves}
 use Rattle.seize_words.proofs.Plans.{plan_stays}
 use Rattle.seize_words.proofs.Private.{after_one, only, only_is}
-use Rattle.seize_words.proofs.Values.{keys_later, none_of}
+use Rattle.seize_words.proofs.Values.{keys_later, labels_later, none_of}
 
 -- a count's word, named by the pass's book
 pub is_at_count : (word : Site) (n : Name) → word.name ≡ n → word.kind ≡ counts → word ≡ at_count n word.number
@@ -188,6 +188,29 @@ module _ (k : ℕ) (key key' : SlotKey) (more held' : List (Held Entry)) (pass p
       ap (λ (slot : Slot). slot.call) (parts.1.is ∙ ap (λ (d : State × Answer). slot_at d.0 s) comes ∙ get_or-set_same here.slots s after_it no_slot c.there)
       ∙ ap (λ (t : Bool × List ℕ). Some (record { place = Rest (if t.0 then t.1 else []) walk; queue = queue })) (λ j. (sym (zero_is done e) j, values_known j))
 
+  -- all others that lay in the blocks of the batch's values were reclaimed
+  pub all_last : (u : ℕ) → Contains (values_in key b) u → IsLastIn u (after opens pass'.seen)
+  all_last u among w home other named = go (is_true (has w later.gone))
+    where
+      later : State
+      later = after opens pass'.seen
+
+      in_it : Contains (batch_at here b).values u
+      in_it = subst (λ (values : List ℕ). Contains values u) (sym values_known) among
+
+      leads : later ≡ (come pass.name k here (number_of key) b c.count walk queue).0
+      leads = ap (after opens) (step.noted.appended ∙ ap (λ (l : List Entry). l ++ entries pass 0 (λ v log. event) v step.log ∷ []) step.is_log)
+          ∙ after_push opens step.log (entries pass 0 (λ v log. event) v step.log) (come pass.name k here (number_of key) b c.count walk queue) step.found.before.legal c.does
+
+      stays : (has u later.named ≡ true) × (has u later.gone ≡ false)
+      stays =
+          let was = batched_named here (reached_after pass.name step.log step.found.distinct step.found.before.legal) b u in_it in
+          subst (λ (z : State). (has u z.named ≡ true) × (has u z.gone ≡ false)) (sym leads) was
+
+      go : (has w later.gone ≡ true) ⊎ (has w later.gone ≡ false) → has w later.gone ≡ true
+      go (inl gone) = gone
+      go (inr not_gone) = absurd (other (step.noted.sound.one w u home named stays.0 not_gone stays.1))
+
 -- The keys of the batch's values.
 
 -- after an add they stay with the holder where the count is 0, and none comes
@@ -252,32 +275,6 @@ module _ (k : ℕ) (key : SlotKey) (held' : List (Held Entry)) (pass pass' : Pas
       either true = (keys_later _ step.since.1 pass'.seen (stood k key [] held' pass pass' (minus 1) v (SubCount (number_of key)) (λ v. minus 1 v == 0) step)).1
       either false = refl
 
-  -- all others that lay in their blocks were reclaimed
-  pub all_last : (u : ℕ) → Contains (batch_at before a.batch).values u → IsLastIn u (after (start pass.name) pass'.seen)
-  all_last u in_it w home other named = go (is_true (has w later.gone))
-    where
-      later : State
-      later = after (start pass.name) pass'.seen
-
-      d : State × Answer
-      d = come pass.name k before (number_of key) a.batch c.count a.walk a.queue
-
-      step_is : Step pass.name.size before (SubCount (number_of key)) d
-      step_is = step_of pass.name.size before (SubCount (number_of key)) d c.does
-
-      leads : later ≡ d.0
-      leads = ap (after (start pass.name)) (step.noted.appended ∙ ap (λ (l : List Entry). l ++ entries pass 0 (λ v log. SubCount (number_of key)) v step.log ∷ []) step.is_log)
-          ∙ after_push (start pass.name) step.log (entries pass 0 (λ v log. SubCount (number_of key)) v step.log) d step.found.before.legal c.does
-
-      stays : (has u later.named ≡ true) × (has u later.gone ≡ false)
-      stays =
-          let was = batched_named before reached a.batch u in_it in
-          subst (λ (z : State). (has u z.named ≡ true) × (has u z.gone ≡ false)) (sym leads) was
-
-      go : (has w later.gone ≡ true) ⊎ (has w later.gone ≡ false) → has w later.gone ≡ true
-      go (inl gone) = gone
-      go (inr not_gone) = absurd (other (step.noted.sound.one w u home named stays.0 not_gone stays.1))
-
 -- The steps as the calls on a count take them: with the slot's key and others joined, and the word as it is.
 
 first_of_both : (a b : List (Held Entry)) → is_one slots a ≡ true → key_of (a ++ b) ≡ key_of a
@@ -314,3 +311,12 @@ renewed_twice done vs held log is = is ∙ sym (twice (if done then vs else []))
 
 pub not_in_none : (u : ℕ) → Contains [] u → ⊥
 not_in_none u found = let less : found.0 < 0 = found.1 in omega (arith, less)
+
+-- what is so of all values of a batch is of those whose keys are at hand: all where the count is 0, and else none
+pub of_those : (P : ℕ → Type 0) (values : List ℕ) (zero : Bool) (labels : List ℕ) → labels ≡ (if zero then values else []) → ((u : ℕ) → Contains values u → P u) → (u : ℕ) → Contains labels u → P u
+of_those P values true labels are all u among = all u (subst (λ (ls : List ℕ). Contains ls u) are among)
+of_those P values false labels are all u among = absurd (not_in_none u (subst (λ (ls : List ℕ). Contains ls u) are among))
+
+pub labels_stay : (done : Bool) (vs : List (Held Entry)) (values : List ℕ) (log : List Entry) → labels_of vs ≡ values → labels_of (renewed (if done then vs else []) log) ≡ (if done then values else [])
+labels_stay true vs values log is = labels_later vs log ∙ is
+labels_stay false vs values log is = refl

@@ -16,7 +16,7 @@ blocks_within (x ∷ vs) are =
     (let is : x.kind ≡ blocks = eq_true x.kind blocks (and_true _ _ both.0).0 in omega arith, blocks_within vs both.1)
 
 -- the values whose keys they are stay as the keys learn more
-labels_later : (vs : List (Held Entry)) (log : List Entry) → labels_of (renewed vs log) ≡ labels_of vs
+pub labels_later : (vs : List (Held Entry)) (log : List Entry) → labels_of (renewed vs log) ≡ labels_of vs
 labels_later [] log = refl
 labels_later (x ∷ vs) log = ap (λ (ls : List ℕ). x.label ∷ ls) (labels_later vs log)
 

@@ -10,6 +10,7 @@
 --     AreOfBook values pass                     the keys are of the pass's book
 --     values_in key b                           the values with which batch b was detached, as the slot's key knows
 --     AddsWith key count won values             the slot's call adds to this count, and the keys are those of the batch's values
+--     AreLast values pass'                      all others that lay in the blocks of these values were reclaimed
 --     Leaves values pass' values' zero          the keys stay where the count came to 0, and else they stand with the count
 --     Takes key b pass' values' zero            the keys of the batch's values come out where the count came to 0
 --     GivesUp key key' b walk queue zero        the slot's call goes on with this walk and queue; the values with which the batch was
@@ -91,17 +92,22 @@ values_in key b = (slice_index_or (plans (start_of key) (own_list key)) b no_pla
 abbrev pub AddsWith : SlotKey → Count → ℕ → ValueKeys → Type 0
 AddsWith key count won values = (a : AddsTo key count won) × (values_of values ≡ values_in key a.batch)
 
+-- all others that lay in the blocks of these values were reclaimed, as the pass has seen
+abbrev pub AreLast : ValueKeys → Pass → Type 0
+AreLast values pass' = (v : ℕ) → Contains (values_of values) v → IsLastIn v (after (start pass'.name) pass'.seen)
+
 -- they are the same keys, and know all that the pass has seen, where the count came to 0; and else they stand with the count
 abbrev pub Leaves : ValueKeys → Pass → ValueKeys → Bool → Type 0
 Leaves values pass' values' zero =
     (book_in values' ≡ pass'.name) × (values'.keys.held ≡ renewed (if zero then values.keys.held else []) pass'.seen)
+    × AreLast values' pass'
 
--- those of the batch's values where the count came to 0, and else none. All others that lay in their blocks were reclaimed
+-- those of the batch's values where the count came to 0, and else none
 abbrev pub Takes : SlotKey → ℕ → Pass → ValueKeys → Bool → Type 0
 Takes key b pass' values' zero =
     (book_in values' ≡ pass'.name) × (values'.keys.held ≡ renewed values'.keys.held pass'.seen)
     × (values_of values' ≡ (if zero then values_in key b else []))
-    × ((v : ℕ) → Contains (values_of values') v → IsLastIn v (after (start pass'.name) pass'.seen))
+    × AreLast values' pass'
 
 abbrev pub Counts : SlotKey → Pass → SlotKey → Pass → Event → Bool → Type 0
 Counts key pass key' pass' event zero =

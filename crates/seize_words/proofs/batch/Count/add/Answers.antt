@@ -1,11 +1,15 @@
-use Rattle.std.proofs.Common.{◌==◌, not, [], sym, refl, ◌∙◌, ap}
+use Rattle.std.proofs.Common.{subst, ◌==◌, not, [], sym, refl, ◌∙◌, ap}
 use Rattle.seize_machine.specs.Machine.Event.{AddCount}
 use Rattle.seize_words.specs.Atomic.{plus}
-use Rattle.seize_words.specs.Counts.{home}
+use Rattle.seize_words.specs.Book.{after}
+use Rattle.seize_words.specs.Counts.{home, values_in}
+use Rattle.seize_words.specs.Others.{IsLastIn}
 use Rattle.seize_words.specs.Private.{key_of, own_of}
-use Rattle.seize_words.specs.Words.{are_of_blocks}
+use Rattle.seize_words.specs.Tokens.{Name, start}
+use Rattle.seize_words.specs.Words.{are_of_blocks, labels_of}
+use Rattle.seize_words.specs.declared.book.slot_key.SlotKey.{SlotKey}
 use Rattle.seize_words.proofs.Counting.{may_add_count}
-use Rattle.seize_words.proofs.Counted.{added, adding_in, counts_so, gives_so, in_pass, joined_may, joined_step, left_with, still_blocks}
+use Rattle.seize_words.proofs.Counted.{added, adding_in, all_last, counts_so, gives_so, in_pass, joined_may, joined_step, labels_stay, left_with, of_those, still_blocks}
 use Rattle.seize_words.proofs.batch.Count.add.Goals as goal
 
 pub add-old-requires : goal.add-old-requires
@@ -46,7 +50,12 @@ pub returns-clause-keys : goal.returns-clause-keys
 returns-clause-keys c =
     let count = c.args.self.now in let key = c.args.key.now in let pass = c.args.pass.now in let pass' = c.add-old.new.pass in let keys' = c.add-old.new.keys in let v = c.add-old.result in let values = c.args.values.now in let won = c.args.won in let k = home count in
     let step = joined_step count.word key values.keys.held c.join.new.self.held keys'.held pass pass' (plus won) v (λ s. AddCount s) (λ v. not (plus won v == 0)) c.requires.book.1 count.count c.join.ensures.2 c.add-old.ensures.2 in
-    let adds = adding_in key.keys.name pass.name (key_of key.keys.held) (own_of key.keys.held) k won c.requires.book.0 c.requires.adds.0 in (
+    let adds = adding_in key.keys.name pass.name (key_of key.keys.held) (own_of key.keys.held) k won c.requires.book.0 c.requires.adds.0 in
+    let key' : SlotKey = record { keys = c.part.new.self; one = c.key-1.given.0 } in let left = c.part.ensures.3 ∙ left_with k won key values.keys.held keys'.held pass pass' v step adds in
+    let labels = ap labels_of left ∙ labels_stay (plus won v == 0) values.keys.held (values_in key adds.batch) pass'.seen c.requires.adds.1 in (
       c.part.ensures.1 ∙ c.add-old.ensures.1 ∙ c.join.ensures.0 ∙ c.requires.book.0 ∙ sym c.add-old.ensures.0.0,
-      c.part.ensures.3 ∙ left_with k won key values.keys.held keys'.held pass pass' v step adds,
+      left,
+      of_those (λ u. IsLastIn u (after (start pass'.name) pass'.seen)) (values_in key adds.batch) (plus won v == 0) _ labels (λ u among. subst (λ (n : Name). IsLastIn u (after (start n) pass'.seen)) (sym c.add-old.ensures.0.0)
+          (all_last k key key' values.keys.held keys'.held pass pass' (plus won) v (AddCount (key_of key.keys.held)) (λ v. not (plus won v == 0)) adds.batch [] adds.queue step c.add-old.ensures.0
+          (c.part.ensures.0 ∙ c.add-old.ensures.1 ∙ c.join.ensures.0) c.part.ensures.2 c.requires.book.0 (added k won key values.keys.held keys'.held pass pass' v (λ v. not (plus won v == 0)) step adds) u among)),
     )

@@ -1,16 +1,15 @@
-use Rattle.std.proofs.Common.{ℕ, ◌==◌, Bool, true, false, if◌then◌else◌, List, [], sym, ◌∙◌, ap, subst, append-nil}
-use Rattle.std.specs.List.{Contains}
+use Rattle.std.proofs.Common.{ℕ, ◌==◌, Bool, if◌then◌else◌, List, [], sym, ◌∙◌, ap, subst, append-nil}
 use Rattle.seize_machine.specs.Machine.Event.{SubCount}
 use Rattle.seize_words.specs.Atomic.{minus}
 use Rattle.seize_words.specs.Book.{after}
-use Rattle.seize_words.specs.Counts.{home}
+use Rattle.seize_words.specs.Counts.{home, values_in}
 use Rattle.seize_words.specs.Others.{IsLastIn}
 use Rattle.seize_words.specs.Private.{key_of, own_of}
 use Rattle.seize_words.specs.Tokens.{Name, start}
 use Rattle.seize_words.specs.Words.{are_of_blocks, labels_of}
 use Rattle.seize_words.specs.declared.book.slot_key.SlotKey.{SlotKey}
 use Rattle.seize_words.proofs.Counting.{may_subtract_count}
-use Rattle.seize_words.proofs.Counted.{all_blocks, all_last, counts_so, gives_so, joined_may, joined_step, labels_are, not_in_none, others_are, renewed_twice, subtracted, values_known, walking_in, was_one}
+use Rattle.seize_words.proofs.Counted.{all_blocks, all_last, counts_so, gives_so, joined_may, joined_step, labels_are, of_those, others_are, renewed_twice, subtracted, values_known, walking_in, was_one}
 use Rattle.seize_words.proofs.batch.Count.subtract.Goals as goal
 
 pub subtract-old-requires : goal.subtract-old-requires
@@ -56,14 +55,11 @@ returns-clause-keys c walks_ =
     let key' : SlotKey = record { keys = c.part.new.self; one = c.key-1.given.0 } in
     let known = values_known k key key' [] keys'.held pass pass' (minus 1) v (SubCount (key_of held)) (λ v. minus 1 v == 0) walks.batch walks.walk walks.queue step c.subtract-old.ensures.0 name c.part.ensures.2 c.requires.book.0 counting in
     let zero = was_one v c.subtract-old.type_inv in
-    let labels = ap labels_of c.part.ensures.3 ∙ labels_are k key keys'.held pass pass' v step walks c.requires.book.0 in (
+    let labels = ap labels_of c.part.ensures.3 ∙ labels_are k key keys'.held pass pass' v step walks c.requires.book.0 in
+    let all = labels ∙ ap (λ (t : Bool × List ℕ). if t.0 then t.1 else []) (λ i. (sym zero i, known i)) in (
       c.part.ensures.1 ∙ c.subtract-old.ensures.1 ∙ c.requires.book.0 ∙ sym c.subtract-old.ensures.0.0,
       renewed_twice (minus 1 v == 0) step.since.1 c.part.new.other.held pass'.seen (c.part.ensures.3 ∙ others_are k key keys'.held pass pass' v step walks c.requires.book.0),
-      labels ∙ ap (λ (t : Bool × List ℕ). if t.0 then t.1 else []) (λ i. (sym zero i, known i)),
-      (λ u in_it. subst (λ (n : Name). IsLastIn u (after (start n) pass'.seen)) (sym c.subtract-old.ensures.0.0)
-          (given _ _ (minus 1 v == 0) u (subst (λ (ls : List ℕ). Contains ls u) labels in_it) (all_last k key keys'.held pass pass' v step walks c.requires.book.0 u))),
+      all,
+      of_those (λ u. IsLastIn u (after (start pass'.name) pass'.seen)) (values_in key walks.batch) (v == 1) _ all (λ u among. subst (λ (n : Name). IsLastIn u (after (start n) pass'.seen)) (sym c.subtract-old.ensures.0.0)
+          (all_last k key key' [] keys'.held pass pass' (minus 1) v (SubCount (key_of held)) (λ v. minus 1 v == 0) walks.batch walks.walk walks.queue step c.subtract-old.ensures.0 name c.part.ensures.2 c.requires.book.0 counting u among)),
     )
-  where
-    given : (P : Type 0) (values : List ℕ) (z : Bool) (u : ℕ) → Contains (if z then values else []) u → (Contains values u → P) → P
-    given P values true u in_it last = last in_it
-    given P values false u in_it last = absurd (not_in_none u in_it)
