@@ -4,10 +4,10 @@ ghost use Rattle.seize_words_rows.specs.Rows.{MayReadAll};
 
 use crate::clock::Samples;
 use crate::team::runs;
-use seize_words::book::Book;
 use seize_words::link::Link;
 use seize_words_rows::exchanges::{Swapper, share_many};
 use seize_words_rows::leaving::Visitor;
+use seize_words_rows::making::open;
 use seize_words_rows::row::{open_row, read_row, visit_many};
 use std::alloc::Global;
 use std::io;
@@ -30,9 +30,9 @@ const ROUNDS: u64 = 2_500;
 
 // An error tells that something waited at the head, which is alone in its book.
 fn each_entered() -> io::Result<u64> {
-    let (book, mut numbers, links) = Book::open(0, 32);
-    let visitor = Visitor::make(&book, &mut numbers);
-    drop((numbers, links));
+    let (book, maker, links) = open(0);
+    let (visitor, maker) = Visitor::make(&book, maker);
+    drop((maker, links));
     if visitor.visit(ENTERED) < ENTERED {
         return Err(ErrorKind::Other.into());
     }
@@ -52,9 +52,9 @@ pub(crate) fn exchange<R: Clock + CpuClock + Threads + Sync>(
     threads: u64,
     samples: &mut Samples,
 ) -> io::Result<()> {
-    let (mut book, mut numbers, mut links) = Book::open(1, 32);
+    let (mut book, maker, mut links) = open(1);
     let link = Link::next(&mut links);
-    let mut one = Swapper::enter(&book, &mut numbers, &link);
+    let (mut one, _) = Swapper::enter(&book, maker, &link);
     book.learn(&mut one.pass);
     let (link, book, activation) = (&link, &book, &one.activation);
     let work = || -> io::Result<u64>
@@ -69,8 +69,8 @@ pub(crate) fn protect<R: Clock + CpuClock + Threads + Sync>(
     alloc: Global,
     samples: &mut Samples,
 ) -> io::Result<()> {
-    let (mut book, mut numbers, row) = open_row(alloc, LINKS)?;
-    let mut one = Swapper::enter(&book, &mut numbers, &row[0]);
+    let (mut book, maker, row) = open_row(alloc, LINKS)?;
+    let (mut one, _) = Swapper::enter(&book, maker, &row[0]);
     book.learn(&mut one.pass);
     let (book, row, activation) = (&book, row.as_slice(), &one.activation);
     let work = || -> io::Result<u64>
@@ -81,9 +81,8 @@ pub(crate) fn protect<R: Clock + CpuClock + Threads + Sync>(
 
 // With links of its own.
 fn each_visited(alloc: Global) -> io::Result<u64> {
-    let (book, mut numbers, row) = open_row(alloc, LINKS)?;
-    let visitor = Visitor::make(&book, &mut numbers);
-    drop(numbers);
+    let (book, maker, row) = open_row(alloc, LINKS)?;
+    let (visitor, _) = Visitor::make(&book, maker);
     visit_many(visitor, row.as_slice(), ROUNDS).ok_or(ErrorKind::Other.into())
 }
 

@@ -17,7 +17,7 @@ use denote.Steps.{nothing}
 use Rattle.seize_machine.specs.Machine.State.{State, has, linked, are_distinct, opening}
 use Rattle.seize_words.specs.Ledger.{Held, logs, halved, roster, rosters, rights, reached, row, Holds, AllBelow, AreNext, all_bumped, bumped, born}
 use Rattle.seize_words.specs.Entry.{Entry, entry_coded}
-use Rattle.seize_words.specs.Book.{Kept, Sized, mine, kind_of, rules, passes, numbers, links, kinds}
+use Rattle.seize_words.specs.Book.{Kept, Sized, mine, kind_of, rules, passes, numbers, slots, heads, links, totals, kinds}
 use Rattle.seize_words.specs.Homes.{IsSound}
 use Rattle.seize_words.specs.Tokens.{Name, Gate, many, sole, IsSole, rows, start, inside, beside, gate_keeps, gate_gives, keys_own, pass_at, pass_holds}
 use Rattle.seize_words.specs.Begin.{BeganWith, unused, first_links, first_keys, book_owns}
@@ -26,13 +26,14 @@ use Rattle.seize_words.specs.Chains.{told}
 use Rattle.seize_words.proofs.Chains.{chained_opening}
 use Rattle.seize_words.proofs.Goes.{kept_now}
 
--- the keys of the beginning, by kind and number: of the first pass, of the numbers, and of each link
+-- the keys of the beginning, by kind and number: of the first pass, of the numbers, of the total, of the first slot and its head, and of
+-- each link
 abbrev of_links : ℕ → ℕ → List (ℕ × ℕ)
 of_links l zero = []
 of_links l (suc n) = (links, l) ∷ of_links (suc l) n
 
 abbrev firsts : ℕ → List (ℕ × ℕ)
-firsts n = (passes, 0) ∷ (numbers, 0) ∷ of_links 0 n
+firsts n = (passes, 0) ∷ (numbers, 0) ∷ (totals, 0) ∷ (slots, 0) ∷ (heads, 0) ∷ of_links 0 n
 
 born_links : (l n : ℕ) → born {E = Entry} (of_links l n) [] ≡ first_links l n
 born_links l zero = refl
@@ -67,7 +68,7 @@ row_nil zero = refl
 row_nil (suc r) = row_nil r
 
 abbrev sizes_before : ℕ → ℕ
-sizes_before = bumped numbers (bumped passes (sizes {E = Entry} []))
+sizes_before = bumped heads (bumped slots (bumped totals (bumped numbers (bumped passes (sizes {E = Entry} [])))))
 
 -- no value was named
 sound_first : (n : ℕ) → IsSound (opening 0 (empty n))
@@ -90,7 +91,8 @@ holds_first n = record {
     go (suc (suc (suc (suc (suc zero))))) = λ k le. (refl, refl)
     go (suc (suc (suc (suc (suc (suc zero)))))) = λ v le. ap (has v) (none_linked n)
     go (suc (suc (suc (suc (suc (suc (suc zero))))))) = λ f le. refl
-    go (suc (suc (suc (suc (suc (suc (suc (suc r)))))))) = tt
+    go (suc (suc (suc (suc (suc (suc (suc (suc zero)))))))) = bumped_other 0 n sizes_before 8 refl
+    go (suc (suc (suc (suc (suc (suc (suc (suc (suc r))))))))) = tt
 
 module _ {M : Type 1} {𝓤 : Ura M} (𝓛 : Logic 𝓤) where
   open 𝓛 use {H, A}
@@ -129,8 +131,9 @@ module _ {M : Type 1} {𝓤 : Ura M} (𝓛 : Logic 𝓤) where
         use0 𝓛 fresh_row fresh $ await ! tt $ pick ! (λ d2. use0 𝓛 fresh_row fresh $ await ! tt $ pick ! (λ d3.
         use0 𝓛 fresh_row fresh $ await ! tt $ pick ! (λ d4. use0 𝓛 fresh_row fresh $ await ! tt $ pick ! (λ d5.
         use0 𝓛 fresh_row fresh $ await ! tt $ pick ! (λ d6. use0 𝓛 fresh_row fresh $ await ! tt $ pick ! (λ d7.
+        use0 𝓛 fresh_row fresh $ await ! tt $ pick ! (λ d8.
         -- [the rosters, the last first]
-        nothing ! $ move ! (1 ∷ 0 ∷ []) $ fjoin ! $ move ! (1 ∷ 0 ∷ []) $ fjoin ! $ move ! (1 ∷ 0 ∷ []) $ fjoin ! $ move ! (1 ∷ 0 ∷ []) $ fjoin ! $ move ! (1 ∷ 0 ∷ []) $ fjoin ! $ move ! (1 ∷ 0 ∷ []) $ fjoin ! $ move ! (1 ∷ 0 ∷ []) $ fjoin ! $ move ! (1 ∷ 0 ∷ []) $ fjoin ! $
+        nothing ! $ move ! (1 ∷ 0 ∷ []) $ fjoin ! $ move ! (1 ∷ 0 ∷ []) $ fjoin ! $ move ! (1 ∷ 0 ∷ []) $ fjoin ! $ move ! (1 ∷ 0 ∷ []) $ fjoin ! $ move ! (1 ∷ 0 ∷ []) $ fjoin ! $ move ! (1 ∷ 0 ∷ []) $ fjoin ! $ move ! (1 ∷ 0 ∷ []) $ fjoin ! $ move ! (1 ∷ 0 ∷ []) $ fjoin ! $ move ! (1 ∷ 0 ∷ []) $ fjoin ! $
         use0 𝓛 (later (some (λ (η : ℕ). ‵ (latest (logs entry_coded) full_share η [])))) (via 𝓤 _ (latest_new (logs entry_coded) 𝓛 []) (basic 𝓛 _)) $ await ! tt $ pick ! (λ η.
         use1 𝓛 (‵ (latest (logs entry_coded) full_share η []) ⊛ ‵ (reached entry_coded η [])) (latest_shows (logs entry_coded) 𝓛 full_share η [] [] ([], refl)) $ split ! $
         move ! (1 ∷ []) $ use1 𝓛 (‵ (reached entry_coded η []) ⊛ ‵ (reached entry_coded η [])) (at_least_dup (logs entry_coded) 𝓛 η []) $ split ! $
@@ -147,6 +150,7 @@ module _ {M : Type 1} {𝓤 : Ura M} (𝓛 : Logic 𝓤) where
           count_keys = d5;
           block_keys = d6;
           field_keys = d7;
+          total_keys = d8;
           gate = g;
           size = size;
           slots = 0;
@@ -154,7 +158,7 @@ module _ {M : Type 1} {𝓤 : Ura M} (𝓛 : Logic 𝓤) where
         } in let st : State = start n₀ in let bs : List (ℕ × ℕ) = firsts n in
         -- [the book's copy; the pass's; nothing was reached, twice; the list; the rosters]
         move ! (5 ∷ []) $ use1 𝓛 (later (‵ (rosters entry_coded (rows n₀) (grown [] bs [])) ⊛ ‵ (rights entry_coded (rows n₀) (born bs []))))
-        (via 𝓤 _ (borns entry_coded (rules st) (beside n₀) η (rows n₀) 𝓛 [] bs [] (omega arith, (omega arith, below_links 0 n)) (refl, (refl, next_links 0 n sizes_before refl))) (basic 𝓛 _)) $ await ! tt $ split ! $
+        (via 𝓤 _ (borns entry_coded (rules st) (beside n₀) η (rows n₀) 𝓛 [] bs [] (omega arith, (omega arith, (omega arith, (omega arith, (omega arith, below_links 0 n))))) (refl, (refl, (refl, (refl, (refl, next_links 0 n sizes_before refl)))))) (basic 𝓛 _)) $ await ! tt $ split ! $
         -- [the rosters; the rights; the book's copy; the pass's; nothing was reached, twice; the list]
         nothing ! $ move ! (0 ∷ 3 ∷ []) $ fjoin ! $ move ! (1 ∷ 6 ∷ 0 ∷ []) $ use3 𝓛 (‵ (inside n₀)) (shut entry_coded (rules st) (beside n₀) η (rows n₀) 𝓛 (grown [] bs []) [] (holds_first n)) $
         use1 𝓛 (later (some (λ (j : ℕ). given (0 ≤ j) (‵ (fnamed j (inside n₀)))))) (named_past 𝓛 0 (inside n₀)) $ await ! tt $ pick ! (λ j. learn ! (λ _. let m : Name = record n₀ { number = j } in
@@ -164,8 +168,8 @@ module _ {M : Type 1} {𝓤 : Ura M} (𝓛 : Logic 𝓤) where
         move ! (1 ∷ []) $ fsplit ! $ nothing ! $ fpack ! (IsPrefix [] [] × (mine st 0 [] ≡ mine st 0 [])) (λ _. ftrue) (([], refl), refl) $
         -- [nothing is past; the pass's key; the other keys; the book; the pass's copy; nothing was reached]
         move ! (4 ∷ 0 ∷ []) $ fjoin ! $ move ! (4 ∷ 0 ∷ []) $ fjoin ! $ move ! (1 ∷ 0 ∷ []) $ fjoin ! $ fpack ! (List Entry) (pass_at m 0 []) [] $
-        rewrite ! 1 (λ (hs : List (Held Entry)). ‵ (keys_own m (unused numbers 0 ∷ hs))) (born_links 0 n) refl $
-        now ! $ show ! Begun m $ check ! (picked, (refl, refl, refl)) $ move ! (2 ∷ 0 ∷ 1 ∷ []) $ done !)))))))))))))
+        rewrite ! 1 (λ (hs : List (Held Entry)). ‵ (keys_own m (unused numbers 0 ∷ unused totals 0 ∷ unused slots 0 ∷ unused heads 0 ∷ hs))) (born_links 0 n) refl $
+        now ! $ show ! Begun m $ check ! (picked, (refl, refl, refl)) $ move ! (2 ∷ 0 ∷ 1 ∷ []) $ done !))))))))))))))
 
   -- where many may append, and where one pass alone
   pub many_opens : emp 𝓤 ⊢ upd 𝓤 (ex 𝓤 (Opened (λ g. g ≡ many)))

@@ -32,7 +32,7 @@ use Rattle.seize_words.proofs.Deposits.{deposit_added, deposit_subtracted}
 use Rattle.seize_words.proofs.Fronts.{added_held, front_grows, front_there, held_front, held_values, walked_held}
 use Rattle.seize_words.proofs.Lists.{after_push, reached_after}
 use Rattle.seize_words.proofs.Plans.{plan_stays}
-use Rattle.seize_words.proofs.Private.{differ, only_is}
+use Rattle.seize_words.proofs.Private.{differ, only_is, makes_none}
 use Rattle.seize_words.proofs.Sound.{none_named, sound_push}
 use Rattle.seize_words.proofs.Values.{blocks_within, keys_later, none_of}
 
@@ -115,7 +115,8 @@ module _ (n : Name) (k : ℕ) where
     covers (suc (suc (suc (suc (suc zero))))) j beside there = not_here j (λ i. beside.1.0 (refl, i))
     covers (suc (suc (suc (suc (suc (suc zero)))))) j beside there = c.home (after st log) j
     covers (suc (suc (suc (suc (suc (suc (suc zero))))))) j beside there = refl
-    covers (suc (suc (suc (suc (suc (suc (suc (suc r)))))))) j beside there = refl
+    covers (suc (suc (suc (suc (suc (suc (suc (suc zero)))))))) j beside there = makes_none (after st log) e.event c.used
+    covers (suc (suc (suc (suc (suc (suc (suc (suc (suc r))))))))) j beside there = refl
 
     names : NamesHeld st (pass_key p own ∷ in_step (at_count n k) held_all (since, vs)) log (Made e)
     names many was there = (
@@ -131,7 +132,7 @@ module _ (n : Name) (k : ℕ) where
     made trades does ends shows stands = record {
       fair = record { done = d; legal = does; covers = covers; names = names; one = none_named e.size (after st log) e.event d (step_of _ _ _ _ does) (λ j. c.home (after st log) j); leads = unled (after st log) (plans st log) (told log) e.event (λ j. c.head j) };
       its = pe;
-      no_births = c.births (after st log);
+      bears = c.births (after st log);
       ends = ends;
       shows = shows;
       stands = stands;

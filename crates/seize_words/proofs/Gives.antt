@@ -14,7 +14,7 @@ use Rattle.seize_words.specs.Ledger.{Held}
 use Rattle.seize_words.specs.Blocks.{plans}
 use Rattle.seize_words.specs.Chains.{told}
 use Rattle.seize_words.specs.Entry.{Entry, Made, Deed}
-use Rattle.seize_words.specs.Book.{after, births, Does, slots, numbers, of_new_slot}
+use Rattle.seize_words.specs.Book.{after, births, makes_slot, Does, slots, numbers, of_next_slot}
 use Rattle.seize_words.specs.Fair.{Before, Covers, Fair, MayAdd, EndsNone, StartsNone, pass_key}
 use Rattle.seize_words.specs.Homes.{changes_count, changes_home}
 use Rattle.seize_words.specs.Others.{IsLeast}
@@ -35,21 +35,22 @@ Turns s event =
 pub the_only : (k j m : ℕ) → m ≡ 1 → k < m → j < m → k ≡ j
 the_only k j m e l h = omega (arith, e, l, h)
 
-covers : (st : State) (log : List Entry) (e : Deed) (p s j x y : ℕ) (mine own own' : List Entry) → e.pass ≡ p → Turns s e.event → j ≡ 0
+covers : (st : State) (log : List Entry) (e : Deed) (p s j x y : ℕ) (mine own own' : List Entry) → e.pass ≡ p → Turns s e.event → makes_slot (after st log) e.event ≡ false → j ≡ 0
     → Covers st (pass_key p mine ∷ record { kind = slots; key = s; own = own; label = x } ∷ record { kind = numbers; key = j; own = own'; label = y } ∷ []) log (Made e)
-covers st log e p s j x y mine own own' pe turns is zero k b there = differ e.pass k (λ i. b.0 (refl, i ∙ pe))
-covers st log e p s j x y mine own own' pe turns is (suc zero) k b there = absurd (b.1.1.0 (refl, the_only k j there.0 there.1 there.2 (let n : there.0 ≡ 1 = there.1 in omega (arith, is, n))))
-covers st log e p s j x y mine own own' pe turns is (suc (suc zero)) k b there = (turns.0 k).0 ∙ differ s k (λ i. b.1.0 (refl, i))
-covers st log e p s j x y mine own own' pe turns is (suc (suc (suc zero))) k b there = (turns.0 k).1
-covers st log e p s j x y mine own own' pe turns is (suc (suc (suc (suc zero)))) k b there = (turns.0 k).2
-covers st log e p s j x y mine own own' pe turns is (suc (suc (suc (suc (suc zero))))) k b there = (turns.1 (after st log) k).0
-covers st log e p s j x y mine own own' pe turns is (suc (suc (suc (suc (suc (suc zero)))))) k b there = (turns.1 (after st log) k).1
-covers st log e p s j x y mine own own' pe turns is (suc (suc (suc (suc (suc (suc (suc zero))))))) k b there = refl
-covers st log e p s j x y mine own own' pe turns is (suc (suc (suc (suc (suc (suc (suc (suc r)))))))) k b there = refl
+covers st log e p s j x y mine own own' pe turns none is zero k b there = differ e.pass k (λ i. b.0 (refl, i ∙ pe))
+covers st log e p s j x y mine own own' pe turns none is (suc zero) k b there = absurd (b.1.1.0 (refl, the_only k j there.0 there.1 there.2 (let n : there.0 ≡ 1 = there.1 in omega (arith, is, n))))
+covers st log e p s j x y mine own own' pe turns none is (suc (suc zero)) k b there = (turns.0 k).0 ∙ differ s k (λ i. b.1.0 (refl, i))
+covers st log e p s j x y mine own own' pe turns none is (suc (suc (suc zero))) k b there = (turns.0 k).1
+covers st log e p s j x y mine own own' pe turns none is (suc (suc (suc (suc zero)))) k b there = (turns.0 k).2
+covers st log e p s j x y mine own own' pe turns none is (suc (suc (suc (suc (suc zero))))) k b there = (turns.1 (after st log) k).0
+covers st log e p s j x y mine own own' pe turns none is (suc (suc (suc (suc (suc (suc zero)))))) k b there = (turns.1 (after st log) k).1
+covers st log e p s j x y mine own own' pe turns none is (suc (suc (suc (suc (suc (suc (suc zero))))))) k b there = refl
+covers st log e p s j x y mine own own' pe turns none is (suc (suc (suc (suc (suc (suc (suc (suc zero)))))))) k b there = none
+covers st log e p s j x y mine own own' pe turns none is (suc (suc (suc (suc (suc (suc (suc (suc (suc r))))))))) k b there = refl
 
 may_turn : (n : Name) (p : ℕ) (seen : List Entry) (a b : List (Held Entry)) (e : Deed) → is_one slots a ≡ true → is_one numbers b ≡ true → key_of b ≡ 0
     → e.pass ≡ p → Turns (key_of a) e.event → EndsNone e.event → StartsNone e.event
-    → ((log : List Entry) → Before n p seen (only slots a ++ only numbers b) log → (d : State × Answer) × Does (start n) log (Made e) d)
+    → ((log : List Entry) → Before n p seen (only slots a ++ only numbers b) log → (d : State × Answer) × Does (start n) log (Made e) d × (makes_slot (after (start n) log) e.event ≡ false))
     → MayAdd n p seen (a ++ b) e
 may_turn n p seen a b e one one' zero_is pe turns ends starts goes =
     subst (λ (hs : List (Held Entry)). MayAdd n p seen (hs ++ b) e) (sym (only_is slots a one))
@@ -61,7 +62,7 @@ may_turn n p seen a b e one one' zero_is pe turns ends starts goes =
         record {
           done = does.0;
           legal = does.1;
-          covers = covers (start n) log e p (key_of a) (key_of b) (label_of a) (label_of b) mine (own_of a) (own_of b) pe turns zero_is;
+          covers = covers (start n) log e p (key_of a) (key_of b) (label_of a) (label_of b) mine (own_of a) (own_of b) pe turns does.2 zero_is;
           names = λ many was there. (subst (λ (z : ℕ). z < many 0) (sym pe) there.0, (λ j le. (turns.1 (after (start n) log) j).0), (λ j le. (turns.1 (after (start n) log) j).1), λ f le. refl);
           one = none_named e.size (after (start n) log) e.event does.0 (step_of _ _ _ _ does.1) (λ j. (turns.1 (after (start n) log) j).1);
           leads = unled (after (start n) log) (plans (start n) log) (told log) e.event (λ j. (turns.0 j).1);
@@ -73,9 +74,9 @@ pub may_give : (n : Name) (p size : ℕ) (seen : List Entry) (a b : List (Held E
 may_give n p size seen a b one one' zero_is idle off =
     may_turn n p seen a b (record { pass = p; size = size; event = Give (key_of a); life = 0 }) one one' zero_is refl (λ k. (refl, refl, refl), λ st k. (refl, refl)) (λ lives. refl) (λ s. refl) goes
   where
-    goes : (log : List Entry) → Before n p seen (only slots a ++ only numbers b) log → (d : State × Answer) × Does (start n) log (Made (record { pass = p; size = size; event = Give (key_of a); life = 0 })) d
+    goes : (log : List Entry) → Before n p seen (only slots a ++ only numbers b) log → (d : State × Answer) × Does (start n) log (Made (record { pass = p; size = size; event = Give (key_of a); life = 0 })) d × (makes_slot (after (start n) log) (Give (key_of a)) ≡ false)
     goes log before = let st : State = after (start n) log in let s : ℕ = key_of a in let slot = before.kept.0.1 in let d : State × Answer = (set_slot st s (record (slot_at st s) { used = false }), Done) in
-        (d, next_of size st (Give s) d (Step.gave s (ap is_idle (sym slot.1) ∙ idle) (sym slot.2 ∙ off)))
+        (d, next_of size st (Give s) d (Step.gave s (ap is_idle (sym slot.1) ∙ idle) (sym slot.2 ∙ off)), refl)
 
 -- which number is the least that is not in use, by which are in use
 pub free_of : List Bool → ℕ
@@ -116,12 +117,12 @@ module _ (n : Name) (a b : List (Held Entry)) where
   may_take p size seen one one' zero_is least =
       may_turn n p seen a b (record { pass = p; size = size; event = Take (key_of a); life = 0 }) one one' zero_is refl (λ k. (refl, refl, refl), λ st k. (refl, refl)) (λ lives. refl) (λ s. refl) goes
     where
-      goes : (log : List Entry) → Before n p seen (only slots a ++ only numbers b) log → (d : State × Answer) × Does (start n) log (Made (record { pass = p; size = size; event = Take (key_of a); life = 0 })) d
-      goes log before = ((taken (after (start n) log) (key_of a), Done), takes size (after (start n) log) (key_of a) (still log before.kept.1.0.1 least).0 least.2)
+      goes : (log : List Entry) → Before n p seen (only slots a ++ only numbers b) log → (d : State × Answer) × Does (start n) log (Made (record { pass = p; size = size; event = Take (key_of a); life = 0 })) d × (makes_slot (after (start n) log) (Take (key_of a)) ≡ false)
+      goes log before = ((taken (after (start n) log) (key_of a), Done), takes size (after (start n) log) (key_of a) (still log before.kept.1.0.1 least).0 least.2, unequal (key_of a) (length (after (start n) log).slots) (still log before.kept.1.0.1 least).1)
 
   -- it makes no keys, since the slot is there
   pub takes_old : (p : ℕ) (seen log : List Entry) → is_one slots a ≡ true → is_one numbers b ≡ true → Before n p seen (a ++ b) log → Least → births (after (start n) log) (Take (key_of a)) ≡ []
   takes_old p seen log one one' before least =
       let st : State = after (start n) log in
       let held = subst (λ (hs : List (Held Entry)). Before n p seen (only slots a ++ hs) log) (only_is numbers b one') (subst (λ (hs : List (Held Entry)). Before n p seen (hs ++ b) log) (only_is slots a one) before) in
-      ap (λ (c : Bool). if c then of_new_slot st else []) (unequal (key_of a) (length st.slots) (still log held.kept.1.0.1 least).1)
+      ap (λ (c : Bool). if c then of_next_slot st else []) (unequal (key_of a) (length st.slots) (still log held.kept.1.0.1 least).1)

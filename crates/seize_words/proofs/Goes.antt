@@ -11,7 +11,7 @@ use Rattle.seize_words.specs.Blocks.{plans}
 use Rattle.seize_words.specs.Chains.{IsLed, told}
 use Rattle.seize_words.specs.Entry.{Entry, Made, Used, Deed, Use, maker}
 use Rattle.seize_words.specs.Fair.{Fair}
-use Rattle.seize_words.specs.Book.{after, IsLegalList, Does, mine, Kind, ThePass, TheNumbers, TheSlot, TheHead, TheLink, TheCount, TheBlock, TheField, Nothing, acts, kind_of, Same, Kept, touches, Sized, rules, of_new_slot, births, births_by, passes, slots, heads, counts, blocks, fields, kinds}
+use Rattle.seize_words.specs.Book.{after, IsLegalList, Does, mine, Kind, ThePass, TheNumbers, TheSlot, TheHead, TheLink, TheCount, TheBlock, TheField, TheTotal, Nothing, acts, kind_of, Same, Kept, touches, makes_slot, Sized, rules, of_next_slot, births, births_by, passes, slots, heads, counts, blocks, fields, kinds}
 use Rattle.seize_words.specs.Homes.{HasOne, changes_home, count_in, home_of}
 use Rattle.seize_words.specs.Tokens.{Name, start}
 use Rattle.seize_words.specs.Deposits.{deposit}
@@ -22,6 +22,11 @@ use Rattle.seize_words.proofs.Lists.{legal_push, after_push, after_used, reached
 use Rattle.seize_words.proofs.Sound.{sound_push}
 pub use Rattle.seize_words.proofs.Written.{chained_push}
 use Rattle.seize_words.proofs.Written.{told_same, written_by_event, written_by_use}
+
+-- an event adds a slot just where it makes one
+added_by : (st : State) (event : Event) → slots_added st event ≡ (if makes_slot st event then 1 else 0)
+added_by st (Event.Take s) = refl
+added_by st _ = refl
 
 -- a key that the entry does not touch
 
@@ -57,6 +62,10 @@ module _ (n : Name) (distinct : are_distinct (linked n.links) ≡ true) where
       let f = value_frame v x.size (after st log) x.event d (step_of _ _ _ _ h) out in
       ((s v home).0 ∙ sym (ap (λ (z : State). has v z.named) then_ ∙ f.0), (s v home).1 ∙ sym (ap (λ (z : State). has v z.loose) then_ ∙ f.1))
   by_event log own x d TheField f l h t s = s ∙ sym (told_same log (Made x) f t)
+  by_event log own x d TheTotal k l h t s =
+      let more : slots_added (after st log) x.event ≡ 0 = added_by (after st log) x.event ∙ ap (λ (c : Bool). if c then 1 else 0) t in
+      let grown = slots_length x.size (after st log) x.event d (step_of _ _ _ _ h) in
+      s ∙ sym (ap (λ (z : State). length z.slots) (after_push st log (Made x) d l h) ∙ omega (arith, grown, more))
   by_event log own x d Nothing k l h t s = tt
 
   by_use : (log own : List Entry) (u : Use) (d : State × Answer) (kind : Kind) (k : ℕ) → IsLegalList st log → HasOne (after st log) → IsLed (after st log) (plans st log) (told log) (Used u) → Does st log (Used u) d
@@ -76,6 +85,7 @@ module _ (n : Name) (distinct : are_distinct (linked n.links) ≡ true) where
   by_use log own u d TheBlock k l one led h t s = λ v home.
       let same = sym (after_used st log u) in ((s v home).0 ∙ ap (λ (z : State). has v z.named) same, (s v home).1 ∙ ap (λ (z : State). has v z.loose) same)
   by_use log own u d TheField f l one led h t s = s ∙ sym (told_same log (Used u) f t)
+  by_use log own u d TheTotal k l one led h t s = s ∙ sym (ap (λ (z : State). length z.slots) (after_used st log u))
   by_use log own u d Nothing k l one led h t s = tt
 
   same_push : (log own : List Entry) (e : Entry) (d : State × Answer) (kind : Kind) (k : ℕ) → IsLegalList st log → HasOne (after st log) → IsLed (after st log) (plans st log) (told log) e → Does st log e d
@@ -92,6 +102,7 @@ same_now st TheLink l log = refl
 same_now st TheCount k log = (refl, refl)
 same_now st TheBlock k log = λ v home. (refl, refl)
 same_now st TheField f log = refl
+same_now st TheTotal k log = refl
 same_now st Nothing k log = tt
 
 pub kept_now : (st : State) (r k : ℕ) (log : List Entry) → Kept st (kind_of r) k log log
@@ -113,28 +124,30 @@ nothing_new st log e many s = (tt, go)
     go : (r : ℕ) → Sized st (kind_of r) (many r) (log ++ e ∷ [])
     go zero = s.none_made
     go (suc zero) = s.was 1
-    go (suc (suc zero)) = s.was 2 ∙ omega (arith, s.slots_are)
-    go (suc (suc (suc zero))) = s.was 3 ∙ omega (arith, s.slots_are)
+    go (suc (suc zero)) = let was : many slots ≡ suc (length (after st log).slots) = s.was 2 in omega (arith, was, s.slots_are)
+    go (suc (suc (suc zero))) = let was : many heads ≡ suc (length (after st log).slots) = s.was 3 in omega (arith, was, s.slots_are)
     go (suc (suc (suc (suc zero)))) = s.was 4 ∙ sym s.links_are
     go (suc (suc (suc (suc (suc zero))))) = s.none_counted
     go (suc (suc (suc (suc (suc (suc zero)))))) = s.none_named
     go (suc (suc (suc (suc (suc (suc (suc zero))))))) = s.none_told
-    go (suc (suc (suc (suc (suc (suc (suc (suc r)))))))) = tt
+    go (suc (suc (suc (suc (suc (suc (suc (suc zero)))))))) = s.was 8
+    go (suc (suc (suc (suc (suc (suc (suc (suc (suc r))))))))) = tt
 
-new_slot : (st : State) (log : List Entry) (e : Entry) (many : ℕ → ℕ) → Sizes st log e many 1
-    → AreNext many (of_new_slot (after st log)) × ((r : ℕ) → Sized st (kind_of r) (all_bumped (of_new_slot (after st log)) many r) (log ++ e ∷ []))
-new_slot st log e many s = ((s.was 2, (s.was 3, tt)), go)
+next_slot : (st : State) (log : List Entry) (e : Entry) (many : ℕ → ℕ) → Sizes st log e many 1
+    → AreNext many (of_next_slot (after st log)) × ((r : ℕ) → Sized st (kind_of r) (all_bumped (of_next_slot (after st log)) many r) (log ++ e ∷ []))
+next_slot st log e many s = ((s.was 2, (s.was 3, tt)), go)
   where
     go : (r : ℕ) → Sized st (kind_of r) (bumped heads (bumped slots many) r) (log ++ e ∷ [])
     go zero = s.none_made
     go (suc zero) = s.was 1
-    go (suc (suc zero)) = ap (λ (n : ℕ). n + 1) (s.was 2) ∙ sym s.slots_are
-    go (suc (suc (suc zero))) = ap (λ (n : ℕ). n + 1) (s.was 3) ∙ sym s.slots_are
+    go (suc (suc zero)) = let was : many slots ≡ suc (length (after st log).slots) = s.was 2 in omega (arith, was, s.slots_are)
+    go (suc (suc (suc zero))) = let was : many heads ≡ suc (length (after st log).slots) = s.was 3 in omega (arith, was, s.slots_are)
     go (suc (suc (suc (suc zero)))) = s.was 4 ∙ sym s.links_are
     go (suc (suc (suc (suc (suc zero))))) = s.none_counted
     go (suc (suc (suc (suc (suc (suc zero)))))) = s.none_named
     go (suc (suc (suc (suc (suc (suc (suc zero))))))) = s.none_told
-    go (suc (suc (suc (suc (suc (suc (suc (suc r)))))))) = tt
+    go (suc (suc (suc (suc (suc (suc (suc (suc zero)))))))) = s.was 8
+    go (suc (suc (suc (suc (suc (suc (suc (suc (suc r))))))))) = tt
 
 -- how many slots an entry makes
 slots_by : State → Entry → ℕ
@@ -145,18 +158,13 @@ makes : (st : State) (log : List Entry) (e : Entry) (many : ℕ → ℕ) → Siz
     → AreNext many (births_by (after st log) e) × ((r : ℕ) → Sized st (kind_of r) (all_bumped (births_by (after st log) e) many r) (log ++ e ∷ []))
 unfolding slots_by
 makes st log (Used u) many so = nothing_new st log (Used u) many so
-makes st log (Made x) many so = by_kind x.event so
+makes st log (Made x) many so = go (makes_slot (after st log) x.event) (subst (Sizes st log (Made x) many) (added_by (after st log) x.event) so)
   where
-    by_kind : (event : Event) → Sizes st log (Made x) many (slots_added (after st log) event)
-        → AreNext many (births (after st log) event) × ((r : ℕ) → Sized st (kind_of r) (all_bumped (births (after st log) event) many r) (log ++ Made x ∷ []))
-    by_kind (Event.Take s) so = go (s == length (after st log).slots) so
-      where
-        go : (b : Bool) → Sizes st log (Made x) many (if b then 1 else 0)
-            → AreNext many (if b then of_new_slot (after st log) else [])
-            × ((r : ℕ) → Sized st (kind_of r) (all_bumped (if b then of_new_slot (after st log) else []) many r) (log ++ Made x ∷ []))
-        go true so = new_slot st log (Made x) many so
-        go false so = nothing_new st log (Made x) many so
-    by_kind _ so = nothing_new st log (Made x) many so
+    go : (b : Bool) → Sizes st log (Made x) many (if b then 1 else 0)
+        → AreNext many (if b then of_next_slot (after st log) else [])
+        × ((r : ℕ) → Sized st (kind_of r) (all_bumped (if b then of_next_slot (after st log) else []) many r) (log ++ Made x ∷ []))
+    go true so = next_slot st log (Made x) many so
+    go false so = nothing_new st log (Made x) many so
 
 other_pass : (a p n : ℕ) → a < n → n ≤ p → (a == p) ≡ false
 other_pass a p n l le = grind arith
@@ -209,12 +217,11 @@ goes n distinct held seen ev Told can log known told_ =
     )
 
 of_event_below : (st : State) (event : Event) → AllBelow kinds (births st event)
-of_event_below st (Event.Take s) = go (s == length st.slots)
+of_event_below st event = go (makes_slot st event)
   where
-    go : (b : Bool) → AllBelow kinds (if b then of_new_slot st else [])
+    go : (b : Bool) → AllBelow kinds (if b then of_next_slot st else [])
     go true = (omega arith, (omega arith, tt))
     go false = tt
-of_event_below st _ = tt
 
 pub births_below : (st : State) (e : Entry) → AllBelow kinds (births_by st e)
 births_below st (Made x) = of_event_below st x.event

@@ -41,6 +41,7 @@ pub mod Counted
 pub mod Stepped
 pub mod Walked
 pub mod Makes
+pub mod Taken
 pub mod Links
 pub mod Exchanges
 pub mod Exchanged

@@ -122,7 +122,7 @@ module _ (n : Name) (l : ℕ) where
         record {
           fair = record { done = d; legal = does; covers = covers; names = λ many was there. (there.0, (λ k le. refl), (λ k le. refl), λ f le. refl); one = λ one. one; leads = tt };
           its = refl;
-          no_births = refl;
+          bears = refl;
           ends = λ a i. absurd i;
           shows = found.shows ∙ ap link_word is;
           stands = subst (λ (o : Option ℕ). IsKeyOf o (renewed t.1 (log ++ reads ∷ []))) is (key_later (link_at (after st t.0) l) t.1 (log ++ reads ∷ []) found.stands);
@@ -137,7 +137,8 @@ module _ (n : Name) (l : ℕ) where
         covers (suc (suc (suc (suc (suc zero))))) k beside there = refl
         covers (suc (suc (suc (suc (suc (suc zero)))))) k beside there = refl
         covers (suc (suc (suc (suc (suc (suc (suc zero))))))) k beside there = refl
-        covers (suc (suc (suc (suc (suc (suc (suc (suc r)))))))) k beside there = refl
+        covers (suc (suc (suc (suc (suc (suc (suc (suc zero)))))))) k beside there = refl
+        covers (suc (suc (suc (suc (suc (suc (suc (suc (suc r))))))))) k beside there = refl
 
     -- An exchange, with the keys of the value that it would store.
     module _ (o : Option ℕ) (exchange : Exchange) (for : new_link exchange ≡ o) (new : IsNewIn st o held) where
@@ -164,7 +165,8 @@ module _ (n : Name) (l : ℕ) where
       covers_exchange (suc (suc (suc (suc (suc (suc zero)))))) k beside there = let b = beside_both t.1 held blocks k beside.1.1 in
           or_both (is_home k (new_link exchange)) (is_home k (link_at now l)) (ap (is_home k) for ∙ other_value o held k (is_key st o held new) b.1) (other_value (link_at now l) t.1 k here b.0)
       covers_exchange (suc (suc (suc (suc (suc (suc (suc zero))))))) k beside there = refl
-      covers_exchange (suc (suc (suc (suc (suc (suc (suc (suc r)))))))) k beside there = refl
+      covers_exchange (suc (suc (suc (suc (suc (suc (suc (suc zero)))))))) k beside there = refl
+      covers_exchange (suc (suc (suc (suc (suc (suc (suc (suc (suc r))))))))) k beside there = refl
 
       names_exchange : NamesHeld st all log (Made (record { pass = p; size = size; event = ExchangeLink s l exchange; life = 0 }))
       names_exchange many was there = let h = there_both many t.1 held there.1.1 in (
@@ -195,7 +197,7 @@ module _ (n : Name) (l : ℕ) where
           record {
             fair = record { done = d; legal = does; covers = covers_exchange; names = names_exchange; one = one_stored o new step; leads = tt };
             its = refl;
-            no_births = refl;
+            bears = refl;
             ends = λ a i. absurd i;
             shows = word ∙ ap link_word (sym is);
             stands = subst (λ (x : Option ℕ). IsKeyOf x (renewed held (log ++ exchanges ∷ []))) (sym is) (key_later o held (log ++ exchanges ∷ []) (is_key st o held new));
@@ -212,7 +214,7 @@ module _ (n : Name) (l : ℕ) where
           record {
             fair = record { done = d; legal = does; covers = covers_exchange; names = names_exchange; one = λ one. one; leads = tt };
             its = refl;
-            no_births = refl;
+            bears = refl;
             ends = λ a i. absurd i;
             shows = found.shows ∙ ap link_word is;
             stands = subst (λ (x : Option ℕ). IsKeyOf x (renewed t.1 (log ++ exchanges ∷ []))) is (key_later (link_at (after st t.0) l) t.1 (log ++ exchanges ∷ []) found.stands);

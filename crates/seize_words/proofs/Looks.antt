@@ -83,6 +83,25 @@ module _ {M : Type 1} {𝓤 : Ura M} (𝓛 : Logic 𝓤) (n : Name) (p : ℕ) wh
     before : (own log : List Entry) → mine st p own ≡ mine st p seen → Known (rules st) (pass_key p own ∷ held) seen log → alone log → Before n p seen held log
     before own log past known same = record { legal = known.0.0; sound = known.0.1; chained = known.0.2; grows = known.1; none_made = sym known.2.0.1 ∙ past; kept = known.2.1; alone = same }
 
+    -- where the invariant is open already; the keys stay as they are
+    abbrev pub Peeked : List Entry → Pr
+    Peeked log = guard 𝓤 (Before n p seen held log) (⟦ J ⟧ ∗ ⟦ pass_holds n p log ⟧ ∗ ⟦ keys held ⟧)
+
+    pub peeks : WithKinds kinds held → ⟦ J ⟧ ∗ ⟦ pass_holds n p seen ⟧ ∗ ⟦ keys held ⟧ ⊢ ex 𝓤 Peeked
+    peeks within = qed 𝓛 (‵ J ∷ ‵ (pass_holds n p seen) ∷ ‵ (keys held) ∷ []) ∵ move ! (1 ∷ []) $
+        use1 𝓛 (some (λ (own : List Entry). given (Idle own seen) (‵ (keys (pass_key p own ∷ [])) ⊛ ‵ (had seen) ⊛ ‵ (gives seen)))) (apart seen) $ pick ! (λ own. learn ! (λ past. split3 ! $ fsplit ! $ move ! (1 ∷ []) $ drop ! $
+        -- [its key; what it has seen; its copy; J; the keys]
+        move ! (0 ∷ 4 ∷ []) $ fjoin ! $ move ! (1 ∷ 2 ∷ []) $ join ! $ move ! (2 ∷ 1 ∷ 0 ∷ []) $
+        use3 𝓛 (some (λ (log : List Entry). given (Known (rules st) (pass_key p own ∷ held) seen log × alone log) (‵ J ⊛ ‵ (keys (pass_key p own ∷ held)) ⊛ ‵ (had log) ⊛ ‵ (gives seen))))
+        (looks_beside entry_coded (rules st) (beside n) n.log (rows n) 𝓛 (pass_key p own ∷ held) seen alone ⟦ gives seen ⟧ (λ _. ⟦ gives seen ⟧) (omega arith, within) (tells own)) $
+        pick ! (λ log. learn ! (λ known. let b = before own log past.1 known.0 known.1 in split ! $ move ! (1 ∷ []) $ split3 ! $
+        -- [the keys; what was reached; its copy; J]
+        move ! (2 ∷ []) $ use1 𝓛 (‵ (gives log)) (gives_as 𝓛 n.gate seen log (λ s. sym (known.1 s))) $ move ! (1 ∷ []) $ fsplit ! $
+        -- [its key; the keys; its copy; what was reached; J]
+        nothing ! $ move ! (1 ∷ 0 ∷ []) $ fjoin ! $ move ! (0 ∷ 3 ∷ 2 ∷ []) $ use3 𝓛 (‵ (pass_holds n p log)) (together log own (known.0.2.0.0, known.0.2.0.1)) $
+        -- [the pass; the keys; J]
+        show ! Peeked log $ check ! b $ move ! (2 ∷ 0 ∷ 1 ∷ []) $ done !))))
+
     abbrev pub Looked : List Entry → Pr
     Looked log = guard 𝓤 (Before n p seen held log) (⟦ pass_owns n p log ⟧ ∗ ⟦ keys (renewed held log) ⟧)
 

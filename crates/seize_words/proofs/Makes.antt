@@ -1,6 +1,7 @@
--- The key of the numbers is enough to make the next slot, where all numbers are in use.
-use Rattle.std.proofs.Common.{◌≡◌, ℕ, zero, suc, ◌+◌, ◌<◌, true, false, List, [], ◌∷◌, ◌++◌, length, get_or, Bool, refl, sym, ◌∙◌, ap, subst, arith, not, nat_lt, ◌&&◌, if◌then◌else◌, Some, None}
+-- The key of the numbers and that of the next slot are enough to make the slot, where all numbers are in use: by a step on the total.
+use Rattle.std.proofs.Common.{◌≡◌, ℕ, zero, suc, ◌+◌, ◌^◌, ◌<◌, true, false, List, [], ◌∷◌, ◌++◌, length, get_or, Bool, refl, sym, ◌∙◌, ap, subst, arith, not, nat_lt, ◌&&◌, if◌then◌else◌, Some, None}
 use Rattle.std.proofs.lemmas.List.{length-map}
+use Rattle.std.proofs.Math.Nat.{mod-eq_of_lt}
 use Rattle.seize_machine.specs.Machine.State.{State, Slot, Head, Inactive, head_at, no_slot, slot_at}
 use Rattle.seize_machine.specs.Machine.Event.{Take}
 use Rattle.seize_machine.specs.Machine.Next.{taken, first_free, next}
@@ -10,31 +11,44 @@ use Rattle.seize_machine.specs.declared.machine.event.Answer.{Answer}
 use Rattle.seize_machine.specs.declared.machine.event.Answer.TheVariants.{Done}
 use Rattle.seize_machine.proofs.Facts.{heads_length, some_is}
 use Rattle.seize_table.specs.Place.{all_numbers}
-use Rattle.seize_words.specs.Ledger.{Held, renewed, born}
+use Rattle.seize_words.specs.Atomic.{plus}
+use Rattle.seize_words.specs.Ledger.{Held, AllKept, renewed, born}
 use Rattle.seize_words.specs.Entry.{Entry, Made, Deed}
-use Rattle.seize_words.specs.Book.{after, births, slots, heads, numbers, of_new_slot}
-use Rattle.seize_words.specs.Fair.{Before, Covers, Fair, MayAdd, pass_key}
+use Rattle.seize_words.specs.Book.{IsLegalList, after, births, slots, heads, numbers, totals, of_next_slot, of_slot, rules}
+use Rattle.seize_words.specs.Fair.{Covers, pass_key}
 use Rattle.seize_words.specs.Private.{is_one, key_of, label_of, own_of}
+use Rattle.seize_words.specs.Stepping.{FoundAs, IsStepWith, MayStepWith, in_step}
 use Rattle.seize_words.specs.Tokens.{Name, start}
-use Rattle.seize_words.proofs.Lists.{equal}
+use Rattle.seize_words.specs.Words.{Site}
+use Rattle.seize_words.proofs.Lists.{after_push, equal}
 use Rattle.seize_words.proofs.Gives.{free_by, free_of, the_only}
 use Rattle.seize_words.proofs.Private.{only, only_is, differ}
 
-takes : ℕ → ℕ → ℕ → Deed
+abbrev pub at_total : Name → Site
+at_total n = record { name = n; kind = totals; number = 0 }
+
+abbrev pub takes : ℕ → ℕ → ℕ → Deed
 takes p size s = record { pass = p; size = size; event = Take s; life = 0 }
 
-covers : (st : State) (log : List Entry) (p size s j x : ℕ) (mine own : List Entry) → s ≡ length (after st log).slots → j ≡ 0
-    → Covers st (pass_key p mine ∷ record { kind = numbers; key = j; own = own; label = x } ∷ []) log (Made (takes p size s))
-unfolding takes
-covers st log p size s j x mine own is z zero k b there = differ p k (λ i. b.0 (refl, i))
-covers st log p size s j x mine own is z (suc zero) k b there = absurd (b.1.0 (refl, the_only k j there.0 there.1 there.2 (let n : there.0 ≡ 1 = there.1 in omega (arith, z, n))))
-covers st log p size s j x mine own is z (suc (suc zero)) k b there = let n : there.0 ≡ length (after st log).slots = there.1 in let l : k < there.0 = there.2 in grind arith
-covers st log p size s j x mine own is z (suc (suc (suc zero))) k b there = refl
-covers st log p size s j x mine own is z (suc (suc (suc (suc zero)))) k b there = refl
-covers st log p size s j x mine own is z (suc (suc (suc (suc (suc zero))))) k b there = refl
-covers st log p size s j x mine own is z (suc (suc (suc (suc (suc (suc zero)))))) k b there = refl
-covers st log p size s j x mine own is z (suc (suc (suc (suc (suc (suc (suc zero))))))) k b there = refl
-covers st log p size s j x mine own is z (suc (suc (suc (suc (suc (suc (suc (suc r)))))))) k b there = refl
+-- the keys that are there in the step, but for the pass's
+abbrev all : ℕ → ℕ → List Entry → List Entry → List Entry → ℕ → ℕ → List (Held Entry)
+all j s since own own' x y =
+    record { kind = totals; key = 0; own = since; label = 0 } ∷ record { kind = numbers; key = j; own = own; label = x }
+    ∷ record { kind = slots; key = s; own = own'; label = y } ∷ []
+
+covers : (st : State) (log : List Entry) (p size s j x y : ℕ) (mine since own own' : List Entry) → j ≡ 0 → Covers st (pass_key p mine ∷ all j s since own own' x y) log (Made (takes p size s))
+covers st log p size s j x y mine since own own' z zero k b there = differ p k (λ i. b.0 (refl, i))
+covers st log p size s j x y mine since own own' z (suc zero) k b there =
+    absurd (b.1.1.0 (refl, the_only k j there.0 there.1 there.2 (let n : there.0 ≡ 1 = there.1 in omega (arith, z, n))))
+covers st log p size s j x y mine since own own' z (suc (suc zero)) k b there = differ s k (λ i. b.1.1.1.0 (refl, i))
+covers st log p size s j x y mine since own own' z (suc (suc (suc zero))) k b there = refl
+covers st log p size s j x y mine since own own' z (suc (suc (suc (suc zero)))) k b there = refl
+covers st log p size s j x y mine since own own' z (suc (suc (suc (suc (suc zero))))) k b there = refl
+covers st log p size s j x y mine since own own' z (suc (suc (suc (suc (suc (suc zero)))))) k b there = refl
+covers st log p size s j x y mine since own own' z (suc (suc (suc (suc (suc (suc (suc zero))))))) k b there = refl
+covers st log p size s j x y mine since own own' z (suc (suc (suc (suc (suc (suc (suc (suc zero)))))))) k b there =
+    absurd (b.1.0 (refl, the_only k 0 there.0 there.1 there.2 (let n : there.0 ≡ 1 = there.1 in omega (arith, n))))
+covers st log p size s j x y mine since own own' z (suc (suc (suc (suc (suc (suc (suc (suc (suc r))))))))) k b there = refl
 
 -- how many slots there are, and which number is free, follows from which are in use
 as_many : (a b : State) → used a ≡ used b → length a.slots ≡ length b.slots
@@ -72,82 +86,150 @@ pushed_free (y ∷ all) x h u = go y.used refl h (λ k. pushed_free all x k u)
         ap (λ (c : Bool). if not (not c) then 1 + first_free (all ++ x ∷ []) else 0) is ∙ omega (arith, now)
     go false is h ih = absurd (let z : 0 ≡ suc (length all) = sym (ap (λ (c : Bool). if not (not c) then 1 + first_free all else 0) is) ∙ h in omega (arith, z))
 
-module _ (n : Name) (b : List (Held Entry)) where
+last : {X : Type 0} (xs : List X) (x d : X) → get_or (xs ++ x ∷ []) (length xs) d ≡ x
+last [] x d = refl
+last (y ∷ xs) x d = last xs x d
+
+past : {X : Type 0} (xs : List X) (x d : X) → get_or (xs ++ x ∷ []) (suc (length xs)) d ≡ d
+past [] x d = refl
+past (y ∷ xs) x d = past xs x d
+
+-- a sum that is a number of a slot is no longer than a word
+plus_one : (v s : ℕ) → v ≡ s → s < all_numbers → plus 1 v ≡ suc s
+plus_one v s is few = mod-eq_of_lt {n = v + 1} {m = 2 ^ 64} (omega (arith, is, few)) ∙ omega (arith, is)
+
+module _ (n : Name) (a b : List (Held Entry)) where
+  abbrev st : State
+  st = start n
+
   abbrev old : State
-  old = after (start n) (own_of b)
+  old = after st (own_of a)
 
   abbrev s : ℕ
   s = length old.slots
 
-  pub may_make : (p size : ℕ) (seen : List Entry) → is_one numbers b ≡ true → key_of b ≡ 0 → first_free old.slots ≡ s → s < all_numbers → MayAdd n p seen b (record { pass = p; size = size; event = Take s; life = 0 })
-  unfolding takes made_by
-  may_make p size seen one zero_is full few = subst (λ (hs : List (Held Entry)). MayAdd n p seen hs (takes p size s)) (sym (only_is numbers b one)) ((omega arith, tt), (λ lives. refl), (λ s. refl), fair)
-    where
-      fair : (mine log : List Entry) → Before n p seen (only numbers b) log → Fair (start n) (pass_key p mine ∷ only numbers b) log (Made (takes p size s))
-      fair mine log before =
-          let same : used old ≡ used (after (start n) log) = before.kept.0.1 in let many : s ≡ length (after (start n) log).slots = as_many old (after (start n) log) same in
+  abbrev both : List (Held Entry)
+  both = only numbers a ++ only slots b
+
+  -- where the key of the numbers knows that all are in use, and the slot's key is that of the next one
+  pub record MayMakeIt : Type 0 where
+    pub one : is_one numbers a ≡ true
+    pub zero_is : key_of a ≡ 0
+    pub slot : is_one slots b ≡ true
+    pub full : first_free old.slots ≡ s
+    pub few : s < all_numbers
+    pub its : key_of b ≡ s
+
+  module _ (may : MayMakeIt) where
+    joined : a ++ b ≡ both
+    joined = ap (λ (t : List (Held Entry) × List (Held Entry)). t.0 ++ t.1) (λ j. (only_is numbers a may.one j, only_is slots b may.slot j))
+
+    -- what is so in the list to which the event is added
+    record Now (log : List Entry) : Type 0 where
+      many : s ≡ length (after st log).slots
+      free : s ≡ first_free (after st log).slots
+
+    now : (log : List Entry) → used old ≡ used (after st log) → Now log
+    now log same = record { many = as_many old (after st log) same; free = sym may.full ∙ as_free old (after st log) same }
+
+    module _ (p size : ℕ) where
+      abbrev e : Deed
+      e = takes p size s
+
+      abbrev then_ : List Entry → List Entry
+      then_ log = log ++ Made e ∷ []
+
+      legal_now : (log : List Entry) → Now log → next size (after st log) (Take s) ≡ Some (made_by (after st log) s)
+      legal_now log is = does size (after st log) s is.many is.free may.few
+
+      bears_now : (log : List Entry) → Now log → births (after st log) (Take s) ≡ of_slot (suc s)
+      bears_now log is = ap (λ (c : Bool). if c then of_next_slot (after st log) else []) (equal s (length (after st log).slots) is.many) ∙ ap (λ (k : ℕ). of_slot (suc k)) (sym is.many)
+
+      one_more : (log : List Entry) → IsLegalList st log → Now log → length (after st (then_ log)).slots ≡ suc s
+      unfolding made_by
+      one_more log legal is =
+          ap (λ (z : State). length z.slots) (after_push st log (Made e) (made_by (after st log) s) legal (legal_now log is))
+          ∙ pushed_length (after st log).slots (record { used = true; batch = []; call = None }) ∙ ap suc (sym is.many)
+
+      abbrev Step : ℕ → List Entry × List (Held Entry) → List Entry → List Entry → Type 0
+      Step v t own log = IsStepWith (of_slot (suc s)) (at_total n) p both [] (plus 1 v) (Made e) false t own log
+
+      step : (v : ℕ) (since own log : List Entry) (seen : List Entry) → FoundAs (at_total n) v p seen both [] (since, []) log → Step v (since, []) own log
+      unfolding made_by
+      step v since own log seen found =
+          let before = found.before in let is = now log before.kept.1.0.1 in
+          let was : v ≡ length (after st since).slots = found.shows in let same : length (after st since).slots ≡ length (after st log).slots = before.kept.0.1 in
           record {
-            done = made_by (after (start n) log) s;
-            legal = does size (after (start n) log) s many (sym full ∙ as_free old (after (start n) log) same) few;
-            covers = covers (start n) log p size s (key_of b) (label_of b) mine (own_of b) many zero_is;
-            names = λ many was there. (there.0, (λ k le. refl), (λ k le. refl), λ f le. refl);
-            one = λ one. one;
-            leads = tt;
+            fair = record {
+              done = made_by (after st log) s;
+              legal = legal_now log is;
+              covers = subst (λ (k : ℕ). Covers st (pass_key p own ∷ all (key_of a) k since (own_of a) (own_of b) (label_of a) (label_of b)) log (Made e)) (sym may.its)
+                  (covers st log p size s (key_of a) (label_of a) (label_of b) own since (own_of a) (own_of b) may.zero_is);
+              names = λ many was there. (there.0, (λ k le. refl), (λ k le. refl), λ f le. refl);
+              one = λ one. one;
+              leads = tt;
+            };
+            its = refl;
+            bears = bears_now log is;
+            ends = λ x in_. absurd in_;
+            shows = plus_one v s (was ∙ same ∙ sym is.many) may.few ∙ sym (one_more log before.legal is);
+            stands = refl;
           }
 
-  -- the keys that come with it
-  pub new_keys : (p : ℕ) (seen log log' : List Entry) → is_one numbers b ≡ true → Before n p seen b log
-      → born (births (after (start n) log) (Take s)) log' ≡ record { kind = slots; key = s; own = log'; label = 0 } ∷ record { kind = heads; key = s; own = log'; label = 0 } ∷ []
-  new_keys p seen log log' one before =
-      let same : used old ≡ used (after (start n) log) = (subst (λ (hs : List (Held Entry)). Before n p seen hs log) (only_is numbers b one) before).kept.0.1 in
-      let many : s ≡ length (after (start n) log).slots = as_many old (after (start n) log) same in
-      ap (λ (c : Bool). born (if c then of_new_slot (after (start n) log) else []) log') (equal s (length (after (start n) log).slots) many)
-      ∙ ap (λ (k : ℕ). record { kind = slots; key = k; own = log'; label = 0 } ∷ record { kind = heads; key = k; own = log'; label = 0 } ∷ []) (sym many)
-
-  last : {X : Type 0} (xs : List X) (x d : X) → get_or (xs ++ x ∷ []) (length xs) d ≡ x
-  last [] x d = refl
-  last (y ∷ xs) x d = last xs x d
-
-  -- and its head is inactive
-  pub new_head : (p size : ℕ) (seen log : List Entry) (d : State × Answer) → is_one numbers b ≡ true → first_free old.slots ≡ s → s < all_numbers → Before n p seen b log
-      → IsReached (after (start n) log) → next size (after (start n) log) (Take s) ≡ Some d → head_at d.0 s ≡ Inactive
-  unfolding made_by
-  new_head p size seen log d one full few before reached done =
-      let st : State = after (start n) log in
-      let same : used old ≡ used st = (subst (λ (hs : List (Held Entry)). Before n p seen hs log) (only_is numbers b one) before).kept.0.1 in
-      let many : s ≡ length st.slots = as_many old st same in
-      let is : d ≡ made_by st s = some_is _ _ (sym done ∙ does size st s many (sym full ∙ as_free old st same) few) in
-      ap (λ (x : State × Answer). head_at x.0 s) is ∙ ap (λ (k : ℕ). get_or (st.heads ++ Inactive ∷ []) k Inactive) (many ∙ sym (heads_length st reached)) ∙ last st.heads Inactive Inactive
-
-  -- it is in use, with no call, and has retired nothing
-  pub new_slot : (p size : ℕ) (seen log : List Entry) (d : State × Answer) → is_one numbers b ≡ true → first_free old.slots ≡ s → s < all_numbers → Before n p seen b log
-      → next size (after (start n) log) (Take s) ≡ Some d → slot_at d.0 s ≡ record { used = true; batch = []; call = None }
-  unfolding made_by
-  new_slot p size seen log d one full few before done =
-      let st : State = after (start n) log in
-      let same : used old ≡ used st = (subst (λ (hs : List (Held Entry)). Before n p seen hs log) (only_is numbers b one) before).kept.0.1 in
-      let many : s ≡ length st.slots = as_many old st same in
-      let is : d ≡ made_by st s = some_is _ _ (sym done ∙ does size st s many (sym full ∙ as_free old st same) few) in
-      ap (λ (x : State × Answer). slot_at x.0 s) is ∙ ap (λ (k : ℕ). get_or (st.slots ++ record { used = true; batch = []; call = None } ∷ []) k no_slot) many ∙ last st.slots (record { used = true; batch = []; call = None }) no_slot
-
-  -- and all numbers are in use still
-  pub new_full : (p size : ℕ) (seen log : List Entry) (d : State × Answer) → is_one numbers b ≡ true → first_free old.slots ≡ s → s < all_numbers → Before n p seen b log
-      → next size (after (start n) log) (Take s) ≡ Some d → (length d.0.slots ≡ suc s) × (first_free d.0.slots ≡ suc s)
-  unfolding made_by
-  new_full p size seen log d one full few before done =
-      let st : State = after (start n) log in
-      let same : used old ≡ used st = (subst (λ (hs : List (Held Entry)). Before n p seen hs log) (only_is numbers b one) before).kept.0.1 in
-      let many : s ≡ length st.slots = as_many old st same in let free : first_free st.slots ≡ length st.slots = sym (as_free old st same) ∙ full ∙ many in
-      let is : d ≡ made_by st s = some_is _ _ (sym done ∙ does size st s many (sym full ∙ as_free old st same) few) in
-      let new : Slot = record { used = true; batch = []; call = None } in (
-        ap (λ (x : State × Answer). length x.0.slots) is ∙ pushed_length st.slots new ∙ ap suc (sym many),
-        ap (λ (x : State × Answer). first_free x.0.slots) is ∙ pushed_free st.slots new free refl ∙ ap suc (sym many),
+      pub may_make : (seen : List Entry) → MayStepWith (of_slot (suc s)) (at_total n) p seen (a ++ b) [] [] (plus 1) (λ v log. Made e) (λ v. false)
+      may_make seen = subst (λ (hs : List (Held Entry)). MayStepWith (of_slot (suc s)) (at_total n) p seen hs [] [] (plus 1) (λ v log. Made e) (λ v. false)) (sym joined) (
+        (omega arith, (omega arith, tt)),
+        λ v t own log found.
+            let none : t.1 ≡ [] = found.stands in
+            let found_none = subst (λ (vs : List (Held Entry)). FoundAs (at_total n) v p seen both [] (t.0, vs) log) none found in
+            subst (λ (vs : List (Held Entry)). Step v (t.0, vs) own log) (sym none) (step v t.0 own log seen found_none),
       )
 
-  -- all keys then
-  pub all_keys : (p : ℕ) (seen log log' : List Entry) → is_one numbers b ≡ true → Before n p seen b log
-      → renewed b log' ++ born (births (after (start n) log) (Take s)) log'
-      ≡ record { kind = numbers; key = key_of b; own = log'; label = label_of b } ∷ record { kind = slots; key = s; own = log'; label = 0 } ∷ record { kind = heads; key = s; own = log'; label = 0 } ∷ []
-  all_keys p seen log log' one before =
-      ap (λ (hs : List (Held Entry)). renewed hs log' ++ born (births (after (start n) log) (Take s)) log') (only_is numbers b one)
-      ∙ ap (λ (hs : List (Held Entry)). record { kind = numbers; key = key_of b; own = log'; label = label_of b } ∷ hs) (new_keys p seen log log' one before)
+      -- what is known after it
+      module _ (v : ℕ) (seen : List Entry) (t : List Entry × List (Held Entry)) (log : List Entry) (found : FoundAs (at_total n) v p seen (a ++ b) [] t log) where
+        known : Now log
+        known =
+            let none : t.1 ≡ [] = found.stands in
+            let kept = subst (λ (hs : List (Held Entry)). AllKept (rules st) (in_step (at_total n) hs (t.0, [])) log) joined
+                (subst (λ (vs : List (Held Entry)). AllKept (rules st) (in_step (at_total n) (a ++ b) (t.0, vs)) log) none found.before.kept) in
+            now log kept.1.0.1
+
+        -- the keys then
+        pub all_keys : (log' : List Entry)
+            → renewed (a ++ b) log' ++ born (of_slot (suc s)) log'
+            ≡ record { kind = numbers; key = key_of a; own = log'; label = label_of a } ∷ record { kind = slots; key = key_of b; own = log'; label = label_of b }
+            ∷ record { kind = slots; key = suc s; own = log'; label = 0 } ∷ record { kind = heads; key = suc s; own = log'; label = 0 } ∷ []
+        all_keys log' = ap (λ (hs : List (Held Entry)). renewed hs log' ++ born (of_slot (suc s)) log') joined
+
+        abbrev new : Slot
+        new = record { used = true; batch = []; call = None }
+
+        module _ (d : State × Answer) (done : next size (after st log) (Take s) ≡ Some d) where
+          is_made : d ≡ made_by (after st log) s
+          is_made = some_is _ _ (sym done ∙ legal_now log known)
+
+          -- it is in use, with no call, and has retired nothing
+          pub new_slot : slot_at d.0 s ≡ new
+          unfolding made_by
+          new_slot = ap (λ (x : State × Answer). slot_at x.0 s) is_made ∙ ap (λ (k : ℕ). get_or ((after st log).slots ++ new ∷ []) k no_slot) known.many ∙ last (after st log).slots new no_slot
+
+          heads_are : IsReached (after st log) → length (after st log).heads ≡ s
+          heads_are reached = heads_length (after st log) reached ∙ sym known.many
+
+          -- its head is inactive, and so is that of the slot that comes next
+          pub new_head : IsReached (after st log) → head_at d.0 s ≡ Inactive
+          unfolding made_by
+          new_head reached = ap (λ (x : State × Answer). head_at x.0 s) is_made ∙ ap (λ (k : ℕ). get_or ((after st log).heads ++ Inactive ∷ []) k Inactive) (sym (heads_are reached)) ∙ last (after st log).heads Inactive Inactive
+
+          pub next_head : IsReached (after st log) → head_at d.0 (suc s) ≡ Inactive
+          unfolding made_by
+          next_head reached = ap (λ (x : State × Answer). head_at x.0 (suc s)) is_made ∙ ap (λ (k : ℕ). get_or ((after st log).heads ++ Inactive ∷ []) (suc k) Inactive) (sym (heads_are reached)) ∙ past (after st log).heads Inactive Inactive
+
+          -- and all numbers are in use still
+          pub new_full : (length d.0.slots ≡ suc s) × (first_free d.0.slots ≡ suc s)
+          unfolding made_by
+          new_full =
+              let free : first_free (after st log).slots ≡ length (after st log).slots = sym known.free ∙ known.many in (
+                ap (λ (x : State × Answer). length x.0.slots) is_made ∙ pushed_length (after st log).slots new ∙ ap suc (sym known.many),
+                ap (λ (x : State × Answer). first_free x.0.slots) is_made ∙ pushed_free (after st log).slots new free refl ∙ ap suc (sym known.many),
+              )

@@ -4,14 +4,14 @@ use Rattle.std.specs.Prelude.{take, drop}
 use Rattle.seize_machine.specs.Machine.State.{State, slot_at, head_at, is_active}
 use Rattle.seize_machine.specs.Machine.Event.{Event, slot_of}
 use Rattle.seize_machine.specs.Machine.Next.{next}
-use Rattle.seize_machine.specs.Machine.Frames.{changes_slot}
+use Rattle.seize_machine.specs.Machine.Frames.{changes_slot, changes_used}
 use Rattle.seize_machine.specs.declared.machine.event.Answer.{Answer}
 use Rattle.seize_machine.proofs.Facts.{is_true, eq_true, step_of}
 use Rattle.seize_words.specs.Ledger.{Held, AllKept, WithKinds, renewed, born}
 use Rattle.seize_words.specs.Blocks.{plans}
 use Rattle.seize_words.specs.Chains.{told}
 use Rattle.seize_words.specs.Entry.{Entry, Made, Deed}
-use Rattle.seize_words.specs.Book.{after, births, TheSlot, Kept, kinds, rules, slots}
+use Rattle.seize_words.specs.Book.{after, births, makes_slot, TheSlot, Kept, kinds, rules, slots}
 use Rattle.seize_words.specs.Fair.{Added, Before, Covers, Fair, EndsNone, StartsNone, MayAdd, pass_key}
 use Rattle.seize_words.specs.Others.{MakesNone}
 use Rattle.seize_words.specs.Private.{IsOwn, IsOpen, is_one, key_of, label_of, own_of}
@@ -57,6 +57,11 @@ of_other (Event.ReadLink s l) k h = refl
 of_other (Event.ExchangeLink s l exchange) k h = refl
 of_other _ k h = h
 
+-- an event that changes no number makes no slot
+pub makes_none : (st : State) (event : Event) → changes_used event ≡ false → makes_slot st event ≡ false
+makes_none st (Event.Take s) h = absurd (cc)
+makes_none st _ h = refl
+
 covers : (st : State) (log : List Entry) (e : Deed) (p s : ℕ) (mine own : List Entry) → e.pass ≡ p → IsOwn s e.event
     → Covers st (pass_key p mine ∷ record { kind = slots; key = s; own = own; label = 0 } ∷ []) log (Made e)
 covers st log e p s mine own pe private zero k b there = differ e.pass k (λ i. b.0 (refl, i ∙ pe))
@@ -67,7 +72,8 @@ covers st log e p s mine own pe private (suc (suc (suc (suc zero)))) k b there =
 covers st log e p s mine own pe private (suc (suc (suc (suc (suc zero))))) k b there = (private.3 (after st log) k).0
 covers st log e p s mine own pe private (suc (suc (suc (suc (suc (suc zero)))))) k b there = (private.3 (after st log) k).1
 covers st log e p s mine own pe private (suc (suc (suc (suc (suc (suc (suc zero))))))) k b there = refl
-covers st log e p s mine own pe private (suc (suc (suc (suc (suc (suc (suc (suc r)))))))) k b there = refl
+covers st log e p s mine own pe private (suc (suc (suc (suc (suc (suc (suc (suc zero)))))))) k b there = makes_none (after st log) e.event private.1
+covers st log e p s mine own pe private (suc (suc (suc (suc (suc (suc (suc (suc (suc r))))))))) k b there = refl
 
 ends_none : (s : ℕ) (event : Event) → IsOwn s event → EndsNone event
 ends_none s (Event.SwapOut t) private lives = absurd (let x : (t == t) ≡ false = (private.2 t).0 in grind arith)

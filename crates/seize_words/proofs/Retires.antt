@@ -40,7 +40,8 @@ covers st log p size v mine a b home (suc (suc (suc (suc zero)))) k other there 
 covers st log p size v mine a b home (suc (suc (suc (suc (suc zero))))) k other there = refl
 covers st log p size v mine a b home (suc (suc (suc (suc (suc (suc zero)))))) k other there = differ (home_of v) k (λ i. other.1.1.0 (refl, i ∙ sym home))
 covers st log p size v mine a b home (suc (suc (suc (suc (suc (suc (suc zero))))))) k other there = refl
-covers st log p size v mine a b home (suc (suc (suc (suc (suc (suc (suc (suc r)))))))) k other there = refl
+covers st log p size v mine a b home (suc (suc (suc (suc (suc (suc (suc (suc zero)))))))) k other there = refl
+covers st log p size v mine a b home (suc (suc (suc (suc (suc (suc (suc (suc (suc r))))))))) k other there = refl
 
 -- what was named afterwards was, or is this one
 added : (v : ℕ) (named : List ℕ) (u : ℕ) → has u (with_named named v) ≡ true → (u ≡ v) ⊎ (has u named ≡ true)

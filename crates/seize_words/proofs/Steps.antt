@@ -1,6 +1,6 @@
 -- **The step of a word**: one atomic step on the word, and with it one event in the list. Whatever the word holds and whatever the list is by
 -- then, the holder of a pass and of some keys adds the event with the word's own keys beside theirs. Assumes `Logic`.
-use Rattle.std.proofs.Common.{◌≡◌, ℕ, zero, suc, ◌<◌, Bool, true, false, List, [], ◌∷◌, ◌++◌, take, refl, sym, ◌∙◌, ap, subst, arith, append-nil, Option, Some, None}
+use Rattle.std.proofs.Common.{◌≡◌, ℕ, zero, suc, ◌<◌, Bool, true, false, List, [], ◌∷◌, ◌++◌, take, refl, sym, ◌∙◌, ap, subst, arith, Option, Some, None}
 use Rattle.std.specs.Prelude.{drop as past}
 use seplogic.Ra.Ura.{Ura}
 use base.Logic.{SProp, ent, sep, ex, guard, upd, upd_i}
@@ -15,15 +15,16 @@ use Rattle.seize_machine.specs.Machine.State.{State, link_at}
 use Rattle.seize_machine.proofs.Facts.{eq_true}
 use Rattle.seize_words.specs.Ledger.{fact, Held, right, WithKinds, renewed, born}
 use Rattle.seize_words.specs.Entry.{Entry, entry_coded}
-use Rattle.seize_words.specs.Book.{Kind, ThePass, TheNumbers, TheSlot, TheHead, TheLink, TheCount, TheBlock, TheField, Nothing, after, kinds, kind_of, blocks}
+use Rattle.seize_words.specs.Book.{Kind, ThePass, TheNumbers, TheSlot, TheHead, TheLink, TheCount, TheBlock, TheField, TheTotal, Nothing, after, kinds, kind_of, blocks}
 use Rattle.seize_words.specs.Laws.{ended}
 use Rattle.seize_words.specs.Fair.{Before}
 use Rattle.seize_words.specs.Private.{is_one}
-use Rattle.seize_words.specs.Stepping.{in_step, FoundAs, NoneEnded, beside_then, held_then, staying, IsStep, MayStep, Stepped}
+use Rattle.seize_words.specs.Stepping.{in_step, FoundAs, NoneEnded, beside_then, held_then, staying, with_births, IsStepWith, LooksAt, MayStepWith, SteppedWith}
 use Rattle.seize_words.specs.Tokens.{Name, rows, start, inside, knows, keys_own, over, pass_holds, pass_owns}
 use Rattle.seize_words.specs.Words.{Site, Shows, ShowsOf, Stands, StandsOf, IsKeyOf, word_knows, word_lies, word_reading}
 use Rattle.seize_words.proofs.Values.{blocks_within}
 use Rattle.seize_words.proofs.Lives.{ends_those, living, none_over}
+use Rattle.seize_words.proofs.Looks.{peeks}
 use Rattle.seize_words.proofs.Notes.{knows_twice}
 use Rattle.seize_words.proofs.Passes.{IsDistinct, by_pass, keys_after, Made}
 
@@ -37,7 +38,8 @@ kind_within st (suc (suc (suc (suc zero)))) k v log so = omega arith
 kind_within st (suc (suc (suc (suc (suc zero))))) k v log so = omega arith
 kind_within st (suc (suc (suc (suc (suc (suc zero)))))) k v log so = absurd so
 kind_within st (suc (suc (suc (suc (suc (suc (suc zero))))))) k v log so = omega arith
-kind_within st (suc (suc (suc (suc (suc (suc (suc (suc r)))))))) k v log so = absurd so
+kind_within st (suc (suc (suc (suc (suc (suc (suc (suc zero)))))))) k v log so = omega arith
+kind_within st (suc (suc (suc (suc (suc (suc (suc (suc (suc r))))))))) k v log so = absurd so
 
 one_within : (held : List (Held Entry)) → is_one blocks held ≡ true → WithKinds kinds held
 one_within [] one = absurd (cc)
@@ -58,6 +60,7 @@ beside_within st TheHead k log vs so = subst (WithKinds kinds) (sym so) tt
 beside_within st TheCount k log vs so = blocks_within vs so.1
 beside_within st TheBlock k log vs so = subst (WithKinds kinds) (sym so) tt
 beside_within st TheField f log vs so = subst (WithKinds kinds) (sym so) tt
+beside_within st TheTotal k log vs so = subst (WithKinds kinds) (sym so) tt
 beside_within st Nothing k log vs so = subst (WithKinds kinds) (sym so) tt
 
 both_within : (a b : List (Held Entry)) → WithKinds kinds a → WithKinds kinds b → WithKinds kinds (a ++ b)
@@ -139,15 +142,19 @@ module _ {M : Type 1} {𝓤 : Ura M} (𝓛 : Logic 𝓤) (site : Site) where
       rewrite ! 0 (λ (hs : List (Held Entry)). ‵ (keys hs)) (ap (λ (hs : List (Held Entry)). hs ++ renewed vs log) (renewed_take m held log) ∙ sym (renewed_append (take m held) vs log)) refl $ move ! (1 ∷ []) $
       rewrite ! 0 (λ (hs : List (Held Entry)). ‵ (keys hs)) (renewed_past m held log) refl $ done !
 
-  module _ (p : ℕ) (seen : List Entry) (held : List (Held Entry)) (alive lives : List ℕ) (r : Share) (f : ℕ → ℕ) (entry : ℕ → List Entry → Entry) (trades : ℕ → Bool) where
+  bears : (held : List (Held Entry)) (births : List (ℕ × ℕ)) (log : List Entry) → ⟦ keys held ⟧ ∗ ⟦ keys (born births log) ⟧ ⊢ ⟦ keys (with_births held births log) ⟧
+  bears held [] log = qed 𝓛 (‵ (keys held) ∷ ‵ ftrue ∷ []) ∵ keep ! (0 ∷ []) $ done !
+  bears held (b ∷ births) log = joins held (born (b ∷ births) log)
+
+  module _ (births : List (ℕ × ℕ)) (p : ℕ) (seen : List Entry) (held : List (Held Entry)) (alive lives : List ℕ) (r : Share) (f : ℕ → ℕ) (entry : ℕ → List Entry → Entry) (trades : ℕ → Bool) where
     -- what is had after a step that found v: the list is `t.0`, and the holder's keys are `t.1`
     abbrev pub heard : ℕ → At → Fml
-    heard v t = fsep (fact (Stepped site p seen t.0 held t.1 alive v (f v) entry trades)) (fsep (pass_holds n p t.0) (fsep (keys t.1) (living 𝓛 alive r)))
+    heard v t = fsep (fact (SteppedWith births site p seen t.0 held t.1 alive v (f v) entry trades)) (fsep (pass_holds n p t.0) (fsep (keys t.1) (living 𝓛 alive r)))
 
     abbrev pub after_step : ℕ → Fml
     after_step v = fex At (heard v)
 
-    module _ (distinct : IsDistinct 𝓛 n) (may : MayStep site p seen held alive lives f entry trades) (v : ℕ) (t : At) (so : Shows site v t.0 × Stands site t.0 t.1) where
+    module _ (distinct : IsDistinct 𝓛 n) (may : MayStepWith births site p seen held alive lives f entry trades) (v : ℕ) (t : At) (so : Shows site v t.0 × Stands site t.0 t.1) where
       abbrev all : List (Held Entry)
       all = in_step site held t
 
@@ -160,7 +167,7 @@ module _ {M : Type 1} {𝓤 : Ura M} (𝓛 : Logic 𝓤) (site : Site) where
       found : (log : List Entry) → Before n p seen all log → told log → FoundAs site v p seen held alive t log
       found log before none = record { shows = so.0; stands = so.1; before = before; none_ended = none; distinct = distinct }
 
-      step : (own log : List Entry) → Before n p seen all log → told log → IsStep site p held lives (f v) (ev log) (trades v) t own log
+      step : (own log : List Entry) → Before n p seen all log → told log → IsStepWith births site p held lives (f v) (ev log) (trades v) t own log
       step own log before none = may.1 v t own log (found log before none)
 
       within : WithKinds kinds all
@@ -178,9 +185,9 @@ module _ {M : Type 1} {𝓤 : Ura M} (𝓛 : Logic 𝓤) (site : Site) where
       now log = log ++ ev log ∷ []
 
       abbrev had : List Entry → At
-      had log = (now log, renewed (held_then (kind_of site.kind) (trades v) t.1 held) (now log))
+      had log = (now log, with_births (renewed (held_then (kind_of site.kind) (trades v) t.1 held) (now log)) births (now log))
 
-      stepped : (log : List Entry) → Made 𝓛 n p seen all ev told log → Stepped site p seen (now log) held (had log).1 alive v (f v) entry trades
+      stepped : (log : List Entry) → Made 𝓛 n p seen all ev told log → SteppedWith births site p seen (now log) held (had log).1 alive v (f v) entry trades
       stepped log made = record { log = log; noted = made.0; is_log = made.1; since = t; found = found log made.2 made.3; left = (step log log made.2 made.3).shows; keys = refl }
 
       -- with the word's memory at hand: the event is added, and the word stands for what the list says then
@@ -193,20 +200,23 @@ module _ {M : Type 1} {𝓤 : Ura M} (𝓛 : Logic 𝓤) (site : Site) where
           suffices ! _ (upd_i 𝓤 Z) $ pick ! (λ log. learn ! (λ made. let is = step log log made.2 made.3 in let log' : List Entry = now log in
           split ! $ move ! (1 ∷ []) $ split3 ! $
           -- [the pass; the keys; the tokens; J; the word]
-          move ! (1 ∷ []) $ rewrite ! 0 (λ (bs : List (ℕ × ℕ)). ‵ (keys (renewed all log' ++ born bs log'))) is.no_births refl $ rewrite ! 0 (λ (hs : List (Held Entry)). ‵ (keys hs)) (append-nil (renewed all log')) refl $
-          fsplit ! $ move ! (1 ∷ []) $ use1 𝓛 (‵ (keys (renewed (beside_then (kind_of site.kind) (trades v) t.1 held) log')) ⊛ ‵ (keys (had log).1)) (trade (kind_of site.kind) (trades v) t.1 held log') $ split ! $
+          move ! (1 ∷ []) $ rewrite ! 0 (λ (bs : List (ℕ × ℕ)). ‵ (keys (renewed all log' ++ born bs log'))) is.bears refl $ use1 𝓛 (‵ (keys (renewed all log')) ⊛ ‵ (keys (born births log'))) (parts (renewed all log') (born births log')) $ split ! $
+          fsplit ! $ move ! (1 ∷ []) $ let then_ : List (Held Entry) = renewed (held_then (kind_of site.kind) (trades v) t.1 held) log' in
+          use1 𝓛 (‵ (keys (renewed (beside_then (kind_of site.kind) (trades v) t.1 held) log')) ⊛ ‵ (keys then_)) (trade (kind_of site.kind) (trades v) t.1 held log') $ split ! $
+          -- [the keys beside the word; the holder's; the word's own; those that were made; the pass; the tokens; J; the word]
+          move ! (1 ∷ 3 ∷ []) $ use2 𝓛 (‵ (keys (had log).1)) (bears then_ births log') $ move ! (1 ∷ 0 ∷ []) $
           -- [the keys beside the word; the holder's; the word's own; the pass; the tokens; J; the word]
           move ! (2 ∷ 0 ∷ []) $ fjoin ! $ nothing ! $ fpack ! (Shows site (f v) log' × Stands site log' (renewed (beside_then (kind_of site.kind) (trades v) t.1 held) log')) (λ _. ftrue) (is.shows, is.stands) $ move ! (0 ∷ 1 ∷ []) $ fjoin ! $
           fpack ! At (word_knows site (f v)) (log', renewed (beside_then (kind_of site.kind) (trades v) t.1 held) log') $ move ! (5 ∷ 0 ∷ []) $ fjoin ! $ fpack ! ℕ (word_lies site b o) (f v) $ frame ! $
           -- [the holder's keys; the pass; the tokens; J]
-          move ! (3 ∷ []) $ frame ! $ move ! (0 ∷ 2 ∷ []) $ fjoin ! $ move ! (1 ∷ 0 ∷ []) $ fjoin ! $ nothing ! $ fpack ! (Stepped site p seen log' held (had log).1 alive v (f v) entry trades) (λ _. ftrue) (stepped log made) $ move ! (0 ∷ 1 ∷ []) $ fjoin ! $
+          move ! (3 ∷ []) $ frame ! $ move ! (0 ∷ 2 ∷ []) $ fjoin ! $ move ! (1 ∷ 0 ∷ []) $ fjoin ! $ nothing ! $ fpack ! (SteppedWith births site p seen log' held (had log).1 alive v (f v) entry trades) (λ _. ftrue) (stepped log made) $ move ! (0 ∷ 1 ∷ []) $ fjoin ! $
           fpack ! At (heard v) (had log) $ keep ! (0 ∷ []) $ done !))
 
     -- what a holder brings
     abbrev pub brings : Pr
     brings = ⟦ pass_holds n p seen ⟧ ∗ ⟦ keys held ⟧ ∗ (⟦ over lives ⟧ ∗ ⟦ living 𝓛 alive r ⟧)
 
-    pub steps : (b o i : ℕ) (κ : Lft) (q : Share) → ¬ (n.number ≡ i) → IsDistinct 𝓛 n → MayStep site p seen held alive lives f entry trades
+    pub steps : (b o i : ℕ) (κ : Lft) (q : Share) → ¬ (n.number ≡ i) → IsDistinct 𝓛 n → MayStepWith births site p seen held alive lives f entry trades
         → A.named i (fbor κ (word_reading site b o)) ∗ A.named n.number J ∗ A.lft κ q ∗ brings ⊢ asks 𝓛 (block_ptr b o) f always (λ v. fsep (flft κ q) (after_step v))
     steps b o i κ q apart distinct may = let I : Fml = word_reading site b o in let G : Pr = ex 𝓤 (LiesWith 𝓛 κ q I b o f always after_step J) in
         borrowed_with 𝓛 κ q I b o f always after_step i n.number J apart brings (qed 𝓛 (‵ I ∷ ‵ J ∷ ‵ (pass_holds n p seen) ∷ ‵ (keys held) ∷ (‵ (over lives) ⊛ ‵ (living 𝓛 alive r)) ∷ []) ∵ suffices ! _ (upd_i 𝓤 G) $
@@ -217,6 +227,49 @@ module _ {M : Type 1} {𝓤 : Ura M} (𝓛 : Logic 𝓤) (site : Site) where
         move ! (1 ∷ []) $ show ! (LiesWith 𝓛 κ q I b o f always after_step J) v $ frame ! $ each ! (λ (_ : Unit {0}). AgainWith 𝓛 κ q I b o f always after_step J v) (λ _. assume ! (‵ (word b o (f v))) $
         -- [the word; all keys; J; the pass; what is over]
         move ! (0 ∷ 2 ∷ 3 ∷ 1 ∷ 4 ∷ []) $ by ! (adds distinct may v t so b o))))))
+
+  -- a look at the word and the list, which leaves both as they are
+  module _ (p : ℕ) (seen : List Entry) (held : List (Held Entry)) where
+    abbrev pub glimpsed : ℕ → List Entry → Fml
+    glimpsed v log = fsep (fact (LooksAt site p seen log held v)) (fsep (pass_holds n p log) (keys held))
+
+    abbrev pub after_look : ℕ → Fml
+    after_look v = fex (List Entry) (glimpsed v)
+
+    module _ (distinct : IsDistinct 𝓛 n) (v : ℕ) (t : At) (so : Shows site v t.0 × Stands site t.0 t.1) where
+      abbrev its : List (Held Entry)
+      its = in_step site held t
+
+      its_within : WithKinds kinds held → WithKinds kinds its
+      its_within w = (kind_within st site.kind site.number v t.0 so.0, both_within t.1 held (beside_within st (kind_of site.kind) site.number t.0 t.1 so.1) w)
+
+      looks : (log : List Entry) → Before n p seen its log → LooksAt site p seen log held v
+      looks log before = record { since = t; found = record { shows = so.0; stands = so.1; before = before; none_ended = λ a x. absurd x; distinct = distinct } }
+
+      glances : (b o : ℕ) → WithKinds kinds held → ⟦ word b o v ⟧ ∗ ⟦ J ⟧ ∗ ⟦ pass_holds n p seen ⟧ ∗ ⟦ keys its ⟧ ⊢ upd 𝓤 (⟦ word_reading site b o ⟧ ∗ ⟦ J ⟧ ∗ ⟦ after_look v ⟧)
+      glances b o w = let Z : Pr = ⟦ word_reading site b o ⟧ ∗ ⟦ J ⟧ ∗ ⟦ after_look v ⟧ in
+          qed 𝓛 (‵ (word b o v) ∷ ‵ J ∷ ‵ (pass_holds n p seen) ∷ ‵ (keys its) ∷ []) ∵ suffices ! _ (upd_i 𝓤 Z) $ move ! (1 ∷ 2 ∷ 3 ∷ []) $
+          use3 𝓛 (some (λ (log : List Entry). given (Before n p seen its log) (‵ J ⊛ ‵ (pass_holds n p log) ⊛ ‵ (keys its)))) (peeks 𝓛 n p seen its (its_within w)) $ pick ! (λ log. learn ! (λ before. split3 ! $
+          -- [J; the pass; the keys; the word]
+          move ! (2 ∷ []) $ fsplit ! $ move ! (1 ∷ []) $ use1 𝓛 (‵ (keys t.1) ⊛ ‵ (keys held)) (parts t.1 held) $ split ! $
+          -- [the keys beside the word; the holder's; the word's own; J; the pass; the word]
+          move ! (2 ∷ 0 ∷ []) $ fjoin ! $ nothing ! $ fpack ! (Shows site v t.0 × Stands site t.0 t.1) (λ _. ftrue) so $ move ! (0 ∷ 1 ∷ []) $ fjoin ! $
+          fpack ! At (word_knows site v) t $ move ! (4 ∷ 0 ∷ []) $ fjoin ! $ fpack ! ℕ (word_lies site b o) v $ frame ! $
+          -- [the holder's keys; J; the pass]
+          move ! (1 ∷ []) $ frame ! $ move ! (1 ∷ 0 ∷ []) $ fjoin ! $ nothing ! $ fpack ! (LooksAt site p seen log held v) (λ _. ftrue) (looks log before) $ move ! (0 ∷ 1 ∷ []) $ fjoin ! $
+          fpack ! (List Entry) (glimpsed v) log $ keep ! (0 ∷ []) $ done !))
+
+    pub looking : (b o i : ℕ) (κ : Lft) (q : Share) → ¬ (n.number ≡ i) → IsDistinct 𝓛 n → WithKinds kinds held
+        → A.named i (fbor κ (word_reading site b o)) ∗ A.named n.number J ∗ A.lft κ q ∗ (⟦ pass_holds n p seen ⟧ ∗ ⟦ keys held ⟧) ⊢ asks 𝓛 (block_ptr b o) (λ v. v) always (λ v. fsep (flft κ q) (after_look v))
+    looking b o i κ q apart distinct w = let I : Fml = word_reading site b o in let same : ℕ → ℕ = λ v. v in let G : Pr = ex 𝓤 (LiesWith 𝓛 κ q I b o same always after_look J) in
+        borrowed_with 𝓛 κ q I b o same always after_look i n.number J apart (⟦ pass_holds n p seen ⟧ ∗ ⟦ keys held ⟧) (qed 𝓛 (‵ I ∷ ‵ J ∷ ‵ (pass_holds n p seen) ∷ ‵ (keys held) ∷ []) ∵ suffices ! _ (upd_i 𝓤 G) $
+        fpick ! (λ v. fsplit ! $ move ! (1 ∷ []) $ fpick ! (λ t. fsplit ! $ fpick ! (λ so. drop ! $
+        -- [the word's keys; the word; J; the pass; the holder's keys]
+        fsplit ! $ move ! (1 ∷ 5 ∷ []) $ use2 𝓛 (‵ (keys (t.1 ++ held))) (joins t.1 held) $ move ! (1 ∷ 0 ∷ []) $ fjoin ! $
+        -- [all keys; the word; J; the pass]
+        move ! (1 ∷ []) $ show ! (LiesWith 𝓛 κ q I b o same always after_look J) v $ frame ! $ each ! (λ (_ : Unit {0}). AgainWith 𝓛 κ q I b o same always after_look J v) (λ _. assume ! (‵ (word b o v)) $
+        -- [the word; all keys; J; the pass]
+        move ! (0 ∷ 2 ∷ 3 ∷ 1 ∷ []) $ by ! (glances distinct v t so b o w))))))
 
   -- a pass, opened for a step
   pub opened : (p : ℕ) (seen : List Entry) → ⟦ pass_owns n p seen ⟧ ⊢ guard 𝓤 (IsDistinct 𝓛 n) (⟦ knows n ⟧ ∗ A.named n.number J ∗ ⟦ pass_holds n p seen ⟧)

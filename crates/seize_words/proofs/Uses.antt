@@ -65,7 +65,8 @@ module _ (n : Name) (f : ℕ) where
     covers (suc (suc (suc (suc (suc zero))))) k b there = refl
     covers (suc (suc (suc (suc (suc (suc zero)))))) k b there = refl
     covers (suc (suc (suc (suc (suc (suc (suc zero))))))) k b there = differ f k (λ i. b.1.0 (refl, i))
-    covers (suc (suc (suc (suc (suc (suc (suc (suc r)))))))) k b there = refl
+    covers (suc (suc (suc (suc (suc (suc (suc (suc zero)))))))) k b there = refl
+    covers (suc (suc (suc (suc (suc (suc (suc (suc (suc r))))))))) k b there = refl
 
     other_field : (k m : ℕ) → f < m → m ≤ k → (f == k) ≡ false
     other_field k m less le = grind arith
@@ -81,7 +82,7 @@ module _ (n : Name) (f : ℕ) where
         leads = led;
       };
       its = refl;
-      no_births = refl;
+      bears = refl;
       ends = λ a i. absurd i;
       shows = shows;
       stands = refl;

@@ -5,16 +5,19 @@
 --     MayTake word keys pass alive lives f entry trades     the holder of the keys may take the step with the pass: see MayStep
 --     Takes word keys pass keys' pass' alive f v entry trades     the step was taken and found v: see Stepped
 --     MayTakeIn, TakesIn            the same where the activation has not ended
+--     MayTakeWith, TakesWith        the same where the step makes keys
+--     MayLook word keys pass        they are of one book;  Looks word keys pass keys' pass' v     see LooksAt
 --     site_of keys, IsWordOf keys bits     which word the keys are of;  a word that holds this stands for what they know
 use Rattle.std.specs.Prelude.{◌≡◌, ℕ, ◌+◌, ◌-◌, ◌%◌, ◌^◌, Bool, List, [], ◌∷◌, drop}
 use lib.Dec.{eqb}
 use prog.Atomic.{either}
 use Rattle.seize_machine.specs.Machine.Event.{Event}
 use Rattle.seize_words.specs.Entry.{Entry, Made, Deed}
-use Rattle.seize_words.specs.Ledger.{Held}
+use Rattle.seize_words.specs.Book.{kinds}
+use Rattle.seize_words.specs.Ledger.{Held, WithKinds}
 use Rattle.seize_words.specs.Private.{key_of, own_of}
 use Rattle.seize_words.specs.Passes.{IsSame}
-use Rattle.seize_words.specs.Stepping.{MayStep, Stepped}
+use Rattle.seize_words.specs.Stepping.{LooksAt, MayStepWith, SteppedWith}
 use Rattle.seize_words.specs.Words.{Site, Shows, Stands, site_keys}
 use Rattle.seize_words.specs.declared.activation.Activation.{Activation}
 use Rattle.seize_words.specs.declared.book.keys.Keys.{Keys}
@@ -42,15 +45,21 @@ deed pass life event v log = record { pass = pass.id; size = pass.name.size; eve
 abbrev pub entries : Pass → ℕ → Events → ℕ → List Entry → Entry
 entries pass life event v log = Made (deed pass life event v log)
 
-abbrev pub MayTake : Site → Keys → Pass → List ℕ → List ℕ → (ℕ → ℕ) → Entries → (ℕ → Bool) → Type 0
-MayTake word keys pass alive lives f entry trades =
+abbrev pub MayTakeWith : List (ℕ × ℕ) → Site → Keys → Pass → List ℕ → List ℕ → (ℕ → ℕ) → Entries → (ℕ → Bool) → Type 0
+MayTakeWith births word keys pass alive lives f entry trades =
     (word.name ≡ pass.name) × (keys.name ≡ pass.name)
-    × MayStep word pass.id pass.seen keys.held alive lives f entry trades
+    × MayStepWith births word pass.id pass.seen keys.held alive lives f entry trades
+
+abbrev pub TakesWith : List (ℕ × ℕ) → Site → Keys → Pass → Keys → Pass → List ℕ → (ℕ → ℕ) → ℕ → Entries → (ℕ → Bool) → Type 0
+TakesWith births word keys pass keys' pass' alive f v entry trades =
+    IsSame pass pass' × (keys'.name ≡ keys.name)
+    × SteppedWith births word pass.id pass.seen pass'.seen keys.held keys'.held alive v (f v) entry trades
+
+abbrev pub MayTake : Site → Keys → Pass → List ℕ → List ℕ → (ℕ → ℕ) → Entries → (ℕ → Bool) → Type 0
+MayTake = MayTakeWith []
 
 abbrev pub Takes : Site → Keys → Pass → Keys → Pass → List ℕ → (ℕ → ℕ) → ℕ → Entries → (ℕ → Bool) → Type 0
-Takes word keys pass keys' pass' alive f v entry trades =
-    IsSame pass pass' × (keys'.name ≡ keys.name)
-    × Stepped word pass.id pass.seen pass'.seen keys.held keys'.held alive v (f v) entry trades
+Takes = TakesWith []
 
 -- the same where the activation has not ended
 
@@ -59,6 +68,16 @@ MayTakeIn word keys pass activation f entry trades = MayTake word keys pass (act
 
 abbrev pub TakesIn : Site → Keys → Pass → Keys → Pass → Activation → (ℕ → ℕ) → ℕ → Entries → (ℕ → Bool) → Type 0
 TakesIn word keys pass keys' pass' activation f v entry trades = Takes word keys pass keys' pass' (activation.life ∷ []) f v entry trades
+
+-- a look, which adds nothing
+
+abbrev pub MayLook : Site → Keys → Pass → Type 0
+MayLook word keys pass = (word.name ≡ pass.name) × (keys.name ≡ pass.name) × WithKinds kinds keys.held
+
+abbrev pub Looks : Site → Keys → Pass → Keys → Pass → ℕ → Type 0
+Looks word keys pass keys' pass' v =
+    IsSame pass pass' × (keys'.name ≡ keys.name) × (keys'.held ≡ keys.held)
+    × LooksAt word pass.id pass.seen pass'.seen keys.held v
 
 -- The word that some keys are of: the first is its own, and the others stand beside it.
 

@@ -1,12 +1,13 @@
 -- How a book begins.
 --     BeganWith n links size   its opening has no slot and so many links, which are empty; the batch size at each event is this
---     first_keys many          with so many links, the keys that there are then but for passes: the numbers' and one of each link
+--     first_keys many          with so many links, the keys that there are then but for passes: those of the numbers, of the total, of the
+--                              first slot and its head, and of each link
 --     book_owns n seen         what the token of a book owns that has seen this beginning of the list
 use Rattle.std.specs.Prelude.{◌≡◌, ℕ, zero, suc, List, [], ◌∷◌, replicate, None}
 use base.Fml.{Fml, fsep}
 use Rattle.seize_words.specs.Ledger.{Held, reached}
 use Rattle.seize_words.specs.Entry.{Entry, entry_coded}
-use Rattle.seize_words.specs.Book.{numbers, links}
+use Rattle.seize_words.specs.Book.{numbers, slots, heads, links, totals}
 use Rattle.seize_words.specs.Tokens.{Name, knows}
 
 abbrev pub BeganWith : Name → ℕ → ℕ → Type 0
@@ -22,7 +23,7 @@ first_links l zero = []
 first_links l (suc many) = unused links l ∷ first_links (suc l) many
 
 abbrev pub first_keys : ℕ → List (Held Entry)
-first_keys many = unused numbers 0 ∷ first_links 0 many
+first_keys many = unused numbers 0 ∷ unused totals 0 ∷ unused slots 0 ∷ unused heads 0 ∷ first_links 0 many
 
 -- It lasts for good, and may be had twice. New passes have seen what it has seen.
 abbrev pub book_owns : Name → List Entry → Fml

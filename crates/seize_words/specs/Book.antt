@@ -29,8 +29,9 @@ mine st p log = filter (λ a. maker a.0 == p) (answered st log)
 abbrev pub by_slot : State → ℕ → List Entry → List (Entry × Answer)
 by_slot st s log = filter (λ a. acts s a.0) (answered st log)
 
--- The kinds of keys. There is one key of the numbers; of the others, one for each pass, slot made, head and link, and four for each
--- block: that of its values, that of the count of the batch whose first value lies in it, and those of the two fields of its header.
+-- The kinds of keys. There is one key of the numbers, and one of the total, which says how many slots there are; of the others, one for
+-- each pass and link, one for each slot and head and for those of the slot that comes next, and four for each block: that of its values,
+-- that of the count of the batch whose first value lies in it, and those of the two fields of its header.
 pub data Kind : Type 0 where
   ThePass : Kind
   TheNumbers : Kind
@@ -40,6 +41,7 @@ pub data Kind : Type 0 where
   TheCount : Kind
   TheBlock : Kind
   TheField : Kind
+  TheTotal : Kind
   Nothing : Kind
 
 abbrev pub passes : ℕ
@@ -66,8 +68,11 @@ blocks = 6
 abbrev pub fields : ℕ
 fields = 7
 
+abbrev pub totals : ℕ
+totals = 8
+
 abbrev pub kinds : ℕ
-kinds = 8
+kinds = 9
 
 abbrev pub kind_of : ℕ → Kind
 kind_of zero = ThePass
@@ -78,6 +83,7 @@ kind_of (suc (suc (suc (suc zero)))) = TheLink
 kind_of (suc (suc (suc (suc (suc zero))))) = TheCount
 kind_of (suc (suc (suc (suc (suc (suc zero)))))) = TheBlock
 kind_of (suc (suc (suc (suc (suc (suc (suc zero))))))) = TheField
+kind_of (suc (suc (suc (suc (suc (suc (suc (suc zero)))))))) = TheTotal
 kind_of _ = Nothing
 
 -- what the list says of a key: of a pass what was made with it; of a slot its record, whether it is active, and what was last stored in
@@ -98,11 +104,17 @@ Same st TheBlock k a b =
     (v : ℕ) → home_of v ≡ k
     → (has v (after st a).named ≡ has v (after st b).named) × (has v (after st a).loose ≡ has v (after st b).loose)
 Same st TheField f a b = told a f ≡ told b f
+Same st TheTotal k a b = length (after st a).slots ≡ length (after st b).slots
 Same st Nothing k a b = Unit {0}
 
 -- what the holder of a key knows, who last appended when the list was `own`
 abbrev pub Kept : State → Kind → ℕ → List Entry → List Entry → Type 0
 Kept st kind k own log = IsPrefix own log × Same st kind k own log
+
+-- the event makes a slot
+abbrev pub makes_slot : State → Event → Bool
+makes_slot st (Take s) = s == length st.slots
+makes_slot st _ = false
 
 abbrev pub touches : State → Entry → Kind → ℕ → Bool
 touches st e ThePass p = maker e == p
@@ -113,19 +125,21 @@ touches st (Made d) TheHead m = changes_head_of m d.event
 touches st (Made d) TheLink l = changes_link l d.event
 touches st (Made d) TheCount k = changes_count st k d.event
 touches st (Made d) TheBlock k = changes_home st k d.event
+touches st (Made d) TheTotal k = makes_slot st d.event
 touches st _ _ k = false
 
--- how many keys of a kind there are: of passes more than made an event, of blocks more than have values that were named, counts, or
--- fields that were used
+-- how many keys of a kind there are: of passes more than made an event, of slots and heads one more than there are slots, of blocks more
+-- than have values that were named, counts, or fields that were used
 abbrev pub Sized : State → Kind → ℕ → List Entry → Type 0
 Sized st ThePass n log = (p : ℕ) → n ≤ p → mine st p log ≡ []
 Sized st TheNumbers n log = n ≡ 1
-Sized st TheSlot n log = n ≡ length (after st log).slots
-Sized st TheHead n log = n ≡ length (after st log).slots
+Sized st TheSlot n log = n ≡ suc (length (after st log).slots)
+Sized st TheHead n log = n ≡ suc (length (after st log).slots)
 Sized st TheLink n log = n ≡ length (after st log).links
 Sized st TheCount n log = (k : ℕ) → n ≤ k → (count_in (after st log) k ≡ pos 0) × (deposit (after st log) k ≡ [])
 Sized st TheBlock n log = (v : ℕ) → n ≤ home_of v → has v (after st log).named ≡ false
 Sized st TheField n log = (f : ℕ) → n ≤ f → told log f ≡ 0
+Sized st TheTotal n log = n ≡ 1
 Sized st Nothing n log = Unit {0}
 
 abbrev pub rules : State → Rules Entry
@@ -135,14 +149,16 @@ rules st = record {
   Sized = λ r. Sized st (kind_of r);
 }
 
--- The keys that an entry makes, by kind and number: a new slot's and its head's.
+-- The keys that an entry makes, by kind and number: where it makes a slot, those of the slot that comes next and of that one's head.
 
-abbrev pub of_new_slot : State → List (ℕ × ℕ)
-of_new_slot st = (slots, length st.slots) ∷ (heads, length st.slots) ∷ []
+abbrev pub of_slot : ℕ → List (ℕ × ℕ)
+of_slot s = (slots, s) ∷ (heads, s) ∷ []
+
+abbrev pub of_next_slot : State → List (ℕ × ℕ)
+of_next_slot st = of_slot (suc (length st.slots))
 
 abbrev pub births : State → Event → List (ℕ × ℕ)
-births st (Take s) = if s == length st.slots then of_new_slot st else []
-births st _ = []
+births st event = if makes_slot st event then of_next_slot st else []
 
 abbrev pub births_by : State → Entry → List (ℕ × ℕ)
 births_by st (Made d) = births st d.event

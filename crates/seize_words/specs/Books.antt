@@ -1,6 +1,7 @@
 -- The words in which the contracts of books speak.
---     Opens book numbers rest links size       a new book to which many may append, with so many links, which are empty; and its keys
---     OpensAlone book pass numbers rest links size     a new book to which this pass alone may append
+--     Opens book keys links size               a new book to which many may append, with so many links, which are empty; and its keys
+--     OpensAlone book pass keys links size     a new book to which this pass alone may append
+--     AreFirst keys, AreApart keys all         those that a book begins with;  the same, each by itself
 --     IsNew pass                               nothing was made with it
 --     IsNewBlock keys number                   the key of a block with this number no value of which was ever named, labelled with one of
 --                                              them; that of its count, which is 0; and those of its fields, in which nothing was stored
@@ -11,7 +12,7 @@
 --     IsCountFor count value                   it is that of the value's block, the count is 0, and no keys stand beside it
 --     AreOf book keys                          these keys are of the book
 --     IsFieldFor which field value             it is that of this field of the value's block, and nothing was stored there
-use Rattle.std.specs.Prelude.{◌≡◌, ℕ, pos, false, List, [], ◌∷◌}
+use Rattle.std.specs.Prelude.{◌≡◌, ℕ, pos, false, List, [], ◌∷◌, drop, take}
 use mathlib.Core.List.{IsPrefix}
 use Rattle.seize_machine.specs.Machine.State.{has}
 use Rattle.seize_words.specs.Entry.{Entry}
@@ -29,11 +30,10 @@ use Rattle.seize_words.specs.Private.{key_of, own_of}
 use Rattle.seize_words.specs.Begin.{BeganWith, first_keys, first_links}
 use Rattle.seize_words.specs.Passes.{IsSame, MadeNone, mine_of}
 use Rattle.seize_words.specs.declared.book.block_keys.BlockKeys.{BlockKeys}
+use Rattle.seize_words.specs.declared.book.book_keys.BookKeys.{BookKeys}
 use Rattle.seize_words.specs.declared.book.count_key.CountKey.{CountKey}
 use Rattle.seize_words.specs.declared.book.field_key.FieldKey.{FieldKey}
 use Rattle.seize_words.specs.declared.book.keys.Keys.{Keys}
-use Rattle.seize_words.specs.declared.book.link_keys.LinkKeys.{LinkKeys}
-use Rattle.seize_words.specs.declared.book.numbers_key.NumbersKey.{NumbersKey}
 use Rattle.seize_words.specs.declared.book.pass.Pass.{Pass}
 use Rattle.seize_words.specs.declared.book.token.Book.{Book}
 use Rattle.seize_words.specs.declared.book.value_key.ValueKey.{ValueKey}
@@ -52,17 +52,37 @@ IsMany book = book.name.gate ≡ many
 abbrev pub IsAlone : Book → Pass → Type 0
 IsAlone book pass = IsSole book.name.gate × (pass.name ≡ book.name) × (pass.seen ≡ [])
 
--- it begins with so many links, which are empty, and has seen nothing more; the keys of the numbers and of all links are these
-abbrev pub HasKeys : Book → NumbersKey → LinkKeys → ℕ → ℕ → Type 0
-HasKeys book numbers rest links size =
-    BeganWith book.name links size × (book.seen ≡ []) × (numbers.keys.name ≡ book.name) × (own_of numbers.keys.held ≡ [])
-    × (rest.keys.name ≡ book.name) × (rest.keys.held ≡ first_links 0 links)
+-- with so many links, those that a book begins with
+abbrev pub AreFirst : Keys → Type 0
+AreFirst keys = (links : ℕ) × (keys.held ≡ first_keys links)
 
-abbrev pub Opens : Book → NumbersKey → LinkKeys → ℕ → ℕ → Type 0
-Opens book numbers rest links size = IsMany book × HasKeys book numbers rest links size
+-- each by itself, in the order in which they were
+pub record AreApart (keys : Keys) (all : BookKeys) : Type 0 where
+  pub numbers : (all.numbers.keys.name ≡ keys.name) × (all.numbers.keys.held ≡ take 1 keys.held)
+  pub total : (all.total.keys.name ≡ keys.name) × (all.total.keys.held ≡ take 1 (drop 1 keys.held))
+  pub slot : (all.next.slot.keys.name ≡ keys.name) × (all.next.slot.keys.held ≡ take 1 (drop 2 keys.held))
+  pub head : (all.next.head.keys.name ≡ keys.name) × (all.next.head.keys.held ≡ take 1 (drop 3 keys.held))
+  pub links : (all.links.keys.name ≡ keys.name) × (all.links.keys.held ≡ drop 4 keys.held)
 
-abbrev pub OpensAlone : Book → Pass → NumbersKey → LinkKeys → ℕ → ℕ → Type 0
-OpensAlone book pass numbers rest links size = IsAlone book pass × HasKeys book numbers rest links size
+-- it is of the book, and nothing was ever added by its holder
+abbrev pub IsUnused : Keys → Book → Type 0
+IsUnused keys book = (keys.name ≡ book.name) × (own_of keys.held ≡ [])
+
+-- It begins with so many links, which are empty, and has seen nothing more. These are its keys: those of the numbers, of the total, of the
+-- first slot and its head, and of all links.
+pub record HasKeys (book : Book) (keys : BookKeys) (many size : ℕ) : Type 0 where
+  pub began : BeganWith book.name many size × (book.seen ≡ [])
+  pub numbers : IsUnused keys.numbers.keys book
+  pub total : IsUnused keys.total.keys book
+  pub slot : IsUnused keys.next.slot.keys book × (key_of keys.next.slot.keys.held ≡ 0)
+  pub head : IsUnused keys.next.head.keys book × (key_of keys.next.head.keys.held ≡ 0)
+  pub links : (keys.links.keys.name ≡ book.name) × (keys.links.keys.held ≡ first_links 0 many)
+
+abbrev pub Opens : Book → BookKeys → ℕ → ℕ → Type 0
+Opens book keys links size = IsMany book × HasKeys book keys links size
+
+abbrev pub OpensAlone : Book → Pass → BookKeys → ℕ → ℕ → Type 0
+OpensAlone book pass keys links size = IsAlone book pass × HasKeys book keys links size
 
 -- the keys of the block with home k: that of its values, labelled with this one, and those of its count and of its fields
 abbrev pub of_block : ℕ → ℕ → List Entry → List (Held Entry)

@@ -25,6 +25,7 @@ pub mod Headers
 pub mod Values
 pub mod Atomic
 pub mod Reservations
+pub mod Totals
 pub mod Links
 pub mod Activations
 pub mod LinkWords

@@ -9,28 +9,22 @@
 --     WalksOn head key' v queue           the slot's call walks the batches that the word v of the head shows, and goes on with this queue
 --     IsLastOf key a                      it is the slot's last activation
 --     IsActivationOf key a                it has begun with what the key knows last
---     made_of numbers, IsFull numbers     how many slots there are, as the key knows;  all of their numbers are in use
---     MakesSlot numbers pass numbers' pass' key head     the next slot was made, with this key and this head
-use Rattle.std.specs.Prelude.{◌≡◌, ℕ, suc, ◌+◌, ◌<◌, ◌^◌, Bool, true, false, List, [], ◌∷◌, ◌++◌, length, Some, None}
-use Rattle.seize_machine.specs.Machine.Event.{Event, Take}
-use Rattle.seize_machine.specs.Machine.Next.{first_free}
-use Rattle.seize_table.specs.Place.{all_numbers}
-use Rattle.seize_words.specs.Adding.{private}
-use Rattle.seize_machine.specs.Machine.State.{Inactive, Out, Rest, head_at, is_active}
+--     head_known key                      the head, as its key knows;  IsHeadOf head key     it is that of the key
+use Rattle.std.specs.Prelude.{◌≡◌, ℕ, ◌+◌, ◌<◌, ◌^◌, Bool, true, List, [], ◌∷◌, ◌++◌, Some}
+use Rattle.seize_machine.specs.Machine.Event.{Event}
+use Rattle.seize_machine.specs.Machine.State.{Head as MachineHead, Out, Rest, head_at, is_active}
 use Rattle.seize_words.specs.Blocks.{block_for, head_word, list_word}
-use Rattle.seize_words.specs.Book.{after, heads}
-use Rattle.seize_words.specs.Entry.{Entry, Made, Deed}
+use Rattle.seize_words.specs.Book.{after}
+use Rattle.seize_words.specs.Entry.{Entry, Deed}
 use Rattle.seize_words.specs.Headers.{HasWritten}
 use Rattle.seize_words.specs.Heads.{IsMade, IsTrying, reads}
 use Rattle.seize_words.specs.Laws.{life}
-use Rattle.seize_words.specs.Others.{Follows, state_of}
-use Rattle.seize_words.specs.Passes.{IsSame}
-use Rattle.seize_words.specs.Private.{is_one, key_of, label_of}
-use Rattle.seize_words.specs.Slots.{active_of, life_of, number_of, own_list, slot_of, start_of}
-use Rattle.seize_words.specs.Tokens.{Noted, start}
+use Rattle.seize_words.specs.Others.{state_of}
+use Rattle.seize_words.specs.Private.{key_of}
+use Rattle.seize_words.specs.Slots.{life_of, number_of, own_list, slot_of, start_of}
+use Rattle.seize_words.specs.Tokens.{start}
 use Rattle.seize_words.specs.declared.activation.Activation.{Activation}
-use Rattle.seize_words.specs.declared.book.keys.Keys.{Keys}
-use Rattle.seize_words.specs.declared.book.numbers_key.NumbersKey.{NumbersKey}
+use Rattle.seize_words.specs.declared.book.head_key.HeadKey.{HeadKey}
 use Rattle.seize_words.specs.declared.book.pass.Pass.{Pass}
 use Rattle.seize_words.specs.declared.book.slot_key.SlotKey.{SlotKey}
 use Rattle.seize_words.specs.declared.reservation.Head.{Head}
@@ -84,36 +78,10 @@ pub record IsActivationOf (key : SlotKey) (a : Activation) : Type 0 where
   pub active : is_active (head_at (after (start a.name) a.since) a.slot) ≡ true
   pub its : life a.slot a.since ≡ a.life
 
--- Slots are made.
+-- Heads are made.
 
-abbrev pub made_of : NumbersKey → ℕ
-made_of numbers = length (state_of numbers.keys).slots
+abbrev pub head_known : HeadKey → MachineHead
+head_known key = head_at (state_of key.keys) (key_of key.keys.held)
 
--- all numbers are in use, as the key knows, and one more is a number of a table
-abbrev pub IsFull : NumbersKey → Type 0
-IsFull numbers = (first_free (state_of numbers.keys).slots ≡ made_of numbers) × (made_of numbers < all_numbers)
-
--- a new slot was made, with no call, nothing retired and inactive; its key knows all that the pass has seen
-pub record MakesSlot (numbers : NumbersKey) (pass : Pass) (numbers' : NumbersKey) (pass' : Pass) (key : SlotKey) (head : Head)
-    : Type 0 where
-  pub same : IsSame pass pass'
-  pub noted : Noted pass.name pass.id pass.seen pass'.seen (Made (private pass (Take (made_of numbers))))
-  pub follows : Follows numbers.keys pass' numbers'.keys
-  pub book : (key.keys.name ≡ pass.name) × (head.word.name ≡ pass.name)
-  pub number : (number_of key ≡ made_of numbers) × (slot head ≡ made_of numbers)
-  pub own : own_list key ≡ pass'.seen
-  pub idle : slot_of key ≡ record { used = true; batch = []; call = None }
-  pub inactive : active_of key ≡ false
-  -- there is one more, and all numbers are in use still
-  pub next : (made_of numbers' ≡ suc (made_of numbers)) × (first_free (state_of numbers'.keys).slots ≡ made_of numbers')
-
-abbrev pub NumbersOf : NumbersKey → Pass → Type 0
-NumbersOf numbers pass = numbers.keys.name ≡ pass.name
-
--- the one key is of a head, which is inactive
-abbrev pub IsOfHead : Keys → Type 0
-IsOfHead keys =
-    (is_one heads keys.held ≡ true) × (label_of keys.held ≡ 0) × (head_at (state_of keys) (key_of keys.held) ≡ Inactive)
-
-abbrev pub IsHeadOf : Keys → Head → Type 0
-IsHeadOf keys head = (head.word.name ≡ keys.name) × (slot head ≡ key_of keys.held)
+abbrev pub IsHeadOf : Head → HeadKey → Type 0
+IsHeadOf head key = (head.word.name ≡ key.keys.name) × (slot head ≡ key_of key.keys.held)

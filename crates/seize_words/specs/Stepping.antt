@@ -1,14 +1,16 @@
 -- What an atomic step on a word has to be, so that the holder of a pass and of some keys may add the event that it is.
 --     FoundAs site v p seen held alive t log     the step finds v in the word; the list is `log` then; t has the list at the last step
 --                              on the word, and the keys beside its own; the activations with the lifetimes `alive` have not ended
---     MayStep site p seen held alive lives f entry trades     whatever it finds in the word, and whatever the list is by then: with f of
---                              it in the word, and this entry added, all is as it has to be (IsStep). It ends no activation but those
---                              that have the lifetimes `lives`. Where it trades, the holder's keys stay with the word, for those that
---                              stood there; at a count all but the slot's
---     Stepped site p seen seen' held held' alive v w entry trades   the step was taken, found v and left w
+--     MayStepWith births site p seen held alive lives f entry trades     whatever it finds in the word, and whatever the list is by then:
+--                              with f of it in the word, and this entry added, all is as it has to be (IsStep). It ends no activation but
+--                              those that have the lifetimes `lives`. Where it trades, the holder's keys stay with the word, for those
+--                              that stood there; at a count all but the slot's. It makes these keys, which go to the holder
+--     SteppedWith births site p seen seen' held held' alive v w entry trades   the step was taken, found v and left w
+--     IsStep, MayStep, Stepped     the same where no keys are made
+--     LooksAt site p seen seen' held v     the word was read, which held v, and nothing was added to the list, which is seen' now
 use Rattle.std.specs.Prelude.{◌≡◌, ℕ, take, drop, Bool, true, if◌then◌else◌, List, [], ◌∷◌, ◌++◌}
 use Rattle.seize_machine.specs.Machine.State.{linked, are_distinct}
-use Rattle.seize_words.specs.Ledger.{Held, WithKinds, renewed}
+use Rattle.seize_words.specs.Ledger.{Held, WithKinds, born, renewed}
 use Rattle.seize_words.specs.Entry.{Entry, maker}
 use Rattle.seize_words.specs.Book.{Kind, TheCount, after, births_by, kind_of, kinds}
 use Rattle.seize_words.specs.Laws.{IsIn, ended, ended_in, life}
@@ -54,22 +56,28 @@ beside_then kind trades vs held = if trades then drop (staying kind) held else v
 abbrev pub held_then : Kind → Bool → Keys → Keys → Keys
 held_then kind trades vs held = if trades then take (staying kind) held ++ vs else held
 
-pub record IsStep (site : Site) (p : ℕ) (held : Keys) (lives : List ℕ) (w : ℕ) (e : Entry) (trades : Bool) (t : At) (own log : List Entry)
-    : Type 0 where
+-- and those that the step made
+abbrev pub with_births : Keys → List (ℕ × ℕ) → List Entry → Keys
+with_births held [] log = held
+with_births held (b ∷ births) log = held ++ born (b ∷ births) log
+
+pub record IsStepWith (births : List (ℕ × ℕ)) (site : Site) (p : ℕ) (held : Keys) (lives : List ℕ) (w : ℕ) (e : Entry) (trades : Bool) (t : At)
+    (own log : List Entry) : Type 0 where
   pub fair : Fair (start site.name) (pass_key p own ∷ in_step site held t) log e
   pub its : maker e ≡ p
-  pub no_births : births_by (after (start site.name) log) e ≡ []
+  pub bears : births_by (after (start site.name) log) e ≡ births
   pub ends : EndsAmong lives log e
   pub shows : Shows site w (log ++ e ∷ [])
   pub stands : Stands site (log ++ e ∷ []) (renewed (beside_then (kind_of site.kind) trades t.1 held) (log ++ e ∷ []))
 
-abbrev pub MayStep : Site → ℕ → List Entry → List (Held Entry) → List ℕ → List ℕ → (ℕ → ℕ) → (ℕ → List Entry → Entry) → (ℕ → Bool) → Type 0
-MayStep site p seen held alive lives f entry trades =
+abbrev pub MayStepWith : List (ℕ × ℕ) → Site → ℕ → List Entry → List (Held Entry) → List ℕ → List ℕ → (ℕ → ℕ) → (ℕ → List Entry → Entry) → (ℕ → Bool)
+    → Type 0
+MayStepWith births site p seen held alive lives f entry trades =
     WithKinds kinds held
     × ((v : ℕ) (t : At) (own log : List Entry) → FoundAs site v p seen held alive t log
-    → IsStep site p held lives (f v) (entry v log) (trades v) t own log)
+    → IsStepWith births site p held lives (f v) (entry v log) (trades v) t own log)
 
-pub record Stepped (site : Site) (p : ℕ) (seen seen' : List Entry) (held held' : Keys) (alive : List ℕ) (v w : ℕ)
+pub record SteppedWith (births : List (ℕ × ℕ)) (site : Site) (p : ℕ) (seen seen' : List Entry) (held held' : Keys) (alive : List ℕ) (v w : ℕ)
     (entry : ℕ → List Entry → Entry) (trades : ℕ → Bool) : Type 0 where
   pub log : List Entry
   pub noted : Noted site.name p seen seen' (entry v log)
@@ -77,4 +85,17 @@ pub record Stepped (site : Site) (p : ℕ) (seen seen' : List Entry) (held held'
   pub since : At
   pub found : FoundAs site v p seen held alive since log
   pub left : Shows site w seen'
-  pub keys : held' ≡ renewed (held_then (kind_of site.kind) (trades v) since.1 held) seen'
+  pub keys : held' ≡ with_births (renewed (held_then (kind_of site.kind) (trades v) since.1 held) seen') births seen'
+
+abbrev pub IsStep : Site → ℕ → Keys → List ℕ → ℕ → Entry → Bool → At → List Entry → List Entry → Type 0
+IsStep = IsStepWith []
+
+abbrev pub MayStep : Site → ℕ → List Entry → List (Held Entry) → List ℕ → List ℕ → (ℕ → ℕ) → (ℕ → List Entry → Entry) → (ℕ → Bool) → Type 0
+MayStep = MayStepWith []
+
+abbrev pub Stepped : Site → ℕ → List Entry → List Entry → Keys → Keys → List ℕ → ℕ → ℕ → (ℕ → List Entry → Entry) → (ℕ → Bool) → Type 0
+Stepped = SteppedWith []
+
+pub record LooksAt (site : Site) (p : ℕ) (seen seen' : List Entry) (held : Keys) (v : ℕ) : Type 0 where
+  pub since : At
+  pub found : FoundAs site v p seen held [] since seen'

@@ -57,6 +57,7 @@ pub record Name : Type 0 where
   pub count_keys : ℕ
   pub block_keys : ℕ
   pub field_keys : ℕ
+  pub total_keys : ℕ
   pub gate : Gate
   -- the batch size at each event that is added
   pub size : ℕ
@@ -68,7 +69,8 @@ abbrev nth : List ℕ → ℕ → ℕ
 nth xs i = slice_index_or xs i 0
 
 abbrev pub rows : Name → List ℕ
-rows n = n.pass_keys ∷ n.number_keys ∷ n.slot_keys ∷ n.head_keys ∷ n.link_keys ∷ n.count_keys ∷ n.block_keys ∷ n.field_keys ∷ []
+rows n =
+    n.pass_keys ∷ n.number_keys ∷ n.slot_keys ∷ n.head_keys ∷ n.link_keys ∷ n.count_keys ∷ n.block_keys ∷ n.field_keys ∷ n.total_keys ∷ []
 
 abbrev pub name_coded : Coded Name
 name_coded =
@@ -87,6 +89,7 @@ name_coded =
       count_keys = nth t.0 9;
       block_keys = nth t.0 10;
       field_keys = nth t.0 11;
+      total_keys = nth t.0 12;
       gate = t.1.0;
       links = t.1.1;
     })

@@ -1,14 +1,14 @@
--- What a word of the book is. A word stands for one head, link, count or field: its value shows what the list says of it. The word's key
+-- What a word of the book is. A word stands for one head, link, count or field, or for the total: its value shows what the list says of it. The word's key
 -- stands beside it, in the word's own invariant, so whoever takes an atomic step on the word may add the entry that changes these in that
 -- very step, and nobody else may.
 --     Site                   which word it is: its book, and the kind and number of what it stands for
---     IsField site           it is that of a field
+--     IsField site           it is that of a field;  IsTotal site    it is the one that says how many slots there are
 --     Shows site v log       the value v is what the list says
 --     Stands site log vs     these are the other keys that stand beside it: of a link that of the block of the value in it, of a count
 --                            those of the blocks of the batch's values, once its call has added to it
 --     site_keys site since vs     its keys, its own first, which knows the list as it was at the last step on the word
 --     word_owns site v       what stands beside the memory of a word with this value;  word_shares    what a `&` to it is
-use Rattle.std.specs.Prelude.{◌≡◌, ℕ, ◌==◌, Bool, true, ◌&&◌, map, List, [], ◌∷◌, Option, Some, None}
+use Rattle.std.specs.Prelude.{◌≡◌, ℕ, ◌==◌, Bool, true, ◌&&◌, map, List, [], ◌∷◌, length, Option, Some, None}
 use Rattle.std.specs.List.{list_all}
 use Rattle.std.specs.Coded.{Coded, code_by, coded_ℕ, coded×}
 use mathlib.Core.Path.{refl}
@@ -19,7 +19,7 @@ use Rattle.core.specs.Sync.RawAtomic.{word}
 use Rattle.seize_machine.specs.Machine.State.{State, link_at}
 use Rattle.seize_words.specs.Ledger.{Held, fact}
 use Rattle.seize_words.specs.Entry.{Entry}
-use Rattle.seize_words.specs.Book.{Kind, TheHead, TheLink, TheCount, TheField, kind_of, after, blocks, fields}
+use Rattle.seize_words.specs.Book.{Kind, TheHead, TheLink, TheCount, TheField, TheTotal, kind_of, after, blocks, fields, totals}
 use Rattle.seize_words.specs.Blocks.{count_word, head_word, link_word}
 use Rattle.seize_words.specs.Chains.{told}
 use Rattle.seize_words.specs.Deposits.{deposit}
@@ -35,6 +35,9 @@ pub record Site : Type 0 where
 abbrev pub IsField : Site → Type 0
 IsField site = site.kind ≡ fields
 
+abbrev pub IsTotal : Site → Type 0
+IsTotal site = (site.kind ≡ totals) × (site.number ≡ 0)
+
 abbrev pub site_coded : Coded Site
 site_coded =
     code_by (Name × (ℕ × ℕ)) (coded× name_coded (coded× coded_ℕ coded_ℕ)) (λ s. (s.name, (s.kind, s.number)))
@@ -45,6 +48,7 @@ ShowsOf st TheHead m v log = v ≡ head_word st log m
 ShowsOf st TheLink l v log = v ≡ link_word (link_at (after st log) l)
 ShowsOf st TheCount k v log = v ≡ count_word (count_in (after st log) k)
 ShowsOf st TheField f v log = v ≡ told log f
+ShowsOf st TheTotal k v log = v ≡ length (after st log).slots
 ShowsOf st _ k v log = ⊥
 
 abbrev pub Shows : Site → ℕ → List Entry → Type 0

@@ -6,25 +6,33 @@
 //! added in that very step; a private event, which no word shows, by a call that does nothing else.
 
 mod block_keys;
+mod book_keys;
 mod count_key;
 mod field_key;
+mod head_key;
 mod keys;
 mod link_keys;
 mod numbers_key;
 mod pass;
 mod slot_key;
+mod slot_keys;
 mod token;
+mod total_key;
 mod value_key;
 mod value_keys;
 
 pub use block_keys::BlockKeys;
+pub use book_keys::BookKeys;
 pub use count_key::CountKey;
 pub use field_key::FieldKey;
+pub use head_key::HeadKey;
 pub use keys::Keys;
 pub use link_keys::LinkKeys;
 pub use numbers_key::NumbersKey;
 pub use pass::Pass;
 pub use slot_key::SlotKey;
+pub use slot_keys::SlotKeys;
 pub use token::Book;
+pub use total_key::TotalKey;
 pub use value_key::ValueKey;
 pub use value_keys::ValueKeys;

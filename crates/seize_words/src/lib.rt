@@ -9,4 +9,5 @@ pub mod book;
 pub mod header;
 pub mod link;
 pub mod reservation;
+pub mod total;
 mod word;

@@ -1,12 +1,12 @@
 //! Heads: what a slot has reserved. A head's word shows whether the slot is active, and the list of retired batches that wait for it. It
-//! uses words and the book's keys; slots are made with their heads.
+//! uses words and the book's keys.
 ghost use Rattle.std.specs.Prelude.{◌≡◌, true, false};
-ghost use Rattle.seize_machine.specs.Machine.State.{is_idle};
+ghost use Rattle.seize_machine.specs.Machine.State.{Inactive, is_idle};
 ghost use Rattle.seize_machine.specs.Machine.Event.{Enter, Insert, ReadHead, SwapOut};
 ghost use Rattle.seize_words.specs.Heads.{IsHead, found_end};
 
 use crate::activation::Activation;
-use crate::book::{Keys, NumbersKey, Pass, SlotKey};
+use crate::book::{HeadKey, Pass, SlotKey};
 use crate::word::Word;
 use std::marker::Brand;
 
@@ -21,30 +21,17 @@ pub struct Head {
 }
 
 impl Head {
-    ghost use Rattle.seize_words.specs.Reservations.{FoundBefore, IsActivationOf, IsFull, IsHeadOf, IsLastOf, IsOfBook, IsOfHead, IsOut, IsOwn, MakesSlot, MayRead, NumbersOf, Shows, TriesAt, WalksOn, beginning, slot};
+    ghost use Rattle.seize_words.specs.Reservations.{FoundBefore, IsActivationOf, IsHeadOf, IsLastOf, IsOfBook, IsOut, IsOwn, MayRead, Shows, TriesAt, WalksOn, beginning, head_known, slot};
     ghost use Rattle.seize_words.specs.Slots.{IsOf, Notes, NotesAs, active_of, number_of, slot_of};
 
-    /// Makes the next slot, with its head: the event `Take` of a number that was never in use. All numbers below it are in use.
-    pub fn make(numbers: &mut NumbersKey, pass: &mut Pass) -> (SlotKey, Head)
-        requires book { NumbersOf numbers.old pass.old }
-        requires full { IsFull numbers.old }
-        ensures made { MakesSlot numbers.old pass.old numbers.new pass.new result.0 result.1 }
+    /// The word of an inactive slot's head. The slot may be one that is not there yet.
+    pub fn new(key: HeadKey) -> Head
+        requires { head_known key ≡ Inactive }
+        ensures { IsHeadOf result key }
     {
-        let mut key = numbers.keys.none();
-        let mut head = numbers.keys.none();
-        numbers.keys.note::<Brand>(pass);
-        numbers.keys.part(&mut key);
-        key.part(&mut head);
-        (SlotKey { keys: key }, Head::of(&mut head))
-    }
-
-    // The head of an inactive slot.
-    fn of(keys: &mut Keys) -> Head
-        requires { IsOfHead keys.old }
-        ensures { IsHeadOf keys.old result }
-    {
+        let mut keys = key.keys;
         Head {
-            word: Word::new(0, keys),
+            word: Word::new(0, &mut keys),
         }
     }
 

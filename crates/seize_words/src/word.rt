@@ -1,4 +1,4 @@
-//! Words: the memory that threads change by single atomic steps. A word stands for a head, link, count or field of the book. Its keys
+//! Words: the memory that threads change by single atomic steps. A word stands for a head, link, count or field of the book, or the total. Its keys
 //! stand beside it, so an atomic step on it is an entry in the list, which the holder of a pass adds in that very step. Heads, links,
 //! counts and fields are made of it.
 ghost use Rattle.std.specs.Prelude.{◌≡◌, ℕ, ◌<◌, ◌==◌, ◌^◌, Bool, false, if◌then◌else◌, List, []};
@@ -31,23 +31,27 @@ impl Move for Word {
     ghost own_val = { λ w vs. fex ℕ (λ n. fsep (Fields.own_val (record { bits = n }) vs) (word_owns w n)) };
 }
 
-/// The entry of an atomic step, by what the step found in the word and what the list was just before; and whether the keys that stand
-/// beside the word's own change places with the holder's. A caller passes `Brand`, and its proof picks them; those below stand where none
+/// The entry of an atomic step, by what the step found in the word and what the list was just before; whether the keys that stand beside
+/// the word's own change places with the holder's; and the keys that the step makes, by kind and number. A caller passes `Brand`, and its proof picks them; those below stand where none
 /// are picked.
 pub(crate) trait Finds {
     ghost entry: { ℕ → List Entry → Entry };
 
     ghost trades: { ℕ → Bool };
+
+    ghost births: { List (ℕ × ℕ) };
 }
 
 impl Finds for Brand {
     ghost entry = { λ v log. Made (record { pass = 0; size = 0; event = Return 0; life = 0 }) };
 
     ghost trades = { λ v. false };
+
+    ghost births = { [] };
 }
 
 impl Word {
-    ghost use Rattle.seize_words.specs.Atomic.{IsWordOf, MayTake, MayTakeIn, Takes, TakesIn, exchanged, minus, plus, site_of};
+    ghost use Rattle.seize_words.specs.Atomic.{IsWordOf, Looks, MayLook, MayTake, MayTakeIn, MayTakeWith, Takes, TakesIn, TakesWith, exchanged, minus, plus, site_of};
 
     /// A word that holds `bits` and has the keys of what it stands for.
     pub(crate) fn new(bits: u64, keys: &mut Keys) -> Word
@@ -55,6 +59,14 @@ impl Word {
         ensures { (result ≡ site_of keys.old) × (keys.new.name ≡ keys.old.name) × (keys.new.held ≡ []) }
     {
         Word { bits }
+    }
+
+    /// Reads the word and looks at the list, to which it adds nothing.
+    pub(crate) fn look(&self, keys: &mut Keys, pass: &mut Pass) -> u64
+        requires { MayLook self.now keys.old pass.old }
+        ensures { Looks self.now keys.old pass.old keys.new pass.new result }
+    {
+        unsafe { raw::load::<Brand>(self as *const Self as *const u64, SeqCst) }
     }
 
     /// Reads the word.
@@ -143,10 +155,10 @@ impl Word {
         unsafe { raw::swap::<Brand>(self as *const Self as *const u64, new, SeqCst) }
     }
 
-    /// Adds to the word, round 2^64, and gives what it held.
+    /// Adds to the word, round 2^64, and gives what it held. The step may make keys, which go to the holder's.
     pub(crate) fn add<P: Finds>(&self, added: u64, keys: &mut Keys, pass: &mut Pass) -> u64
-        requires { MayTake self.now keys.old pass.old [] [] (plus added) P.entry P.trades }
-        ensures { Takes self.now keys.old pass.old keys.new pass.new [] (plus added) result P.entry P.trades }
+        requires { MayTakeWith P.births self.now keys.old pass.old [] [] (plus added) P.entry P.trades }
+        ensures { TakesWith P.births self.now keys.old pass.old keys.new pass.new [] (plus added) result P.entry P.trades }
     {
         unsafe { raw::fetch_add::<Brand>(self as *const Self as *const u64, added, SeqCst) }
     }

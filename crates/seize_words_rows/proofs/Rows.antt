@@ -15,7 +15,8 @@ use Rattle.seize_words.specs.declared.book.link_keys.LinkKeys.{LinkKeys}
 use Rattle.seize_words.specs.declared.book.pass.Pass.{Pass}
 use Rattle.seize_words.specs.declared.book.token.Book.{Book}
 use Rattle.seize_words.specs.declared.link.Link.{Link}
-use Rattle.seize_words_rows.specs.Rows.{AreLeft, HasBegun}
+use Rattle.seize_words_rows.specs.Making.{AreLeft}
+use Rattle.seize_words_rows.specs.Rows.{HasBegun}
 use Rattle.seize_words_rows.specs.Exchanges.{IsLink}
 
 -- one of a book's links

@@ -19,12 +19,11 @@ use Rattle.seize_words.specs.Ledger.{Held, renewed}
 use Rattle.seize_words.specs.Others.{Follows, value_of}
 use Rattle.seize_words.specs.Passes.{IsSame}
 use Rattle.seize_words.specs.Private.{label_of}
-use Rattle.seize_words.specs.Reservations.{FoundBefore, MakesSlot, Shows, beginning, made_of, slot}
+use Rattle.seize_words.specs.Reservations.{FoundBefore, Shows, beginning, slot}
 use Rattle.seize_words.specs.Slots.{Notes, NotesAs, number_of, own_list, slot_of, start_of}
 use Rattle.seize_words.specs.Tokens.{Name, Noted, start}
 use Rattle.seize_words.specs.Values.{Nexts, Pushes, book_in, values_of}
 use Rattle.seize_words.specs.Words.{labels_of}
-use Rattle.seize_words.specs.declared.book.numbers_key.NumbersKey.{NumbersKey}
 use Rattle.seize_words.specs.declared.book.pass.Pass.{Pass}
 use Rattle.seize_words.specs.declared.book.slot_key.SlotKey.{SlotKey}
 use Rattle.seize_words.specs.declared.book.value_key.ValueKey.{ValueKey}
@@ -32,6 +31,8 @@ use Rattle.seize_words.specs.declared.book.value_keys.ValueKeys.{ValueKeys}
 use Rattle.seize_words.specs.declared.reservation.Head.{Head}
 use Rattle.seize_words.proofs.Facts.{after_used, planned_after, plans_used}
 use Rattle.seize_words_rows.specs.Attempts.{UsesBoth}
+use Rattle.seize_words_rows.specs.Making.{MakesOne, made_by}
+use Rattle.seize_words_rows.specs.declared.making.Maker.{Maker}
 use Rattle.seize_words_rows.specs.Stages.{Goes, IsAt, Knows, Leads, Sees, Stage, word_at}
 
 -- said of the pass's own book
@@ -146,10 +147,10 @@ found n head pass pass' e m v stage book number noted sees was =
 
 -- Slots are made.
 
-pub makes : (n : Name) (numbers numbers' : NumbersKey) (pass pass' : Pass) (key : SlotKey) (head : Head) (s : ℕ) (from to : Stage) → MakesSlot numbers pass numbers' pass' key head → made_of numbers ≡ s → Sees n pass from → Goes from (Take s) to Done
+pub makes : (n : Name) (maker maker' : Maker) (pass pass' : Pass) (key : SlotKey) (head : Head) (s : ℕ) (from to : Stage) → MakesOne maker pass key head maker' pass' → made_by maker ≡ s → Sees n pass from → Goes from (Take s) to Done
     → Leads n pass' key s to
-makes n numbers numbers' pass pass' key head s from to made number sees goes =
-    let now = passes n pass pass' (private pass (Take (made_of numbers))) from to Done made.same made.noted refl sees (subst (λ (k : ℕ). Goes from (Take k) to Done) (sym number) goes) in (
+makes n maker maker' pass pass' key head s from to made number sees goes =
+    let now = passes n pass pass' (private pass (Take (made_by maker))) from to Done made.same made.noted refl sees (subst (λ (k : ℕ). Goes from (Take k) to Done) (sym number) goes) in (
       now,
       record { book = made.book.0 ∙ sees.book; number = made.number.0 ∙ number; leads = subst (λ (log : List Entry). IsAt n log to) (sym made.own) now.leads },
     )

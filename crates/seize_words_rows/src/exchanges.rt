@@ -2,13 +2,13 @@
 //! one that it shares.
 ghost use Rattle.std.specs.Prelude.{◌≡◌, ◌<◌, ◌^◌};
 ghost use Rattle.seize_words.specs.LinkWords.{IsIn};
-ghost use Rattle.seize_words.specs.Reservations.{IsFull};
-ghost use Rattle.seize_words_rows.specs.Exchanges.{HasOneMore, IsLinkOf, MayShare, MaySwap, TakesPart};
+ghost use Rattle.seize_words_rows.specs.Exchanges.{IsLinkOf, MayShare, MaySwap};
+ghost use Rattle.seize_words_rows.specs.Making.{CanMake, HasOneMore, TakesPart};
 
+use crate::making::Maker;
 use seize_words::activation::Activation;
-use seize_words::book::{Book, NumbersKey, Pass};
+use seize_words::book::{Book, Pass};
 use seize_words::link::{Link, MaybeKey};
-use seize_words::reservation::Head;
 use std::thread;
 
 /// How many values each thread puts in.
@@ -27,20 +27,21 @@ pub struct Swapper {
 
 impl Swapper {
     /// Makes the next slot, which enters.
-    pub fn enter(book: &Book, numbers: &mut NumbersKey, link: &Link) -> Swapper
-        requires book { TakesPart book.now numbers.old × IsLinkOf link.now book.now }
-        requires full { IsFull numbers.old }
-        ensures may { MaySwap link.now result }
-        ensures numbers { HasOneMore numbers.old numbers.new }
+    pub fn enter(book: &Book, maker: Maker, link: &Link) -> (Swapper, Maker)
+        requires book { TakesPart book.now maker × IsLinkOf link.now book.now }
+        requires can { CanMake maker }
+        ensures may { MaySwap link.now result.0 }
+        ensures made { HasOneMore maker result.1 }
     {
         let mut pass = book.pass();
-        let (mut key, head) = Head::make(numbers, &mut pass);
+        let (mut key, head, maker) = maker.make(&mut pass);
         let activation = head.enter(&mut key, &mut pass);
-        Swapper {
+        let swapper = Swapper {
             activation,
             book: book.again(),
             pass,
-        }
+        };
+        (swapper, maker)
     }
 
     /// Swaps the values of the blocks from this one on into the link. It gives the sum of the words that it put in, less those that came

@@ -1,14 +1,15 @@
 //! A slot leaves: the call begins, the head is swapped out, and where nothing was waiting the call is over. What was waiting would still be
 //! to be walked.
 ghost use Rattle.std.specs.Prelude.{◌≡◌, true};
-ghost use Rattle.seize_words.specs.Reservations.{IsFull, IsLastOf, IsOfBook, IsOwn};
+ghost use Rattle.seize_words.specs.Reservations.{IsLastOf, IsOfBook, IsOwn};
 ghost use Rattle.seize_words.specs.Slots.{IsOf};
-ghost use Rattle.seize_words_rows.specs.Exchanges.{HasOneMore, TakesPart};
 ghost use Rattle.seize_words_rows.specs.Leaves.{GoesOut, IsInside, IsOutside};
+ghost use Rattle.seize_words_rows.specs.Making.{CanMake, HasOneMore, TakesPart};
 ghost use Rattle.seize_words_rows.specs.Visits.{MayVisit};
 
+use crate::making::Maker;
 use seize_words::activation::Activation;
-use seize_words::book::{Book, NumbersKey, Pass, SlotKey};
+use seize_words::book::{Book, Pass, SlotKey};
 use seize_words::reservation::Head;
 
 /// Begins to leave, and swaps the head out. It gives the head's word.
@@ -60,15 +61,15 @@ pub struct Visitor {
 
 impl Visitor {
     /// Makes the next slot.
-    pub fn make(book: &Book, numbers: &mut NumbersKey) -> Visitor
-        requires book { TakesPart book.now numbers.old }
-        requires full { IsFull numbers.old }
-        ensures may { MayVisit result × (result.pass.name ≡ book.now.name) }
-        ensures numbers { HasOneMore numbers.old numbers.new }
+    pub fn make(book: &Book, maker: Maker) -> (Visitor, Maker)
+        requires book { TakesPart book.now maker }
+        requires can { CanMake maker }
+        ensures may { MayVisit result.0 × (result.0.pass.name ≡ book.now.name) }
+        ensures made { HasOneMore maker result.1 }
     {
         let mut pass = book.pass();
-        let (key, head) = Head::make(numbers, &mut pass);
-        Visitor { key, head, pass }
+        let (key, head, maker) = maker.make(&mut pass);
+        (Visitor { key, head, pass }, maker)
     }
 
     /// Enters and leaves so often, unless something waits. It says how often nothing did.

@@ -7,6 +7,7 @@ pub mod attempts;
 pub mod calls;
 pub mod exchanges;
 pub mod leaving;
+pub mod making;
 pub mod row;
 #[cfg(test)]
 mod tests;

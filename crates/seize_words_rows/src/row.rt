@@ -4,23 +4,25 @@ ghost use Rattle.seize_words.specs.Passes.{IsSame};
 ghost use Rattle.seize_words.specs.Reservations.{IsOfBook, IsOwn};
 ghost use Rattle.seize_words.specs.Slots.{IsOf};
 ghost use Rattle.seize_words_rows.specs.Leaves.{IsOutside};
-ghost use Rattle.seize_words_rows.specs.Rows.{AreIn, AreLeft, AreOf, MayReadAll, OpensRow};
+ghost use Rattle.seize_words_rows.specs.Making.{AreLeft};
+ghost use Rattle.seize_words_rows.specs.Rows.{AreIn, AreOf, MayReadAll, OpensRow};
 ghost use Rattle.seize_words_rows.specs.Visits.{MayVisit};
 
 use crate::leaving::{Visitor, leave_head};
+use crate::making::{Maker, open};
 use seize_words::activation::Activation;
-use seize_words::book::{Book, LinkKeys, NumbersKey, Pass, SlotKey};
+use seize_words::book::{Book, LinkKeys, Pass, SlotKey};
 use seize_words::link::Link;
 use seize_words::reservation::Head;
 use std::alloc::{AllocError, Global};
 
 /// A new book with so many links, all of which are made.
-pub fn open_row(alloc: Global, many: usize) -> Result<(Book, NumbersKey, Vec<Link>), AllocError>
+pub fn open_row(alloc: Global, many: usize) -> Result<(Book, Maker, Vec<Link>), AllocError>
     ensures opens { IfOk result (λ made. OpensRow made.0 made.1 made.2.items many) }
 {
-    let (book, numbers, mut left) = Book::open(many, 32);
+    let (book, maker, mut left) = open(many);
     let row = make_row(alloc, &mut left, many)?;
-    Ok((book, numbers, row))
+    Ok((book, maker, row))
 }
 
 // Makes so many links, which are left.

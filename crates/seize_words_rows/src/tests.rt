@@ -4,18 +4,20 @@ ghost use Rattle.seize_words_rows.specs.Visits.{MayVisit};
 
 use crate::exchanges::{EACH, Swapper, read_many, share_many};
 use crate::leaving::{Visitor, leave_head};
+use crate::making::open;
 use crate::row::{open_row, read_row, visit_many};
 use crate::walking::block_at;
 use crate::worked_run;
 use seize_words::activation::Activation;
 use seize_words::batch::Count;
 use seize_words::book::{
-    BlockKeys, Book, CountKey, FieldKey, Keys, LinkKeys, NumbersKey, Pass, SlotKey, ValueKey,
-    ValueKeys,
+    BlockKeys, Book, BookKeys, CountKey, FieldKey, HeadKey, Keys, LinkKeys, NumbersKey, Pass,
+    SlotKey, SlotKeys, TotalKey, ValueKey, ValueKeys,
 };
 use seize_words::header::Field;
 use seize_words::link::{Link, MaybeKey};
 use seize_words::reservation::Head;
+use seize_words::total::Total;
 use std::mem::size_of;
 use std::sync::Wait;
 use std::test::*;
@@ -25,14 +27,14 @@ use std::thread::Threads;
 // Two passes meet, go to threads, come back and meet again.
 #[test]
 fn passes_go_to_threads_and_meet(rt: HostRuntime) {
-    let (book, numbers, links) = Book::open(2, 32);
+    let (book, maker, links) = open(2);
     let copy = book.again();
     let (mut one, mut two) = (book.pass(), copy.pass());
     one.meet(&mut two);
     let (one, two) = thread::join(&rt, move || one, move || two);
     let (mut one, mut two) = (one, two);
     two.meet(&mut one);
-    drop((numbers, links, one, two));
+    drop((maker, links, one, two));
 }
 
 #[test]
@@ -49,6 +51,10 @@ fn tokens_have_no_bytes(rt: HostRuntime) {
             + size_of::<CountKey>()
             + size_of::<FieldKey>()
             + size_of::<NumbersKey>()
+            + size_of::<TotalKey>()
+            + size_of::<HeadKey>()
+            + size_of::<SlotKeys>()
+            + size_of::<BookKeys>()
             + size_of::<LinkKeys>()
             + size_of::<MaybeKey>()
             + size_of::<Activation>(),
@@ -56,61 +62,62 @@ fn tokens_have_no_bytes(rt: HostRuntime) {
     );
 }
 
-// A head, a link, a count and a field are one word each.
+// A head, a link, a count, a field and the total are one word each.
 #[test]
 fn words_have_eight_bytes(rt: HostRuntime) {
     assert_eq!(rt; size_of::<Head>(), 8);
     assert_eq!(rt; size_of::<Link>(), 8);
     assert_eq!(rt; size_of::<Count>(), 8);
     assert_eq!(rt; size_of::<Field>(), 8);
+    assert_eq!(rt; size_of::<Total>(), 8);
 }
 
 // One slot enters and reads a link, which is empty.
 #[test]
 fn an_empty_link_is_read(rt: HostRuntime) {
-    let (book, mut numbers, mut links) = Book::open(1, 32);
+    let (book, maker, mut links) = open(1);
     let mut pass = book.pass();
     let link = Link::next(&mut links);
-    let (mut key, head) = Head::make(&mut numbers, &mut pass);
+    let (mut key, head, maker) = maker.make(&mut pass);
     let activation = head.enter(&mut key, &mut pass);
     assert_eq!(rt; link.read(&activation, &mut pass), 0);
-    drop((links, numbers, key));
+    drop((links, maker, key));
 }
 
 // A slot leaves; its head's word says that it was active, and that nothing waited.
 #[test]
 fn a_head_comes_out_with_nothing_waiting(rt: HostRuntime) {
-    let (book, mut numbers, links) = Book::open(0, 32);
+    let (book, maker, links) = open(0);
     let mut pass = book.pass();
-    let (mut key, head) = Head::make(&mut numbers, &mut pass);
+    let (mut key, head, maker) = maker.make(&mut pass);
     let activation = head.enter(&mut key, &mut pass);
     assert_eq!(rt; leave_head(&head, activation, &mut key, &mut pass), 1);
-    drop((links, numbers, key));
+    drop((links, maker, key));
 }
 
 // A value that is put into a link comes out of it, with its key.
 #[test]
 fn a_swapped_value_comes_out(rt: HostRuntime) {
-    let (book, mut numbers, mut links) = Book::open(1, 32);
+    let (book, maker, mut links) = open(1);
     let mut pass = book.pass();
     let link = Link::next(&mut links);
-    let (mut key, head) = Head::make(&mut numbers, &mut pass);
+    let (mut key, head, maker) = maker.make(&mut pass);
     let activation = head.enter(&mut key, &mut pass);
     let mut value = MaybeKey::some(book.block(5).value);
     assert_eq!(rt; link.swap(6, &mut value, &activation, &mut pass), 0);
     let mut none = MaybeKey::none(&mut pass);
     assert_eq!(rt; link.swap(0, &mut none, &activation, &mut pass), 6);
-    drop((links, numbers, key, value, none));
+    drop((links, maker, key, value, none));
 }
 
 // Two threads swap values of their own into one link: each comes out once, or is there in the end.
 #[test]
 fn swaps_lose_and_invent_no_value(rt: HostRuntime) {
-    let (book, mut numbers, mut links) = Book::open(1, 32);
+    let (book, maker, mut links) = open(1);
     let link = Link::next(&mut links);
-    let one = Swapper::enter(&book, &mut numbers, &link);
-    let two = Swapper::enter(&book, &mut numbers, &link);
-    let mut last = Swapper::enter(&book, &mut numbers, &link);
+    let (one, maker) = Swapper::enter(&book, maker, &link);
+    let (two, maker) = Swapper::enter(&book, maker, &link);
+    let (mut last, maker) = Swapper::enter(&book, maker, &link);
     let shared = &link;
     let (left_1, left_2) = thread::join(
         &rt,
@@ -124,7 +131,7 @@ fn swaps_lose_and_invent_no_value(rt: HostRuntime) {
     let mut none = MaybeKey::none(&mut last.pass);
     let word = link.swap(0, &mut none, &last.activation, &mut last.pass);
     assert_eq!(rt; left_1.wrapping_add(left_2), word);
-    drop((links, numbers, last, none));
+    drop((links, maker, last, none));
 }
 
 // Two of them swap, and two exchange with what they read just before.
@@ -175,18 +182,18 @@ fn four<R: Threads + Wait + Sync>(
 
 #[test]
 fn four_threads_lose_and_invent_no_value(rt: HostRuntime) {
-    let (book, mut numbers, mut links) = Book::open(1, 32);
+    let (book, maker, mut links) = open(1);
     let link = Link::next(&mut links);
-    let a = Swapper::enter(&book, &mut numbers, &link);
-    let b = Swapper::enter(&book, &mut numbers, &link);
-    let c = Swapper::enter(&book, &mut numbers, &link);
-    let d = Swapper::enter(&book, &mut numbers, &link);
-    let mut last = Swapper::enter(&book, &mut numbers, &link);
+    let (a, maker) = Swapper::enter(&book, maker, &link);
+    let (b, maker) = Swapper::enter(&book, maker, &link);
+    let (c, maker) = Swapper::enter(&book, maker, &link);
+    let (d, maker) = Swapper::enter(&book, maker, &link);
+    let (mut last, maker) = Swapper::enter(&book, maker, &link);
     let left = four(&rt, &link, (a, b), (c, d));
     let mut none = MaybeKey::none(&mut last.pass);
     let word = link.swap(0, &mut none, &last.activation, &mut last.pass);
     assert_eq!(rt; left, word);
-    drop((links, numbers, last, none));
+    drop((links, maker, last, none));
 }
 
 #[test]
@@ -204,11 +211,11 @@ fn a_last_insertion_is_added(rt: HostRuntime) {
 // Each of the links of a row is read, with an activation that is shared and by a slot that enters and leaves.
 #[test]
 fn a_row_is_read_whole(rt: HostRuntime) {
-    let Ok((mut book, mut numbers, row)) = open_row(rt.alloc(), 3) else {
+    let Ok((mut book, maker, row)) = open_row(rt.alloc(), 3) else {
         panic!(rt; "no memory");
     };
-    let mut one = Swapper::enter(&book, &mut numbers, &row[0]);
-    let visitor = Visitor::make(&book, &mut numbers);
+    let (mut one, maker) = Swapper::enter(&book, maker, &row[0]);
+    let (visitor, maker) = Visitor::make(&book, maker);
     book.learn(&mut one.pass);
     share_many(&book, &row[0], &one.activation, 6, 1);
     share_many(&book, &row[1], &one.activation, 69, 1);
@@ -216,16 +223,16 @@ fn a_row_is_read_whole(rt: HostRuntime) {
     let sum = read_row(&book, row.as_slice(), &one.activation, 2);
     assert_eq!(rt; (row.len(), sum), (3, 2 * 777));
     assert_eq!(rt; visit_many(visitor, row.as_slice(), 5), Some(5 * 777));
-    drop((numbers, one));
+    drop((maker, one));
 }
 
 // Two threads share one slot's activation by `&`, of which the book has learned: one swaps, and the other reads meanwhile. What it finds
 // adds up to no less and no more than so many of the values that were put in.
 #[test]
 fn threads_share_one_activation(rt: HostRuntime) {
-    let (mut book, mut numbers, mut links) = Book::open(1, 32);
+    let (mut book, maker, mut links) = open(1);
     let link = Link::next(&mut links);
-    let mut one = Swapper::enter(&book, &mut numbers, &link);
+    let (mut one, maker) = Swapper::enter(&book, maker, &link);
     book.learn(&mut one.pass);
     let mut value = MaybeKey::some(book.block(999_999).value);
     link.swap(1_000_000, &mut value, &one.activation, &mut one.pass);
@@ -243,16 +250,16 @@ fn threads_share_one_activation(rt: HostRuntime) {
     let word = link.swap(0, &mut none, &one.activation, &mut one.pass);
     assert_eq!(rt; left.wrapping_add(1_000_000), word);
     assert!(rt; sum >= EACH * 1_000_000 && sum <= EACH * 1_020_000);
-    drop((links, numbers, one, value, none));
+    drop((links, maker, one, value, none));
 }
 
 // Each of two threads swaps a value into one link and then waits for that of the other: it holds only where both run.
 #[test]
 fn each_thread_sees_what_the_other_put_in(rt: HostRuntime) {
-    let (book, mut numbers, mut links) = Book::open(2, 32);
+    let (book, maker, mut links) = open(2);
     let (first, second) = (Link::next(&mut links), Link::next(&mut links));
-    let one = Swapper::enter(&book, &mut numbers, &first);
-    let two = Swapper::enter(&book, &mut numbers, &second);
+    let (one, maker) = Swapper::enter(&book, maker, &first);
+    let (two, maker) = Swapper::enter(&book, maker, &second);
     let (first, second) = (&first, &second);
     let (saw_1, saw_2) = thread::join(
         &rt,
@@ -264,7 +271,7 @@ fn each_thread_sees_what_the_other_put_in(rt: HostRuntime) {
         { two.swap_and_wait(second, first, 2) },
     );
     assert!(rt; saw_1 && saw_2);
-    drop((links, numbers));
+    drop((links, maker));
 }
 
 // One slot reads while another retires a value: the batch goes into the reader's list, which leads to its block and ends there, is counted
@@ -291,9 +298,9 @@ fn a_batch_is_counted_down_and_up(rt: HostRuntime) {
 // Slots enter and leave side by side, each by steps on its own head, and nothing ever waits for one.
 #[test]
 fn two_slots_enter_and_leave(rt: HostRuntime) {
-    let (book, mut numbers, links) = Book::open(0, 32);
-    let one = Visitor::make(&book, &mut numbers);
-    let two = Visitor::make(&book, &mut numbers);
+    let (book, maker, links) = open(0);
+    let (one, maker) = Visitor::make(&book, maker);
+    let (two, maker) = Visitor::make(&book, maker);
     let turns = thread::join(
         &rt,
         move || -> u64
@@ -304,7 +311,7 @@ fn two_slots_enter_and_leave(rt: HostRuntime) {
         { two.visit(20_000) },
     );
     assert_eq!(rt; turns, (20_000, 20_000));
-    drop((links, numbers));
+    drop((links, maker));
 }
 
 fn four_visits<R: Threads + Wait + Sync>(
@@ -349,13 +356,13 @@ fn four_visits<R: Threads + Wait + Sync>(
 
 #[test]
 fn four_slots_enter_and_leave(rt: HostRuntime) {
-    let (book, mut numbers, links) = Book::open(0, 32);
-    let a = Visitor::make(&book, &mut numbers);
-    let b = Visitor::make(&book, &mut numbers);
-    let c = Visitor::make(&book, &mut numbers);
-    let d = Visitor::make(&book, &mut numbers);
+    let (book, maker, links) = open(0);
+    let (a, maker) = Visitor::make(&book, maker);
+    let (b, maker) = Visitor::make(&book, maker);
+    let (c, maker) = Visitor::make(&book, maker);
+    let (d, maker) = Visitor::make(&book, maker);
     let (first, last) = four_visits(&rt, a, b, c, d);
     assert_eq!(rt; (first.0, first.1), (20_000, 20_000));
     assert_eq!(rt; (last.0, last.1), (20_000, 20_000));
-    drop((links, numbers));
+    drop((links, maker));
 }

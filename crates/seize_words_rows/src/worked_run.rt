@@ -7,17 +7,19 @@
 //! found.
 ghost use Rattle.std.specs.Prelude.{◌≡◌, true, false, Some};
 ghost use Rattle.seize_words.specs.Slots.{written_of};
-ghost use Rattle.seize_words.specs.Reservations.{IsFull, IsLastOf, made_of};
+ghost use Rattle.seize_words.specs.Reservations.{IsLastOf};
+ghost use Rattle.seize_words_rows.specs.Making.{CanMake, made_by, name_by};
 ghost use Rattle.seize_words_rows.specs.Runs.{AreHeads, IsLaid, IsNewBlock, StandsAt, book_in, book_of, value_in};
 ghost use Rattle.seize_words_rows.specs.Runs.{entered, one_made, opened, put, two_made};
 ghost use Rattle.seize_words_rows.specs.Runs.{counted_up, inserted, left, looked, marked, over, reader_over};
 ghost use Rattle.seize_words_rows.specs.Stages.{Knows, Leads, Sees};
 
 use crate::attempts::{Attempt, insert_last, prepare};
+use crate::making::Maker;
 use crate::walking::look_on;
 use seize_words::activation::Activation;
 use seize_words::batch::Count;
-use seize_words::book::{BlockKeys, Book, NumbersKey, Pass, SlotKey, ValueKeys};
+use seize_words::book::{BlockKeys, Book, BookKeys, Pass, SlotKey, ValueKeys};
 use seize_words::header::Field;
 use seize_words::reservation::Head;
 
@@ -48,14 +50,14 @@ pub struct Words {
 }
 
 // Makes the slot that reads, and the one that retires.
-fn make_slots(numbers: &mut NumbersKey, pass: &mut Pass) -> (SlotKey, SlotKey, Heads)
-    requires empty { Sees pass.old.name pass.old opened × (numbers.old.keys.name ≡ pass.old.name) }
-    requires full { IsFull numbers.old × (made_of numbers.old ≡ 0) }
+fn make_slots(maker: Maker, pass: &mut Pass) -> (SlotKey, SlotKey, Heads)
+    requires empty { Sees pass.old.name pass.old opened × (name_by maker ≡ pass.old.name) }
+    requires can { CanMake maker × (made_by maker ≡ 0) }
     ensures heads { AreHeads result.2 × (book_in result.2 ≡ pass.old.name) }
     ensures made { Knows pass.old.name result.0 0 one_made × Leads pass.old.name pass.new result.1 1 two_made }
 {
-    let (reader, reader_head) = Head::make(numbers, pass);
-    let (retirer, retirer_head) = Head::make(numbers, pass);
+    let (reader, reader_head, maker) = maker.make(pass);
+    let (retirer, retirer_head, _) = maker.make(pass);
     let heads = Heads {
         reader: reader_head,
         retirer: retirer_head,
@@ -86,8 +88,15 @@ pub fn begin() -> (SlotKey, SlotKey, Words, Pass)
     ensures words { AreHeads result.2.heads × IsNewBlock (book_of result.2) result.2.block }
     ensures made { Knows (book_of result.2) result.0 0 one_made × Leads (book_of result.2) result.3 result.1 1 two_made }
 {
-    let (book, mut pass, mut numbers, _) = Book::open_alone(0, 1);
-    let (reader, retirer, heads) = make_slots(&mut numbers, &mut pass);
+    let (book, mut pass, keys) = Book::open_alone(0, 1);
+    let BookKeys {
+        numbers,
+        total,
+        next,
+        links: _,
+    } = keys;
+    let maker = Maker::new(total, numbers, next);
+    let (reader, retirer, heads) = make_slots(maker, &mut pass);
     let block = make_block(&book);
     (reader, retirer, Words { heads, block }, pass)
 }

@@ -7,11 +7,10 @@ ghost use Rattle.seize_words.specs.Entry.{Entry, entry_coded};
 ghost use Rattle.seize_words.specs.Tokens.{Name, many, name_coded};
 
 use crate::book::block_keys::BlockKeys;
+use crate::book::book_keys::BookKeys;
 use crate::book::count_key::CountKey;
 use crate::book::field_key::FieldKey;
 use crate::book::keys::Keys;
-use crate::book::link_keys::LinkKeys;
-use crate::book::numbers_key::NumbersKey;
 use crate::book::pass::Pass;
 use crate::book::value_key::ValueKey;
 use std::marker::{Model, PhantomData};
@@ -36,33 +35,24 @@ impl Book {
     ghost use Rattle.seize_words.specs.Books.{AreOf, Begins, IsAlone, IsCountFor, IsFieldFor, IsFirstIn, IsMany, IsNew, IsNewBlock, Opens, OpensAlone};
     ghost use Rattle.seize_words.specs.Chains.{first_field, next_field};
 
-    /// A new book, of which any number of passes may be made, the key of its numbers, and those of its links. It has no slot yet, and its
-    /// links are empty. A slot attempts its batch when that has `size` values, at least one.
-    pub fn open(links: usize, size: usize) -> (Book, NumbersKey, LinkKeys)
-        ensures { Opens result.0 result.1 result.2 links size }
+    /// A new book, of which any number of passes may be made, and its keys. It has no slot yet, and its links are empty. A slot attempts its
+    /// batch when that has `size` values, at least one.
+    pub fn open(links: usize, size: usize) -> (Book, BookKeys)
+        ensures { Opens result.0 result.1 links size }
     {
-        let (book, mut numbers) = Book::open_keys(links, size);
-        let mut rest = numbers.none();
-        numbers.part(&mut rest);
-        (book, NumbersKey { keys: numbers }, LinkKeys { keys: rest })
+        let (book, keys) = Book::open_keys(links, size);
+        (book, BookKeys::apart(keys))
     }
 
     /// A new book as `open` makes one, but that its one pass is alone: only who has it appends, and it has seen all there is.
-    pub fn open_alone(links: usize, size: usize) -> (Book, Pass, NumbersKey, LinkKeys)
-        ensures { OpensAlone result.0 result.1 result.2 result.3 links size }
+    pub fn open_alone(links: usize, size: usize) -> (Book, Pass, BookKeys)
+        ensures { OpensAlone result.0 result.1 result.2 links size }
     {
-        let (book, pass, mut numbers) = Book::open_sole(links, size);
-        let mut rest = numbers.none();
-        numbers.part(&mut rest);
-        (
-            book,
-            pass,
-            NumbersKey { keys: numbers },
-            LinkKeys { keys: rest },
-        )
+        let (book, pass, keys) = Book::open_sole(links, size);
+        (book, pass, BookKeys::apart(keys))
     }
 
-    // A new book with all its keys: that of the numbers and those of the links, in this order.
+    // A new book with all its keys, in the order of `first_keys`.
     fn open_keys(links: usize, size: usize) -> (Book, Keys)
         ensures { IsMany result.0 × Begins result.0 result.1 links size }
     {

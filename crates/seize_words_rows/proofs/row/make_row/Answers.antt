@@ -3,7 +3,8 @@ use Rattle.std.proofs.lemmas.List.{length_push}
 use Rattle.std.proofs.lemmas.List.Elements.{All-push}
 use Rattle.seize_words.specs.declared.book.link_keys.LinkKeys.{LinkKeys}
 use Rattle.seize_words.specs.declared.link.Link.{Link}
-use Rattle.seize_words_rows.specs.Rows.{AreLeft, AreOf}
+use Rattle.seize_words_rows.specs.Making.{AreLeft}
+use Rattle.seize_words_rows.specs.Rows.{AreOf}
 use Rattle.seize_words_rows.specs.Exchanges.{IsLink}
 use Rattle.seize_words_rows.proofs.Rows.{are_left, has_next, is_link}
 use Rattle.seize_words_rows.proofs.row.make_row.Goals as goal

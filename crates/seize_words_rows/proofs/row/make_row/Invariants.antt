@@ -1,5 +1,6 @@
 use Rattle.std.proofs.Common.{◌≡◌, ℕ, ◌+◌, length}
-use Rattle.seize_words_rows.specs.Rows.{AreLeft, AreOf}
+use Rattle.seize_words_rows.specs.Making.{AreLeft}
+use Rattle.seize_words_rows.specs.Rows.{AreOf}
 use Rattle.seize_words_rows.proofs.row.make_row.Given as goal
 
 abbrev pub invariant-loop : goal.invariant-loop

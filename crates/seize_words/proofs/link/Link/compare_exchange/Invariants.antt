@@ -1,4 +1,4 @@
-use Rattle.std.specs.Prelude.{◌==◌}
+use Rattle.std.specs.Prelude.{◌==◌, []}
 use Rattle.seize_machine.specs.Machine.State.{link_at}
 use Rattle.seize_machine.specs.Machine.Event.{ExchangeLink}
 use Rattle.seize_machine.specs.declared.machine.event.Exchange.TheVariants.{Compare}
@@ -12,4 +12,5 @@ abbrev pub ghosts-exchange_in : goal.ghosts-exchange_in
 ghosts-exchange_in a = record {
   entry = entries a.pass.now 0 (λ v log. ExchangeLink a.activation.now.slot a.self.now.number (Compare (compared a.seen (link_at (after (start a.pass.now.name) log) a.self.now.number)) (value_in a.keys.now.held)));
   trades = λ v. v == a.seen;
+  births = [];
 }

@@ -5,7 +5,7 @@ use mir.MapTy.{inst_fn}
 use base.Fraction.{full_share}
 use denote.Param.{bounded}
 use Rattle.seize_words.specs.Entry.{Entry}
-use Rattle.seize_words.specs.Atomic.{MayTake, plus}
+use Rattle.seize_words.specs.Atomic.{MayTakeWith, plus}
 use Rattle.seize_words.specs.Tokens.{Name, inside, knows, keys_own, pass_owns, pass_holds}
 use Rattle.seize_words.specs.contracts.book.keys.Keys as Keys
 use Rattle.seize_words.specs.contracts.book.pass.Pass as Pass
@@ -29,7 +29,7 @@ add_spec 𝓤 𝓛 𝓜 𝓡 wired P LP g d _ =
     let n : Name = site.name in let f : ℕ → ℕ = plus added in
     let y : (walk_of 𝓛 En hs c).Ghost = ((κs, qs, bounds, a, (vptr b o ∷ [], (vint w64 added ∷ [], (vptr kb ko ∷ [], (vptr pb po ∷ [], tt))))), gh) in let Post : Val → SProp 𝓤 = (walk_of 𝓛 En hs c).post y in
     let toks : Fml = fsep (flft κs.0 qs.0) (fsep (flft κs.1.0 qs.1.0) (fsep (flft κs.1.1.0 qs.1.1.0) (fsep (flft κs.1.1.1.0 qs.1.1.1.0) ftrue))) in
-    let Asked : Type 0 = MayTake site keys pass [] [] f g.entry g.trades in
+    let Asked : Type 0 = MayTakeWith g.births site keys pass [] [] f g.entry g.trades in
     qed 𝓛 ((‵ toks ⊛ ‵ (owns (types_at En.signature.params κs) a y.0.4)) ∷ raw (fact 𝓤 _) ∷ raw (fact 𝓤 Asked) ∷ []) ∵ keep ! (2 ∷ 0 ∷ []) $ heard ! Asked (λ asked. split ! $
     fsplit ! $ move ! (1 ∷ []) $ fsplit ! $ move ! (1 ∷ []) $ fsplit ! $ move ! (4 ∷ []) $ fsplit ! $ fsplit ! $ move ! (2 ∷ []) $ fsplit ! $ move ! (1 ∷ []) $ fsplit ! $ fsplit3 ! $ move ! (3 ∷ []) $ fsplit ! $ fsplit3 ! $
     -- [the pass, in two; the keys, in two; the word; the tokens of the three, last first; the other tokens]
@@ -42,11 +42,11 @@ add_spec 𝓤 𝓛 𝓜 𝓡 wired P LP g d _ =
     move ! (9 ∷ 10 ∷ 11 ∷ []) $ opens ! tt Pass.the_row pb po (λ vs1. move ! (1 ∷ []) $ fsplit ! $ move ! (1 ∷ []) $ rewrite ! 0 (λ (z : Name). ‵ (pass_owns z pass.id pass.seen)) (sym asked.0) refl $
     use1 𝓛 (given (IsDistinct 𝓛 n) (‵ (knows n) ⊛ ‵ (fnamed n.number (inside n)) ⊛ ‵ (pass_holds n pass.id pass.seen))) (opened 𝓛 site pass.id pass.seen) $ learn ! (λ distinct. split3 ! $
     -- [the book; its invariant; the pass's; the pass; its cell, in four entries; the keys'; the keys; their cell; the token; the way back; the word's invariant; the other tokens]
-    let entry : ℕ → List Entry → Entry = g.entry in let after : ℕ → Fml = after_step 𝓛 site pass.id pass.seen keys.held [] [] full_share f entry g.trades in let out : ℕ → Fml = λ v. fsep (flft ν s) (after v) in
+    let entry : ℕ → List Entry → Entry = g.entry in let after : ℕ → Fml = after_step 𝓛 site g.births pass.id pass.seen keys.held [] [] full_share f entry g.trades in let out : ℕ → Fml = λ v. fsep (flft ν s) (after v) in
     first ! $ blocks ! $ sets ! (addr ! (through ! refl (stop !))) refl (tt, tt) $ sets ! (of_opd ! (get ! refl)) refl (tt, tt) $
     nothing ! $ nothing ! $ join ! $ move ! (9 ∷ 0 ∷ []) $ join ! $ move ! (3 ∷ 0 ∷ []) $ join ! $ move ! (13 ∷ 0 ∷ []) $ join ! $ move ! (14 ∷ 2 ∷ 0 ∷ []) $
     use3 𝓛 (raw (𝓣.C _ (vptr b o ∷ vint w64 added ∷ seq_cst ∷ []) (λ u. mean 𝓛 (found out u))))
-    (via 𝓤 _ (steps 𝓛 site pass.id pass.seen keys.held [] [] full_share f entry g.trades b o t.1 ν s apart distinct asked.2) (adds 𝓛 𝓜 𝓡 (code.calls-core::raw_atomic::fetch_add 𝓡.env wired) (block_ptr b o) added are.1.0.1 out)) $
+    (via 𝓤 _ (steps 𝓛 site g.births pass.id pass.seen keys.held [] [] full_share f entry g.trades b o t.1 ν s apart distinct asked.2) (adds 𝓛 𝓜 𝓡 (code.calls-core::raw_atomic::fetch_add 𝓡.env wired) (block_ptr b o) added are.1.0.1 out)) $
     sets ! (agg ! (and_then ! (lit ! tt) (no_more !))) refl (tt, (record { fits = lit< tt }, tt)) $
     Calls-last ! (fm 𝓛 𝓜 𝓡) (found out) (and_then ! (get ! refl) (and_then ! (get ! refl) (and_then ! (get ! refl) (no_more !)))) (λ u. finds ! out (λ v fits. lands_last ! refl (tt, record { fits = fits }) $ exec ! 𝓣.C 𝓣.Λ Ev (tail fn.body) (at_ret Ev Post) $ sets ! (of_opd ! (get ! refl)) refl (tt, record { fits = fits }) $
     fsplit ! $ move ! (0 ∷ 13 ∷ []) $ use2 𝓛 (later (‵ (flft κs.0 qs.0))) (apply∗ 𝓤 (𝓛.A.lft ν s) (H.⇛ (𝓛.A.lft κs.0 qs.0))) $ await ! tt $ move ! (1 ∷ []) $ fpick ! (λ x. fsplit ! $ fpick ! (λ so. drop ! $ fsplit ! $ move ! (1 ∷ []) $ fsplit ! $ move ! (1 ∷ []) $ drop ! $ move ! (1 ∷ 0 ∷ []) $

@@ -1,0 +1,80 @@
+-- How slots are made, one after the other.
+--     AreUnused total numbers next     the keys are those with which one book began
+--     made_by maker, name_by maker     how many slots there are, as it knows;  its book
+--     TakesPart book maker             it is of the book, to which many may append
+--     HasOneMore maker maker'          one more slot was made, and where there is one more number, so can the slot after it
+--     AreLeft left first many          of a book's links, which were empty when it began, those from this one on are to be made, so many
+--     OpensWith book maker left many   the book has no slot, and so many links
+--     CanMake maker                    all is there that the next slot is made with, and it has a number
+--     MakesOne maker pass key head maker' pass'     the next slot was made, with this key and this head; where there is one more number,
+--                                      so can the slot after it
+use Rattle.std.specs.Prelude.{◌≡◌, ℕ, suc, ◌+◌, ◌<◌, ◌≤◌, true, false, [], replicate, None}
+use Rattle.seize_table.specs.Place.{all_numbers}
+use Rattle.seize_machine.specs.Machine.Event.{Take}
+use Rattle.seize_machine.specs.Machine.State.{Inactive}
+use Rattle.seize_words.specs.Adding.{private}
+use Rattle.seize_words.specs.Begin.{first_links}
+use Rattle.seize_words.specs.Entry.{Made}
+use Rattle.seize_words.specs.Passes.{IsSame}
+use Rattle.seize_words.specs.Private.{key_of, own_of}
+use Rattle.seize_words.specs.Reservations.{head_known, slot}
+use Rattle.seize_words.specs.Slots.{active_of, number_of, own_list, slot_of}
+use Rattle.seize_words.specs.Tokens.{Name, Noted, many}
+use Rattle.seize_words.specs.Totals.{IsFull, made_of}
+use Rattle.seize_words.specs.declared.book.link_keys.LinkKeys.{LinkKeys}
+use Rattle.seize_words.specs.declared.book.numbers_key.NumbersKey.{NumbersKey}
+use Rattle.seize_words.specs.declared.book.pass.Pass.{Pass}
+use Rattle.seize_words.specs.declared.book.slot_key.SlotKey.{SlotKey}
+use Rattle.seize_words.specs.declared.book.slot_keys.SlotKeys.{SlotKeys}
+use Rattle.seize_words.specs.declared.book.token.Book.{Book}
+use Rattle.seize_words.specs.declared.book.total_key.TotalKey.{TotalKey}
+use Rattle.seize_words.specs.declared.reservation.Head.{Head}
+use Rattle.seize_words_rows.specs.declared.making.Maker.{Maker}
+
+abbrev pub AreUnused : TotalKey → NumbersKey → SlotKeys → Type 0
+AreUnused total numbers next =
+    (own_of numbers.keys.held ≡ []) × (numbers.keys.name.slots ≡ 0)
+    × ((total.keys.name ≡ numbers.keys.name) × (own_of total.keys.held ≡ []))
+    × ((next.slot.keys.name ≡ numbers.keys.name) × (number_of next.slot ≡ 0))
+    × ((next.head.keys.name ≡ numbers.keys.name) × (own_of next.head.keys.held ≡ []) × (key_of next.head.keys.held ≡ 0))
+
+abbrev pub made_by : Maker → ℕ
+made_by maker = made_of maker.numbers
+
+abbrev pub name_by : Maker → Name
+name_by maker = maker.numbers.keys.name
+
+pub record CanMake (maker : Maker) : Type 0 where
+  pub full : IsFull maker.numbers
+  pub total : maker.total.word.name ≡ name_by maker
+  pub slot : (maker.next.slot.keys.name ≡ name_by maker) × (number_of maker.next.slot ≡ made_by maker)
+  pub head : (maker.next.head.keys.name ≡ name_by maker) × (key_of maker.next.head.keys.held ≡ made_by maker)
+  pub inactive : head_known maker.next.head ≡ Inactive
+
+pub record MakesOne (maker : Maker) (pass : Pass) (key : SlotKey) (head : Head) (maker' : Maker) (pass' : Pass) : Type 0 where
+  pub same : IsSame pass pass'
+  pub noted : Noted pass.name pass.id pass.seen pass'.seen (Made (private pass (Take (made_by maker))))
+  pub book : (key.keys.name ≡ pass.name) × (head.word.name ≡ pass.name)
+  pub number : (number_of key ≡ made_by maker) × (slot head ≡ made_by maker)
+  pub own : own_list key ≡ pass'.seen
+  pub idle : slot_of key ≡ record { used = true; batch = []; call = None }
+  pub inactive : active_of key ≡ false
+  pub next : (made_by maker' ≡ suc (made_by maker)) × (name_by maker' ≡ name_by maker)
+  pub goes_on : made_by maker' < all_numbers → CanMake maker'
+
+abbrev pub TakesPart : Book → Maker → Type 0
+TakesPart book maker = (name_by maker ≡ book.name) × (book.name.gate ≡ many)
+
+abbrev pub HasOneMore : Maker → Maker → Type 0
+HasOneMore maker maker' =
+    (name_by maker' ≡ name_by maker) × (made_by maker' ≡ suc (made_by maker)) × (made_by maker' < all_numbers → CanMake maker')
+
+pub record AreLeft (left : LinkKeys) (first count : ℕ) : Type 0 where
+  pub keys : left.keys.held ≡ first_links first count
+  pub all : ℕ
+  pub empty : left.keys.name.links ≡ replicate all None
+  pub within : first + count ≤ all
+
+abbrev pub OpensWith : Book → Maker → LinkKeys → ℕ → Type 0
+OpensWith book maker left count =
+    TakesPart book maker × CanMake maker × (made_by maker ≡ 0) × (left.keys.name ≡ book.name) × AreLeft left 0 count
