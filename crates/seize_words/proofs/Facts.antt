@@ -3,10 +3,9 @@ use Rattle.std.proofs.Common.{◌≡◌, ℕ, ◌<◌, Bool, false, if◌then◌
 use Rattle.std.specs.Prelude.{slice_index_or}
 use base.Growing.{prefix_trans}
 use mathlib.Core.List.{IsPrefix}
-use Rattle.seize_machine.specs.Machine.State.{State, Rest, are_distinct, linked, slot_at}
+use Rattle.seize_machine.specs.Machine.State.{State, are_distinct, linked, slot_at}
 use Rattle.seize_machine.specs.Machine.Event.{Event}
 use Rattle.seize_machine.specs.Machine.History.{IsReached, first_of}
-use Rattle.seize_machine.specs.Machine.Laws.{walk_of}
 use Rattle.seize_machine.specs.Machine.Next.{next}
 use Rattle.seize_machine.specs.declared.machine.event.Answer.{Answer}
 use Rattle.seize_machine.proofs.Facts.{some_is}
@@ -15,17 +14,16 @@ use Rattle.seize_words.specs.Blocks.{Plan, block_for, block_in, block_of, front_
 use Rattle.seize_words.specs.Book.{IsLegalList, after, mine}
 use Rattle.seize_words.specs.Chains.{front_block, served}
 use Rattle.seize_words.specs.Entry.{Deed, Entry, Made, Used}
-use Rattle.seize_words.specs.Headers.{Passes, Stores, Uses, using}
+use Rattle.seize_words.specs.Headers.{Stores, Uses, using}
 use Rattle.seize_words.specs.Heads.{IsTrying}
-use Rattle.seize_words.specs.Homes.{home_of}
+use Rattle.seize_words.specs.Homes.{IsSound, home_of}
 use Rattle.seize_words.specs.Laws.{life, starts}
 use Rattle.seize_words.specs.LinkWords.{IsIn, Takes, number}
 use Rattle.seize_words.specs.Links.{IsWithin}
-use Rattle.seize_words.specs.Passes.{IsSame, events_by, events_in, mine_of}
+use Rattle.seize_words.specs.Passes.{IsSame, LooksOn, events_by, events_in, mine_of}
 use Rattle.seize_words.specs.Slots.{Moves, NotesAs, life_of, number_of, own_list, size_of, slot_of, start_of}
-use Rattle.seize_words.specs.Tokens.{Name, Noted, start}
+use Rattle.seize_words.specs.Tokens.{IsSole, Name, Noted, start}
 use Rattle.seize_words.proofs.Fronts.{front_there}
-use Rattle.seize_words.proofs.Chains.{walking_there}
 use Rattle.seize_words.proofs.Lists.{reached_after}
 pub use Rattle.seize_words.proofs.Lists.{after_used}
 pub use Rattle.seize_words.proofs.Written.{plans_used}
@@ -53,10 +51,10 @@ pub events_grew : (pass pass' : Pass) (event : Event) → IsSame pass pass' → 
     → events_by pass' ≡ events_by pass ++ (private pass event, noted.answer) ∷ []
 events_grew pass pass' event same noted = ap events_in (grew pass pass' event same noted) ∙ events_append (mine_of pass) ((Made (private pass event), noted.answer) ∷ [])
 
-pub events_same : (key key' : SlotKey) (pass pass' : Pass) (f : ℕ) (stores : Option ℕ) → Uses key pass key' pass' f stores → events_by pass' ≡ events_by pass
-events_same key key' pass pass' f stores uses =
+pub events_same : (key key' : SlotKey) (pass pass' : Pass) (f v : ℕ) → Uses key pass key' pass' f v → events_by pass' ≡ events_by pass
+events_same key key' pass pass' f v uses =
     ap (λ (n : Name). events_in (mine (start n) pass'.id pass'.seen)) uses.same.0 ∙ ap (λ (p : ℕ). events_in (mine (start pass.name) p pass'.seen)) uses.same.1
-    ∙ ap events_in uses.noted.made ∙ events_append (mine_of pass) ((using key pass f stores, uses.noted.answer) ∷ []) ∙ append-nil (events_by pass)
+    ∙ ap events_in uses.noted.made ∙ events_append (mine_of pass) ((using key pass f v, uses.noted.answer) ∷ []) ∙ append-nil (events_by pass)
 
 -- the slot's record after an event, where this is what the machine makes of the event
 pub moved : (key key' : SlotKey) (log : List Entry) (event : Event) (later : State) (answer : Answer) → Moves key key' log event later answer
@@ -92,9 +90,9 @@ pub seen_grows : (n : Name) (p : ℕ) (seen seen' : List Entry) (e : Entry) → 
 seen_grows n p seen seen' e noted = prefix_trans seen noted.before seen' noted.grows (e ∷ [], sym noted.appended)
 
 -- A use of a field leaves a call where it was, which is about to insert its batch: at the same head, after the same word, with the same block.
-module _ (key key' : SlotKey) (pass pass' : Pass) (f : ℕ) (stores : Option ℕ) (uses : Uses key pass key' pass' f stores) (book : key.keys.name ≡ pass.name) where
+module _ (key key' : SlotKey) (pass pass' : Pass) (f v : ℕ) (uses : Uses key pass key' pass' f v) (book : key.keys.name ≡ pass.name) where
   pub grows : IsPrefix (own_list key) (own_list key')
-  grows = prefix_trans (own_list key) uses.noted.before (own_list key') uses.knew (using key pass f stores ∷ [], sym (uses.seen_by.2 ∙ uses.noted.appended))
+  grows = prefix_trans (own_list key) uses.noted.before (own_list key') uses.knew (using key pass f v ∷ [], sym (uses.seen_by.2 ∙ uses.noted.appended))
 
   legal_own : IsLegalList (start_of key) (own_list key)
   legal_own =
@@ -166,31 +164,16 @@ module _ (key key' : SlotKey) (pass pass' : Pass) (f : ℕ) (stores : Option ℕ
       ap (λ (n : Name). slice_index_or (plans (start n) (own_list key')) b no_plan) uses.seen_by.0
       ∙ sym (plan_stays (start_of key) (own_list key) (own_list key') b grows (front_there (start_of key) (own_list key) b v front))
 
-  -- It leaves a call where it was that is about to count down a batch: the batch's plan stays, and the same word leads to the rest.
-  module _ (batch : ℕ) (walk queue : List ℕ) (walking : (slot_of key).call ≡ Some (record { place = Rest [] (batch ∷ walk); queue = queue })) where
-    walked : AllLess (length (after (start_of key) (own_list key)).batches) (batch ∷ walk)
-    walked = subst (λ call. AllLess (length (after (start_of key) (own_list key)).batches) (walk_of call)) walking (walking_there (after (start_of key) (own_list key)) reached_own (number_of key))
-
-    pub plan_walked : slice_index_or (plans (start_of key') (own_list key')) batch no_plan ≡ slice_index_or (plans (start_of key) (own_list key)) batch no_plan
-    plan_walked = plan_same batch walked.0
-
-    pub word_walked : (m : ℕ) → list_word (λ b. block_for (start_of key') (own_list key') b m) walk ≡ list_word (λ b. block_for (start_of key) (own_list key) b m) walk
-    word_walked m =
-        ap (λ (n : Name). list_word (λ b. block_for (start n) (own_list key') b m) walk) uses.seen_by.0
-        ∙ sym (blocks_stay key.keys.name (own_list key) (own_list key') m walk grows (subst (λ (k : ℕ). AllLess k walk) (sym planned_own) walked.1))
-
-  -- the fields that it may load are the same
-  abbrev pub still_passes : (which : ℕ → ℕ) (g : ℕ) → Passes which g key → Passes which g key'
-  still_passes which g w = record {
-    batch = w.batch;
-    walk = w.walk;
-    queue = w.queue;
-    walking = ap (λ slot. slot.call) uses.slot ∙ w.walking;
-    its =
-        w.its
-        ∙ ap (λ (plan : Plan). which (home_of (serving (number_of key) plan.slots plan.values))) (sym (plan_walked w.batch w.walk w.queue w.walking))
-        ∙ ap (λ (m : ℕ). which (home_of (served (plans (start_of key') (own_list key')) w.batch m))) (sym uses.seen_by.1);
-  }
+-- two looks are one
+pub looks_twice : (a b c : Pass) → LooksOn a b → LooksOn b c → LooksOn a c
+looks_twice a b c one two = record {
+  same = (two.same.0 ∙ one.same.0, two.same.1 ∙ one.same.1);
+  none_made = two.none_made ∙ one.none_made;
+  grows = prefix_trans a.seen b.seen c.seen one.grows two.grows;
+  alone = λ s. two.alone (subst (λ (n : Name). IsSole n.gate) (sym one.same.0) s) ∙ one.alone s;
+  legal = subst (λ (n : Name). IsLegalList (start n) c.seen) one.same.0 two.legal;
+  sound = subst (λ (n : Name). IsSound (after (start n) c.seen)) one.same.0 two.sound;
+}
 
 -- an activation that a pass has seen to begin stays seen
 pub known_in : (link : Link) (a : Activation) (pass pass' : Pass) → IsIn link a pass → pass'.name ≡ pass.name → IsPrefix pass.seen pass'.seen → IsIn link a pass'

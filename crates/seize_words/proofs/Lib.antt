@@ -34,6 +34,7 @@ pub mod Chains
 pub mod Serves
 pub mod Written
 pub mod Uses
+pub mod Loads
 pub mod Heads
 pub mod Values
 pub mod Counting

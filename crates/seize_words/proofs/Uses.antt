@@ -1,19 +1,17 @@
--- Steps on the word of a field by a slot's holder: they meet what is asked of a step, and this is known afterwards.
-use Rattle.std.proofs.Common.{◌≡◌, ◌≢◌, ℕ, zero, suc, ◌<◌, ◌≤◌, Bool, true, false, ◌==◌, if◌then◌else◌, unwrap_or, List, [], ◌∷◌, ◌++◌, length, Option, Some, None, refl, sym, ◌∙◌, ap, subst, ◌⊎◌, inl, inr, arith}
+-- Stores in a field by a slot's holder: they meet what is asked of a step, and this is known afterwards.
+use Rattle.std.proofs.Common.{◌≡◌, ◌≢◌, ℕ, zero, suc, ◌<◌, ◌≤◌, Bool, true, false, ◌==◌, if◌then◌else◌, unwrap_or, List, [], ◌∷◌, ◌++◌, length, Option, Some, refl, sym, ◌∙◌, ap, subst, ◌⊎◌, inl, inr, arith}
 use mathlib.Core.List.{IsPrefix}
-use Rattle.seize_machine.specs.Machine.State.{State, Rest, Try, head_at, is_active, linked, are_distinct, slot_at}
-use Rattle.seize_machine.specs.Machine.Laws.{walk_of}
-use Rattle.seize_machine.specs.Machine.History.{first_of}
+use Rattle.seize_machine.specs.Machine.State.{State, Try, head_at, is_active, linked, are_distinct, slot_at}
 use Rattle.seize_machine.specs.Machine.Next.{of_call}
 use Rattle.seize_machine.specs.declared.machine.event.Answer.TheVariants.{Done}
 use Rattle.seize_machine.proofs.Facts.{Stands}
 use Rattle.seize_words.specs.Atomic.{Takes}
-use Rattle.seize_words.specs.Blocks.{Plan, block_for, block_of, list_word, plans, serving}
+use Rattle.seize_words.specs.Blocks.{Plan, plans, serving}
 use Rattle.seize_words.specs.Book.{IsLegalList, Kept, TheSlot, after, fields, rules, slots}
-use Rattle.seize_words.specs.Chains.{IsChain, IsLed, IsWriting, first_field, front_block, next_field, served, told, written, written_at}
+use Rattle.seize_words.specs.Chains.{IsLed, IsWriting, first_field, next_field, served, told, written, written_at}
 use Rattle.seize_words.specs.Entry.{Entry, Used, Deed, Use}
 use Rattle.seize_words.specs.Fair.{Covers, pass_key}
-use Rattle.seize_words.specs.Headers.{IsPassing, IsStoring, Uses, first_of as first_in, next_of as next_in}
+use Rattle.seize_words.specs.Headers.{IsStoring, Uses, first_of as first_in, next_of as next_in}
 use Rattle.seize_words.specs.Homes.{home_of}
 use Rattle.seize_words.specs.Laws.{life, life_from}
 use Rattle.seize_words.specs.Ledger.{AllKept, Held}
@@ -26,8 +24,8 @@ use Rattle.seize_words.specs.declared.book.pass.Pass.{Pass}
 use Rattle.seize_words.specs.declared.book.slot_key.SlotKey.{SlotKey}
 use Rattle.seize_words.proofs.Lists.{after_used, deeds_used, reached_after}
 use Rattle.seize_words.proofs.Lives.{life_kept}
-use Rattle.seize_words.proofs.Chains.{fields_apart, walking_there}
-use Rattle.seize_words.proofs.Plans.{AllLess, blocks_stay, legal_prefix, plan_stays, plans_long, tried_there}
+use Rattle.seize_words.proofs.Chains.{fields_apart}
+use Rattle.seize_words.proofs.Plans.{legal_prefix, plan_stays, plans_long, tried_there}
 use Rattle.seize_words.proofs.Private.{after_one, differ, one_kept, only_is}
 use Rattle.seize_words.proofs.Written.{plans_used, told_other, told_push}
 
@@ -52,9 +50,9 @@ module _ (n : Name) (f : ℕ) where
   shown v p seen held t log found = found.shows ∙ found.before.kept.0.1
 
   -- One use by a slot, with the slot's key.
-  module _ (p s x : ℕ) (slots_own own since log : List Entry) (stores : Option ℕ) (w : ℕ) where
+  module _ (p s x : ℕ) (slots_own own since log : List Entry) (value w : ℕ) where
     abbrev u : Use
-    u = record { pass = p; slot = s; field = f; stores = stores }
+    u = record { pass = p; slot = s; field = f; value = value }
 
     covers : Covers st (pass_key p own ∷ in_step (at_field n f) (key s x slots_own) (since, [])) log (Used u)
     covers zero k b there = differ p k (λ i. b.0 (refl, i))
@@ -88,39 +86,28 @@ module _ (n : Name) (f : ℕ) where
       stands = refl;
     }
 
-  abbrev pub uses_it : ℕ → ℕ → Option ℕ → Entry
-  uses_it p s stores = Used (record { pass = p; slot = s; field = f; stores = stores })
+  abbrev pub uses_it : ℕ → ℕ → ℕ → Entry
+  uses_it p s value = Used (record { pass = p; slot = s; field = f; value = value })
 
   -- it is enough to see it for the slot's key alone, and with no key beside the field's
-  MayStepAs : (p s x : ℕ) (seen slots_own : List Entry) (g : ℕ → ℕ) (stores : Option ℕ) → Type 0
-  MayStepAs p s x seen slots_own g stores =
+  MayStepAs : (p s x : ℕ) (seen slots_own : List Entry) (g : ℕ → ℕ) (value : ℕ) → Type 0
+  MayStepAs p s x seen slots_own g value =
       (v : ℕ) (t : At) (own log : List Entry) → FoundAs (at_field n f) v p seen (key s x slots_own) [] t log → Kept st TheSlot s slots_own log → v ≡ told log f
-      → IsStep (at_field n f) p (key s x slots_own) [] (g v) (uses_it p s stores) false (t.0, []) own log
+      → IsStep (at_field n f) p (key s x slots_own) [] (g v) (uses_it p s value) false (t.0, []) own log
 
-  may_step : (p : ℕ) (seen : List Entry) (held : List (Held Entry)) (g : ℕ → ℕ) (stores : Option ℕ) → is_one slots held ≡ true → MayStepAs p (key_of held) (label_of held) seen (own_of held) g stores
-      → MayStep (at_field n f) p seen held [] [] g (λ v log. uses_it p (key_of held) stores) (λ v. false)
+  may_step : (p : ℕ) (seen : List Entry) (held : List (Held Entry)) (g : ℕ → ℕ) (value : ℕ) → is_one slots held ≡ true → MayStepAs p (key_of held) (label_of held) seen (own_of held) g value
+      → MayStep (at_field n f) p seen held [] [] g (λ v log. uses_it p (key_of held) value) (λ v. false)
   unfolding MayStepAs
-  may_step p seen held g stores one steps =
-      subst (λ (hs : List (Held Entry)). MayStep (at_field n f) p seen hs [] [] g (λ v log. uses_it p (key_of held) stores) (λ v. false)) (sym (only_is slots held one)) (
+  may_step p seen held g value one steps =
+      subst (λ (hs : List (Held Entry)). MayStep (at_field n f) p seen hs [] [] g (λ v log. uses_it p (key_of held) value) (λ v. false)) (sym (only_is slots held one)) (
         (omega arith, tt),
         (λ v t own log found.
             let kept = subst (λ (vs : List (Held Entry)). AllKept (rules st) (vs ++ key (key_of held) (label_of held) (own_of held)) log) found.stands found.before.kept.1 in
-            subst (λ (vs : List (Held Entry)). IsStep (at_field n f) p (key (key_of held) (label_of held) (own_of held)) [] (g v) (uses_it p (key_of held) stores) false (t.0, vs) own log) (sym found.stands)
+            subst (λ (vs : List (Held Entry)). IsStep (at_field n f) p (key (key_of held) (label_of held) (own_of held)) [] (g v) (uses_it p (key_of held) value) false (t.0, vs) own log) (sym found.stands)
             (steps v t own log found kept.0 (shown v p seen (key (key_of held) (label_of held) (own_of held)) t log found))),
       )
 
-  -- a slot that walks may load
-  either_same : (b : Bool) (v : ℕ) → v ≡ (if b then v else v)
-  either_same true v = refl
-  either_same false v = refl
-
-  pub may_load : (p : ℕ) (seen : List Entry) (held : List (Held Entry)) → is_one slots held ≡ true → MayStep (at_field n f) p seen held [] [] (λ v. v) (λ v log. uses_it p (key_of held) None) (λ v. false)
-  unfolding MayStepAs
-  may_load p seen held one =
-      may_step p seen held (λ v. v) None one (λ v t own log found kept word.
-      made p (key_of held) (label_of held) (own_of held) own t.0 log None v tt (word ∙ either_same (f == f) (told log f) ∙ sym (told_push log (uses_it p (key_of held) None) f)))
-
-  -- and one that is about to try to insert its batch may store in the fields of the block for it
+  -- a slot that is about to try to insert its batch may store in the fields of the block for it
   IsWritingAs : State → List Plan → ℕ → Type 0
   IsWritingAs now ps s = IsWriting now ps s f
 
@@ -131,7 +118,7 @@ module _ (n : Name) (f : ℕ) where
   itself = grind arith
 
   module _ (s : ℕ) (own log : List Entry) (distinct : are_distinct (linked n.links) ≡ true) (legal : IsLegalList st log) (kept : Kept st TheSlot s own log) where
-    own_legal : IsLegalList st own
+    pub own_legal : IsLegalList st own
     own_legal = legal_prefix st own log kept.0 legal
 
     -- what the slot knew of its batch's plan holds still
@@ -144,11 +131,11 @@ module _ (n : Name) (f : ℕ) where
         (w.its ∙ ap (λ (v : ℕ). which (home_of v)) (served_stays w.batch w.at there), ap (λ slot. slot.call) (sym kept.1.1) ∙ w.trying)
 
   pub may_store : (p value : ℕ) (seen : List Entry) (held : List (Held Entry)) → is_one slots held ≡ true → IsStoring st (key_of held) (own_of held) next_field f ⊎ IsStoring st (key_of held) (own_of held) first_field f
-      → MayStep (at_field n f) p seen held [] [] (λ v. value) (λ v log. uses_it p (key_of held) (Some value)) (λ v. false)
+      → MayStep (at_field n f) p seen held [] [] (λ v. value) (λ v log. uses_it p (key_of held) value) (λ v. false)
   unfolding MayStepAs
   may_store p value seen held one stores =
-      may_step p seen held (λ v. value) (Some value) one (λ v t own log found kept word.
-      made p (key_of held) (label_of held) (own_of held) own t.0 log (Some value) value (led log found.distinct found.before.legal kept stores) (its_own value (f == f) (told log f) itself ∙ sym (told_push log (uses_it p (key_of held) (Some value)) f)))
+      may_step p seen held (λ v. value) value one (λ v t own log found kept word.
+      made p (key_of held) (label_of held) (own_of held) own t.0 log value value (led log found.distinct found.before.legal kept stores) (its_own value (f == f) (told log f) itself ∙ sym (told_push log (uses_it p (key_of held) value) f)))
     where
       led : (log : List Entry) → are_distinct (linked n.links) ≡ true → IsLegalList st log → Kept st TheSlot (key_of held) (own_of held) log
           → IsStoring st (key_of held) (own_of held) next_field f ⊎ IsStoring st (key_of held) (own_of held) first_field f → IsWriting (after st log) (plans st log) (key_of held) f
@@ -162,9 +149,9 @@ module _ (n : Name) (f : ℕ) where
 -- What is known afterwards.
 
 -- what is true of one book's slot is true of the other's, which is the same
-module _ (f : ℕ) (key key' : SlotKey) (pass pass' : Pass) (g : ℕ → ℕ) (v : ℕ) (stores : Option ℕ)
-    (told_ : Takes (at_field pass.name f) key.keys pass key'.keys pass' [] g v (λ v log. uses_it pass.name f pass.id (number_of key) stores) (λ _. false)) (book : IsOf key pass) where
-  abbrev step : Stepped (at_field pass.name f) pass.id pass.seen pass'.seen key.keys.held key'.keys.held [] v (g v) (λ v log. uses_it pass.name f pass.id (number_of key) stores) (λ _. false)
+module _ (f : ℕ) (key key' : SlotKey) (pass pass' : Pass) (g : ℕ → ℕ) (v value : ℕ)
+    (told_ : Takes (at_field pass.name f) key.keys pass key'.keys pass' [] g v (λ v log. uses_it pass.name f pass.id (number_of key) value) (λ _. false)) (book : IsOf key pass) where
+  abbrev step : Stepped (at_field pass.name f) pass.id pass.seen pass'.seen key.keys.held key'.keys.held [] v (g v) (λ v log. uses_it pass.name f pass.id (number_of key) value) (λ _. false)
   step = told_.2
 
   abbrev n : Name
@@ -180,7 +167,7 @@ module _ (f : ℕ) (key key' : SlotKey) (pass pass' : Pass) (g : ℕ → ℕ) (v
   log = step.log
 
   abbrev e : Entry
-  e = uses_it n f pass.id s stores
+  e = uses_it n f pass.id s value
 
   abbrev now : State
   now = after (start n) log
@@ -204,12 +191,12 @@ module _ (f : ℕ) (key key' : SlotKey) (pass pass' : Pass) (g : ℕ → ℕ) (v
   key_now : {X : Type 0} (h : State → ℕ → X) → h (after (start_of key') (own_list key')) (number_of key') ≡ h now s
   key_now h =
       ap (λ (t : Name × (List Entry × ℕ)). h (after (start t.0) t.1.0) t.1.1) (λ i. ((seen_by.0 ∙ book) i, ((seen_by.2 ∙ is_seen) i, seen_by.1 i)))
-      ∙ ap (λ (st : State). h st s) (after_used (start n) log (record { pass = pass.id; slot = s; field = f; stores = stores }))
+      ∙ ap (λ (st : State). h st s) (after_used (start n) log (record { pass = pass.id; slot = s; field = f; value = value }))
 
   in_book : {X : Type 0} (h : State → X) → h (after (start n) own) ≡ h (after (start_of key) own)
   in_book h = ap (λ (m : Name). h (after (start m) own)) (sym book)
 
-  pub used : Uses key pass key' pass' f stores
+  pub used : Uses key pass key' pass' f value
   used = record {
     same = told_.0;
     seen_by = seen_by;
@@ -219,7 +206,7 @@ module _ (f : ℕ) (key key' : SlotKey) (pass pass' : Pass) (g : ℕ → ℕ) (v
     active = key_now (λ st k. is_active (head_at st k)) ∙ sym kept.1.2 ∙ in_book (λ st. is_active (head_at st s));
     life =
         ap (λ (t : ℕ × List Entry). life t.0 t.1) (λ i. (seen_by.1 i, (seen_by.2 ∙ is_seen) i))
-        ∙ ap (λ (ds : List Deed). life_from 0 s ds) (deeds_used log (record { pass = pass.id; slot = s; field = f; stores = stores }))
+        ∙ ap (λ (ds : List Deed). life_from 0 s ds) (deeds_used log (record { pass = pass.id; slot = s; field = f; value = value }))
         ∙ sym (life_kept (start n) s own log kept);
   }
 
@@ -234,7 +221,7 @@ module _ (f : ℕ) (key key' : SlotKey) (pass pass' : Pass) (g : ℕ → ℕ) (v
   written_now : (b won m : ℕ) (later saw queue : List ℕ) → Stands now s (Try b won m later saw) queue → written_of key' ≡ Some (told' (next_field (home b m)), told' (first_field (home b m)))
   written_now b won m later saw queue stands =
       ap (λ (t : Name × (List Entry × ℕ)). written (after (start t.0) t.1.0) (plans (start t.0) t.1.0) (told t.1.0) t.1.1) (λ i. ((seen_by.0 ∙ book) i, ((seen_by.2 ∙ is_seen) i, seen_by.1 i)))
-      ∙ (λ i. written (after_used (start n) log (record { pass = pass.id; slot = s; field = f; stores = stores }) i) (plans_used (start n) log (record { pass = pass.id; slot = s; field = f; stores = stores }) i) told' s)
+      ∙ (λ i. written (after_used (start n) log (record { pass = pass.id; slot = s; field = f; value = value }) i) (plans_used (start n) log (record { pass = pass.id; slot = s; field = f; value = value }) i) told' s)
       ∙ ap (of_call (written_at (plans (start n) log) told')) stands
 
   -- the two of them before
@@ -244,54 +231,22 @@ module _ (f : ℕ) (key key' : SlotKey) (pass pass' : Pass) (g : ℕ → ℕ) (v
       ∙ ap (λ (z : Name). written (after (start z) own) (plans (start z) own) (told own) s) (sym book)
 
   others : (j : ℕ) → j ≢ f → told' j ≡ told log j
-  others j other = told_other log (record { pass = pass.id; slot = s; field = f; stores = stores }) j other
+  others j other = told_other log (record { pass = pass.id; slot = s; field = f; value = value }) j other
 
-  this : (value : ℕ) → stores ≡ Some value → told' f ≡ value
-  this value is = told_push log e f ∙ ap (λ (o : Option ℕ). if f == f then unwrap_or o (told log f) else told log f) is ∙ ap (λ (c : Bool). if c then value else told log f) (itself n f)
+  this : told' f ≡ value
+  this = told_push log e f ∙ ap (λ (c : Bool). if c then value else told log f) (itself n f)
 
   in_pass : (which : ℕ → ℕ) → IsStoring (start_of key) s own which f → IsStoring (start n) s own which f
   in_pass which w = subst (λ (z : Name). IsStoring (start z) s own which f) book w
 
-  pub wrote_next : (value : ℕ) → stores ≡ Some value → IsStoring (start_of key) s own next_field f → written_of key' ≡ Some (value, first_in key)
-  wrote_next value is w_ =
+  pub wrote_next : IsStoring (start_of key) s own next_field f → written_of key' ≡ Some (value, first_in key)
+  wrote_next w_ =
       let w = in_pass next_field w_ in let k = writing n f s own log distinct legal kept next_field w in let h = home w.batch w.at in
       written_now w.batch w.won w.at w.later w.saw w.queue k.1
-      ∙ (λ i. Some ((ap told' (sym k.0) ∙ this value is) i, (others (first_field h) (λ same. (fields_apart h h).0 (sym (same ∙ k.0))) ∙ ap (λ (o : Option (ℕ × ℕ)). (unwrap_or o (0, 0)).1) (written_before w.batch w.won w.at w.later w.saw w.queue k.1)) i))
+      ∙ (λ i. Some ((ap told' (sym k.0) ∙ this) i, (others (first_field h) (λ same. (fields_apart h h).0 (sym (same ∙ k.0))) ∙ ap (λ (o : Option (ℕ × ℕ)). (unwrap_or o (0, 0)).1) (written_before w.batch w.won w.at w.later w.saw w.queue k.1)) i))
 
-  pub wrote_first : (value : ℕ) → stores ≡ Some value → IsStoring (start_of key) s own first_field f → written_of key' ≡ Some (next_in key, value)
-  wrote_first value is w_ =
+  pub wrote_first : IsStoring (start_of key) s own first_field f → written_of key' ≡ Some (next_in key, value)
+  wrote_first w_ =
       let w = in_pass first_field w_ in let k = writing n f s own log distinct legal kept first_field w in let h = home w.batch w.at in
       written_now w.batch w.won w.at w.later w.saw w.queue k.1
-      ∙ (λ i. Some ((others (next_field h) (λ same. (fields_apart h h).0 (same ∙ k.0)) ∙ ap (λ (o : Option (ℕ × ℕ)). (unwrap_or o (0, 0)).0) (written_before w.batch w.won w.at w.later w.saw w.queue k.1)) i, (ap told' (sym k.0) ∙ this value is) i))
-
-  -- What was loaded.
-
-  loaded : v ≡ told log f
-  loaded = shown n f v pass.id pass.seen key.keys.held step.since log step.found
-
-  module _ (which : ℕ → ℕ) (w : IsPassing (start n) s own which f) where
-    stands_now : Stands now s (Rest [] (w.batch ∷ w.walk)) w.queue
-    stands_now = ap (λ slot. slot.call) (sym kept.1.1) ∙ w.walking
-
-    chain : IsChain (plans (start n) log) (told log) s (w.batch ∷ w.walk)
-    chain = subst (λ call. IsChain (plans (start n) log) (told log) s (walk_of call)) stands_now (step.found.before.chained s).1
-
-    there : AllLess (length (after (start n) own).batches) (w.batch ∷ w.walk)
-    there =
-        let own_legal' = own_legal n f s own log distinct legal kept in
-        subst (λ call. AllLess (length (after (start n) own).batches) (walk_of call)) w.walking (walking_there (after (start n) own) (reached_after n own distinct own_legal') s)
-
-    planned : AllLess (length (plans (start n) own)) (w.batch ∷ w.walk)
-    planned = subst (λ (k : ℕ). AllLess k (w.batch ∷ w.walk)) (sym (plans_long n own (own_legal n f s own log distinct legal kept))) there
-
-    field_now : f ≡ which (home w.batch s)
-    field_now = w.its ∙ ap (λ (u : ℕ). which (home_of u)) (served_stays n f s own log distinct legal kept w.batch s there.0)
-
-  pub shows_next : (w : IsPassing (start_of key) s own next_field f) → v ≡ list_word (λ b. block_for (start_of key) own b s) w.walk
-  shows_next = subst (λ (z : Name). (w : IsPassing (start z) s own next_field f) → v ≡ list_word (λ b. block_for (start z) own b s) w.walk) (sym book)
-      (λ w. loaded ∙ ap (told log) (field_now next_field w) ∙ (chain next_field w).0.0 ∙ sym (blocks_stay n own log s w.walk kept.0 (planned next_field w).1))
-
-  pub shows_first : (w : IsPassing (start_of key) s own first_field f) → v ≡ front_block (plans (start_of key) own) w.batch
-  shows_first = subst (λ (z : Name). (w : IsPassing (start z) s own first_field f) → v ≡ front_block (plans (start z) own) w.batch) (sym book)
-      (λ w. loaded ∙ ap (told log) (field_now first_field w) ∙ (chain first_field w).0.1
-      ∙ ap (λ (plan : Plan). block_of (unwrap_or (first_of plan.values) 0)) (sym (plan_stays (start n) own log w.batch kept.0 (planned first_field w).0)))
+      ∙ (λ i. Some ((others (next_field h) (λ same. (fields_apart h h).0 (same ∙ k.0)) ∙ ap (λ (o : Option (ℕ × ℕ)). (unwrap_or o (0, 0)).0) (written_before w.batch w.won w.at w.later w.saw w.queue k.1)) i, (ap told' (sym k.0) ∙ this) i))

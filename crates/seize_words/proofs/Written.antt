@@ -1,5 +1,5 @@
 -- What is stored in fields: chains stay as entries are added, and so does what was written for an insertion that another slot tries.
-use Rattle.std.proofs.Common.{◌≡◌, ◌≢◌, ℕ, ◌<◌, ◌==◌, Bool, true, false, if◌then◌else◌, unwrap_or, List, [], ◌∷◌, ◌++◌, length, Option, Some, None, refl, sym, ◌∙◌, ap, subst, append-nil, ⊎_elim}
+use Rattle.std.proofs.Common.{◌≡◌, ◌≢◌, ℕ, ◌<◌, ◌==◌, Bool, true, false, if◌then◌else◌, List, [], ◌∷◌, ◌++◌, length, Option, Some, None, refl, sym, ◌∙◌, ap, subst, append-nil, ⊎_elim}
 use Rattle.std.proofs.lemmas.List.{get_or_append_left}
 use Rattle.seize_machine.specs.Machine.State.{State, Slot, Call, Place, Try, slot_at, linked, are_distinct}
 use Rattle.seize_machine.specs.Machine.Next.{of_call}
@@ -9,7 +9,7 @@ use Rattle.seize_machine.specs.declared.machine.event.Answer.{Answer}
 use Rattle.seize_machine.proofs.Facts.{Stands, slot_frame, step_of}
 use Rattle.seize_words.specs.Blocks.{Plan, no_plan, planned_by, plans, serving}
 use Rattle.seize_words.specs.Book.{IsLegalList, Does, after}
-use Rattle.seize_words.specs.Chains.{Chained, IsLed, IsWriting, StoresInTurn, first_field, next_field, served, told, told_after, told_from, uses, written, written_at}
+use Rattle.seize_words.specs.Chains.{Chained, IsLed, IsWriting, first_field, next_field, served, told, told_after, told_from, uses, written, written_at}
 use Rattle.seize_words.specs.Entry.{Entry, Made, Used, Deed, Use}
 use Rattle.seize_words.specs.Homes.{HasOne, IsSound, home_of}
 use Rattle.seize_words.specs.Tokens.{Name, start}
@@ -31,16 +31,9 @@ told_same log e f out = told_push log e f ∙ same e out
   where
     same : (e : Entry) → uses f e ≡ false → told_after f (told log f) e ≡ told log f
     same (Made x) out = refl
-    same (Used u) out = ap (λ (b : Bool). if b then unwrap_or u.stores (told log f) else told log f) out
+    same (Used u) out = ap (λ (b : Bool). if b then u.value else told log f) out
 
--- a use that stores nothing, and one of another field
-told_read : (log : List Entry) (u : Use) (f : ℕ) → u.stores ≡ None → told (log ++ Used u ∷ []) f ≡ told log f
-told_read log u f none = told_push log (Used u) f ∙ ap (λ (o : Option ℕ). if u.field == f then unwrap_or o (told log f) else told log f) none ∙ either (u.field == f)
-  where
-    either : (b : Bool) → (if b then told log f else told log f) ≡ told log f
-    either true = refl
-    either false = refl
-
+-- a use of another field
 pub told_other : (log : List Entry) (u : Use) (f : ℕ) → f ≢ u.field → told (log ++ Used u ∷ []) f ≡ told log f
 told_other log u f other = told_same log (Used u) f (unequal u.field f (λ e. other (sym e)))
 
@@ -103,11 +96,7 @@ module _ (n : Name) (log : List Entry) (distinct : are_distinct (linked n.links)
   chained_made x d does led old = chained_step x.size now x.event d ps (told log) reached (plans_long n log legal) (step_of x.size now x.event d does) led old
 
   chained_used : (u : Use) → HasOne now → IsLed now ps (told log) (Used u) → Chained now ps (told log) → Chained now ps (told (log ++ Used u ∷ []))
-  chained_used u one led old = go u.stores refl led
-    where
-      go : (o : Option ℕ) → u.stores ≡ o → StoresInTurn now ps u.slot u.field o → Chained now ps (told (log ++ Used u ∷ []))
-      go None is led = subst (Chained now ps) (λ i f. sym (told_read log u f is) i) old
-      go (Some v) is led = chained_stored one u led old
+  chained_used u one led old = chained_stored one u led old
 
   pub written_by_event_ : (x : Deed) (d : State × Answer) (k : ℕ) → Does st log (Made x) d → changes_slot k x.event ≡ false
       → written (after st (log ++ Made x ∷ [])) (plans st (log ++ Made x ∷ [])) (told (log ++ Made x ∷ [])) k ≡ written now ps (told log) k
@@ -128,14 +117,10 @@ module _ (n : Name) (log : List Entry) (distinct : are_distinct (linked n.links)
 
   pub written_by_use_ : (u : Use) (k : ℕ) → HasOne now → IsLed now ps (told log) (Used u) → (u.slot == k) ≡ false
       → written (after st (log ++ Used u ∷ [])) (plans st (log ++ Used u ∷ [])) (told (log ++ Used u ∷ [])) k ≡ written now ps (told log) k
-  written_by_use_ u k one led out = (λ i. written (after_used st log u i) (plans_used st log u i) (told (log ++ Used u ∷ [])) k) ∙ go u.stores refl led
+  written_by_use_ u k one led out = (λ i. written (after_used st log u i) (plans_used st log u i) (told (log ++ Used u ∷ [])) k) ∙ still_written one u led k other
     where
       other : k ≢ u.slot
       other e = let x : (u.slot == k) ≡ true = Rattle.seize_words.proofs.Lists.equal u.slot k (sym e) in let y : true ≡ false = sym x ∙ out in cc
-
-      go : (o : Option ℕ) → u.stores ≡ o → StoresInTurn now ps u.slot u.field o → written now ps (told (log ++ Used u ∷ [])) k ≡ written now ps (told log) k
-      go None is led = ap (λ (t : ℕ → ℕ). written now ps t k) (λ i f. told_read log u f is i)
-      go (Some v) is led = still_written one u led k other
 
 pub chained_push : (n : Name) (log : List Entry) (e : Entry) (d : State × Answer) → are_distinct (linked n.links) ≡ true → IsLegalList (start n) log → IsSound (after (start n) log) → Chained (after (start n) log) (plans (start n) log) (told log)
     → Does (start n) log e d → IsLed (after (start n) log) (plans (start n) log) (told log) e → Chained (after (start n) (log ++ e ∷ [])) (plans (start n) (log ++ e ∷ [])) (told (log ++ e ∷ []))

@@ -76,7 +76,7 @@ MayLook word keys pass = (word.name ≡ pass.name) × (keys.name ≡ pass.name) 
 
 abbrev pub Looks : Site → Keys → Pass → Keys → Pass → ℕ → Type 0
 Looks word keys pass keys' pass' v =
-    IsSame pass pass' × (keys'.name ≡ keys.name) × (keys'.held ≡ keys.held)
+    IsSame pass pass' × (keys' ≡ keys)
     × LooksAt word pass.id pass.seen pass'.seen keys.held v
 
 -- The word that some keys are of: the first is its own, and the others stand beside it.

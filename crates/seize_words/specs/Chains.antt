@@ -31,7 +31,7 @@ uses f (Used u) = u.field == f
 
 abbrev pub told_after : ℕ → ℕ → Entry → ℕ
 told_after f v (Made d) = v
-told_after f v (Used u) = if u.field == f then unwrap_or u.stores v else v
+told_after f v (Used u) = if u.field == f then u.value else v
 
 abbrev pub told_from : ℕ → ℕ → List Entry → ℕ
 told_from f v [] = v
@@ -81,13 +81,9 @@ pub record IsWriting (st : State) (ps : List Plan) (s f : ℕ) : Type 0 where
   pub trying : (slot_at st s).call ≡ Some (record { place = Try batch won at later saw; queue = queue })
   pub its : (f ≡ next_field (home_of (served ps batch at))) ⊎ (f ≡ first_field (home_of (served ps batch at)))
 
-abbrev pub StoresInTurn : State → List Plan → ℕ → ℕ → Option ℕ → Type 0
-StoresInTurn st ps s f None = Unit {0}
-StoresInTurn st ps s f (Some v) = IsWriting st ps s f
-
 abbrev pub IsLed : State → List Plan → (ℕ → ℕ) → Entry → Type 0
 IsLed st ps told (Made d) = Leads st ps told d.event
-IsLed st ps told (Used u) = StoresInTurn st ps u.slot u.field u.stores
+IsLed st ps told (Used u) = IsWriting st ps u.slot u.field
 
 abbrev pub written_at : List Plan → (ℕ → ℕ) → Place → List ℕ → Option (ℕ × ℕ)
 written_at ps told (Try b won m later saw) queue =

@@ -1,11 +1,11 @@
 -- What the list that threads share consists of, and a code for it.
 --     Deed         an event of the machine that was made
---     Use          a use of a field of a block's header (see `Chains`), which is no event of the machine: it was read, or this was stored
+--     Use          this was stored in a field of a block's header (see `Chains`), which is no event of the machine
 --     Entry        either
 --     maker e      the pass that it was made with
 --     deeds log, events_of log     the events of a list, in order
-use Rattle.std.specs.Prelude.{◌≡◌, ℕ, List, [], ◌∷◌, ◌⊎◌, Option, map}
-use Rattle.std.specs.Coded.{Coded, code_by, coded_ℕ, coded_list, coded_option, coded×, coded⊎}
+use Rattle.std.specs.Prelude.{◌≡◌, ℕ, List, [], ◌∷◌, ◌⊎◌, map}
+use Rattle.std.specs.Coded.{Coded, code_by, coded_ℕ, coded_list, coded×, coded⊎}
 use mathlib.Core.Path.{refl}
 use mathlib.Core.Logic.{inl, inr}
 use Rattle.seize_machine.specs.Machine.Event.{Event, Take, Give, Enter, Begin, Put, ReadHead, Detach, Insert, AddCount, SwapOut, SubCount, Hand, Return, ReadLink, ExchangeLink}
@@ -27,7 +27,7 @@ pub record Use : Type 0 where
   pub pass : ℕ
   pub slot : ℕ
   pub field : ℕ
-  pub stores : Option ℕ
+  pub value : ℕ
 
 pub data Entry : Type 0 where
   Made : Deed → Entry
@@ -98,9 +98,9 @@ deed_coded = code_by (ℕ × (ℕ × (ℕ × Event))) (coded× coded_ℕ (coded�
     (λ _. refl)
 
 abbrev pub use_coded : Coded Use
-use_coded = code_by (ℕ × (ℕ × (ℕ × Option ℕ))) (coded× coded_ℕ (coded× coded_ℕ (coded× coded_ℕ (coded_option coded_ℕ))))
-    (λ u. (u.pass, (u.slot, (u.field, u.stores))))
-    (λ t. record { pass = t.0; slot = t.1.0; field = t.1.1.0; stores = t.1.1.1 })
+use_coded = code_by (ℕ × (ℕ × (ℕ × ℕ))) (coded× coded_ℕ (coded× coded_ℕ (coded× coded_ℕ coded_ℕ)))
+    (λ u. (u.pass, (u.slot, (u.field, u.value))))
+    (λ t. record { pass = t.0; slot = t.1.0; field = t.1.1.0; value = t.1.1.1 })
     (λ _. refl)
 
 abbrev pub of_either : Deed ⊎ Use → Entry

@@ -10,9 +10,9 @@
 --                                       with which this was inserted
 --     MayLoad field key, Shows field key v     it is one of them;  v leads on through the rest of the walk, or to the batch's first block
 --     HasWritten key next batch         these are stored: this next, and the first block of this batch
---     Uses key pass key' pass' f stores   the entry was noted: the slot loaded the field, or stored this; and its record is as it was,
---                                       and so is whether it is active, and its last activation
-use Rattle.std.specs.Prelude.{◌≡◌, ℕ, List, [], ◌∷◌, Option, Some, unwrap_or, ◌⊎◌}
+--     Uses key pass key' pass' f v      the entry was noted: the slot stored this in the field; and its record is as it was, and so is
+--                                       whether it is active, and its last activation
+use Rattle.std.specs.Prelude.{◌≡◌, ℕ, List, [], ◌∷◌, Some, unwrap_or, ◌⊎◌}
 use mathlib.Core.List.{IsPrefix}
 use Rattle.seize_machine.specs.Machine.State.{State, Rest, Try, slot_at}
 use Rattle.seize_words.specs.Blocks.{block_for, list_word, plans}
@@ -96,13 +96,13 @@ Shows field key v =
 
 -- The entry.
 
-abbrev pub using : SlotKey → Pass → ℕ → Option ℕ → Entry
-using key pass f stores = Used (record { pass = pass.id; slot = number_of key; field = f; stores = stores })
+abbrev pub using : SlotKey → Pass → ℕ → ℕ → Entry
+using key pass f v = Used (record { pass = pass.id; slot = number_of key; field = f; value = v })
 
-pub record Uses (key : SlotKey) (pass : Pass) (key' : SlotKey) (pass' : Pass) (f : ℕ) (stores : Option ℕ) : Type 0 where
+pub record Uses (key : SlotKey) (pass : Pass) (key' : SlotKey) (pass' : Pass) (f v : ℕ) : Type 0 where
   pub same : IsSame pass pass'
   pub seen_by : IsAfter key pass' key'
-  pub noted : Noted pass.name pass.id pass.seen pass'.seen (using key pass f stores)
+  pub noted : Noted pass.name pass.id pass.seen pass'.seen (using key pass f v)
   pub knew : IsPrefix (own_list key) noted.before
   pub slot : slot_of key' ≡ slot_of key
   pub active : active_of key' ≡ active_of key

@@ -9,8 +9,9 @@ use Rattle.std.specs.Prelude.{◌≡◌, List, [], ◌∷◌, ◌⊎◌}
 use mathlib.Core.List.{IsPrefix}
 use Rattle.seize_machine.specs.declared.machine.event.Answer.{Answer}
 use Rattle.seize_words.specs.Entry.{Entry, Made, Used, Deed}
-use Rattle.seize_words.specs.Book.{mine}
-use Rattle.seize_words.specs.Tokens.{start}
+use Rattle.seize_words.specs.Book.{IsLegalList, after, mine}
+use Rattle.seize_words.specs.Homes.{IsSound}
+use Rattle.seize_words.specs.Tokens.{IsSole, start}
 use Rattle.seize_words.specs.declared.book.pass.Pass.{Pass}
 
 abbrev pub IsSame : Pass → Pass → Type 0
@@ -30,6 +31,15 @@ events_by pass = events_in (mine_of pass)
 
 abbrev pub MadeNone : Pass → Pass → Type 0
 MadeNone pass pass' = mine_of pass' ≡ mine_of pass
+
+-- It has seen a legal list that goes on from what it had seen, all there is where it is alone, and nothing was made with it.
+pub record LooksOn (pass pass' : Pass) : Type 0 where
+  pub same : IsSame pass pass'
+  pub none_made : MadeNone pass pass'
+  pub grows : IsPrefix pass.seen pass'.seen
+  pub alone : IsSole pass.name.gate → pass'.seen ≡ pass.seen
+  pub legal : IsLegalList (start pass.name) pass'.seen
+  pub sound : IsSound (after (start pass.name) pass'.seen)
 
 abbrev pub Longer : List Entry → List Entry → List Entry → Type 0
 Longer a b c = (IsPrefix a b × (c ≡ b)) ⊎ (IsPrefix b a × (c ≡ a))

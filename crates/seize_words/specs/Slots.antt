@@ -3,6 +3,7 @@
 --     number_of key        the slot
 --     own_list key         the list at the slot's last event;  start_of key, size_of key     its book's opening and batch size
 --     IsAfter key pass' key'     it is the same key, and knows all that the pass has seen
+--     IsStill key key'     nothing was added with it, and it knows what it knew
 --     slot_of key, active_of key     the slot's record as its key knows it, and whether it is active
 --     written_of key       what was last stored in the fields of the block with which the slot's call is about to insert its batch
 --     life_of key          the lifetime of the slot's last activation, as its key knows
@@ -68,6 +69,9 @@ life_of key = life (number_of key) (own_list key)
 -- it is the key of the same slot, and knows all that the pass has seen
 abbrev pub IsAfter : SlotKey → Pass → SlotKey → Type 0
 IsAfter key pass' key' = (key'.keys.name ≡ key.keys.name) × (number_of key' ≡ number_of key) × (own_list key' ≡ pass'.seen)
+
+abbrev pub IsStill : SlotKey → SlotKey → Type 0
+IsStill key key' = key'.keys ≡ key.keys
 
 -- After this list, the event took the machine to `later` with this answer, and the slot from where its key knew it to where it knows it
 -- now.

@@ -2,27 +2,24 @@
 --     total_known key                  how many slots there are, as the total's key knows;  IsTotalOf total key     it is that of the key
 --     IsOfBook total pass, NumbersOf numbers pass     it is of the pass's book
 --     slots_seen pass                  how many slots there are in the list that the pass has seen
---     LooksOn pass pass'               the pass has seen a legal list that goes on from what it knew, and nothing was made with it
 --     made_of numbers, IsFull numbers  how many slots there are, as the key of the numbers knows;  all of their numbers are in use
 --     MayMake numbers key              and the slot's is the next number
 --     MakesSlot numbers key pass numbers' key' pass'     the slot was made
 --     AreNext numbers pass keys        these are the keys of the slot that comes next
 use Rattle.std.specs.Prelude.{◌≡◌, ℕ, suc, ◌<◌, true, false, [], length, None}
-use mathlib.Core.List.{IsPrefix}
 use Rattle.seize_table.specs.Place.{all_numbers}
 use Rattle.seize_machine.specs.Machine.Event.{Take}
 use Rattle.seize_machine.specs.Machine.Next.{first_free}
 use Rattle.seize_machine.specs.Machine.State.{Inactive}
 use Rattle.seize_words.specs.Adding.{private}
-use Rattle.seize_words.specs.Book.{IsLegalList, after}
+use Rattle.seize_words.specs.Book.{after}
 use Rattle.seize_words.specs.Entry.{Made}
-use Rattle.seize_words.specs.Homes.{IsSound}
 use Rattle.seize_words.specs.Others.{Follows, state_of}
-use Rattle.seize_words.specs.Passes.{IsSame, MadeNone}
+use Rattle.seize_words.specs.Passes.{IsSame}
 use Rattle.seize_words.specs.Private.{key_of, own_of}
 use Rattle.seize_words.specs.Reservations.{head_known}
 use Rattle.seize_words.specs.Slots.{IsAfter, active_of, number_of, own_list, slot_of}
-use Rattle.seize_words.specs.Tokens.{IsSole, Noted, start}
+use Rattle.seize_words.specs.Tokens.{Noted, start}
 use Rattle.seize_words.specs.declared.book.numbers_key.NumbersKey.{NumbersKey}
 use Rattle.seize_words.specs.declared.book.pass.Pass.{Pass}
 use Rattle.seize_words.specs.declared.book.slot_key.SlotKey.{SlotKey}
@@ -44,14 +41,6 @@ NumbersOf numbers pass = numbers.keys.name ≡ pass.name
 
 abbrev pub slots_seen : Pass → ℕ
 slots_seen pass = length (after (start pass.name) pass.seen).slots
-
-pub record LooksOn (pass pass' : Pass) : Type 0 where
-  pub same : IsSame pass pass'
-  pub none_made : MadeNone pass pass'
-  pub grows : IsPrefix pass.seen pass'.seen
-  pub alone : IsSole pass.name.gate → pass'.seen ≡ pass.seen
-  pub legal : IsLegalList (start pass.name) pass'.seen
-  pub sound : IsSound (after (start pass.name) pass'.seen)
 
 abbrev pub made_of : NumbersKey → ℕ
 made_of numbers = length (state_of numbers.keys).slots

@@ -1,6 +1,6 @@
 //! Headers: the two fields of a block by which the batches that wait for a slot lead on from block to block. A slot's call stores them
 //! before it tries to insert its batch with the block, and who walks the slot's list loads them. It uses words and the book's keys.
-ghost use Rattle.std.specs.Prelude.{◌≡◌, Some, None};
+ghost use Rattle.std.specs.Prelude.{◌≡◌};
 ghost use Rattle.seize_words.specs.Words.{IsField};
 
 use crate::book::{FieldKey, Pass, SlotKey};
@@ -20,7 +20,8 @@ pub struct Field {
 
 impl Field {
     ghost use Rattle.seize_words.specs.Headers.{IsFieldOf, IsOfBook, MayLoad, MayStore, Shows, Uses, Wrote, number, told_known};
-    ghost use Rattle.seize_words.specs.Slots.{IsOf};
+    ghost use Rattle.seize_words.specs.Passes.{LooksOn};
+    ghost use Rattle.seize_words.specs.Slots.{IsOf, IsStill};
 
     /// The word of a field in which nothing was stored.
     pub fn new(key: FieldKey) -> Field
@@ -38,20 +39,20 @@ impl Field {
     pub fn store(&self, value: u64, key: &mut SlotKey, pass: &mut Pass)
         requires book { IsOf key.old pass.old × IsOfBook self.now pass.old }
         requires stored { MayStore self.now key.old }
-        ensures uses { Uses key.old pass.old key.new pass.new (number self.now) (Some value) }
+        ensures uses { Uses key.old pass.old key.new pass.new (number self.now) value }
         ensures wrote { Wrote self.now key.old key.new value }
     {
         self.word.replace::<Brand>(value, &mut key.keys, pass);
     }
 
     /// Loads the field, by a slot whose call is about to count down the batch that was inserted with this block. It is no event of the
-    /// machine.
+    /// machine, and nothing is added to the list.
     pub fn load(&self, key: &mut SlotKey, pass: &mut Pass) -> u64
         requires book { IsOf key.old pass.old × IsOfBook self.now pass.old }
         requires passed { MayLoad self.now key.old }
-        ensures uses { Uses key.old pass.old key.new pass.new (number self.now) None }
+        ensures looks { LooksOn pass.old pass.new × IsStill key.old key.new }
         ensures shows { Shows self.now key.old result }
     {
-        self.word.load::<Brand>(&mut key.keys, pass)
+        self.word.look(&mut key.keys, pass)
     }
 }

@@ -16,7 +16,8 @@ pub struct Total {
 
 impl Total {
     ghost use Rattle.seize_words.specs.Slots.{IsOf};
-    ghost use Rattle.seize_words.specs.Totals.{AreNext, IsOfBook, IsTotalOf, LooksOn, MakesSlot, MayMake, NumbersOf, slots_seen, total_known};
+    ghost use Rattle.seize_words.specs.Passes.{LooksOn};
+    ghost use Rattle.seize_words.specs.Totals.{AreNext, IsOfBook, IsTotalOf, MakesSlot, MayMake, NumbersOf, slots_seen, total_known};
 
     /// The word of a book that has no slot yet.
     pub fn new(key: TotalKey) -> Total

@@ -1,21 +1,19 @@
--- What stays over two uses of fields.
-use Rattle.std.proofs.Common.{◌≡◌, ℕ, List, [], ◌∷◌, Option, Some, unwrap_or, sym, ap, ◌∙◌}
+-- What stays over two stores in fields.
+use Rattle.std.proofs.Common.{◌≡◌, ℕ, Option, Some, unwrap_or, sym, ap, ◌∙◌}
 use Rattle.std.specs.Prelude.{slice_index_or}
-use Rattle.seize_machine.specs.Machine.State.{Rest}
 use Rattle.seize_machine.specs.Machine.History.{first_of}
-use Rattle.seize_words.specs.Blocks.{Plan, block_for, block_of, front_of, list_word, no_plan, plans}
+use Rattle.seize_words.specs.Blocks.{Plan, block_of, front_of, no_plan, plans}
 use Rattle.seize_words.specs.Chains.{first_field, next_field}
 use Rattle.seize_words.specs.Heads.{IsTrying}
 use Rattle.seize_words.specs.Reservations.{TriesAt, slot}
-use Rattle.seize_words.specs.Slots.{IsOf, number_of, own_list, slot_of, start_of, written_of}
+use Rattle.seize_words.specs.Slots.{IsOf, number_of, own_list, start_of, written_of}
 use Rattle.seize_words.specs.declared.batch.Count.{Count}
 use Rattle.seize_words.specs.declared.book.pass.Pass.{Pass}
 use Rattle.seize_words.specs.declared.book.slot_key.SlotKey.{SlotKey}
 use Rattle.seize_words.specs.declared.header.Field.{Field}
 use Rattle.seize_words.specs.declared.reservation.Head.{Head}
-use Rattle.seize_words.proofs.Facts.{field_same, plan_used, plan_walked, still_trying, word_walked}
+use Rattle.seize_words.proofs.Facts.{field_same, plan_used, still_trying}
 use Rattle.seize_words_rows.specs.Attempts.{IsLastTry, UsesBoth, home_for}
-use Rattle.seize_words_rows.specs.Walks.{word_for}
 use Rattle.seize_words_rows.specs.declared.attempts.Attempt.{Attempt}
 
 -- what the slot's call is about to do is an insertion, where this is stored
@@ -25,7 +23,7 @@ may_insert key head next first count attempt t written =
     t.its_number ∙ ap (λ (o : Option ℕ). block_of (unwrap_or o 0)) (sym t.its_front) in
     (t.tries, written ∙ ap (λ (k : ℕ). Some (attempt.seen, k)) number, t.fits)
 
-module _ (key key' : SlotKey) (pass pass' : Pass) (f g : ℕ) (v w : Option ℕ) (uses : UsesBoth key pass key' pass' f v g w) (book : IsOf key pass) where
+module _ (key key' : SlotKey) (pass pass' : Pass) (f g v w : ℕ) (uses : UsesBoth key pass key' pass' f v g w) (book : IsOf key pass) where
   pub between : IsOf uses.mid uses.between
   between = uses.one.seen_by.0 ∙ book ∙ sym uses.one.same.0
 
@@ -69,17 +67,3 @@ module _ (key key' : SlotKey) (pass pass' : Pass) (f g : ℕ) (v w : Option ℕ)
         its_next = t.its_next ∙ sym (field_both (slot head) attempt.seen attempt.block t.tries next_field);
         its_first = t.its_first ∙ sym (field_both (slot head) attempt.seen attempt.block t.tries first_field);
       }
-
-  -- and so is a batch that was to be counted down
-  module _ (batch : ℕ) (walk queue : List ℕ) (walking : (slot_of key).call ≡ Some (record { place = Rest [] (batch ∷ walk); queue = queue })) where
-    mid_walking : (slot_of uses.mid).call ≡ Some (record { place = Rest [] (batch ∷ walk); queue = queue })
-    mid_walking = ap (λ slot. slot.call) uses.one.slot ∙ walking
-
-    pub plan_walked_last : slice_index_or (plans (start_of key') (own_list key')) batch no_plan ≡ slice_index_or (plans (start_of uses.mid) (own_list uses.mid)) batch no_plan
-    plan_walked_last = plan_walked uses.mid key' uses.between pass' g w uses.two between batch walk queue mid_walking
-
-    pub word_both : word_for key' walk ≡ word_for key walk
-    word_both =
-        ap (λ (m : ℕ). list_word (λ b. block_for (start_of key') (own_list key') b m) walk) same_both.1
-        ∙ word_walked uses.mid key' uses.between pass' g w uses.two between batch walk queue mid_walking (number_of key)
-        ∙ word_walked key uses.mid pass uses.between f v uses.one book batch walk queue walking (number_of key)

@@ -17,13 +17,14 @@ use Rattle.seize_words.specs.Entry.{Deed, Entry, Made, Use, Used}
 use Rattle.seize_words.specs.Headers.{Uses}
 use Rattle.seize_words.specs.Ledger.{Held, renewed}
 use Rattle.seize_words.specs.Others.{Follows, value_of}
-use Rattle.seize_words.specs.Passes.{IsSame}
-use Rattle.seize_words.specs.Private.{label_of}
+use Rattle.seize_words.specs.Passes.{IsSame, LooksOn}
+use Rattle.seize_words.specs.Private.{key_of, label_of, own_of}
 use Rattle.seize_words.specs.Reservations.{FoundBefore, Shows, beginning, slot}
-use Rattle.seize_words.specs.Slots.{Notes, NotesAs, number_of, own_list, slot_of, start_of}
-use Rattle.seize_words.specs.Tokens.{Name, Noted, start}
+use Rattle.seize_words.specs.Slots.{IsStill, Notes, NotesAs, number_of, own_list, slot_of, start_of}
+use Rattle.seize_words.specs.Tokens.{IsSole, Name, Noted, start}
 use Rattle.seize_words.specs.Values.{Nexts, Pushes, book_in, values_of}
 use Rattle.seize_words.specs.Words.{labels_of}
+use Rattle.seize_words.specs.declared.book.keys.Keys.{Keys}
 use Rattle.seize_words.specs.declared.book.pass.Pass.{Pass}
 use Rattle.seize_words.specs.declared.book.slot_key.SlotKey.{SlotKey}
 use Rattle.seize_words.specs.declared.book.value_key.ValueKey.{ValueKey}
@@ -78,9 +79,9 @@ steps n key key' pass pass' s life event from known to answer notes sees knows g
     )
 
 -- A use of a field leaves what is known, and the slot's key knows it too.
-pub uses_field : (n : Name) (key key' : SlotKey) (pass pass' : Pass) (s f : ℕ) (v : Option ℕ) (now known : Stage) → Uses key pass key' pass' f v → Sees n pass now → Knows n key s known → Leads n pass' key' s now
+pub uses_field : (n : Name) (key key' : SlotKey) (pass pass' : Pass) (s f v : ℕ) (now known : Stage) → Uses key pass key' pass' f v → Sees n pass now → Knows n key s known → Leads n pass' key' s now
 uses_field n key key' pass pass' s f v now known uses sees knows =
-    let u : Use = record { pass = pass.id; slot = number_of key; field = f; stores = v } in
+    let u : Use = record { pass = pass.id; slot = number_of key; field = f; value = v } in
     let noted = subst (λ (m : Name). Noted m pass.id pass.seen pass'.seen (Used u)) sees.book uses.noted in
     let appended : pass'.seen ≡ pass.seen ++ Used u ∷ [] = noted.appended ∙ ap (λ (log : List Entry). log ++ Used u ∷ []) (noted.alone sees.alone) in
     let leads : IsAt n pass'.seen now =
@@ -98,10 +99,22 @@ uses_field n key key' pass pass' s f v now known uses sees knows =
     )
 
 -- so do the uses of two
-pub uses_both : (n : Name) (key key' : SlotKey) (pass pass' : Pass) (s f g : ℕ) (v w : Option ℕ) (now known : Stage) → UsesBoth key pass key' pass' f v g w → Sees n pass now → Knows n key s known → Leads n pass' key' s now
+pub uses_both : (n : Name) (key key' : SlotKey) (pass pass' : Pass) (s f g v w : ℕ) (now known : Stage) → UsesBoth key pass key' pass' f v g w → Sees n pass now → Knows n key s known → Leads n pass' key' s now
 uses_both n key key' pass pass' s f g v w now known uses sees knows =
     let first = uses_field n key uses.mid pass uses.between s f v now known uses.one sees knows in
     uses_field n uses.mid key' uses.between pass' s g w now now uses.two first.0 first.1
+
+-- A look leaves all that is known.
+pub looks_on : (n : Name) (key key' : SlotKey) (pass pass' : Pass) (s : ℕ) (now : Stage) → LooksOn pass pass' → IsStill key key' → Sees n pass now → Knows n key s now → Leads n pass' key' s now
+looks_on n key key' pass pass' s now looks still sees knows =
+    let same : pass'.seen ≡ pass.seen = looks.alone (subst (λ (m : Name). IsSole m.gate) (sym sees.book) sees.alone) in (
+      record { book = looks.same.0 ∙ sees.book; alone = sees.alone; leads = subst (λ (log : List Entry). IsAt n log now) (sym same) sees.leads },
+      record {
+        book = ap (λ (k : Keys). k.name) still ∙ knows.book;
+        number = ap (λ (k : Keys). key_of k.held) still ∙ knows.number;
+        leads = subst (λ (k : Keys). IsAt n (own_of k.held) now) (sym still) knows.leads;
+      },
+    )
 
 -- The slot's record, as its key knows it.
 

@@ -1,5 +1,5 @@
 -- The end of an attempt.
---     UsesBoth key pass key' pass' f v g w     the slot used field f, and then field g: it loaded each, or stored this
+--     UsesBoth key pass key' pass' f v g w     the slot stored v in field f, and then w in field g
 --     IsLastTry key head next first count attempt     the slot's call is about to insert its batch at this head with the block that has
 --                         these fields, and nowhere else; it has won so many insertions, and the batch's count and first block are these
 --     TriesWith .. values     and the keys are those of the batch's values;  KeepsValues values pass' values' result     they stay, or go
@@ -26,8 +26,7 @@ use Rattle.seize_words.specs.declared.reservation.Head.{Head}
 use Rattle.seize_words_rows.specs.declared.attempts.Attempt.{Attempt}
 
 -- with the key and the pass as they were between the two
-pub record UsesBoth (key : SlotKey) (pass : Pass) (key' : SlotKey) (pass' : Pass) (f : ℕ) (v : Option ℕ) (g : ℕ) (w : Option ℕ)
-    : Type 0 where
+pub record UsesBoth (key : SlotKey) (pass : Pass) (key' : SlotKey) (pass' : Pass) (f v g w : ℕ) : Type 0 where
   pub mid : SlotKey
   pub between : Pass
   pub one : Uses key pass mid between f v

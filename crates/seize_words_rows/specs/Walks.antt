@@ -3,8 +3,7 @@
 --     LeadsTo block bs k   this is the number of the first one's block, where there is one
 --     IsAtBlock key next first     the slot's call is about to count down a batch of its walk, and these are the fields of the block with
 --                          which the batch was inserted
---     GoesOn at key' v w   it is the same slot's key, and its call is there still; v leads to the rest of the walk, and w is the number of
---                          the batch's first block
+--     GoesOn at v w        v leads to the rest of the walk, and w is the number of the batch's first block
 use Rattle.std.specs.Prelude.{◌≡◌, ℕ, List, [], ◌∷◌, Option, Some, None}
 use Rattle.seize_machine.specs.Machine.State.{Rest}
 use Rattle.seize_words.specs.Blocks.{block_for, list_word, plans}
@@ -30,8 +29,6 @@ pub record IsAtBlock (key : SlotKey) (next first : Field) : Type 0 where
   pub its_next : number next ≡ next_field (home_for key batch (number_of key))
   pub its_first : number first ≡ first_field (home_for key batch (number_of key))
 
-pub record GoesOn {key : SlotKey} {next first : Field} (at : IsAtBlock key next first) (key' : SlotKey) (v w : ℕ) : Type 0 where
-  pub its : (key'.keys.name ≡ key.keys.name) × (number_of key' ≡ number_of key)
-  pub slot : slot_of key' ≡ slot_of key
-  pub rest : v ≡ word_for key' at.walk
-  pub front : w ≡ front_block (plans (start_of key') (own_list key')) at.batch
+pub record GoesOn {key : SlotKey} {next first : Field} (at : IsAtBlock key next first) (v w : ℕ) : Type 0 where
+  pub rest : v ≡ word_for key at.walk
+  pub front : w ≡ front_block (plans (start_of key) (own_list key)) at.batch

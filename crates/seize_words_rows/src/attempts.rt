@@ -38,7 +38,7 @@ pub fn prepare(
 )
     requires book { IsOf key.old pass.old × IsFieldIn next.now pass.old × IsFieldIn first.now pass.old }
     requires stores { Stores next_field (number next.now) key.old × Stores first_field (number first.now) key.old }
-    ensures uses { UsesBoth key.old pass.old key.new pass.new (number next.now) (Some seen) (number first.now) (Some front) }
+    ensures uses { UsesBoth key.old pass.old key.new pass.new (number next.now) seen (number first.now) front }
     ensures written { written_of key.new ≡ Some (seen, front) }
 {
     next.store(seen, key, pass);

@@ -1,11 +1,11 @@
 //! A step of a walk by words alone: a slot's call goes on through the batches that waited for the slot, from block to block. The word of a
 //! list says with which block its first batch was inserted; the fields of that block say where the list goes on, and where the batch's
 //! count is. Others may step on all these words meanwhile, and add any events.
-ghost use Rattle.std.specs.Prelude.{◌≡◌, ℕ, List, None};
+ghost use Rattle.std.specs.Prelude.{◌≡◌, ℕ, List};
 ghost use Rattle.seize_words.specs.Blocks.{list_word};
-ghost use Rattle.seize_words.specs.Headers.{IsOfBook, number};
-ghost use Rattle.seize_words.specs.Slots.{IsOf};
-ghost use Rattle.seize_words_rows.specs.Attempts.{UsesBoth};
+ghost use Rattle.seize_words.specs.Headers.{IsOfBook};
+ghost use Rattle.seize_words.specs.Passes.{LooksOn};
+ghost use Rattle.seize_words.specs.Slots.{IsOf, IsStill};
 ghost use Rattle.seize_words_rows.specs.Walks.{GoesOn, IsAtBlock, LeadsTo};
 
 use seize_words::book::{Pass, SlotKey};
@@ -23,8 +23,8 @@ pub fn block_at(word: u64) -> Option<u64>
 pub fn look_on(next: &Field, first: &Field, key: &mut SlotKey, pass: &mut Pass) -> (u64, u64)
     requires book { IsOf key.old pass.old × IsOfBook next.now pass.old × IsOfBook first.now pass.old }
     requires at { IsAtBlock key.old next.now first.now }
-    ensures uses { UsesBoth key.old pass.old key.new pass.new (number next.now) None (number first.now) None }
-    ensures goes_on { (at : IsAtBlock key.old next.now first.now) → GoesOn at key.new result.0 result.1 }
+    ensures looks { LooksOn pass.old pass.new × IsStill key.old key.new }
+    ensures goes_on { (at : IsAtBlock key.old next.now first.now) → GoesOn at result.0 result.1 }
 {
     let rest = next.load(key, pass);
     (rest, first.load(key, pass))

@@ -10,7 +10,7 @@ use Rattle.seize_words_rows.specs.Runs.{AreWords, book_of, left, value_of}
 use Rattle.seize_words_rows.specs.Stages.{Knows}
 use Rattle.seize_words_rows.specs.Walks.{IsAtBlock}
 use Rattle.seize_words_rows.specs.declared.worked_run.Words.{Words}
-use Rattle.seize_words_rows.proofs.Stages.{planned_is, record_is, uses_both}
+use Rattle.seize_words_rows.proofs.Stages.{looks_on, planned_is, record_is}
 use Rattle.seize_words_rows.proofs.worked_run.load.Goals as goal
 
 -- the reader's call is about to count down the batch that was inserted with the block
@@ -33,13 +33,12 @@ look_on-requires-clause-at c = at_block c.args.words.now c.args.reader.now c.req
 
 pub returns-clause-found : goal.returns-clause-found
 returns-clause-found c =
-    let words = c.args.words.now in let n = book_of words in let v = value_of words in let one = c.look_on in let stands = c.requires.stands in
-    let after = uses_both n c.args.reader.now one.new.key c.args.pass.now one.new.pass 0 _ _ _ _ (left v) (left v) one.ensures.uses stands.1 stands.2 in
-    let on = one.ensures.goes_on (at_block words c.args.reader.now stands.0 stands.2) in
-    (on.rest, on.front ∙ ap (λ (ps : List Plan). front_block ps 0) (planned_is n one.new.key 0 (left v) after.1) ∙ stands.0.1.2)
+    let words = c.args.words.now in let key = c.args.reader.now in let n = book_of words in let v = value_of words in let stands = c.requires.stands in
+    let on = c.look_on.ensures.goes_on (at_block words key stands.0 stands.2) in
+    (on.rest, on.front ∙ ap (λ (ps : List Plan). front_block ps 0) (planned_is n key 0 (left v) stands.2) ∙ stands.0.1.2)
 
 pub returns-clause-stands : goal.returns-clause-stands
 returns-clause-stands c =
-    let words = c.args.words.now in let n = book_of words in let v = value_of words in let one = c.look_on in let stands = c.requires.stands in
-    let after = uses_both n c.args.reader.now one.new.key c.args.pass.now one.new.pass 0 _ _ _ _ (left v) (left v) one.ensures.uses stands.1 stands.2 in
+    let words = c.args.words.now in let n = book_of words in let one = c.look_on in let stands = c.requires.stands in
+    let after = looks_on n c.args.reader.now one.new.key c.args.pass.now one.new.pass 0 (left (value_of words)) one.ensures.looks.0 one.ensures.looks.1 stands.1 stands.2 in
     (stands.0, after.0, after.1)

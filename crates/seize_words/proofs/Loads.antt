@@ -1,0 +1,78 @@
+-- Loads of a field by a slot's holder: what the word showed.
+use Rattle.std.proofs.Common.{◌≡◌, ℕ, true, unwrap_or, List, [], ◌∷◌, ◌++◌, length, sym, ◌∙◌, ap, subst}
+use Rattle.seize_machine.specs.Machine.State.{State, Rest, linked, are_distinct}
+use Rattle.seize_machine.specs.Machine.Laws.{walk_of}
+use Rattle.seize_machine.specs.Machine.History.{first_of}
+use Rattle.seize_machine.proofs.Facts.{Stands}
+use Rattle.seize_words.specs.Blocks.{Plan, block_for, block_of, list_word, plans}
+use Rattle.seize_words.specs.Book.{IsLegalList, Kept, TheSlot, after, rules}
+use Rattle.seize_words.specs.Chains.{IsChain, first_field, front_block, next_field, served, told}
+use Rattle.seize_words.specs.Entry.{Entry}
+use Rattle.seize_words.specs.Headers.{IsPassing}
+use Rattle.seize_words.specs.Homes.{home_of}
+use Rattle.seize_words.specs.Ledger.{AllKept, Held}
+use Rattle.seize_words.specs.Slots.{IsOf, number_of, own_list, start_of}
+use Rattle.seize_words.specs.Stepping.{LooksAt}
+use Rattle.seize_words.specs.Tokens.{Name, start}
+use Rattle.seize_words.specs.declared.book.pass.Pass.{Pass}
+use Rattle.seize_words.specs.declared.book.slot_key.SlotKey.{SlotKey}
+use Rattle.seize_words.proofs.Lists.{reached_after}
+use Rattle.seize_words.proofs.Chains.{walking_there}
+use Rattle.seize_words.proofs.Plans.{AllLess, blocks_stay, plan_stays, plans_long}
+use Rattle.seize_words.proofs.Private.{one_kept}
+use Rattle.seize_words.proofs.Uses.{at_field, own_legal, served_stays, shown}
+
+module _ (f : ℕ) (key : SlotKey) (pass pass' : Pass) (v : ℕ) (looks : LooksAt (at_field pass.name f) pass.id pass.seen pass'.seen key.keys.held v) (book : IsOf key pass) where
+  abbrev n : Name
+  n = pass.name
+
+  abbrev s : ℕ
+  s = number_of key
+
+  abbrev own : List Entry
+  own = own_list key
+
+  abbrev log : List Entry
+  log = pass'.seen
+
+  abbrev now : State
+  now = after (start n) log
+
+  kept : Kept (start n) TheSlot s own log
+  kept = one_kept (start n) key.keys.held log key.one (subst (λ (vs : List (Held Entry)). AllKept (rules (start n)) (vs ++ key.keys.held) log) looks.found.stands looks.found.before.kept.1)
+
+  distinct : are_distinct (linked n.links) ≡ true
+  distinct = looks.found.distinct
+
+  legal : IsLegalList (start n) log
+  legal = looks.found.before.legal
+
+  loaded : v ≡ told log f
+  loaded = shown n f v pass.id pass.seen key.keys.held looks.since log looks.found
+
+  module _ (which : ℕ → ℕ) (w : IsPassing (start n) s own which f) where
+    stands_now : Stands now s (Rest [] (w.batch ∷ w.walk)) w.queue
+    stands_now = ap (λ slot. slot.call) (sym kept.1.1) ∙ w.walking
+
+    chain : IsChain (plans (start n) log) (told log) s (w.batch ∷ w.walk)
+    chain = subst (λ call. IsChain (plans (start n) log) (told log) s (walk_of call)) stands_now (looks.found.before.chained s).1
+
+    there : AllLess (length (after (start n) own).batches) (w.batch ∷ w.walk)
+    there =
+        let own_legal' = own_legal n f s own log distinct legal kept in
+        subst (λ call. AllLess (length (after (start n) own).batches) (walk_of call)) w.walking (walking_there (after (start n) own) (reached_after n own distinct own_legal') s)
+
+    planned : AllLess (length (plans (start n) own)) (w.batch ∷ w.walk)
+    planned = subst (λ (k : ℕ). AllLess k (w.batch ∷ w.walk)) (sym (plans_long n own (own_legal n f s own log distinct legal kept))) there
+
+    field_now : f ≡ which (home_of (served (plans (start n) log) w.batch s))
+    field_now = w.its ∙ ap (λ (u : ℕ). which (home_of u)) (served_stays n f s own log distinct legal kept w.batch s there.0)
+
+  pub shows_next : (w : IsPassing (start_of key) s own next_field f) → v ≡ list_word (λ b. block_for (start_of key) own b s) w.walk
+  shows_next = subst (λ (z : Name). (w : IsPassing (start z) s own next_field f) → v ≡ list_word (λ b. block_for (start z) own b s) w.walk) (sym book)
+      (λ w. loaded ∙ ap (told log) (field_now next_field w) ∙ (chain next_field w).0.0 ∙ sym (blocks_stay n own log s w.walk kept.0 (planned next_field w).1))
+
+  pub shows_first : (w : IsPassing (start_of key) s own first_field f) → v ≡ front_block (plans (start_of key) own) w.batch
+  shows_first = subst (λ (z : Name). (w : IsPassing (start z) s own first_field f) → v ≡ front_block (plans (start z) own) w.batch) (sym book)
+      (λ w. loaded ∙ ap (told log) (field_now first_field w) ∙ (chain first_field w).0.1
+      ∙ ap (λ (plan : Plan). block_of (unwrap_or (first_of plan.values) 0)) (sym (plan_stays (start n) own log w.batch kept.0 (planned first_field w).0)))
