@@ -17,7 +17,7 @@ use Rattle.seize_words.specs.Book.{kinds}
 use Rattle.seize_words.specs.Ledger.{Held, WithKinds}
 use Rattle.seize_words.specs.Private.{key_of, own_of}
 use Rattle.seize_words.specs.Passes.{IsSame}
-use Rattle.seize_words.specs.Stepping.{LooksAt, MayStepWith, SteppedWith}
+use Rattle.seize_words.specs.Stepping.{Births, LooksAt, MayStepWith, SteppedWith}
 use Rattle.seize_words.specs.Words.{Site, Shows, Stands, site_keys}
 use Rattle.seize_words.specs.declared.activation.Activation.{Activation}
 use Rattle.seize_words.specs.declared.book.keys.Keys.{Keys}
@@ -45,12 +45,12 @@ deed pass life event v log = record { pass = pass.id; size = pass.name.size; eve
 abbrev pub entries : Pass → ℕ → Events → ℕ → List Entry → Entry
 entries pass life event v log = Made (deed pass life event v log)
 
-abbrev pub MayTakeWith : List (ℕ × ℕ) → Site → Keys → Pass → List ℕ → List ℕ → (ℕ → ℕ) → Entries → (ℕ → Bool) → Type 0
+abbrev pub MayTakeWith : Births → Site → Keys → Pass → List ℕ → List ℕ → (ℕ → ℕ) → Entries → (ℕ → Bool) → Type 0
 MayTakeWith births word keys pass alive lives f entry trades =
     (word.name ≡ pass.name) × (keys.name ≡ pass.name)
     × MayStepWith births word pass.id pass.seen keys.held alive lives f entry trades
 
-abbrev pub TakesWith : List (ℕ × ℕ) → Site → Keys → Pass → Keys → Pass → List ℕ → (ℕ → ℕ) → ℕ → Entries → (ℕ → Bool) → Type 0
+abbrev pub TakesWith : Births → Site → Keys → Pass → Keys → Pass → List ℕ → (ℕ → ℕ) → ℕ → Entries → (ℕ → Bool) → Type 0
 TakesWith births word keys pass keys' pass' alive f v entry trades =
     IsSame pass pass' × (keys'.name ≡ keys.name)
     × SteppedWith births word pass.id pass.seen pass'.seen keys.held keys'.held alive v (f v) entry trades

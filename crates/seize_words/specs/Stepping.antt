@@ -56,12 +56,16 @@ beside_then kind trades vs held = if trades then drop (staying kind) held else v
 abbrev pub held_then : Kind → Bool → Keys → Keys → Keys
 held_then kind trades vs held = if trades then take (staying kind) held ++ vs else held
 
--- and those that the step made
-abbrev pub with_births : Keys → List (ℕ × ℕ) → List Entry → Keys
+-- the keys that the step makes, each by its kind and number
+abbrev pub Births : Type 0
+Births = List (ℕ × ℕ)
+
+-- the holder's, and those
+abbrev pub with_births : Keys → Births → List Entry → Keys
 with_births held [] log = held
 with_births held (b ∷ births) log = held ++ born (b ∷ births) log
 
-pub record IsStepWith (births : List (ℕ × ℕ)) (site : Site) (p : ℕ) (held : Keys) (lives : List ℕ) (w : ℕ) (e : Entry) (trades : Bool) (t : At)
+pub record IsStepWith (births : Births) (site : Site) (p : ℕ) (held : Keys) (lives : List ℕ) (w : ℕ) (e : Entry) (trades : Bool) (t : At)
     (own log : List Entry) : Type 0 where
   pub fair : Fair (start site.name) (pass_key p own ∷ in_step site held t) log e
   pub its : maker e ≡ p
@@ -70,14 +74,13 @@ pub record IsStepWith (births : List (ℕ × ℕ)) (site : Site) (p : ℕ) (held
   pub shows : Shows site w (log ++ e ∷ [])
   pub stands : Stands site (log ++ e ∷ []) (renewed (beside_then (kind_of site.kind) trades t.1 held) (log ++ e ∷ []))
 
-abbrev pub MayStepWith : List (ℕ × ℕ) → Site → ℕ → List Entry → List (Held Entry) → List ℕ → List ℕ → (ℕ → ℕ) → (ℕ → List Entry → Entry) → (ℕ → Bool)
-    → Type 0
+abbrev pub MayStepWith : Births → Site → ℕ → List Entry → Keys → List ℕ → List ℕ → (ℕ → ℕ) → (ℕ → List Entry → Entry) → (ℕ → Bool) → Type 0
 MayStepWith births site p seen held alive lives f entry trades =
     WithKinds kinds held
     × ((v : ℕ) (t : At) (own log : List Entry) → FoundAs site v p seen held alive t log
     → IsStepWith births site p held lives (f v) (entry v log) (trades v) t own log)
 
-pub record SteppedWith (births : List (ℕ × ℕ)) (site : Site) (p : ℕ) (seen seen' : List Entry) (held held' : Keys) (alive : List ℕ) (v w : ℕ)
+pub record SteppedWith (births : Births) (site : Site) (p : ℕ) (seen seen' : List Entry) (held held' : Keys) (alive : List ℕ) (v w : ℕ)
     (entry : ℕ → List Entry → Entry) (trades : ℕ → Bool) : Type 0 where
   pub log : List Entry
   pub noted : Noted site.name p seen seen' (entry v log)
@@ -90,7 +93,7 @@ pub record SteppedWith (births : List (ℕ × ℕ)) (site : Site) (p : ℕ) (see
 abbrev pub IsStep : Site → ℕ → Keys → List ℕ → ℕ → Entry → Bool → At → List Entry → List Entry → Type 0
 IsStep = IsStepWith []
 
-abbrev pub MayStep : Site → ℕ → List Entry → List (Held Entry) → List ℕ → List ℕ → (ℕ → ℕ) → (ℕ → List Entry → Entry) → (ℕ → Bool) → Type 0
+abbrev pub MayStep : Site → ℕ → List Entry → Keys → List ℕ → List ℕ → (ℕ → ℕ) → (ℕ → List Entry → Entry) → (ℕ → Bool) → Type 0
 MayStep = MayStepWith []
 
 abbrev pub Stepped : Site → ℕ → List Entry → List Entry → Keys → Keys → List ℕ → ℕ → ℕ → (ℕ → List Entry → Entry) → (ℕ → Bool) → Type 0

@@ -1,6 +1,6 @@
--- What a word of the book is. A word stands for one head, link, count or field, or for the total: its value shows what the list says of it. The word's key
--- stands beside it, in the word's own invariant, so whoever takes an atomic step on the word may add the entry that changes these in that
--- very step, and nobody else may.
+-- What a word of the book is. A word stands for one head, link, count or field, or for the total: its value shows what the list says of
+-- it. The word's key stands beside it, in the word's own invariant, so whoever takes an atomic step on the word may add the entry that
+-- changes these in that very step, and nobody else may.
 --     Site                   which word it is: its book, and the kind and number of what it stands for
 --     IsField site           it is that of a field;  IsTotal site    it is the one that says how many slots there are
 --     Shows site v log       the value v is what the list says

@@ -1,6 +1,6 @@
-//! Words: the memory that threads change by single atomic steps. A word stands for a head, link, count or field of the book, or the total. Its keys
-//! stand beside it, so an atomic step on it is an entry in the list, which the holder of a pass adds in that very step. Heads, links,
-//! counts and fields are made of it.
+//! Words: the memory that threads change by single atomic steps. A word stands for a head, link, count or field of the book, or for the
+//! total. Its keys stand beside it, so an atomic step on it is an entry in the list, which the holder of a pass adds in that very step.
+//! Heads, links, counts, fields and the total are made of it.
 ghost use Rattle.std.specs.Prelude.{◌≡◌, ℕ, ◌<◌, ◌==◌, ◌^◌, Bool, false, if◌then◌else◌, List, []};
 ghost use base.Fml.{fsep, fex};
 ghost use Rattle.seize_machine.specs.Machine.Event.{Return};
@@ -32,8 +32,8 @@ impl Move for Word {
 }
 
 /// The entry of an atomic step, by what the step found in the word and what the list was just before; whether the keys that stand beside
-/// the word's own change places with the holder's; and the keys that the step makes, by kind and number. A caller passes `Brand`, and its proof picks them; those below stand where none
-/// are picked.
+/// the word's own change places with the holder's; and the keys that the step makes, by kind and number. A caller passes `Brand`, and its
+/// proof picks them; those below stand where none are picked.
 pub(crate) trait Finds {
     ghost entry: { ℕ → List Entry → Entry };
 

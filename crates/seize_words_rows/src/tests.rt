@@ -72,6 +72,20 @@ fn words_have_eight_bytes(rt: HostRuntime) {
     assert_eq!(rt; size_of::<Total>(), 8);
 }
 
+// Slots are made one after the other, and whoever loads the total knows how many there are.
+#[test]
+fn the_total_tells_of_each_slot(rt: HostRuntime) {
+    let (book, maker, links) = open(0);
+    let (mut one, mut two) = (book.pass(), book.pass());
+    assert_eq!(rt; maker.total.load(&mut two), 0);
+    let (first, first_head, maker) = maker.make(&mut one);
+    assert_eq!(rt; maker.total.load(&mut two), 1);
+    let (second, second_head, maker) = maker.make(&mut one);
+    assert_eq!(rt; maker.total.load(&mut two), 2);
+    drop((links, maker, first, second));
+    drop((first_head, second_head));
+}
+
 // One slot enters and reads a link, which is empty.
 #[test]
 fn an_empty_link_is_read(rt: HostRuntime) {

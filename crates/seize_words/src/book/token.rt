@@ -35,8 +35,8 @@ impl Book {
     ghost use Rattle.seize_words.specs.Books.{AreOf, Begins, IsAlone, IsCountFor, IsFieldFor, IsFirstIn, IsMany, IsNew, IsNewBlock, Opens, OpensAlone};
     ghost use Rattle.seize_words.specs.Chains.{first_field, next_field};
 
-    /// A new book, of which any number of passes may be made, and its keys. It has no slot yet, and its links are empty. A slot attempts its
-    /// batch when that has `size` values, at least one.
+    /// A new book, of which any number of passes may be made, and its keys. It has no slot yet, and its links are empty. A slot attempts
+    /// its batch when that has `size` values, at least one.
     pub fn open(links: usize, size: usize) -> (Book, BookKeys)
         ensures { Opens result.0 result.1 links size }
     {
