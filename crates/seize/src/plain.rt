@@ -116,7 +116,7 @@ impl<T: Weigh + Drop, R: Copy> Plain<T, R> {
         ensures made { IfOk result (λ owned. (content owned ≡ value) × (owner_of owned ≡ self.now.name)) }
         ensures refused { IfErr result (λ e. e ≡ (NoMemory, value)) }
     {
-        match self.store.add(value, &|| ()) {
+        match self.store.add(value, &|_| ()) {
             Ok(block) => Ok(Owned::of(block)),
             Err(refused) => Err(refused),
         }

@@ -21,7 +21,7 @@ const BOXED: u64 = 150_000;
 /// How many blocks go from one thread to another in a run.
 pub(crate) const PIPED: u64 = 30_000;
 
-fn zero() -> u64 {
+fn zero(_number: usize) -> u64 {
     0
 }
 

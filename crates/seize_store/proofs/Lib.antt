@@ -8,6 +8,8 @@ pub mod Fields
 pub mod Pieces
 pub mod Fielded
 pub mod Tokens
+pub mod Leads
+pub mod Tokened
 pub mod Identities
 pub mod Sends
 pub mod Unique

@@ -22,8 +22,7 @@ use denote.Struct.Struct.{Struct}
 use denote.Struct.Owning.{shape}
 use Rattle.std.specs.declared.alloc.Allocator.{Ghosts}
 use Rattle.seize_store.specs.Body.{plain_ty, row_ty, stride}
-use Rattle.seize_store.specs.Known.{place_in}
-use Rattle.seize_store.specs.Row.{Deed, uncut, strip_by, strip_owns, rooms_own, line, IsRow}
+use Rattle.seize_store.specs.Row.{Deed, uncut, strip_by, strip_owns, rooms_own, line, IsRow, at_entry}
 use Rattle.seize_store.specs.Chunk.{piece, piece_owns}
 use Rattle.seize_store.specs.contracts.chunk.Base as base_row
 use Rattle.seize_store.specs.contracts.strip.Piece as piece_row
@@ -85,19 +84,19 @@ module _ (X R : RattleType) where
   line_length p zero = refl
   line_length p (suc n) = ap suc (line_length (p +ₚ stride X R) n)
 
-  line_at : (b o n i : ℕ) → i < n → place_in (line X R (block_ptr b o) n) i ≡ block_ptr b (i * stride X R + o)
+  line_at : (b o n i : ℕ) → i < n → at_entry (line X R (block_ptr b o) n) i ≡ block_ptr b (i * stride X R + o)
   line_at b o zero i near = absurd (omega arith)
   line_at b o (suc n) zero near = let z = zero-mul (stride X R) in ap (λ (k : ℕ). block_ptr b k) (let r : o ≡ 0 * stride X R + o = omega arith in r)
   line_at b o (suc n) (suc i) near = let m = suc-mul i (stride X R) in line_at b (o + stride X R) n i (omega arith)
       ∙ ap (λ (k : ℕ). block_ptr b k) (let r : i * stride X R + (o + stride X R) ≡ suc i * stride X R + o = omega arith in r)
 
-  line_null : (n i : ℕ) → place_in (line X R null_ptr n) i ≡ null_ptr
+  line_null : (n i : ℕ) → at_entry (line X R null_ptr n) i ≡ null_ptr
   line_null zero i = refl
   line_null (suc n) zero = refl
   line_null (suc n) (suc i) = line_null n i
 
   -- where a row begins, one of whose chunks lies at b, o
-  pub begins_at : (q : Ptr) (n i b o : ℕ) → i < n → place_in (line X R q n) i ≡ block_ptr b o → (k : ℕ) × (q ≡ block_ptr b k) × (i * stride X R + k ≡ o)
+  pub begins_at : (q : Ptr) (n i b o : ℕ) → i < n → at_entry (line X R q n) i ≡ block_ptr b o → (k : ℕ) × (q ≡ block_ptr b k) × (i * stride X R + k ≡ o)
   begins_at (block_ptr c k) n i b o near e = let f = sym (line_at c k n i near) ∙ e in (k, ap (λ (x : ℕ). block_ptr x k) (ap block_of f), ap count_of f)
   begins_at null_ptr n i b o near e = absurd (subst (λ (p : Ptr). denote.RawPtr.InBlock p) (sym (sym (line_null n i) ∙ e)) tt)
 

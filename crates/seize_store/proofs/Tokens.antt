@@ -3,7 +3,7 @@ use Rattle.std.proofs.Common.{◌≡◌, ℕ, [], ◌∷◌, refl, List, ap}
 use seplogic.Ra.Ura.{Ura}
 use mir.Val.{Val, vstruct, vcons, vnil}
 use base.Logic.{SProp, ent, sep, wand, all, emp, via, fst∗, snd∗}
-use base.Stored.{gnil, gcons, coded_list}
+use base.Stored.{gnil, gcons, coded_list, coded×, coded_ℕ}
 use base.Fml.{Lft, Share, Fml, fsep, fobs, fbor, flft}
 use types.Logic.{Logic, sem}
 use types.SemTy.{Body}
@@ -34,14 +34,18 @@ module _ {M : Type 1} {𝓤 : Ura M} (𝓛 : Logic 𝓤) where
   known_made = makes_shadow 𝓛 Data (λ vss. (tt, ((λ uss. (tt, tt)), tt))) ((vstruct vnil ∷ [], tt), (refl, ((tt, (refl, tt)), tt)))
 
   abbrev pub told : Known.Denot → Fml
-  told n = known_row n.store n.row n.places
+  told n = known_row n.store n.row n.chunks
+
+  -- what is known of a row can be had twice
+  pub row_twice : (store : List ℕ) (row : ℕ) (ps : List (Ptr × ℕ)) → ent 𝓤 (sem 𝓛 (known_row store row ps)) (sep 𝓤 (sem 𝓛 (known_row store row ps)) (sem 𝓛 (known_row store row ps)))
+  row_twice store row ps = 𝓛.names.res_dup (name_in store row) (gcons gnil ((coded_list (coded× coded_ptr coded_ℕ)).code ps))
 
   pub known_twice : (n : Known.Denot) → ent 𝓤 (sem 𝓛 (told n)) (sep 𝓤 (sem 𝓛 (told n)) (sem 𝓛 (told n)))
-  known_twice n = 𝓛.names.res_dup (name_in n.store n.row) (gcons gnil ((coded_list coded_ptr).code n.places))
+  known_twice n = row_twice n.store n.row n.chunks
 
-  -- one row has one list of places
-  pub known_agree : (γ : ℕ) (ps qs : List Ptr) → ent 𝓤 (sep 𝓤 (sem 𝓛 (base.Fml.fres γ (gcons gnil ((coded_list coded_ptr).code ps)))) (sem 𝓛 (base.Fml.fres γ (gcons gnil ((coded_list coded_ptr).code qs))))) (fact 𝓤 (ps ≡ qs))
-  known_agree γ ps qs = let c = coded_list coded_ptr in let x = gcons gnil (c.code ps) in let y = gcons gnil (c.code qs) in let P : SProp 𝓤 = 𝓛.A.res γ x in let Q : SProp 𝓤 = 𝓛.A.res γ y in
+  -- one row has one list of chunks
+  pub known_agree : (store : List ℕ) (row : ℕ) (ps qs : List (Ptr × ℕ)) → ent 𝓤 (sep 𝓤 (sem 𝓛 (known_row store row ps)) (sem 𝓛 (known_row store row qs))) (fact 𝓤 (ps ≡ qs))
+  known_agree store row ps qs = let c = coded_list (coded× coded_ptr coded_ℕ) in let γ : ℕ = name_in store row in let x = gcons gnil (c.code ps) in let y = gcons gnil (c.code qs) in let P : SProp 𝓤 = 𝓛.A.res γ x in let Q : SProp 𝓤 = 𝓛.A.res γ y in
       via 𝓤 _ (via 𝓤 _ (conj_i 𝓤 P Q (fst∗ 𝓤 P Q) (snd∗ 𝓤 P Q)) (𝓛.names.res_one γ x y)) (fact_mono 𝓤 (x ≡ y) (ps ≡ qs) (λ e. c.inj ps qs (ap second e)))
 
   module _ (κ : Lft) (q : Share) (b o ν : ℕ) where

@@ -7,17 +7,20 @@
 --     titles_of spots, titles_with ts t      their titles, in order;  with one more, where a full list gives its last 64 back first
 --     count_with n    how many there are when one was put to n
 --     IsSame o p      the blocks o and p have the same value, number, store and place
---     store_by s, row_by s, places_by s     the store and the row of the token s, and where the row's chunks lie
+--     known_by s      what the token s shows of its row
+--     store_by s, row_by s, chunks_by s     the store and the row of the token s, and where the row's chunks lie, with their labels
 --     row_is s n      the row is that of the number n
---     place_by s n    where the chunk of the number n lies
+--     place_by s n, label_by s n     where the chunk of the number n lies, and the label of its header
 --     lies_of p, header_of p   where the chunk p lies, and its header
---     lies o          where the chunk of the block o lies
+--     lies o, label_of o     where the chunk of the block o lies, and the label of its header
 use Rattle.std.specs.Prelude.{◌≡◌, ℕ, ◌+◌, ◌==◌, if◌then◌else◌, List, [], ◌∷◌, ◌++◌, All, map, length, take, vec_len}
 use denote.RawPtr.{Ptr}
 use Rattle.seize_table.specs.Place.{IsPlace}
-use Rattle.seize_store.specs.Known.{entry_of, place_in}
+use Rattle.seize_store.specs.Known.{entry_of, label_in, place_in}
 use Rattle.seize_store.specs.Titled.{names_of, place_of}
+use Rattle.seize_store.specs.Titled as titled
 use Rattle.seize_store.specs.declared.known.Known.{Known}
+use Rattle.seize_store.specs.declared.labelled.Labelled.{Ghosts}
 use Rattle.seize_store.specs.declared.known.Title.{Title}
 use Rattle.seize_store.specs.declared.seen.Place.{Place}
 use Rattle.seize_store.specs.declared.seen.Seen.{Seen}
@@ -25,7 +28,7 @@ use Rattle.seize_store.specs.declared.owned.Owned.{Owned}
 use Rattle.seize_store.specs.declared.spot.Spots.{Spots}
 use Rattle.seize_store.specs.declared.store.Store.{Store}
 
-abbrev pub name_of : {H T : Type 0} → Store H T → List ℕ
+abbrev pub name_of : {H T : Type 0} {g : Ghosts H} → Store H T g → List ℕ
 name_of store = names_of store.rows
 
 abbrev pub store_of : {H T : Type 0} → Owned H T → List ℕ
@@ -61,20 +64,26 @@ count_with count = (if count == 128 then 64 else count) + 1
 abbrev pub IsSame : {H T : Type 0} → Owned H T → Owned H T → Type 0
 IsSame one other = (value_of one ≡ value_of other) × (one.block.title ≡ other.block.title)
 
-abbrev pub store_by : {H T : Type 0} → Seen H T → List ℕ
+abbrev pub known_by : {H T : Type 0} {g : Ghosts H} → Seen H T g → Known
+known_by seen = seen.known
+
+abbrev pub store_by : {H T : Type 0} {g : Ghosts H} → Seen H T g → List ℕ
 store_by seen = seen.known.store
 
-abbrev pub row_by : {H T : Type 0} → Seen H T → ℕ
+abbrev pub row_by : {H T : Type 0} {g : Ghosts H} → Seen H T g → ℕ
 row_by seen = seen.known.row
 
-abbrev pub places_by : {H T : Type 0} → Seen H T → List Ptr
-places_by seen = seen.known.places
+abbrev pub chunks_by : {H T : Type 0} {g : Ghosts H} → Seen H T g → List (Ptr × ℕ)
+chunks_by seen = seen.known.chunks
 
-abbrev pub row_is : {H T : Type 0} → Seen H T → ℕ → Type 0
+abbrev pub row_is : {H T : Type 0} {g : Ghosts H} → Seen H T g → ℕ → Type 0
 row_is seen number = IsPlace number seen.known.row (entry_of seen.known.row number)
 
-abbrev pub place_by : {H T : Type 0} → Seen H T → ℕ → Ptr
-place_by seen number = place_in seen.known.places (entry_of seen.known.row number)
+abbrev pub place_by : {H T : Type 0} {g : Ghosts H} → Seen H T g → ℕ → Ptr
+place_by seen number = place_in seen.known.chunks (entry_of seen.known.row number)
+
+abbrev pub label_by : {H T : Type 0} {g : Ghosts H} → Seen H T g → ℕ → ℕ
+label_by seen number = label_in seen.known.chunks (entry_of seen.known.row number)
 
 abbrev pub lies_of : {H T : Type 0} → Place H T → Ptr
 lies_of place = place.chunk.now.at
@@ -84,6 +93,9 @@ header_of place = place.chunk.now.header
 
 abbrev pub lies : {H T : Type 0} → Owned H T → Ptr
 lies owned = place_of owned.block.title
+
+abbrev pub label_of : {H T : Type 0} → Owned H T → ℕ
+label_of owned = titled.label_of owned.block.title
 
 abbrev pub count_of : {H T : Type 0} → Spots H T → ℕ
 count_of spots = vec_len spots.list

@@ -1,5 +1,6 @@
 -- What those who hold parts of one row's memory share. The row has a ticket for each chunk, and a count, which the head's state word
 -- holds: how many chunks have not been laid back. Whoever lays the last one back has the memory of the whole row: then it is gone.
+use Rattle.std.specs.Prelude.{get_or}
 use Rattle.core.specs.Prelude.{◌≡◌, ℕ, zero, suc, ◌+◌, ◌*◌, ◌^◌, ◌<◌, Bool, true, false, List, [], ◌∷◌, length}
 use mir.Syntax.{Ty, w64, ty_int, ty_ptr}
 use mir.Val.{vint}
@@ -25,6 +26,10 @@ abbrev pub Has : List ℕ → ℕ → ℕ → Type 0
 Has [] i γ = ⊥
 Has (δ ∷ δs) zero γ = δ ≡ γ
 Has (δ ∷ δs) (suc i) γ = Has δs i γ
+
+-- where the row's chunk at an entry lies
+abbrev pub at_entry : List Ptr → ℕ → Ptr
+at_entry places entry = get_or places entry null_ptr
 
 -- γs are δs from the i-th on
 abbrev pub Tail : List ℕ → ℕ → List ℕ → Type 0

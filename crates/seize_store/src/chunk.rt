@@ -4,8 +4,7 @@ ghost use Rattle.std.specs.Prelude.{◌≡◌, ℕ, ◌<◌, List, length, IfSom
 ghost use base.Stored.{coded_list};
 ghost use denote.RawPtr.{Ptr, coded_ptr};
 ghost use denote.Sharing.{said};
-ghost use Rattle.seize_store.specs.Known.{place_in};
-ghost use Rattle.seize_store.specs.Row.{IsRow, fact};
+ghost use Rattle.seize_store.specs.Row.{IsRow, at_entry, fact};
 ghost use Rattle.seize_store.specs.Chunk.{chunk_owns, chunk_shares};
 
 use crate::block::Out;
@@ -76,7 +75,7 @@ impl<H, T> Chunk<H, T> {
 
     /// The header, for as long as the store is shared, found by where the row's chunks begin and not by this handle.
     pub(crate) fn header_by(&self, base: &Base<H, T>, entry: usize) -> &H
-        requires { (entry < length base.now.places) × (chunk_at self.now ≡ place_in base.now.places entry) }
+        requires { (entry < length base.now.places) × (chunk_at self.now ≡ at_entry base.now.places entry) }
         ensures { result.now ≡ self.now.header }
     {
         unsafe { &(*base.at.add(entry)).header }

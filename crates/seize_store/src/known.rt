@@ -1,7 +1,7 @@
 //! What shows where a number leads: a token without bytes, free of the types that the store is made for, and the title of a block.
 //! Blocks and spots carry a title, and `seen` a token.
-ghost use Rattle.std.specs.Prelude.{◌≡◌, ℕ, List, Some};
-ghost use base.Stored.{coded_list};
+ghost use Rattle.std.specs.Prelude.{◌≡◌, ℕ, List};
+ghost use base.Stored.{coded_list, coded×, coded_ℕ};
 ghost use denote.RawPtr.{Ptr, coded_ptr};
 ghost use denote.Sharing.{said};
 ghost use Rattle.seize_table.specs.Place.{IsPlace};
@@ -19,14 +19,14 @@ pub struct Known {
     pub ghost store: { List ℕ },
     /// Which row it is.
     pub ghost row: { ℕ },
-    /// Where its chunks lie.
-    pub ghost places: { List Ptr } by { coded_list coded_ptr },
+    /// Where its chunks lie, and the labels of their headers.
+    pub ghost chunks: { List (Ptr × ℕ) } by { coded_list (coded× coded_ptr coded_ℕ) },
 }
 
 impl Model for Known {
-    ghost also_owns = { λ k. known_row k.store k.row k.places };
+    ghost also_owns = { λ k. known_row k.store k.row k.chunks };
 
-    ghost also_shares = { λ k _ κ. said (known_row k.store k.row k.places) κ };
+    ghost also_shares = { λ k _ κ. said (known_row k.store k.row k.chunks) κ };
 }
 
 impl Drop for Known {

@@ -6,6 +6,7 @@ mod block;
 mod chunk;
 mod identity;
 mod known;
+mod labelled;
 mod owned;
 mod row;
 mod seen;
@@ -14,6 +15,7 @@ mod store;
 mod strip;
 
 pub use known::Known;
+pub use labelled::Labelled;
 pub use owned::{Owned, apart};
 pub use seen::{Place, Seen};
 pub use spot::{SPOTS, Spots};

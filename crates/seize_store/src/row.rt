@@ -1,23 +1,27 @@
 //! A row of chunks, and the cells that the rows stand in. It cuts the memory of `strip` into chunks of `chunk`; `store` keeps the rows.
-ghost use Rattle.std.specs.Prelude.{◌≡◌, ◌<◌, length};
-ghost use Rattle.seize_store.specs.Known.{place_in};
+ghost use Rattle.std.specs.Prelude.{◌≡◌, ◌+◌, ◌^◌, ◌<◌, length};
+ghost use Rattle.seize_store.specs.Known.{chunk_in};
+ghost use Rattle.seize_table.specs.Place.{IsPlace};
+ghost use Rattle.seize_table.specs.Table.{number_at};
 
 use crate::chunk::{Base, Body, Chunk};
 use crate::identity::Identity;
+use crate::labelled::Labelled;
 use crate::seen::Place;
 use crate::strip::{Rooms, Strip};
 use once_cell::race::OnceBox;
+use seize_table::thread_id::{BUCKETS, Thread};
 use std::alloc::{AllocError, Global};
 use std::marker::Model;
 use std_alloc::room::may_hold;
 
 /// A chunk that is closed when its store lets it go.
-pub(crate) struct Kept<H: Drop, T> {
+pub(crate) struct Kept<H: Labelled + Drop, T> {
     pub(crate) chunk: Chunk<H, T>,
     alloc: Global,
 }
 
-impl<H: Drop, T> Drop for Kept<H, T> {
+impl<H: Labelled + Drop, T> Drop for Kept<H, T> {
     fn drop(self) {
         let Self { chunk, alloc } = self;
         let (header, piece) = chunk.close();
@@ -28,47 +32,57 @@ impl<H: Drop, T> Drop for Kept<H, T> {
     }
 }
 
-/// The chunks of a row, seen as the list of where they lie: one after the other, from `base` on.
+/// The chunks of a row, seen as the list of where they lie, one after the other from `base` on, with the labels of their headers.
 #[derive(Drop)]
-pub(crate) struct Row<H: Drop, T> {
+pub(crate) struct Row<H: Labelled + Drop, T> {
     pub(crate) base: Base<H, T>,
     pub(crate) chunks: Vec<Kept<H, T>>,
 }
 
-impl<H: Drop, T> Model for Row<H, T> {
-    ghost use base.Stored.{coded_list};
+impl<H: Labelled + Drop, T> Model for Row<H, T> {
+    ghost use base.Stored.{coded_list, coded×, coded_ℕ};
     ghost use denote.RawPtr.{Ptr, coded_ptr};
-    ghost use Rattle.std.specs.Prelude.{◌≡◌, List, map};
+    ghost use Rattle.std.specs.Prelude.{◌≡◌, ℕ, List, map};
 
-    ghost Value = { List Ptr };
+    ghost Value = { List (Ptr × ℕ) };
 
-    ghost coded = { coded_list coded_ptr };
+    ghost coded = { coded_list (coded× coded_ptr coded_ℕ) };
 
-    ghost view = { λ r. map (λ k. k.chunk.at) r.chunks.items };
+    ghost view = { λ r. map (λ k. (k.chunk.at, H.label k.chunk.header)) r.chunks.items };
 
     ghost invariant = { λ r. r.base.places ≡ map (λ k. k.chunk.at) r.chunks.items };
 }
 
-impl<H: Drop, T> Row<H, T> {
-    ghost use Rattle.seize_store.specs.Named.{lies_of};
+/// The number whose place is that entry of that row.
+pub(crate) fn number_at_place(row: usize, entry: usize) -> usize
+    requires { (row < BUCKETS) × (entry < 2 ^ (row + 5)) }
+    ensures { (result ≡ number_at row entry) × IsPlace result row entry }
+{
+    Thread::bucket_capacity(row) - 32 + entry
+}
 
-    /// A row of so many chunks, all of them in. Where memory is refused, what was taken goes back, and `header` was not called.
-    pub(crate) fn new<F: Fn() -> H>(
+impl<H: Labelled + Drop, T> Row<H, T> {
+    ghost use Rattle.seize_store.specs.Named.{header_of, lies_of};
+
+    /// The row of this index, with all its chunks in. `header` makes the header of each from its number. Where memory is refused, what was
+    /// taken goes back, and `header` was not called.
+    pub(crate) fn new<F: Fn(usize) -> H>(
         alloc: Global,
-        len: usize,
+        bucket: usize,
         header: &F,
     ) -> Result<Row<H, T>, AllocError>
-        requires { F.IsAlwaysCallable header.now }
+        requires { (bucket < BUCKETS) × F.IsAlwaysCallable header.now }
     {
+        let len = Thread::bucket_capacity(bucket);
         let mut chunks = Vec::with_capacity(alloc, len)?;
         if len == usize::MAX || !may_hold::<Body<H, T>>(len + 1) {
             return Err(AllocError);
         }
         let (base, mut strip) = Strip::of(Rooms::take(&alloc, len + 1)?, len as u64);
-        for _ in 0..len {
+        for entry in 0..len {
             let (piece, rest) = strip.cut();
             strip = rest;
-            let chunk = Chunk::of(piece, header());
+            let chunk = Chunk::of(piece, header(number_at_place(bucket, entry)));
             chunks.push_reserved(Kept { chunk, alloc });
         }
         Ok(Row { base, chunks })
@@ -84,7 +98,7 @@ impl<H: Drop, T> Row<H, T> {
     /// The chunk at that entry, and its header.
     pub(crate) fn chunk(&self, entry: usize) -> Place<'_, H, T>
         requires { entry < length self.now }
-        ensures { lies_of result ≡ place_in self.now entry }
+        ensures { (lies_of result, H.label (header_of result)) ≡ chunk_in self.now entry }
     {
         let chunk = &self.chunks[entry].chunk;
         let header = chunk.header_by(&self.base, entry);
@@ -92,20 +106,20 @@ impl<H: Drop, T> Row<H, T> {
     }
 
     /// The same in a box.
-    pub(crate) fn boxed<F: Fn() -> H>(
+    pub(crate) fn boxed<F: Fn(usize) -> H>(
         alloc: Global,
-        len: usize,
+        bucket: usize,
         header: &F,
     ) -> Result<Box<Row<H, T>>, AllocError>
-        requires { F.IsAlwaysCallable header.now }
+        requires { (bucket < BUCKETS) × F.IsAlwaysCallable header.now }
     {
-        Ok(Box::new(alloc, Row::new(alloc, len, header)?)?)
+        Ok(Box::new(alloc, Row::new(alloc, bucket, header)?)?)
     }
 }
 
 /// The cells of the rows, each filled at most once, and what their store alone has.
 #[derive(Drop)]
-pub(crate) struct Rows<H: Drop, T> {
+pub(crate) struct Rows<H: Labelled + Drop, T> {
     pub(crate) cells: [OnceBox<Row<H, T>>; 59],
     pub(crate) identity: Identity,
     ghost all_there: { 59 ≡ length cells },

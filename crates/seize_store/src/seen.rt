@@ -5,6 +5,7 @@ ghost use Rattle.seize_store.specs.Known.{name_in};
 
 use crate::chunk::Chunk;
 use crate::known::Known;
+use crate::labelled::Labelled;
 use crate::row::Row;
 use once_cell::race::Note;
 
@@ -12,13 +13,13 @@ mod find;
 
 /// What shows that a row of a store is made, with all its chunks, for good. It takes no bytes and can be copied.
 #[derive(Drop)]
-pub struct Seen<H: Drop, T> {
+pub struct Seen<H: Labelled + Drop, T> {
     pub(crate) note: Note<Row<H, T>>,
     pub(crate) known: Known,
     ghost cell: { note.cell ≡ name_in known.store known.row },
-    ghost same: { note.known ≡ Some known.places },
+    ghost same: { note.known ≡ Some known.chunks },
     ghost in_store: { known.row < 59 },
-    ghost full: { length known.places ≡ 2 ^ (known.row + 5) },
+    ghost full: { length known.chunks ≡ 2 ^ (known.row + 5) },
 }
 
 /// The chunk of a number.

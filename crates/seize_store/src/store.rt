@@ -1,7 +1,5 @@
 //! The store: rows of chunks by their numbers. It claims chunks of `row`, and gives them out as spots and blocks; look-ups are in `seen`.
 ghost use Rattle.std.specs.Prelude.{◌≡◌, ◌≢◌, ℕ, ◌+◌, ◌-◌, ◌^◌, ◌<◌, ◌⊎◌, length, List, [], ◌∷◌, ◌++◌, IfOk, IfErr, IfSome, Some};
-ghost use Rattle.seize_table.specs.Place.{IsPlace};
-ghost use Rattle.seize_table.specs.Table.{number_at};
 ghost use Rattle.seize_table.specs.declared.refusal.Refusal.TheVariants.{NoMemory};
 ghost use Rattle.seize_store.specs.Known.{name_in, place_in};
 ghost use Rattle.seize_store.specs.Named.{AreOf, count_of, is_empty_list, name_of, store_of, title_of, titles_of, value_of};
@@ -10,8 +8,9 @@ ghost use Rattle.seize_store.specs.Parts.{room_at, spot_store};
 use crate::block::Out;
 use crate::identity::Identity;
 use crate::known::{Known, Title};
+use crate::labelled::Labelled;
 use crate::owned::Owned;
-use crate::row::{Row, Rows};
+use crate::row::{Row, Rows, number_at_place};
 use crate::spot::{Spot, Spots};
 use once_cell::race::{Note, OnceBox};
 use seize_table::Refusal;
@@ -26,22 +25,18 @@ const BEHIND: usize = 8;
 
 /// Blocks by their numbers. Threads share a store by `&`.
 #[derive(Drop)]
-pub struct Store<H: Drop, T> {
+pub struct Store<H: Labelled + Drop, T> {
     pub(crate) rows: Rows<H, T>,
     hint: AtomicUsize,
     alloc: Global,
 }
 
-/// The number whose place is that entry of that row.
-fn number_at_place(row: usize, entry: usize) -> usize
-    requires { (row < BUCKETS) × (entry < 2 ^ (row + 5)) }
-    ensures { (result ≡ number_at row entry) × IsPlace result row entry }
-{
-    Thread::bucket_capacity(row) - 32 + entry
-}
-
 /// Takes the first chunk of the row that is in, from an entry on and before another.
-fn first_in<H: Drop, T>(row: &Row<H, T>, from: usize, end: usize) -> Option<(usize, Out<H, T>)>
+fn first_in<H: Labelled + Drop, T>(
+    row: &Row<H, T>,
+    from: usize,
+    end: usize,
+) -> Option<(usize, Out<H, T>)>
     ensures { IfSome result (λ found. (found.0 < end) × (room_at found.1 ≡ place_in row.now found.0)) }
 {
     let end = end.min(row.chunks.len());
@@ -56,7 +51,7 @@ fn first_in<H: Drop, T>(row: &Row<H, T>, from: usize, end: usize) -> Option<(usi
     None
 }
 
-impl<H: Drop, T> Store<H, T> {
+impl<H: Labelled + Drop, T> Store<H, T> {
     /// A store with no rows. It takes no memory.
     pub fn new(alloc: Global) -> Store<H, T> {
         Store {
@@ -70,7 +65,7 @@ impl<H: Drop, T> Store<H, T> {
     }
 
     /// Two stores that stand at once have different names, whatever they are made for. It does nothing: its contract is the law.
-    pub fn apart<G: Drop, U>(&mut self, other: &mut Store<G, U>)
+    pub fn apart<G: Labelled + Drop, U>(&mut self, other: &mut Store<G, U>)
         ensures names { name_of self.old ≢ name_of other.old }
         ensures same { (name_of self.new ≡ name_of self.old) × (name_of other.new ≡ name_of other.old) }
     {
@@ -78,13 +73,14 @@ impl<H: Drop, T> Store<H, T> {
     }
 
     /// A block of the value, from any thread. It asks for memory only where no chunk was found in, and then makes the first row that is
-    /// missing: row b has 2^(b + 5) chunks, which are written and get their headers from `header` before the call returns. Threads that
-    /// race for a row each make it, and all but one give theirs up. The call looks at each chunk at most twice, and waits for nobody.
+    /// missing: row b has 2^(b + 5) chunks, which are written before the call returns, and `header` makes the header of each from its
+    /// number. Threads that race for a row each make it, and all but one give theirs up. The call looks at each chunk at most twice, and
+    /// waits for nobody.
     ///
     /// # Errors
     ///
     /// `NoMemory` where that growth was refused; the value comes back, and no row was made, though `header` may have been called.
-    pub fn add<F: Fn() -> H>(&self, value: T, header: &F) -> Result<Owned<H, T>, (Refusal, T)>
+    pub fn add<F: Fn(usize) -> H>(&self, value: T, header: &F) -> Result<Owned<H, T>, (Refusal, T)>
     where
         T: Drop,
         requires { F.IsAlwaysCallable header.now }
@@ -102,7 +98,7 @@ impl<H: Drop, T> Store<H, T> {
     /// # Errors
     ///
     /// As `add`, where the list is empty.
-    pub fn add_from<F: Fn() -> H>(
+    pub fn add_from<F: Fn(usize) -> H>(
         &self,
         spots: &mut Spots<H, T>,
         value: T,
@@ -125,7 +121,7 @@ impl<H: Drop, T> Store<H, T> {
     }
 
     // A chunk that was in: from the hint on in its row, or else the first one, in a new row if need be.
-    fn claim<F: Fn() -> H>(&self, header: &F) -> Result<Spot<H, T>, Refusal>
+    fn claim<F: Fn(usize) -> H>(&self, header: &F) -> Result<Spot<H, T>, Refusal>
         requires { F.IsAlwaysCallable header.now }
         ensures ok { IfOk result (λ spot. spot_store spot ≡ name_of self.now) }
         ensures refused { IfErr result (λ e. e ≡ NoMemory) }
@@ -136,9 +132,8 @@ impl<H: Drop, T> Store<H, T> {
         let alloc = self.alloc;
         for bucket in 0..BUCKETS {
             let mut note = self.rows.cells[bucket].note();
-            let len = Thread::bucket_capacity(bucket);
             let row = self.rows.cells[bucket].get_or_try_init_as(
-                move || Row::boxed(alloc, len, header),
+                move || Row::boxed(alloc, bucket, header),
                 &mut note,
             )?;
             if let Some(spot) = self.spot_in(bucket, 0, row, &mut note) {

@@ -1,21 +1,22 @@
 //! What a caller can pass on of the contracts of look-ups and tokens. The clauses here follow from those contracts alone.
 ghost use Rattle.std.specs.Prelude.{◌≡◌, ◌<◌, IfSome, length};
 ghost use Rattle.seize_store.specs.Known.{entry_of};
-ghost use Rattle.seize_store.specs.Named.{lies, lies_of, name_of, number_of, place_by, places_by, row_by, row_is, store_by, store_of};
+ghost use Rattle.seize_store.specs.Named.{chunks_by, header_of, label_of, lies, lies_of, name_of, number_of, row_by, row_is, store_by, store_of};
 
-use crate::values::zeroed;
-use seize_store::{Owned, Place, Seen, Store};
+use crate::values::{Tally, tally_of};
+use seize_store::{Labelled, Owned, Place, Seen, Store};
 use seize_table::Refusal;
-use std::sync::atomic::{AtomicU64, Ordering};
+use std::sync::atomic::Ordering;
 use std::test::*;
 
 // The block's own chunk, by its number alone.
-fn found_chunk<'a, H: Drop, T: Drop>(
+fn found_chunk<'a, H: Labelled + Drop, T: Drop>(
     store: &'a Store<H, T>,
     owned: &Owned<H, T>,
 ) -> Option<Place<'a, H, T>>
     requires { store_of owned.now ≡ name_of store.now }
-    ensures { IfSome result (λ place. lies_of place ≡ lies owned.now) }
+    ensures place { IfSome result (λ place. lies_of place ≡ lies owned.now) }
+    ensures label { IfSome result (λ place. H.label (header_of place) ≡ label_of owned.now) }
 {
     let (place, seen) = store.find(owned.number())?;
     seen.leads_to(owned);
@@ -23,7 +24,7 @@ fn found_chunk<'a, H: Drop, T: Drop>(
 }
 
 // The same by a token of the number's row.
-fn own_chunk<'a, H: Drop, T: Drop>(
+fn own_chunk<'a, H: Labelled + Drop, T: Drop>(
     store: &'a Store<H, T>,
     owned: &Owned<H, T>,
     seen: &mut Seen<H, T>,
@@ -32,13 +33,14 @@ fn own_chunk<'a, H: Drop, T: Drop>(
     requires token { (store_by seen.old ≡ name_of store.now) × row_is seen.old (number_of owned.now) }
     ensures token { seen.new ≡ seen.old }
     ensures place { lies_of result ≡ lies owned.now }
+    ensures label { H.label (header_of result) ≡ label_of owned.now }
 {
     seen.leads_to(owned);
     store.at(owned.number(), seen)
 }
 
 // The same by a token and by a copy of it.
-fn own_chunk_twice<'a, H: Drop, T: Drop>(
+fn own_chunk_twice<'a, H: Labelled + Drop, T: Drop>(
     store: &'a Store<H, T>,
     owned: &Owned<H, T>,
     seen: &mut Seen<H, T>,
@@ -47,6 +49,7 @@ fn own_chunk_twice<'a, H: Drop, T: Drop>(
     requires token { (store_by seen.old ≡ name_of store.now) × row_is seen.old (number_of owned.now) }
     ensures token { seen.new ≡ seen.old }
     ensures places { (lies_of result.0 ≡ lies owned.now) × (lies_of result.1 ≡ lies owned.now) }
+    ensures labels { (H.label (header_of result.0) ≡ label_of owned.now) × (H.label (header_of result.1) ≡ label_of owned.now) }
 {
     let mut again = seen.again();
     (
@@ -55,19 +58,26 @@ fn own_chunk_twice<'a, H: Drop, T: Drop>(
     )
 }
 
+// What two look-ups by tokens of their own say of the chunk's number. They say the same, since both headers have the block's label.
+fn numbers_found(store: &Store<Tally, u64>, owned: &Owned<Tally, u64>) -> Option<(usize, usize)>
+    requires { store_of owned.now ≡ name_of store.now }
+    ensures { IfSome result (λ found. (found.0 ≡ label_of owned.now) × (found.0 ≡ found.1)) }
+{
+    let one = found_chunk(store, owned)?;
+    let other = found_chunk(store, owned)?;
+    Some((one.header().number, other.header().number))
+}
+
 // A number of the token's row has an entry in it.
-fn has_an_entry<H: Drop, T>(seen: &Seen<H, T>, number: usize)
+fn has_an_entry<H: Labelled + Drop, T>(seen: &Seen<H, T>, number: usize)
     requires { row_is seen.now number }
-    ensures { entry_of (row_by seen.now) number < length (places_by seen.now) }
+    ensures { entry_of (row_by seen.now) number < length (chunks_by seen.now) }
 {
     seen.row_length();
 }
 
 // What its chunk's header has once the block's value was added to it by two tokens, and by none.
-fn header_after_look_ups(
-    store: &Store<AtomicU64, u64>,
-    owned: &Owned<AtomicU64, u64>,
-) -> Option<u64>
+fn header_after_look_ups(store: &Store<Tally, u64>, owned: &Owned<Tally, u64>) -> Option<u64>
     requires { store_of owned.now ≡ name_of store.now }
 {
     let mut seen = store.seen(owned.number())?;
@@ -75,20 +85,30 @@ fn header_after_look_ups(
     let (one, other) = own_chunk_twice(store, owned, &mut seen);
     let place = found_chunk(store, owned)?;
     for header in [one.header(), other.header(), place.header()] {
-        header.fetch_add(**owned, Ordering::SeqCst);
+        header.sum.fetch_add(**owned, Ordering::SeqCst);
     }
-    Some(one.header().load(Ordering::SeqCst))
+    Some(one.header().sum.load(Ordering::SeqCst))
 }
 
-// A block of the value, and what its chunk's header has then.
-fn added_and_looked_up(
-    store: &Store<AtomicU64, u64>,
-    value: u64,
-) -> Result<(Owned<AtomicU64, u64>, Option<u64>), Refusal> {
-    match store.add(value, &zeroed) {
+// What look-ups of a block showed: what its chunk's header has then, and the numbers that two of them read there.
+#[derive(Drop)]
+struct Looked {
+    owned: Owned<Tally, u64>,
+    sum: Option<u64>,
+    numbers: Option<(usize, usize)>,
+}
+
+// A block of the value, looked up.
+fn added_and_looked_up(store: &Store<Tally, u64>, value: u64) -> Result<Looked, Refusal> {
+    match store.add(value, &tally_of) {
         Ok(owned) => {
             let sum = header_after_look_ups(store, &owned);
-            Ok((owned, sum))
+            let numbers = numbers_found(store, &owned);
+            Ok(Looked {
+                owned,
+                sum,
+                numbers,
+            })
         }
         Err((refusal, _)) => Err(refusal),
     }
@@ -99,8 +119,13 @@ fn each_look_up_leads_to_the_chunk_of_the_block(rt: HostRuntime) -> Result<(), F
     let store = Store::new(rt.alloc());
     let mut all = Vec::with_capacity(rt.alloc(), 100)?;
     for value in 1..101u64 {
-        let (owned, sum) = added_and_looked_up(&store, value)?;
+        let Looked {
+            owned,
+            sum,
+            numbers,
+        } = added_and_looked_up(&store, value)?;
         assert_eq!(rt; sum, Some(3 * value));
+        assert_eq!(rt; numbers, Some((owned.number(), owned.number())));
         all.push(owned)?;
     }
     Ok(())

@@ -3,8 +3,8 @@ ghost use Rattle.std.specs.Prelude.{◌≡◌};
 ghost use Rattle.seize_store.specs.Named.{AreOf, name_of, title_of, value_of};
 
 use crate::node::Node;
-use crate::values::{Counted, zero, zeroed};
-use seize_store::{Known, Owned, Place, SPOTS, Seen, Spots, Store};
+use crate::values::{Counted, Tally, tally_of, zero};
+use seize_store::{Known, Labelled, Owned, Place, SPOTS, Seen, Spots, Store};
 use seize_table::Refusal;
 use std::alloc::Global;
 use std::mem::size_of;
@@ -91,29 +91,30 @@ fn rows_are_made_one_at_a_time(rt: HostRuntime) -> Result<(), Fail> {
 }
 
 // What the header of the row's last chunk has, by the token that the row's first number gave.
-fn last_of_the_first_row(store: &Store<AtomicU64, u64>) -> Option<u64> {
+fn last_of_the_first_row(store: &Store<Tally, u64>) -> Option<u64> {
     let mut seen = store.seen(0)?;
-    Some(store.at(31, &mut seen).header().load(Ordering::SeqCst))
+    Some(store.at(31, &mut seen).header().sum.load(Ordering::SeqCst))
 }
 
 #[test]
 fn a_number_leads_to_its_own_chunk(rt: HostRuntime) -> Result<(), Fail> {
-    let store: Store<AtomicU64, u64> = Store::new(rt.alloc());
+    let store: Store<Tally, u64> = Store::new(rt.alloc());
     assert!(rt; store.seen(0).is_none());
     let mut all = Vec::with_capacity(rt.alloc(), 200)?;
     for value in 0..200 {
-        all.push(told(store.add(value, &zeroed))?)?;
+        all.push(told(store.add(value, &tally_of))?)?;
     }
     for owned in all.iter() {
         let mut seen = store.seen(owned.number()).expect(&rt, "a row that is made");
         let place = store.at(owned.number(), &mut seen);
-        place.header().fetch_add(**owned, Ordering::SeqCst);
+        place.header().sum.fetch_add(**owned, Ordering::SeqCst);
     }
     for owned in all.iter() {
         let found = store.seen(owned.number()).map(|mut seen| {
             store
                 .at(owned.number(), &mut seen)
                 .header()
+                .sum
                 .load(Ordering::SeqCst)
         });
         assert_eq!(rt; found, Some(**owned));
@@ -183,7 +184,7 @@ fn counts(made: &AtomicU64, ends: &AtomicU64) -> (u64, u64) {
 #[test]
 fn each_header_ends_once_and_with_its_store(rt: HostRuntime) -> Result<(), Fail> {
     let (made, ends) = (AtomicU64::new(0), AtomicU64::new(0));
-    let header = || Counted {
+    let header = |_number: usize| Counted {
         ends: &ends,
         name: made.fetch_add(1, Ordering::SeqCst),
     };
@@ -421,11 +422,11 @@ fn is_shared<T: Sync>(value: &T) -> &T {
 }
 
 // A store is `Send` and `Sync` as its headers are, whatever its values; a block is as its value is.
-fn store_sends<H: Drop + Send, T>(store: Store<H, T>) -> Store<H, T> {
+fn store_sends<H: Labelled + Drop + Send, T>(store: Store<H, T>) -> Store<H, T> {
     is_sent(store)
 }
 
-fn store_shares<H: Drop + Send + Sync, T>(store: &Store<H, T>) -> &Store<H, T> {
+fn store_shares<H: Labelled + Drop + Send + Sync, T>(store: &Store<H, T>) -> &Store<H, T> {
     is_shared(store)
 }
 
@@ -450,7 +451,7 @@ fn known_shares(known: &Known) -> &Known {
     is_shared(known)
 }
 
-fn seen_sends<H: Drop + Send + Sync, T>(seen: Seen<H, T>) -> Seen<H, T> {
+fn seen_sends<H: Labelled + Drop + Send + Sync, T>(seen: Seen<H, T>) -> Seen<H, T> {
     is_sent(seen)
 }
 

@@ -1,5 +1,5 @@
 //! Blocks from several threads.
-use crate::values::{Counted, zero};
+use crate::values::{Counted, Tally, tally_of, zero};
 use seize_store::{Owned, Store};
 use seize_table::Refusal;
 use std::alloc::Global;
@@ -189,4 +189,47 @@ fn a_store_stops_growing(rt: HostRuntime) {
     // A thousand blocks stand at once, so their numbers go to 999 at least. At most 2,000 stand, and one thread alone claims, so a chunk
     // that is in stays in until that thread comes to it: the six rows that have the numbers below 2,016 are enough.
     assert!(rt; early >= 999 && late < 2016, "{early} and {late}");
+}
+
+// How many of the numbers below 200 lead to no header with that number. Each header that is found counts it.
+fn wrongly_labelled(store: &Store<Tally, u64>) -> u64 {
+    let mut wrong = 0u64;
+    for number in 0..200 {
+        let right = store.find(number).is_some_and(|found| {
+            let header = found.0.header();
+            header.sum.fetch_add(1, Ordering::SeqCst);
+            header.number == number
+        });
+        if !right {
+            wrong = wrong.saturating_add(1);
+        }
+    }
+    wrong
+}
+
+fn tallied(alloc: Global, store: &Store<Tally, u64>) -> Option<Vec<Owned<Tally, u64>>> {
+    let mut all = Vec::with_capacity(alloc, 200).ok()?;
+    for value in 0..200 {
+        all.push(store.add(value, &tally_of).ok()?).ok()?;
+    }
+    Some(all)
+}
+
+#[test]
+fn two_threads_find_each_number_at_its_label(rt: HostRuntime) -> Result<(), Fail> {
+    let store = Store::new(rt.alloc());
+    let all = tallied(rt.alloc(), &store).ok_or(Refusal::NoMemory)?;
+    let wrong = thread::join(
+        &rt,
+        || wrongly_labelled(&store),
+        || wrongly_labelled(&store),
+    );
+    assert_eq!(rt; wrong, (0, 0));
+    for owned in all.iter() {
+        let counted = store
+            .find(owned.number())
+            .map(|found| found.0.header().sum.load(Ordering::SeqCst));
+        assert_eq!(rt; counted, Some(2));
+    }
+    Ok(())
 }

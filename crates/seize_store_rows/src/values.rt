@@ -1,10 +1,15 @@
 //! Values that count their ends, and headers.
+use seize_store::Labelled;
 use std::sync::atomic::{AtomicU64, Ordering};
 
 /// A value with a name of its own, which counts its end.
 pub(crate) struct Counted<'a> {
     pub(crate) ends: &'a AtomicU64,
     pub(crate) name: u64,
+}
+
+impl Labelled for Counted<'_> {
+    ghost label = { λ counted. counted.name };
 }
 
 impl Drop for Counted<'_> {
@@ -15,11 +20,25 @@ impl Drop for Counted<'_> {
 }
 
 /// The header of a chunk that no test looks at.
-pub(crate) fn zero() -> u64 {
+pub(crate) fn zero(_number: usize) -> u64 {
     0
 }
 
-/// The header of a chunk in which a test counts.
-pub(crate) fn zeroed() -> AtomicU64 {
-    AtomicU64::new(0)
+/// A header that knows its chunk's number, which is its label, and in which a test counts.
+#[derive(Drop)]
+pub(crate) struct Tally {
+    pub(crate) number: usize,
+    pub(crate) sum: AtomicU64,
+}
+
+impl Labelled for Tally {
+    ghost label = { λ tally. tally.number };
+}
+
+/// The header of the chunk of a number.
+pub(crate) fn tally_of(number: usize) -> Tally {
+    Tally {
+        number,
+        sum: AtomicU64::new(0),
+    }
 }

@@ -3,13 +3,14 @@ ghost use Rattle.std.specs.Prelude.{◌≡◌};
 ghost use Rattle.seize_store.specs.Titled.{IsSeen, Shows};
 
 use super::Known;
+use crate::labelled::Labelled;
 use crate::row::{Row, Rows};
 use once_cell::race::Note;
 use std::marker::PhantomData;
 
 impl Known {
     // Of a note that knows the row of this index.
-    pub(crate) fn of<H: Drop, T>(
+    pub(crate) fn of<H: Labelled + Drop, T>(
         rows: &Rows<H, T>,
         index: usize,
         note: &mut Note<Row<H, T>>,
@@ -34,6 +35,6 @@ impl Known {
     /// Two tokens of one row of one store say the same.
     pub fn agree(&self, other: &Known)
         requires { (self.now.store ≡ other.now.store) × (self.now.row ≡ other.now.row) }
-        ensures { self.now.places ≡ other.now.places }
+        ensures { self.now.chunks ≡ other.now.chunks }
     {}
 }

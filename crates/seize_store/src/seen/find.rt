@@ -1,15 +1,16 @@
 //! Look-ups: from a number to its chunk, in a store that made the number's row. `seen` says what they answer.
 ghost use Rattle.std.specs.Prelude.{◌≡◌, ◌<◌, ◌≤◌, ◌+◌, ◌^◌, length, IfSome};
-ghost use Rattle.seize_store.specs.Named.{header_of, lies, lies_of, name_of, number_of, place_by, places_by, row_by, row_is, store_by, store_of};
+ghost use Rattle.seize_store.specs.Named.{chunks_by, header_of, known_by, label_by, label_of, lies, lies_of, name_of, number_of, place_by, row_by, row_is, store_by, store_of};
 
 use super::{Place, Seen};
 use crate::known::Known;
+use crate::labelled::Labelled;
 use crate::owned::Owned;
 use crate::row::Row;
 use crate::store::Store;
 use seize_table::thread_id::Thread;
 
-impl<H: Drop, T> Seen<H, T> {
+impl<H: Labelled + Drop, T> Seen<H, T> {
     /// A copy, as for another thread.
     pub fn again(&mut self) -> Seen<H, T>
         ensures { (self.new ≡ self.old) × (result ≡ self.old) }
@@ -20,18 +21,27 @@ impl<H: Drop, T> Seen<H, T> {
         }
     }
 
+    /// What it shows of the row, free of the types that the store is made for.
+    pub fn known(&mut self) -> Known
+        ensures { (self.new ≡ self.old) × (result ≡ known_by self.old) }
+    {
+        self.known.again()
+    }
+
     /// How many chunks a row that is made has: twice as many as the row before it, and 32 the first. It does nothing: its contract is the
     /// law.
     pub fn row_length(&self)
-        ensures { length (places_by self.now) ≡ 2 ^ (row_by self.now + 5) }
+        ensures { length (chunks_by self.now) ≡ 2 ^ (row_by self.now + 5) }
     {}
 }
 
-impl<H: Drop, T: Drop> Seen<H, T> {
-    /// Where a look-up of the block's number leads: to the block's own chunk. It does nothing: its contract is the law.
+impl<H: Labelled + Drop, T: Drop> Seen<H, T> {
+    /// Where a look-up of the block's number leads: to the block's own chunk, and to a header with the block's label. It does nothing: its
+    /// contract is the law.
     pub fn leads_to(&self, owned: &Owned<H, T>)
         requires { (store_by self.now ≡ store_of owned.now) × row_is self.now (number_of owned.now) }
-        ensures { place_by self.now (number_of owned.now) ≡ lies owned.now }
+        ensures place { place_by self.now (number_of owned.now) ≡ lies owned.now }
+        ensures label { label_by self.now (number_of owned.now) ≡ label_of owned.now }
     {
         self.known.agree(&owned.block.title().known);
     }
@@ -46,11 +56,12 @@ impl<'a, H, T> Place<'a, H, T> {
     }
 }
 
-impl<H: Drop, T> Store<H, T> {
+impl<H: Labelled + Drop, T> Store<H, T> {
     /// The chunk of a number, and what shows its row, where that is made.
     pub fn find(&self, number: usize) -> Option<(Place<'_, H, T>, Seen<H, T>)>
         ensures row { IfSome result (λ found. (store_by found.1 ≡ name_of self.now) × row_is found.1 number) }
         ensures place { IfSome result (λ found. lies_of found.0 ≡ place_by found.1 number) }
+        ensures label { IfSome result (λ found. H.label (header_of found.0) ≡ label_by found.1 number) }
     {
         let place = Thread::new(number)?;
         let mut note = self.rows.cells[place.bucket].note();
@@ -78,7 +89,9 @@ impl<H: Drop, T> Store<H, T> {
     pub fn at(&self, number: usize, seen: &mut Seen<H, T>) -> Place<'_, H, T>
         requires store { store_by seen.old ≡ name_of self.now }
         requires row { row_is seen.old number }
-        ensures { (seen.new ≡ seen.old) × (lies_of result ≡ place_by seen.old number) }
+        ensures token { seen.new ≡ seen.old }
+        ensures place { lies_of result ≡ place_by seen.old number }
+        ensures label { H.label (header_of result) ≡ label_by seen.old number }
     {
         let Some(place) = Thread::new(number) else {
             unreachable!();
@@ -90,7 +103,7 @@ impl<H: Drop, T> Store<H, T> {
     // The row that the token shows.
     fn row(&self, bucket: usize, seen: &mut Seen<H, T>) -> &Row<H, T>
         requires { (store_by seen.old ≡ name_of self.now) × (row_by seen.old ≡ bucket) × (bucket < 59) }
-        ensures { (seen.new ≡ seen.old) × (result.now ≡ places_by seen.old) }
+        ensures { (seen.new ≡ seen.old) × (result.now ≡ chunks_by seen.old) }
     {
         let Some(row) = self.rows.cells[bucket].get_as(&mut seen.note) else {
             unreachable!();

@@ -34,8 +34,7 @@ use Rattle.std.proofs.Common.{◌≤◌, length, mul-le-mul_right}
 use types.Kit.{split3}
 use denote.RawPtr.{block_ptr}
 use types.Run.{load}
-use Rattle.seize_store.specs.Known.{place_in}
-use Rattle.seize_store.specs.Row.{IsRow, fact as row_fact}
+use Rattle.seize_store.specs.Row.{IsRow, at_entry, fact as row_fact}
 use Rattle.seize_store.specs.contracts.chunk.Base as base_row
 use Rattle.seize_store.proofs.Pieces.{Base, BaseData, base_told, base_opened, begins_at, uncapped}
 
@@ -47,7 +46,7 @@ header_by_spec 𝓤 𝓛 𝓜 𝓡 wired Y Z LY LZ =
     proved 𝓛 En hs c 𝓜 𝓡 (Goes-dropped 𝓛 4 self yes (λ κs x f. refl), (Goes-dropped 𝓛 4 where' yes (λ κs x f. refl), (Goes-dropped 𝓛 4 (plain (λ _. usize)) yes (λ κs x f. refl), tt))) (#self inst) fn (code.unfolded 𝓤 H 𝓜 𝓡 wired (Y, (Z, tt)))
     (λ κs. (shr_vals, (shr_vals, (uint_vals w64, tt)))) (λ κs. (shr_Tells (named 0) κs.0 Row, (shr_Tells (named 1) κs.1.0 B, (uint_Tells w64, tt)))) (λ κs qs bounds a gh are.
     let rb : ℕ = a.0.ref_ptr.0 in let ro : ℕ = a.0.ref_ptr.1 in let wb : ℕ = a.1.0.ref_ptr.0 in let wo : ℕ = a.1.0.ref_ptr.1 in let κ : Lft = κs.0 in let μ : Lft = κs.1.0 in let d : Row.Denot = a.0.now in let p : Ptr = d.at in let x : Y.Denot = d.header in let others : Fml = fsep (flft κs.1.1.0 qs.1.1.0) (fsep (flft κs.1.1.1.0 qs.1.1.1.0) ftrue) in
-    let g : B.Denot = a.1.0.now in let base : Ptr = g.at in let n : ℕ = a.1.1.0 in let Asked : Type 0 = (n < length g.places) × (p ≡ place_in g.places n) in let Row' : Type 0 = IsRow X R base g.places in
+    let g : B.Denot = a.1.0.now in let base : Ptr = g.at in let n : ℕ = a.1.1.0 in let Asked : Type 0 = (n < length g.places) × (p ≡ at_entry g.places n) in let Row' : Type 0 = IsRow X R base g.places in
     let y : (walk_of 𝓛 En hs c).Ghost = ((κs, qs, bounds, a, (vptr rb ro ∷ [], (vptr wb wo ∷ [], (vint w64 n ∷ [], tt)))), gh) in let Post : Val → SProp 𝓤 = (walk_of 𝓛 En hs c).post y in let us : List Val = vptr rb ro ∷ vptr wb wo ∷ vint w64 n ∷ [] in
     qed 𝓛 (((‵ (flft κ qs.0) ⊛ ‵ (flft μ qs.1.0) ⊛ ‵ others) ⊛ ‵ (owns (types_at En.signature.params κs) a y.0.4)) ∷ raw (fact 𝓤 _) ∷ raw (fact 𝓤 _) ∷ raw (fact 𝓤 Asked) ∷ []) ∵
     move ! (3 ∷ []) $ heard ! Asked (λ asked. keep ! (0 ∷ []) $ split ! $ split3 ! $ move ! (3 ∷ []) $ fsplit ! $ fsplit ! $ move ! (2 ∷ []) $ fsplit ! $ fsplit ! $ keep ! (4 ∷ 1 ∷ 5 ∷ 6 ∷ 7 ∷ []) $
@@ -56,7 +55,7 @@ header_by_spec 𝓤 𝓛 𝓜 𝓡 wired Y Z LY LZ =
     use1 𝓛 (‵ (hidden_shr E μ (base, tt) wb wo) ⊛ ‵ (fhide (row_fact Row'))) (lent_out 𝓛 (base_row.struct X R) (base_row.the_codes Y.Denot Z.Denot X.coded R.coded) (base_row.the_heap X R) (base_row.the_lent X R) μ g wb wo) $
     split ! $ move ! (1 ∷ []) $ unhide ! $ fpick ! (λ is_row. drop ! $
     -- [the fields of the base; what a `&` to the header holds; the chunk's token; the base's token; others]
-    let from = begins_at X R base (length g.places) n b o asked.0 (subst (λ (ps : List Ptr). place_in ps n ≡ block_ptr b o) is_row.0 (sym asked.1 ∙ e)) in let k : ℕ = from.0 in let there : Val = vptr b (header_at X R o) in
+    let from = begins_at X R base (length g.places) n b o asked.0 (subst (λ (ps : List Ptr). at_entry ps n ≡ block_ptr b o) is_row.0 (sym asked.1 ∙ e)) in let k : ℕ = from.0 in let there : Val = vptr b (header_at X R o) in
     let most : n * s ≤ length g.places * s = mul-le-mul_right s (let z = asked.0 in let r : n ≤ length g.places = omega arith in r) in let small : n * s < 2 ^ 64 = (let z = is_row.1 in omega arith) in
     enter ! 𝓣.C 𝓣.Λ fn us Post $ alloc_all ! (λ l. pass_all ! refl ((tt, tt), ((tt, tt), ((tt, record { fits = are.1.1.0.1 }), tt))) $ let Ev = env fn.locals l in first ! $ blocks ! $
     move ! (0 ∷ 3 ∷ []) $ looks ! tt E (base_opened X R 𝓛) (base, tt) wb wo (λ q vs. move ! (1 ∷ []) $ peeks ! E (Is E) (shows 𝓛 E) (base, tt) vs (λ so.

@@ -12,10 +12,10 @@ same_row : (s t : Title) → s.number ≡ t.number → s.known.row ≡ t.known.r
 same_row s t e = let r = t.known.row in
     one_bucket s.number s.known.row (entry_of s.known.row s.number) r (entry_of r s.number) s.placed (subst (λ (k : ℕ). IsPlace k r (entry_of r k)) (sym e) t.placed)
 
--- and, in one list of places, at one place
-same_place : (s t : Title) → s.number ≡ t.number → s.known.places ≡ t.known.places → place_of s ≡ place_of t
+-- and, in one list of chunks, at one place
+same_place : (s t : Title) → s.number ≡ t.number → s.known.chunks ≡ t.known.chunks → place_of s ≡ place_of t
 same_place s t e p =
-    ap (λ (ps : List Ptr). place_in ps (entry_of s.known.row s.number)) p ∙ (ap (λ (r : ℕ). place_in t.known.places (entry_of r s.number)) (same_row s t e) ∙ ap (λ (k : ℕ). place_in t.known.places (entry_of t.known.row k)) e)
+    ap (λ (ps : List (Ptr × ℕ)). place_in ps (entry_of s.known.row s.number)) p ∙ (ap (λ (r : ℕ). place_in t.known.chunks (entry_of r s.number)) (same_row s t e) ∙ ap (λ (k : ℕ). place_in t.known.chunks (entry_of t.known.row k)) e)
 
 -- src/spot.rt:51:9
 pub agree-requires : goal.agree-requires

@@ -1,7 +1,7 @@
 use Rattle.std.proofs.Common.{◌≡◌, ℕ, ◌+◌, ◌^◌, ◌<◌, List, length, sym, ap, ◌∙◌, subst, arith, lit<}
 use denote.RawPtr.{Ptr}
 use Rattle.seize_table.proofs.Places.{one_place}
-use Rattle.seize_store.specs.Known.{entry_of, place_in}
+use Rattle.seize_store.specs.Known.{chunk_in, entry_of}
 use Rattle.seize_store.proofs.store.Store.at.Goals as goal
 
 -- src/seen/find.rt:57:13
@@ -13,13 +13,14 @@ row-row-requires g c = let r = c.args.seen.now.known.row in let n = c.args.numbe
 pub chunk-requires : goal.chunk-requires
 chunk-requires g c = let seen = c.args.seen.now in let r = seen.known.row in let n = c.args.number in let at = c.in-Some.place in
     let same = (one_place n r (entry_of r n) at.bucket at.entry c.requires.row c.in-Some.ensures.place).0 in
-    let full : length seen.known.places ≡ 2 ^ (at.bucket + 5) = seen.full ∙ ap (λ (k : ℕ). 2 ^ (k + 5)) same in
+    let full : length seen.known.chunks ≡ 2 ^ (at.bucket + 5) = seen.full ∙ ap (λ (k : ℕ). 2 ^ (k + 5)) same in
     let within = c.in-Some.ensures.place.within in
-    let inside : at.entry < length seen.known.places = omega arith in
-    subst (λ (ps : List Ptr). at.entry < length ps) (sym c.row-row.ensures.1) inside
+    let inside : at.entry < length seen.known.chunks = omega arith in
+    subst (λ (ps : List (Ptr × ℕ)). at.entry < length ps) (sym c.row-row.ensures.1) inside
 
 -- src/seen/find.rt:49:5
 pub returns : goal.returns
-returns g c = let r = c.args.seen.now.known.row in let n = c.args.number in let at = c.in-Some.place in
+returns g c = let r = c.args.seen.now.known.row in let n = c.args.number in let at = c.in-Some.place in let ps = c.args.seen.now.known.chunks in
     let same = (one_place n r (entry_of r n) at.bucket at.entry c.requires.row c.in-Some.ensures.place).1 in
-    (c.row-row.ensures.0, c.chunk.ensures ∙ (ap (λ (ps : List Ptr). place_in ps at.entry) c.row-row.ensures.1 ∙ ap (λ (e : ℕ). place_in c.args.seen.now.known.places e) (sym same)))
+    let one = c.chunk.ensures ∙ (ap (λ (qs : List (Ptr × ℕ)). chunk_in qs at.entry) c.row-row.ensures.1 ∙ ap (λ (e : ℕ). chunk_in ps e) (sym same)) in
+    record { token = c.row-row.ensures.0; place = ap (λ (x : Ptr × ℕ). x.0) one; label = ap (λ (x : Ptr × ℕ). x.1) one }

@@ -1,5 +1,5 @@
 use Rattle.std.proofs.Common.{ℕ, ◌+◌, ◌^◌, ◌≤◌, arith, pow_mono}
-use Rattle.seize_store.proofs.store.number_at_place.Goals as goal
+use Rattle.seize_store.proofs.row.number_at_place.Goals as goal
 
 high : (row : ℕ) → 32 ≤ 2 ^ (row + 5)
 high row = let first : 5 ≤ row + 5 = omega arith in pow_mono first

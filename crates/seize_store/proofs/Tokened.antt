@@ -1,0 +1,23 @@
+-- Two tokens of a row with the same note and the same content are one: all else of a token is a fact. A note is its cell and what it knows.
+use Rattle.std.proofs.Common.{◌≡◌, ◌+◌, ◌^◌, ◌<◌, length}
+use Rattle.std.specs.Coded.{Coded-set, coded_ℕ, coded_list, coded×, coded_option, le_prop}
+use Rattle.std.specs.declared.option.Option.TheVariants.{Some}
+use mathlib.Core.HLevel.{is_prop→PathP}
+use denote.RawPtr.{coded_ptr}
+use Rattle.once_cell.specs.declared.race.note.Note.{Note}
+use Rattle.seize_store.specs.Known.{name_in}
+use Rattle.seize_store.specs.declared.labelled.Labelled.{Ghosts}
+use Rattle.seize_store.specs.declared.seen.Seen.{Seen}
+
+pub token_is : {H T : Type 0} {g : Ghosts H} (s t : Seen H T g) → s.note ≡ t.note → s.known ≡ t.known → s ≡ t
+token_is s t e f = λ i. record {
+  note = e i;
+  known = f i;
+  cell = is_prop→PathP (λ j. (e j).cell ≡ name_in (f j).store (f j).row) (λ j. Coded-set coded_ℕ _ _) s.cell t.cell i;
+  same = is_prop→PathP (λ j. (e j).known ≡ Some (f j).chunks) (λ j. Coded-set (coded_option (coded_list (coded× coded_ptr coded_ℕ))) _ _) s.same t.same i;
+  in_store = is_prop→PathP (λ j. (f j).row < 59) (λ j. le_prop) s.in_store t.in_store i;
+  full = is_prop→PathP (λ j. length (f j).chunks ≡ 2 ^ ((f j).row + 5)) (λ j. Coded-set coded_ℕ _ _) s.full t.full i;
+}
+
+pub note_is : {X : Type 0} (m n : Note X) → m.cell ≡ n.cell → m.known ≡ n.known → m ≡ n
+note_is m n e f = λ i. record { marker = record {}; cell = e i; known = f i }
