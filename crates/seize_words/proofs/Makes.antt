@@ -191,7 +191,7 @@ module _ (n : Name) (a b : List (Held Entry)) where
         known =
             let none : t.1 ≡ [] = found.stands in
             let kept = subst (λ (hs : List (Held Entry)). AllKept (rules st) (in_step (at_total n) hs (t.0, [])) log) joined
-                (subst (λ (vs : List (Held Entry)). AllKept (rules st) (in_step (at_total n) (a ++ b) (t.0, vs)) log) none found.before.kept) in
+            (subst (λ (vs : List (Held Entry)). AllKept (rules st) (in_step (at_total n) (a ++ b) (t.0, vs)) log) none found.before.kept) in
             now log kept.1.0.1
 
         -- the keys then

@@ -85,8 +85,8 @@ module _ (word : Site) (numbers_ : NumbersKey) (key : SlotKey) (pass : Pass) (bo
     pub told : TakesWith (of_slot (suc (length (state_of both).slots))) word both pass keys' pass' [] (plus 1) v (entries pass 0 (λ v log. Take (length (state_of both).slots))) (λ v. false) → Told keys' pass'
     told took =
         let step : SteppedWith (of_slot (suc s)) (at_total n) pass.id pass.seen pass'.seen (a ++ b) keys'.held [] v (plus 1 v) event (λ v. false) =
-            subst (λ (t : Site × (List (Held Entry) × ℕ)). SteppedWith (of_slot (suc t.1.1)) t.0 pass.id pass.seen pass'.seen t.1.0 keys'.held [] v (plus 1 v) (entries pass 0 (λ v log. Take t.1.1)) (λ v. false))
-            (λ j. (is_word j, (joined.1 j, many j))) took.2 in
+        subst (λ (t : Site × (List (Held Entry) × ℕ)). SteppedWith (of_slot (suc t.1.1)) t.0 pass.id pass.seen pass'.seen t.1.0 keys'.held [] v (plus 1 v) (entries pass 0 (λ v log. Take t.1.1)) (λ v. false))
+        (λ j. (is_word j, (joined.1 j, many j))) took.2 in
         let noted = step.noted in
         let found = subst (λ (log : List Entry). FoundAs (at_total n) v pass.id pass.seen (a ++ b) [] step.since log) (sym step.is_log) step.found in
         let reached = reached_after n noted.before noted.distinct found.before.legal in

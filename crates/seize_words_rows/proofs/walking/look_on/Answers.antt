@@ -23,7 +23,7 @@ pub returns-clause-goes_on : goal.returns-clause-goes_on
 returns-clause-goes_on c =
     λ at. let key = c.args.key.now in let first = c.args.first.now in
     let shows = subst (λ (k : Keys). (w : IsPassing (start k.name) (key_of k.held) (own_of k.held) first_field (number first)) → c.load.result ≡ front_block (plans (start k.name) (own_of k.held)) w.batch)
-        c.load-rest.ensures.looks.1 c.load.ensures.shows.1 in
+    c.load-rest.ensures.looks.1 c.load.ensures.shows.1 in
     record {
       rest = c.load-rest.ensures.shows.0 (record { batch = at.batch; walk = at.walk; queue = at.queue; walking = at.walking; its = at.its_next });
       front = shows (record { batch = at.batch; walk = at.walk; queue = at.queue; walking = at.walking; its = at.its_first });
