@@ -1,14 +1,15 @@
 -- Loads of a field by a slot's holder: what the word showed.
-use Rattle.std.proofs.Common.{◌≡◌, ℕ, true, unwrap_or, List, [], ◌∷◌, ◌++◌, length, sym, ◌∙◌, ap, subst}
+use Rattle.std.proofs.Common.{◌≡◌, ℕ, ◌<◌, true, unwrap_or, List, [], ◌∷◌, ◌++◌, length, Option, Some, refl, sym, ◌∙◌, ap, subst, arith}
 use Rattle.seize_machine.specs.Machine.State.{State, Rest, linked, are_distinct}
-use Rattle.seize_machine.specs.Machine.Laws.{walk_of}
+use Rattle.std.specs.Prelude.{slice_index_or}
+use Rattle.seize_machine.specs.Machine.Laws.{IsHeld, walk_of}
 use Rattle.seize_machine.specs.Machine.History.{first_of}
-use Rattle.seize_machine.proofs.Facts.{Stands}
-use Rattle.seize_words.specs.Blocks.{Plan, block_for, block_of, list_word, plans}
+use Rattle.seize_machine.proofs.Facts.{Stands, held_full}
+use Rattle.seize_words.specs.Blocks.{front_of, no_plan, Plan, block_for, block_of, list_word, plans}
 use Rattle.seize_words.specs.Book.{IsLegalList, Kept, TheSlot, after, rules}
-use Rattle.seize_words.specs.Chains.{IsChain, first_field, front_block, next_field, served, told}
+use Rattle.seize_words.specs.Chains.{IsChain, first_field, next_field, served, told}
 use Rattle.seize_words.specs.Entry.{Entry}
-use Rattle.seize_words.specs.Headers.{IsPassing}
+use Rattle.seize_words.specs.Headers.{IsFrontBlock, IsPassing}
 use Rattle.seize_words.specs.Homes.{home_of}
 use Rattle.seize_words.specs.Ledger.{AllKept, Held}
 use Rattle.seize_words.specs.Slots.{IsOf, number_of, own_list, start_of}
@@ -19,6 +20,7 @@ use Rattle.seize_words.specs.declared.book.slot_key.SlotKey.{SlotKey}
 use Rattle.seize_words.proofs.Lists.{reached_after}
 use Rattle.seize_words.proofs.Chains.{walking_there}
 use Rattle.seize_words.proofs.Plans.{AllLess, blocks_stay, plan_stays, plans_long}
+use Rattle.seize_words.proofs.Fronts.{held_values, walked_held}
 use Rattle.seize_words.proofs.Private.{one_kept}
 use Rattle.seize_words.proofs.Uses.{at_field, own_legal, served_stays, shown}
 
@@ -72,7 +74,27 @@ module _ (f : ℕ) (key : SlotKey) (pass pass' : Pass) (v : ℕ) (looks : LooksA
   shows_next = subst (λ (z : Name). (w : IsPassing (start z) s own next_field f) → v ≡ list_word (λ b. block_for (start z) own b s) w.walk) (sym book)
       (λ w. loaded ∙ ap (told log) (field_now next_field w) ∙ (chain next_field w).0.0 ∙ sym (blocks_stay n own log s w.walk kept.0 (planned next_field w).1))
 
-  pub shows_first : (w : IsPassing (start_of key) s own first_field f) → v ≡ front_block (plans (start_of key) own) w.batch
-  shows_first = subst (λ (z : Name). (w : IsPassing (start z) s own first_field f) → v ≡ front_block (plans (start z) own) w.batch) (sym book)
-      (λ w. loaded ∙ ap (told log) (field_now first_field w) ∙ (chain first_field w).0.1
-      ∙ ap (λ (plan : Plan). block_of (unwrap_or (first_of plan.values) 0)) (sym (plan_stays (start n) own log w.batch kept.0 (planned first_field w).0)))
+  -- the batch that is to be counted down has values, and so a front
+  has_first : (xs : List ℕ) → 0 < length xs → (x : ℕ) × (first_of xs ≡ Some x)
+  has_first [] full = absurd (omega (arith, full))
+  has_first (x ∷ xs) full = (x, refl)
+
+  module _ (w : IsPassing (start n) s own first_field f) where
+    abbrev plan_then : List Entry → Plan
+    plan_then list = slice_index_or (plans (start n) list) w.batch no_plan
+
+    held : IsHeld now w.batch
+    held = walked_held now s w.batch w.walk w.queue (stands_now first_field w)
+
+    front : (x : ℕ) × (first_of (plan_then log).values ≡ Some x)
+    front = has_first (plan_then log).values (subst (λ (values : List ℕ). 0 < length values) (held_values n log distinct legal w.batch held) (held_full now (reached_after n log distinct legal) w.batch held))
+
+    shown_front : (front_of (start n) own w.batch ≡ Some front.0) × (v ≡ block_of front.0)
+    shown_front = (
+      ap (λ (plan : Plan). first_of plan.values) (plan_stays (start n) own log w.batch kept.0 (planned first_field w).0) ∙ front.1,
+      loaded ∙ ap (told log) (field_now first_field w) ∙ (chain first_field w).0.1 ∙ ap (λ (o : Option ℕ). block_of (unwrap_or o 0)) front.1,
+    )
+
+  pub shows_first : (w : IsPassing (start_of key) s own first_field f) → IsFrontBlock key w.batch v
+  shows_first = subst (λ (z : Name). (w : IsPassing (start z) s own first_field f) → (x : ℕ) × (front_of (start z) own w.batch ≡ Some x) × (v ≡ block_of x)) (sym book)
+      (λ w. let its = shown_front w in ((front w).0, its.0, its.1))

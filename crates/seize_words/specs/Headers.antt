@@ -8,14 +8,15 @@
 --     MayStore field key, Wrote field key key' value     it is one of them;  the value was stored there, and not in the other
 --     Passes which f key                the slot's call is about to count down the next batch of its walk, and f is that field of the block
 --                                       with which this was inserted
---     MayLoad field key, Shows field key v     it is one of them;  v leads on through the rest of the walk, or to the batch's first block
+--     MayLoad field key, Shows field key v     it is one of them;  v leads on through the rest of the walk, or to the batch's first block:
+--                                       then the batch has a front, and this is the number of its block (IsFrontBlock)
 --     HasWritten key next batch         these are stored: this next, and the first block of this batch
 --     Uses key pass key' pass' f v      the entry was noted: the slot stored this in the field; and its record is as it was, and so is
 --                                       whether it is active, and its last activation
 use Rattle.std.specs.Prelude.{◌≡◌, ℕ, List, [], ◌∷◌, Some, unwrap_or, ◌⊎◌}
 use mathlib.Core.List.{IsPrefix}
 use Rattle.seize_machine.specs.Machine.State.{State, Rest, Try, slot_at}
-use Rattle.seize_words.specs.Blocks.{block_for, list_word, plans}
+use Rattle.seize_words.specs.Blocks.{block_for, block_of, front_of, list_word, plans}
 use Rattle.seize_words.specs.Book.{after}
 use Rattle.seize_words.specs.Chains.{first_field, front_block, next_field, served, told}
 use Rattle.seize_words.specs.Entry.{Entry, Used}
@@ -89,10 +90,14 @@ Passes which f key = IsPassing (start_of key) (number_of key) (own_list key) whi
 abbrev pub MayLoad : Field → SlotKey → Type 0
 MayLoad field key = Passes next_field (number field) key ⊎ Passes first_field (number field) key
 
+-- it is the number of the block of the batch's first value
+abbrev pub IsFrontBlock : SlotKey → ℕ → ℕ → Type 0
+IsFrontBlock key b v = (front : ℕ) × (front_of (start_of key) (own_list key) b ≡ Some front) × (v ≡ block_of front)
+
 abbrev pub Shows : Field → SlotKey → ℕ → Type 0
 Shows field key v =
     ((w : Passes next_field (number field) key) → v ≡ list_word (λ b. block_for (start_of key) (own_list key) b (number_of key)) w.walk)
-    × ((w : Passes first_field (number field) key) → v ≡ front_block (plans (start_of key) (own_list key)) w.batch)
+    × ((w : Passes first_field (number field) key) → IsFrontBlock key w.batch v)
 
 -- The entry.
 

@@ -6,9 +6,9 @@
 --     GoesOn at v w        v leads to the rest of the walk, and w is the number of the batch's first block
 use Rattle.std.specs.Prelude.{◌≡◌, ℕ, List, [], ◌∷◌, Option, Some, None}
 use Rattle.seize_machine.specs.Machine.State.{Rest}
-use Rattle.seize_words.specs.Blocks.{block_for, list_word, plans}
-use Rattle.seize_words.specs.Chains.{first_field, front_block, next_field}
-use Rattle.seize_words.specs.Headers.{number}
+use Rattle.seize_words.specs.Blocks.{block_for, list_word}
+use Rattle.seize_words.specs.Chains.{first_field, next_field}
+use Rattle.seize_words.specs.Headers.{IsFrontBlock, number}
 use Rattle.seize_words.specs.Slots.{number_of, own_list, slot_of, start_of}
 use Rattle.seize_words.specs.declared.book.slot_key.SlotKey.{SlotKey}
 use Rattle.seize_words.specs.declared.header.Field.{Field}
@@ -31,4 +31,4 @@ pub record IsAtBlock (key : SlotKey) (next first : Field) : Type 0 where
 
 pub record GoesOn {key : SlotKey} {next first : Field} (at : IsAtBlock key next first) (v w : ℕ) : Type 0 where
   pub rest : v ≡ word_for key at.walk
-  pub front : w ≡ front_block (plans (start_of key) (own_list key)) at.batch
+  pub front : IsFrontBlock key at.batch w

@@ -1,8 +1,8 @@
-use Rattle.std.proofs.Common.{◌≡◌, sym, subst, ◌∙◌, inr}
-use Rattle.seize_words.specs.Chains.{first_field, front_block}
+use Rattle.std.proofs.Common.{◌≡◌, ℕ, Some, sym, subst, ◌∙◌, inr}
+use Rattle.seize_words.specs.Chains.{first_field}
 use Rattle.seize_words.specs.Headers.{IsPassing, Passes, number}
 use Rattle.seize_words.specs.Private.{key_of, own_of}
-use Rattle.seize_words.specs.Blocks.{plans}
+use Rattle.seize_words.specs.Blocks.{block_of, front_of}
 use Rattle.seize_words.specs.Tokens.{start}
 use Rattle.seize_words.specs.declared.book.keys.Keys.{Keys}
 use Rattle.seize_words.proofs.Facts.{looks_twice}
@@ -22,7 +22,7 @@ returns-clause-looks c =
 pub returns-clause-goes_on : goal.returns-clause-goes_on
 returns-clause-goes_on c =
     λ at. let key = c.args.key.now in let first = c.args.first.now in
-    let shows = subst (λ (k : Keys). (w : IsPassing (start k.name) (key_of k.held) (own_of k.held) first_field (number first)) → c.load.result ≡ front_block (plans (start k.name) (own_of k.held)) w.batch)
+    let shows = subst (λ (k : Keys). (w : IsPassing (start k.name) (key_of k.held) (own_of k.held) first_field (number first)) → (x : ℕ) × (front_of (start k.name) (own_of k.held) w.batch ≡ Some x) × (c.load.result ≡ block_of x))
     c.load-rest.ensures.looks.1 c.load.ensures.shows.1 in
     record {
       rest = c.load-rest.ensures.shows.0 (record { batch = at.batch; walk = at.walk; queue = at.queue; walking = at.walking; its = at.its_next });

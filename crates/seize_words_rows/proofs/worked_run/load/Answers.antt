@@ -1,9 +1,12 @@
-use Rattle.std.proofs.Common.{◌≡◌, ℕ, List, [], sym, ap, ◌∙◌}
+use Rattle.std.proofs.Common.{◌≡◌, ℕ, List, [], Some, sym, ap, ◌∙◌}
+use Rattle.std.specs.Prelude.{slice_index_or}
 use Rattle.seize_machine.specs.Machine.State.{Slot}
-use Rattle.seize_words.specs.Blocks.{Plan}
-use Rattle.seize_words.specs.Chains.{first_field, front_block, next_field, served}
+use Rattle.seize_machine.specs.Machine.History.{first_of}
+use Rattle.seize_machine.proofs.Facts.{some_is}
+use Rattle.seize_words.specs.Blocks.{Plan, block_of, front_of, no_plan}
+use Rattle.seize_words.specs.Chains.{first_field, next_field, served}
 use Rattle.seize_words.specs.Homes.{home_of}
-use Rattle.seize_words.specs.Slots.{number_of}
+use Rattle.seize_words.specs.Slots.{number_of, own_list, start_of}
 use Rattle.seize_words.specs.declared.book.slot_key.SlotKey.{SlotKey}
 use Rattle.seize_words_rows.specs.Attempts.{home_for}
 use Rattle.seize_words_rows.specs.Runs.{AreWords, book_of, left, value_of}
@@ -35,7 +38,8 @@ pub returns-clause-found : goal.returns-clause-found
 returns-clause-found c =
     let words = c.args.words.now in let key = c.args.reader.now in let n = book_of words in let v = value_of words in let stands = c.requires.stands in
     let on = c.look_on.ensures.goes_on (at_block words key stands.0 stands.2) in
-    (on.rest, on.front ∙ ap (λ (ps : List Plan). front_block ps 0) (planned_is n key 0 (left v) stands.2) ∙ stands.0.1.2)
+    let its : front_of (start_of key) (own_list key) 0 ≡ Some v = ap (λ (ps : List Plan). first_of (slice_index_or ps 0 no_plan).values) (planned_is n key 0 (left v) stands.2) in
+    (on.rest, on.front.2 ∙ ap block_of (some_is _ _ (sym on.front.1 ∙ its)) ∙ stands.0.1.2)
 
 pub returns-clause-stands : goal.returns-clause-stands
 returns-clause-stands c =
