@@ -28,6 +28,7 @@ use Rattle.seize_machine.proofs.Invariants.Always as invariants
 use Rattle.seize_machine.proofs.Invariants.Kept as kept
 use Rattle.seize_machine.proofs.Invariants.Live as live
 use Rattle.seize_machine.proofs.Invariants.Tried as tried
+use Rattle.seize_machine.proofs.Invariants.Noted as noted
 use Rattle.seize_machine.proofs.Laws.AtMostOnce as at_most_once
 use Rattle.seize_machine.proofs.Laws.After as after
 use Rattle.seize_machine.proofs.Laws.Protection as protection
@@ -228,6 +229,10 @@ marks_tidy = states.marks_tidy
 -- a call that reads the heads has a batch that is not empty
 pub marking_full : (st : State) (s next note : ℕ) (marks queue : List ℕ) → IsReached st → Stands st s (Mark next note marks) queue → 1 ≤ length (slot_at st s).batch
 marking_full = live.marking_full
+
+-- and its note is no greater than the number of slots
+pub note_within : (st : State) → IsReached st → (s next note : ℕ) (marks queue : List ℕ) → (slot_at st s).call ≡ Some (record { place = Mark next note marks; queue = queue }) → note ≤ length st.slots
+note_within st r s next note marks queue e = noted.note_within st s next note marks queue r e
 
 -- the slots where a call has still to insert its batch are distinct, and with the insertions won they are no more than its values
 pub looks_tidy : (st : State) (s b won m : ℕ) (later queue : List ℕ) → IsReached st → Stands st s (Look b won m later) queue

@@ -9,3 +9,4 @@ pub mod Reached
 pub mod States
 pub mod Live
 pub mod Tried
+pub mod Noted

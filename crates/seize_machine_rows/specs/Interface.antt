@@ -46,6 +46,7 @@ pub record CallsTidy (st : State) : Type 0 where
   pub marks : (s next note : ℕ) (marks queue : List ℕ) → StandsAt st s (Mark next note marks) queue
       → (are_distinct marks ≡ true) × ((v : ℕ) → Contains marks v → v < next) × (length marks ≤ length (slot_at st s).batch)
   pub full : (s next note : ℕ) (marks queue : List ℕ) → StandsAt st s (Mark next note marks) queue → 1 ≤ length (slot_at st s).batch
+  pub note : (s next note : ℕ) (marks queue : List ℕ) → StandsAt st s (Mark next note marks) queue → note ≤ length st.slots
   pub looks : (s b won m : ℕ) (later queue : List ℕ) → StandsAt st s (Look b won m later) queue
       → (are_distinct (m ∷ later) ≡ true) × (won + length (m ∷ later) ≤ length (batch_at st b).values)
   pub tries : (s b won m : ℕ) (later saw queue : List ℕ) → StandsAt st s (Try b won m later saw) queue

@@ -101,7 +101,7 @@ marking_step size st event _ (Step.read s l e) c = c
 marking_step size st event _ (Step.exchanged s l exchange new e fresh exact) c = c
 marking_step size st event _ (Step.compared s l exchange e exact) c = c
 
-opening_slot : (slots s : ℕ) (links : List (Option ℕ)) → slot_at (opening slots links) s ≡ no_slot
+pub opening_slot : (slots s : ℕ) (links : List (Option ℕ)) → slot_at (opening slots links) s ≡ no_slot
 opening_slot slots s links = none (is_true (nat_lt s slots))
   where
     none : (nat_lt s slots ≡ true) ⊎ (nat_lt s slots ≡ false) → slot_at (opening slots links) s ≡ no_slot
