@@ -1,14 +1,14 @@
 -- What other crates may build on. All else in `proofs` is no interface, and may change.
-use Rattle.std.proofs.Common.{◌≡◌, ℕ, ◌<◌, Bool, false, if◌then◌else◌, List, [], ◌∷◌, ◌++◌, Option, Some, refl, sym, ap, ◌∙◌, subst, append-nil, length, unwrap_or}
+use Rattle.std.proofs.Common.{◌≡◌, ℕ, ◌<◌, ◌≤◌, Bool, true, false, if◌then◌else◌, List, [], ◌∷◌, ◌++◌, Option, Some, refl, sym, ap, ◌∙◌, subst, append-nil, length, unwrap_or, arith}
 use Rattle.std.specs.Prelude.{slice_index_or}
 use base.Growing.{prefix_trans}
 use mathlib.Core.List.{IsPrefix}
-use Rattle.seize_machine.specs.Machine.State.{State, are_distinct, linked, slot_at}
+use Rattle.seize_machine.specs.Machine.State.{Mark, State, are_distinct, linked, slot_at}
 use Rattle.seize_machine.specs.Machine.Event.{Event}
 use Rattle.seize_machine.specs.Machine.History.{IsReached, first_of}
 use Rattle.seize_machine.specs.Machine.Next.{next}
 use Rattle.seize_machine.specs.declared.machine.event.Answer.{Answer}
-use Rattle.seize_machine.proofs.Facts.{some_is}
+use Rattle.seize_machine.proofs.Facts.{note_within, some_is}
 use Rattle.seize_words.specs.Adding.{private}
 use Rattle.seize_words.specs.Blocks.{Plan, block_for, block_in, block_of, front_of, list_word, no_plan, planned_by, plans, serving}
 use Rattle.seize_words.specs.Book.{IsLegalList, after, mine}
@@ -21,9 +21,11 @@ use Rattle.seize_words.specs.Laws.{life, starts}
 use Rattle.seize_words.specs.LinkWords.{IsIn, Takes, number}
 use Rattle.seize_words.specs.Links.{IsWithin}
 use Rattle.seize_words.specs.Passes.{IsSame, LooksOn, events_by, events_in, mine_of}
-use Rattle.seize_words.specs.Slots.{Moves, NotesAs, life_of, number_of, own_list, size_of, slot_of, start_of}
+use Rattle.seize_words.specs.Slots.{IsOf, Moves, NotesAs, life_of, number_of, own_list, size_of, slot_of, start_of}
 use Rattle.seize_words.specs.Tokens.{IsSole, Name, Noted, start}
+use Rattle.seize_words.specs.Totals.{slots_seen}
 use Rattle.seize_words.proofs.Fronts.{front_there}
+use Rattle.seize_words.proofs.Heads.{slots_grow}
 use Rattle.seize_words.proofs.Lists.{reached_after}
 pub use Rattle.seize_words.proofs.Lists.{after_used}
 pub use Rattle.seize_words.proofs.Written.{plans_used}
@@ -173,7 +175,24 @@ looks_twice a b c one two = record {
   alone = λ s. two.alone (subst (λ (n : Name). IsSole n.gate) (sym one.same.0) s) ∙ one.alone s;
   legal = subst (λ (n : Name). IsLegalList (start n) c.seen) one.same.0 two.legal;
   sound = subst (λ (n : Name). IsSound (after (start n) c.seen)) one.same.0 two.sound;
+  distinct = one.distinct;
 }
+
+-- Slots are never taken away, so a pass that has seen more has seen no fewer of them.
+pub more_slots : (n : Name) (seen seen' : List Entry) → IsPrefix seen seen' → IsLegalList (start n) seen' → length (after (start n) seen).slots ≤ length (after (start n) seen').slots
+more_slots n = slots_grow (start n)
+
+-- A slot's call that marks, as its key knows, has to read no more heads than a pass of its book has seen slots that has seen what the key
+-- knows.
+pub note_seen : (key : SlotKey) (pass : Pass) (next note : ℕ) (marks queue : List ℕ) → IsOf key pass → IsPrefix (own_list key) pass.seen → IsLegalList (start pass.name) pass.seen
+    → are_distinct (linked pass.name.links) ≡ true → (slot_of key).call ≡ Some (record { place = Mark next note marks; queue = queue }) → note ≤ slots_seen pass
+note_seen key pass next note marks queue book grows legal distinct marking =
+    let n = pass.name in let own = own_list key in
+    let own_legal = legal_prefix (start n) own pass.seen grows legal in
+    let here : (slot_at (after (start n) own) (number_of key)).call ≡ Some (record { place = Mark next note marks; queue = queue }) =
+    subst (λ (z : Name). (slot_at (after (start z) own) (number_of key)).call ≡ Some (record { place = Mark next note marks; queue = queue })) book marking in
+    let then_there : note ≤ length (after (start n) own).slots = note_within (after (start n) own) (reached_after n own distinct own_legal) (number_of key) next note marks queue here in
+    omega (arith, then_there, more_slots n own pass.seen grows legal)
 
 -- an activation that a pass has seen to begin stays seen
 pub known_in : (link : Link) (a : Activation) (pass pass' : Pass) → IsIn link a pass → pass'.name ≡ pass.name → IsPrefix pass.seen pass'.seen → IsIn link a pass'

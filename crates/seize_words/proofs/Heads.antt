@@ -54,7 +54,7 @@ in_use st s there = go (cases_lt s (length st.slots))
     go (inl l) = l
     go (inr le) = absurd (there (get_or_past st.slots s no_slot le))
 
-slots_grow : (st : State) (a b : List Entry) → IsPrefix a b → IsLegalList st b → length (after st a).slots ≤ length (after st b).slots
+pub slots_grow : (st : State) (a b : List Entry) → IsPrefix a b → IsLegalList st b → length (after st a).slots ≤ length (after st b).slots
 slots_grow st a b p l = subst (λ (z : List Entry). length (after st a).slots ≤ length (after st z).slots) p.1 (from st a p.0 (subst (IsLegalList st) (sym p.1) l))
   where
     more : (st : State) (log : List Entry) → IsLegalList st log → length st.slots ≤ length (after st log).slots

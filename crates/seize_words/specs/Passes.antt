@@ -5,8 +5,9 @@
 --     MadeNone pass pass'    nothing was made with it
 --     Meets pass other pass' other'    both have seen the longer of what they had, and nothing was made with either
 --     Longer a b c           c is the longer of two lists of which one is a beginning of the other
-use Rattle.std.specs.Prelude.{◌≡◌, List, [], ◌∷◌, ◌⊎◌}
+use Rattle.std.specs.Prelude.{◌≡◌, true, List, [], ◌∷◌, ◌⊎◌}
 use mathlib.Core.List.{IsPrefix}
+use Rattle.seize_machine.specs.Machine.State.{are_distinct, linked}
 use Rattle.seize_machine.specs.declared.machine.event.Answer.{Answer}
 use Rattle.seize_words.specs.Entry.{Entry, Made, Used, Deed}
 use Rattle.seize_words.specs.Book.{IsLegalList, after, mine}
@@ -32,7 +33,8 @@ events_by pass = events_in (mine_of pass)
 abbrev pub MadeNone : Pass → Pass → Type 0
 MadeNone pass pass' = mine_of pass' ≡ mine_of pass
 
--- It has seen a legal list that goes on from what it had seen, all there is where it is alone, and nothing was made with it.
+-- It has seen a legal list that goes on from what it had seen, all there is where it is alone, and nothing was made with it. The links of
+-- the book's opening are distinct, so that the laws hold of this list.
 pub record LooksOn (pass pass' : Pass) : Type 0 where
   pub same : IsSame pass pass'
   pub none_made : MadeNone pass pass'
@@ -40,6 +42,7 @@ pub record LooksOn (pass pass' : Pass) : Type 0 where
   pub alone : IsSole pass.name.gate → pass'.seen ≡ pass.seen
   pub legal : IsLegalList (start pass.name) pass'.seen
   pub sound : IsSound (after (start pass.name) pass'.seen)
+  pub distinct : are_distinct (linked pass.name.links) ≡ true
 
 abbrev pub Longer : List Entry → List Entry → List Entry → Type 0
 Longer a b c = (IsPrefix a b × (c ≡ b)) ⊎ (IsPrefix b a × (c ≡ a))
