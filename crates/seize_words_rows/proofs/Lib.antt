@@ -2,6 +2,7 @@ pub mod Both
 pub mod Insertions
 pub mod Flushes
 pub mod Leaves
+pub mod Marks
 pub mod Rows
 pub mod Stages
 pub mod Tries

@@ -8,6 +8,7 @@ pub mod calls;
 pub mod exchanges;
 pub mod leaving;
 pub mod making;
+pub mod marking;
 pub mod row;
 #[cfg(test)]
 mod tests;
