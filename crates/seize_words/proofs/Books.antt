@@ -1,5 +1,5 @@
 -- What the token of a book gives: itself once more, a new pass, and the keys of a new block; and how it learns. Assumes `Logic`.
-use Rattle.std.proofs.Common.{◌≡◌, ℕ, ◌+◌, arith, pos, false, List, [], ◌∷◌}
+use Rattle.std.proofs.Common.{◌≡◌, ℕ, ◌+◌, arith, pos, false, List, [], ◌∷◌, None}
 use seplogic.Ra.Ura.{Ura}
 use base.Logic.{SProp, ent, sep, ex, guard}
 use base.Fml.{Fml}
@@ -15,10 +15,11 @@ use Rattle.seize_words.specs.Chains.{first_field, next_field, told}
 use Rattle.seize_words.specs.Deposits.{deposit}
 use Rattle.seize_words.specs.Homes.{count_in, home_of}
 use Rattle.seize_words.specs.Fair.{pass_key}
-use Rattle.seize_words.specs.Tokens.{Name, start, knows, many, gate_gives, keys_own, pass_holds, pass_owns}
+use Rattle.seize_words.specs.Tokens.{Name, start, knows, many, gate_gives, rights_own, keys_own, pass_holds, pass_owns}
 use Rattle.seize_words.specs.Begin.{book_owns}
 use Rattle.seize_words.proofs.Append.{OneMore}
 use Rattle.seize_words.proofs.Looks.{Idle, apart, together}
+use Rattle.seize_words.proofs.Ways.{all_anywhere}
 use Rattle.seize_words.proofs.Notes.{knows_twice, another, Picks, minted, new_keys}
 
 module _ {M : Type 1} {𝓤 : Ura M} (𝓛 : Logic 𝓤) (n : Name) where
@@ -54,7 +55,7 @@ module _ {M : Type 1} {𝓤 : Ura M} (𝓛 : Logic 𝓤) (n : Name) where
   pub learns : (p : ℕ) (old seen : List Entry) → ⟦ book_owns n old ⟧ ∗ ⟦ pass_owns n p seen ⟧ ⊢ ⟦ book_owns n seen ⟧ ∗ ⟦ pass_owns n p seen ⟧
   learns p old seen = qed 𝓛 (‵ (book_owns n old) ∷ (‵ (knows n) ⊛ ‵ (pass_holds n p seen)) ∷ []) ∵ fsplit ! $ move ! (2 ∷ []) $ split ! $ move ! (1 ∷ []) $
       -- [the pass; its book; the book; what it had seen]
-      use1 𝓛 (some (λ (own : List Entry). given (Idle 𝓛 n p own seen) (‵ (keys_own n (pass_key p own ∷ [])) ⊛ ‵ (had seen) ⊛ ‵ (gate_gives n.gate seen)))) (apart 𝓛 n p seen) $ pick ! (λ own. learn ! (λ past. split3 ! $ move ! (1 ∷ []) $
+      use1 𝓛 (some (λ (own : List Entry). given (Idle 𝓛 n p own seen) (‵ (rights_own n (pass_key p own ∷ [])) ⊛ ‵ (had seen) ⊛ ‵ (gate_gives n.gate seen)))) (apart 𝓛 n p seen) $ pick ! (λ own. learn ! (λ past. split3 ! $ move ! (1 ∷ []) $
       use1 𝓛 (‵ (had seen) ⊛ ‵ (had seen)) (at_least_dup (logs entry_coded) 𝓛 n.log seen) $ split ! $
       -- [what the pass has seen, twice; its key; its copy; its book; the book; what it had seen]
       move ! (2 ∷ 0 ∷ 3 ∷ []) $ use3 𝓛 (‵ (pass_holds n p seen)) (together 𝓛 n p seen own past) $ move ! (2 ∷ 0 ∷ []) $ fjoin ! $
@@ -78,9 +79,11 @@ module _ {M : Type 1} {𝓤 : Ura M} (𝓛 : Logic 𝓤) (n : Name) where
   abbrev pub HasBlock : (ℕ → ℕ) → ℕ × List Entry → Pr
   HasBlock value t = guard 𝓤 (IsUnused t) ⟦ keys_own n (block_keys (value t.0) t) ⟧
 
-  pub block : (seen : List Entry) (value : ℕ → ℕ) → ⟦ book_owns n seen ⟧ ⊢ H.⇛ (ex 𝓤 (HasBlock value))
-  block seen value = let number : (ℕ → ℕ) → ℕ = λ sizes. sizes blocks + sizes counts + sizes fields in let births : Picks 𝓛 n = λ sizes. let k : ℕ = number sizes in (blocks, k) ∷ (counts, k) ∷ (fields, next_field k) ∷ (fields, first_field k) ∷ [] in
+  pub block : n.store ≡ None → (seen : List Entry) (value : ℕ → ℕ) → ⟦ book_owns n seen ⟧ ⊢ H.⇛ (ex 𝓤 (HasBlock value))
+  block none seen value = let number : (ℕ → ℕ) → ℕ = λ sizes. sizes blocks + sizes counts + sizes fields in let births : Picks 𝓛 n = λ sizes. let k : ℕ = number sizes in (blocks, k) ∷ (counts, k) ∷ (fields, next_field k) ∷ (fields, first_field k) ∷ [] in
       let more : OneMore (rules st) fields = λ log j h f le. h f (omega (arith, le)) in qed 𝓛 (‵ (book_owns n seen) ∷ []) ∵ updating ! $ fsplit ! $
       use2 𝓛 (minted 𝓛 n seen births) (new_keys 𝓛 n seen births (λ sizes. (omega arith, (λ log j h v le. h v (omega (arith, le))), omega arith, (omega arith, (λ log j h k le. h k (omega (arith, le))), omega arith, (omega arith, more, omega arith, (omega arith, more, omega arith, tt)))))) $
       await ! tt $ pick ! (λ t. learn ! (λ so. let k : ℕ = number t.0 in split ! $
+      let keys : List (Held Entry) = block_keys (value k) (k, t.1) in
+      use1 𝓛 (‵ (keys_own n keys)) (all_anywhere 𝓛 n none keys) $
       now ! $ show ! (HasBlock value) (k, t.1) $ check ! ((λ v home. so.1 blocks v (omega (arith, home))), so.1 counts k (omega arith), so.1 fields (next_field k) (omega arith), so.1 fields (first_field k) (omega arith)) $ keep ! (0 ∷ []) $ done !))

@@ -216,12 +216,29 @@ goes n distinct held seen ev Told can log known told_ =
       (λ many was there. makes st log e many (sizes n distinct held log e many legal f sound.one was there)),
     )
 
+-- none of these keys is of a block's values
+abbrev pub AllFree : List (ℕ × ℕ) → Type 0
+AllFree [] = Unit {0}
+AllFree (b ∷ births) = ((b.0 == blocks) ≡ false) × AllFree births
+
 of_event_below : (st : State) (event : Event) → AllBelow kinds (births st event)
 of_event_below st event = go (makes_slot st event)
   where
     go : (b : Bool) → AllBelow kinds (if b then of_next_slot st else [])
     go true = (omega arith, (omega arith, tt))
     go false = tt
+
+-- no key of a block comes with an entry
+of_event_free : (st : State) (event : Event) → AllFree (births st event)
+of_event_free st event = go (makes_slot st event)
+  where
+    go : (b : Bool) → AllFree (if b then of_next_slot st else [])
+    go true = (refl, (refl, tt))
+    go false = tt
+
+pub births_free : (st : State) (e : Entry) → AllFree (births_by st e)
+births_free st (Made x) = of_event_free st x.event
+births_free st (Used u) = tt
 
 pub births_below : (st : State) (e : Entry) → AllBelow kinds (births_by st e)
 births_below st (Made x) = of_event_below st x.event

@@ -11,6 +11,7 @@ pub mod Goes
 pub mod Handed
 pub mod Lives
 pub mod Gates
+pub mod Ways
 pub mod Passes
 pub mod Notes
 pub mod Adds

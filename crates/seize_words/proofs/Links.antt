@@ -1,5 +1,5 @@
 -- Steps on a link's word by whoever has an activation of a slot meet what is asked of a step.
-use Rattle.std.proofs.Common.{◌≡◌, ℕ, zero, suc, ◌<◌, ◌≤◌, Bool, true, false, not, ◌&&◌, ◌||◌, nat_lt, List, [], ◌∷◌, ◌++◌, length, Option, Some, None, refl, sym, ◌∙◌, ap, subst, append-nil, arith}
+use Rattle.std.proofs.Common.{◌≡◌, ℕ, zero, suc, ◌<◌, ◌≤◌, Bool, true, false, ◌⊎◌, inl, inr, ⊎_elim, not, ◌&&◌, ◌||◌, nat_lt, List, [], ◌∷◌, ◌++◌, length, Option, Some, None, refl, sym, ◌∙◌, ap, subst, append-nil, arith}
 use Rattle.std.proofs.lemmas.List.{get_or-set_same}
 use Rattle.seize_machine.specs.Machine.State.{State, head_at, link_at, is_active, has}
 use Rattle.seize_machine.specs.Machine.Event.{ReadLink, ExchangeLink}
@@ -11,7 +11,7 @@ use Rattle.seize_machine.proofs.Facts.{Step, eq_true, next_of, swapped}
 use Rattle.seize_words.specs.Blocks.{link_word}
 use Rattle.seize_words.specs.Book.{IsLegalList, Kept, TheBlock, after, blocks, rules, Does, kind_of}
 use Rattle.seize_words.specs.Entry.{Entry, Made}
-use Rattle.seize_words.specs.Fair.{Covers, NamesHeld, pass_key}
+use Rattle.seize_words.specs.Fair.{Covers, IsLabel, NamesHeld, NamesLabels, pass_key}
 use Rattle.seize_words.specs.Ledger.{Held, AllKept, AllThere, Beside, renewed}
 use Rattle.seize_words.specs.Homes.{HasOne, IsVacant, home_of, is_home}
 use Rattle.seize_words.specs.Links.{at_link, IsNewIn}
@@ -95,6 +95,15 @@ or_both : (a b : Bool) → a ≡ false → b ≡ false → (a || b) ≡ false
 or_both false b x y = y
 or_both true b x y = absurd (cc)
 
+label_here : (held : List (Held Entry)) (w u : ℕ) → IsKeyOf (Some w) held → u ≡ w → IsLabel held u
+label_here [] w u is e = absurd (let x : false ≡ true = is.0 in cc)
+label_here (x ∷ y ∷ held) w u is e = absurd (let x : false ≡ true = is.0 in cc)
+label_here (x ∷ []) w u is e = inl (eq_true x.kind blocks is.0, is.2 ∙ sym e)
+
+label_beside : (vs held : List (Held Entry)) (u : ℕ) → IsLabel held u → IsLabel (vs ++ held) u
+label_beside [] held u is = is
+label_beside (x ∷ vs) held u is = inr (label_beside vs held u is)
+
 module _ (n : Name) (l : ℕ) where
   abbrev st : State
   st = start n
@@ -120,7 +129,7 @@ module _ (n : Name) (l : ℕ) where
         let push : link_at (after st (log ++ reads ∷ [])) l ≡ link_at now l = ap (λ (z : State). link_at z l) (after_push st log reads d found.before.legal does) in
         let is : link_at (after st t.0) l ≡ link_at (after st (log ++ reads ∷ [])) l = same v p seen held alive t log found ∙ sym push in
         record {
-          fair = record { done = d; legal = does; covers = covers; names = λ many was there. (there.0, (λ k le. refl), (λ k le. refl), λ f le. refl); one = λ one. one; leads = tt };
+          fair = record { done = d; legal = does; covers = covers; names = λ many was there. (there.0, (λ k le. refl), (λ k le. refl), λ f le. refl); one = λ one. one; leads = tt; labels = λ u named. inl named };
           its = refl;
           bears = refl;
           ends = λ a i. absurd i;
@@ -185,6 +194,12 @@ module _ (n : Name) (l : ℕ) where
       one_stored (Some w) new step =
           new_named size now (ExchangeLink s l exchange) (swapped now l (Some w), Held_ (link_at now l)) w step (pushed w now.named) (still_vacant st w held log found.before.legal new (kept_right st t.1 held log found.before.kept.1))
 
+      -- the value that it names is the one with which the key is labelled
+      labels_stored : (o : Option ℕ) → IsNewIn st o held → NamesLabels now all (swapped now l o)
+      labels_stored None new u named = inl (subst (λ (vs : List ℕ). has u vs ≡ true) (append-nil now.named) named)
+      labels_stored (Some w) new u named =
+          ⊎_elim (λ is. inr (inr (inr (label_beside t.1 held u (label_here held w u new.0 is))))) (λ was. inl was) (pushed w now.named u named)
+
       -- it stores the value
       pub store_step : (w : ℕ) → w ≡ link_word o → is_stored (link_at now l) exchange ≡ true
           → IsStep (at_link n l) p held [] w (Made (record { pass = p; size = size; event = ExchangeLink s l exchange; life = 0 })) true t own log
@@ -195,7 +210,7 @@ module _ (n : Name) (l : ℕ) where
           let does : Does st log exchanges d = next_of size now (ExchangeLink s l exchange) d step in
           let is : link_at (after st (log ++ exchanges ∷ [])) l ≡ o = ap (λ (z : State). link_at z l) (after_push st log exchanges d found.before.legal does) ∙ get_or-set_same now.links l o None within in
           record {
-            fair = record { done = d; legal = does; covers = covers_exchange; names = names_exchange; one = one_stored o new step; leads = tt };
+            fair = record { done = d; legal = does; covers = covers_exchange; names = names_exchange; one = one_stored o new step; leads = tt; labels = labels_stored o new };
             its = refl;
             bears = refl;
             ends = λ a i. absurd i;
@@ -212,7 +227,7 @@ module _ (n : Name) (l : ℕ) where
           let does : Does st log exchanges d = next_of size now (ExchangeLink s l exchange) d (Step.compared s l exchange (legal_link now s l on within) (ap (is_none_or_fresh now) for ∙ fresh, stored)) in
           let is : link_at (after st t.0) l ≡ link_at (after st (log ++ exchanges ∷ [])) l = same v p seen held alive t log found ∙ sym (ap (λ (z : State). link_at z l) (after_push st log exchanges d found.before.legal does)) in
           record {
-            fair = record { done = d; legal = does; covers = covers_exchange; names = names_exchange; one = λ one. one; leads = tt };
+            fair = record { done = d; legal = does; covers = covers_exchange; names = names_exchange; one = λ one. one; leads = tt; labels = λ u named. inl named };
             its = refl;
             bears = refl;
             ends = λ a i. absurd i;

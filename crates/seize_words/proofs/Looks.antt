@@ -6,7 +6,7 @@ use base.Logic.{SProp, ent, sep, ex, guard, upd, upd_i}
 use base.Fml.{Fml, ftrue, finv, fdead}
 use types.Logic.{Logic, sem}
 use types.Growing.{at_least_dup}
-use types.Kit.{‵, raw, settle, keep, ◌⊛◌, some, given, ◌$◌, ◌∵◌, !, qed, move, drop, split, split3, join, fsplit, fjoin, fpick, fpack, pick, learn, show, check, frame, assume, suffices, done, use1, use2, use3}
+use types.Kit.{‵, raw, settle, keep, ◌⊛◌, some, given, ◌$◌, ◌∵◌, !, qed, move, drop, split, split3, join, fsplit, fjoin, fpick, fpack, pick, learn, show, check, frame, assume, rewrite, suffices, done, use1, use2, use3}
 use denote.Steps.{nothing}
 use Rattle.seize_machine.specs.Machine.State.{State}
 use Rattle.seize_words.specs.Ledger.{Held, WithKinds, Known, logs, reached, renewed}
@@ -14,12 +14,13 @@ use Rattle.seize_words.specs.Entry.{Entry, entry_coded}
 use Rattle.seize_words.specs.Book.{mine, rules, kinds}
 use Rattle.seize_words.specs.Fair.{Before, pass_key}
 use Rattle.seize_words.specs.Laws.{ended, IsIn}
-use Rattle.seize_words.specs.Tokens.{Name, rows, start, beside, inside, knows, keys_own, over, IsSole, gate_keeps, gate_gives, pass_at, pass_holds, pass_owns}
+use Rattle.seize_words.specs.Tokens.{Name, rows, start, beside, inside, knows, keys_own, rights_own, over, IsSole, gate_keeps, gate_gives, pass_at, pass_holds, pass_owns}
 use Rattle.seize_words.proofs.Append.{Renewed, looks_beside, renews}
 use Rattle.seize_words.proofs.Gates.{agrees, gives_as}
 use Rattle.seize_words.proofs.Goes.{kept_now}
 use Rattle.seize_words.proofs.Notes.{knows_twice, opens}
 use Rattle.seize_words.proofs.Lives.{ended_grows, over_one}
+use Rattle.seize_words.proofs.Ways.{keys_apart, keys_whole, ways, ways_renewed}
 
 module _ {M : Type 1} {𝓤 : Ura M} (𝓛 : Logic 𝓤) (n : Name) (p : ℕ) where
   open 𝓛 use {H, A}
@@ -53,21 +54,24 @@ module _ {M : Type 1} {𝓤 : Ura M} (𝓛 : Logic 𝓤) (n : Name) (p : ℕ) wh
   abbrev keys : List (Held Entry) → Fml
   keys held = keys_own n held
 
+  abbrev rights : List (Held Entry) → Fml
+  rights held = rights_own n held
+
   -- nothing was made with the pass since the list was `own`
   abbrev pub Idle : List Entry → List Entry → Type 0
   Idle own seen = IsPrefix own seen × (mine st p own ≡ mine st p seen)
 
   -- a pass, taken apart: its key, what it has seen, and its copy of the list
   abbrev pub Apart : List Entry → List Entry → Pr
-  Apart seen own = guard 𝓤 (Idle own seen) (⟦ keys (pass_key p own ∷ []) ⟧ ∗ ⟦ had seen ⟧ ∗ ⟦ gives seen ⟧)
+  Apart seen own = guard 𝓤 (Idle own seen) (⟦ rights (pass_key p own ∷ []) ⟧ ∗ ⟦ had seen ⟧ ∗ ⟦ gives seen ⟧)
 
   pub apart : (seen : List Entry) → ⟦ pass_holds n p seen ⟧ ⊢ ex 𝓤 (Apart seen)
   apart seen = qed 𝓛 (‵ (pass_holds n p seen) ∷ []) ∵ fpick ! (λ own. fsplit ! $ move ! (1 ∷ []) $ fsplit ! $ move ! (1 ∷ []) $ fsplit ! $ move ! (1 ∷ []) $ fpick ! (λ past. drop ! $
       -- [its copy; what it has seen; its key]
       nothing ! $ move ! (3 ∷ 0 ∷ []) $ fjoin ! $ show ! (Apart seen) own $ check ! past $ move ! (0 ∷ 2 ∷ 1 ∷ []) $ done !))
 
-  pub together : (seen own : List Entry) → Idle own seen → ⟦ keys (pass_key p own ∷ []) ⟧ ∗ ⟦ had seen ⟧ ∗ ⟦ gives seen ⟧ ⊢ ⟦ pass_holds n p seen ⟧
-  together seen own past = qed 𝓛 (‵ (keys (pass_key p own ∷ [])) ∷ ‵ (had seen) ∷ ‵ (gives seen) ∷ []) ∵ fsplit ! $ nothing ! $ fpack ! (Idle own seen) (λ _. ftrue) past $
+  pub together : (seen own : List Entry) → Idle own seen → ⟦ rights (pass_key p own ∷ []) ⟧ ∗ ⟦ had seen ⟧ ∗ ⟦ gives seen ⟧ ⊢ ⟦ pass_holds n p seen ⟧
+  together seen own past = qed 𝓛 (‵ (rights (pass_key p own ∷ [])) ∷ ‵ (had seen) ∷ ‵ (gives seen) ∷ []) ∵ fsplit ! $ nothing ! $ fpack ! (Idle own seen) (λ _. ftrue) past $
       -- [past; its key; nothing; what it has seen; its copy]
       move ! (4 ∷ 0 ∷ []) $ fjoin ! $ move ! (3 ∷ 0 ∷ []) $ fjoin ! $ move ! (1 ∷ 0 ∷ []) $ fjoin ! $ fpack ! (List Entry) (pass_at n p seen) own $ keep ! (0 ∷ []) $ done !
 
@@ -77,8 +81,10 @@ module _ {M : Type 1} {𝓤 : Ura M} (𝓛 : Logic 𝓤) (n : Name) (p : ℕ) wh
 
     -- the gate tells a pass that is alone that it has seen all
     tells : (own log : List Entry) → Known (rules st) (pass_key p own ∷ held) seen log → ⟦ beside n log ⟧ ∗ ⟦ gives seen ⟧ ⊢ guard 𝓤 (alone log) (⟦ beside n log ⟧ ∗ ⟦ gives seen ⟧)
-    tells own log known = qed 𝓛 (‵ (beside n log) ∷ ‵ (gives seen) ∷ []) ∵ fsplit ! $ move ! (1 ∷ 2 ∷ []) $
-        use2 𝓛 (given (alone log) (‵ (gate_keeps n.gate log) ⊛ ‵ (gives seen))) (agrees 𝓛 n.gate log seen) $ learn ! (λ same. check ! same $ split ! $ move ! (2 ∷ 0 ∷ []) $ fjoin ! $ done !)
+    tells own log known = qed 𝓛 (‵ (beside n log) ∷ ‵ (gives seen) ∷ []) ∵ fsplit ! $ move ! (1 ∷ []) $ fsplit ! $ move ! (0 ∷ 3 ∷ []) $
+        use2 𝓛 (given (alone log) (‵ (gate_keeps n.gate log) ⊛ ‵ (gives seen))) (agrees 𝓛 n.gate log seen) $ learn ! (λ same. check ! same $ split ! $
+        -- [the book's copy; the pass's; where all lead; what has ended]
+        move ! (0 ∷ 2 ∷ []) $ fjoin ! $ move ! (2 ∷ 0 ∷ []) $ fjoin ! $ done !)
 
     before : (own log : List Entry) → mine st p own ≡ mine st p seen → Known (rules st) (pass_key p own ∷ held) seen log → alone log → Before n p seen held log
     before own log past known same = record { legal = known.0.0; sound = known.0.1; chained = known.0.2; grows = known.1; none_made = sym known.2.0.1 ∙ past; kept = known.2.1; alone = same }
@@ -88,17 +94,18 @@ module _ {M : Type 1} {𝓤 : Ura M} (𝓛 : Logic 𝓤) (n : Name) (p : ℕ) wh
     Peeked log = guard 𝓤 (Before n p seen held log) (⟦ J ⟧ ∗ ⟦ pass_holds n p log ⟧ ∗ ⟦ keys held ⟧)
 
     pub peeks : WithKinds kinds held → ⟦ J ⟧ ∗ ⟦ pass_holds n p seen ⟧ ∗ ⟦ keys held ⟧ ⊢ ex 𝓤 Peeked
-    peeks within = qed 𝓛 (‵ J ∷ ‵ (pass_holds n p seen) ∷ ‵ (keys held) ∷ []) ∵ move ! (1 ∷ []) $
-        use1 𝓛 (some (λ (own : List Entry). given (Idle own seen) (‵ (keys (pass_key p own ∷ [])) ⊛ ‵ (had seen) ⊛ ‵ (gives seen)))) (apart seen) $ pick ! (λ own. learn ! (λ past. split3 ! $ fsplit ! $ move ! (1 ∷ []) $ drop ! $
-        -- [its key; what it has seen; its copy; J; the keys]
-        move ! (0 ∷ 4 ∷ []) $ fjoin ! $ move ! (1 ∷ 2 ∷ []) $ join ! $ move ! (2 ∷ 1 ∷ 0 ∷ []) $
-        use3 𝓛 (some (λ (log : List Entry). given (Known (rules st) (pass_key p own ∷ held) seen log × alone log) (‵ J ⊛ ‵ (keys (pass_key p own ∷ held)) ⊛ ‵ (had log) ⊛ ‵ (gives seen))))
+    peeks within = qed 𝓛 (‵ J ∷ ‵ (pass_holds n p seen) ∷ ‵ (keys held) ∷ []) ∵ move ! (2 ∷ []) $ use1 𝓛 (‵ (rights held) ⊛ ‵ (ways 𝓛 n held)) (keys_apart 𝓛 n held) $ split ! $ move ! (3 ∷ []) $
+        use1 𝓛 (some (λ (own : List Entry). given (Idle own seen) (‵ (rights (pass_key p own ∷ [])) ⊛ ‵ (had seen) ⊛ ‵ (gives seen)))) (apart seen) $ pick ! (λ own. learn ! (λ past. split3 ! $ fsplit ! $ move ! (1 ∷ []) $ drop ! $
+        -- [its key; what it has seen; its copy; the rights; the ways; J]
+        move ! (0 ∷ 3 ∷ []) $ fjoin ! $ move ! (1 ∷ 2 ∷ []) $ join ! $ move ! (3 ∷ 1 ∷ 0 ∷ []) $
+        use3 𝓛 (some (λ (log : List Entry). given (Known (rules st) (pass_key p own ∷ held) seen log × alone log) (‵ J ⊛ ‵ (rights (pass_key p own ∷ held)) ⊛ ‵ (had log) ⊛ ‵ (gives seen))))
         (looks_beside entry_coded (rules st) (beside n) n.log (rows n) 𝓛 (pass_key p own ∷ held) seen alone ⟦ gives seen ⟧ (λ _. ⟦ gives seen ⟧) (omega arith, within) (tells own)) $
         pick ! (λ log. learn ! (λ known. let b = before own log past.1 known.0 known.1 in split ! $ move ! (1 ∷ []) $ split3 ! $
-        -- [the keys; what was reached; its copy; J]
+        -- [the rights; what was reached; its copy; J; the ways]
         move ! (2 ∷ []) $ use1 𝓛 (‵ (gives log)) (gives_as 𝓛 n.gate seen log (λ s. sym (known.1 s))) $ move ! (1 ∷ []) $ fsplit ! $
-        -- [its key; the keys; its copy; what was reached; J]
-        nothing ! $ move ! (1 ∷ 0 ∷ []) $ fjoin ! $ move ! (0 ∷ 3 ∷ 2 ∷ []) $ use3 𝓛 (‵ (pass_holds n p log)) (together log own (known.0.2.0.0, known.0.2.0.1)) $
+        -- [its key; the rights; its copy; what was reached; J; the ways]
+        move ! (1 ∷ 5 ∷ []) $ use2 𝓛 (‵ (keys held)) (keys_whole 𝓛 n held) $
+        nothing ! $ move ! (2 ∷ 0 ∷ []) $ fjoin ! $ move ! (0 ∷ 3 ∷ 2 ∷ []) $ use3 𝓛 (‵ (pass_holds n p log)) (together log own (known.0.2.0.0, known.0.2.0.1)) $
         -- [the pass; the keys; J]
         show ! Peeked log $ check ! b $ move ! (2 ∷ 0 ∷ 1 ∷ []) $ done !))))
 
@@ -107,20 +114,22 @@ module _ {M : Type 1} {𝓤 : Ura M} (𝓛 : Logic 𝓤) (n : Name) (p : ℕ) wh
 
     -- with keys: the pass has seen all then, and the keys know of it
     pub looks_now : WithKinds kinds held → ⟦ pass_owns n p seen ⟧ ∗ ⟦ keys held ⟧ ⊢ H.⇛ (ex 𝓤 Looked)
-    looks_now within = let Z : Pr = ex 𝓤 Looked in qed 𝓛 ((‵ (knows n) ⊛ ‵ (pass_holds n p seen)) ∷ ‵ (keys held) ∷ []) ∵ split ! $ use1 𝓛 (‵ (knows n) ⊛ ‵ (knows n)) (knows_twice 𝓛 n) $ split ! $ use1 𝓛 (‵ (finv J)) (opens 𝓛 n) $
-        suffices ! _ (𝓛.invs.inv_acc J Z) $ frame ! $ assume ! (‵ J) $ move ! (2 ∷ []) $
-        -- [the pass; J; the book; the keys]
-        use1 𝓛 (some (λ (own : List Entry). given (Idle own seen) (‵ (keys (pass_key p own ∷ [])) ⊛ ‵ (had seen) ⊛ ‵ (gives seen)))) (apart seen) $ pick ! (λ own. learn ! (λ past. split3 ! $ fsplit ! $ move ! (1 ∷ []) $ drop ! $
-        -- [its key; what it has seen; its copy; J; the book; the keys]
+    looks_now within = let Z : Pr = ex 𝓤 Looked in qed 𝓛 ((‵ (knows n) ⊛ ‵ (pass_holds n p seen)) ∷ ‵ (keys held) ∷ []) ∵ split ! $ move ! (2 ∷ []) $ use1 𝓛 (‵ (rights held) ⊛ ‵ (ways 𝓛 n held)) (keys_apart 𝓛 n held) $ split ! $
+        move ! (2 ∷ []) $ use1 𝓛 (‵ (knows n) ⊛ ‵ (knows n)) (knows_twice 𝓛 n) $ split ! $ use1 𝓛 (‵ (finv J)) (opens 𝓛 n) $
+        suffices ! _ (𝓛.invs.inv_acc J Z) $ frame ! $ assume ! (‵ J) $ move ! (4 ∷ []) $
+        -- [the pass; J; the book; the rights; the ways]
+        use1 𝓛 (some (λ (own : List Entry). given (Idle own seen) (‵ (rights (pass_key p own ∷ [])) ⊛ ‵ (had seen) ⊛ ‵ (gives seen)))) (apart seen) $ pick ! (λ own. learn ! (λ past. split3 ! $ fsplit ! $ move ! (1 ∷ []) $ drop ! $
+        -- [its key; what it has seen; its copy; J; the book; the rights; the ways]
         move ! (0 ∷ 5 ∷ []) $ fjoin ! $ move ! (1 ∷ 2 ∷ []) $ join ! $ move ! (2 ∷ 1 ∷ 0 ∷ []) $
         use3 𝓛 (raw (upd 𝓤 (ex 𝓤 (Renewed entry_coded (rules st) (beside n) n.log (rows n) 𝓛 (pass_key p own ∷ held) seen alone (λ _. ⟦ gives seen ⟧)))))
         (renews entry_coded (rules st) (beside n) n.log (rows n) 𝓛 (pass_key p own ∷ held) seen alone ⟦ gives seen ⟧ (λ _. ⟦ gives seen ⟧) (omega arith, within) (kept_now st) (tells own)) $
-        settle 𝓛 (⟦ J ⟧ ∗ Z) (some (λ (log : List Entry). given (Known (rules st) (pass_key p own ∷ held) seen log × alone log) (‵ J ⊛ ‵ (keys (renewed (pass_key p own ∷ held) log)) ⊛ ‵ (had log) ⊛ ‵ (gives seen)))) $
+        settle 𝓛 (⟦ J ⟧ ∗ Z) (some (λ (log : List Entry). given (Known (rules st) (pass_key p own ∷ held) seen log × alone log) (‵ J ⊛ ‵ (rights (renewed (pass_key p own ∷ held) log)) ⊛ ‵ (had log) ⊛ ‵ (gives seen)))) $
         suffices ! _ (upd_i 𝓤 (⟦ J ⟧ ∗ Z)) $ pick ! (λ log. learn ! (λ known. let b = before own log past.1 known.0 known.1 in split ! $ frame ! $ split3 ! $
-        -- [the keys; what was reached; its copy; the book]
+        -- [the rights; what was reached; its copy; the book; the ways]
         move ! (2 ∷ []) $ use1 𝓛 (‵ (gives log)) (gives_as 𝓛 n.gate seen log (λ s. sym (known.1 s))) $ move ! (1 ∷ []) $ fsplit ! $
-        -- [its key; the keys; its copy; what was reached; the book]
-        nothing ! $ move ! (1 ∷ 0 ∷ []) $ fjoin ! $ move ! (0 ∷ 3 ∷ 2 ∷ []) $ use3 𝓛 (‵ (pass_holds n p log)) (together log log (([], append-nil log), refl)) $
+        -- [its key; the rights; its copy; what was reached; the book; the ways]
+        move ! (5 ∷ []) $ rewrite ! 0 (λ (F : Fml). ‵ F) (sym (ways_renewed 𝓛 n held log)) refl $ move ! (2 ∷ 0 ∷ []) $ use2 𝓛 (‵ (keys (renewed held log))) (keys_whole 𝓛 n (renewed held log)) $
+        nothing ! $ move ! (2 ∷ 0 ∷ []) $ fjoin ! $ move ! (0 ∷ 3 ∷ 2 ∷ []) $ use3 𝓛 (‵ (pass_holds n p log)) (together log log (([], append-nil log), refl)) $
         move ! (2 ∷ 0 ∷ []) $ fjoin ! $ show ! Looked log $ check ! b $ done !))))
 
   -- a lifetime that the pass has seen ended is over
@@ -128,7 +137,7 @@ module _ {M : Type 1} {𝓤 : Ura M} (𝓛 : Logic 𝓤) (n : Name) (p : ℕ) wh
   is_over seen a there = let Z : Pr = ⟦ pass_owns n p seen ⟧ ∗ ⟦ fdead (a ∷ []) ⟧ in qed 𝓛 ((‵ (knows n) ⊛ ‵ (pass_holds n p seen)) ∷ []) ∵ split ! $ use1 𝓛 (‵ (knows n) ⊛ ‵ (knows n)) (knows_twice 𝓛 n) $ split ! $ use1 𝓛 (‵ (finv J)) (opens 𝓛 n) $
       suffices ! _ (𝓛.invs.inv_acc J Z) $ frame ! $ assume ! (‵ J) $ move ! (2 ∷ []) $
       -- [the pass; J; the book]
-      use1 𝓛 (some (λ (own : List Entry). given (Idle own seen) (‵ (keys (pass_key p own ∷ [])) ⊛ ‵ (had seen) ⊛ ‵ (gives seen)))) (apart seen) $ pick ! (λ own. learn ! (λ past. split3 ! $ move ! (1 ∷ []) $
+      use1 𝓛 (some (λ (own : List Entry). given (Idle own seen) (‵ (rights (pass_key p own ∷ [])) ⊛ ‵ (had seen) ⊛ ‵ (gives seen)))) (apart seen) $ pick ! (λ own. learn ! (λ past. split3 ! $ move ! (1 ∷ []) $
       use1 𝓛 (‵ (had seen) ⊛ ‵ (had seen)) (at_least_dup (logs entry_coded) 𝓛 n.log seen) $ split ! $
       -- [what it has seen, twice; its key; its copy; J; the book]
       move ! (2 ∷ 0 ∷ 3 ∷ []) $ use3 𝓛 (‵ (pass_holds n p seen)) (together seen own past) $ move ! (3 ∷ 0 ∷ []) $ fjoin ! $

@@ -1,5 +1,5 @@
 -- The key of the numbers and that of the next slot are enough to make the slot, where all numbers are in use: by a step on the total.
-use Rattle.std.proofs.Common.{◌≡◌, ℕ, zero, suc, ◌+◌, ◌^◌, ◌<◌, true, false, List, [], ◌∷◌, ◌++◌, length, get_or, Bool, refl, sym, ◌∙◌, ap, subst, arith, not, nat_lt, ◌&&◌, if◌then◌else◌, Some, None}
+use Rattle.std.proofs.Common.{inl, ◌≡◌, ℕ, zero, suc, ◌+◌, ◌^◌, ◌<◌, true, false, List, [], ◌∷◌, ◌++◌, length, get_or, Bool, refl, sym, ◌∙◌, ap, subst, arith, not, nat_lt, ◌&&◌, if◌then◌else◌, Some, None}
 use Rattle.std.proofs.lemmas.List.{length-map}
 use Rattle.std.proofs.Math.Nat.{mod-eq_of_lt}
 use Rattle.seize_machine.specs.Machine.State.{State, Slot, Head, Inactive, head_at, no_slot, slot_at}
@@ -168,6 +168,7 @@ module _ (n : Name) (a b : List (Held Entry)) where
               names = λ many was there. (there.0, (λ k le. refl), (λ k le. refl), λ f le. refl);
               one = λ one. one;
               leads = tt;
+              labels = λ v named. inl named;
             };
             its = refl;
             bears = bears_now log is;

@@ -20,7 +20,7 @@ use Rattle.seize_words.proofs.Gates.{gives_both, gives_as}
 use Rattle.seize_words.proofs.Lists.{between}
 use Rattle.seize_words.proofs.Looks.{apart, together}
 use Rattle.seize_words.proofs.Notes.{knows_twice, opens}
-use Rattle.seize_words.proofs.Passes.{keys}
+use Rattle.seize_words.proofs.Passes.{rights}
 
 head : Entry → List Entry → Entry
 head x [] = x
@@ -78,12 +78,12 @@ module _ {M : Type 1} {𝓤 : Ura M} (𝓛 : Logic 𝓤) (n : Name) where
 
   -- what the holders of keys know, with no event
   abbrev Peeked : List (Held Entry) → List Entry → List Entry → Pr
-  Peeked held seen log = guard 𝓤 (Knows held seen log) (⟦ keys 𝓛 n held ⟧ ∗ ⟦ had log ⟧)
+  Peeked held seen log = guard 𝓤 (Knows held seen log) (⟦ rights 𝓛 n held ⟧ ∗ ⟦ had log ⟧)
 
-  peeks : (held : List (Held Entry)) (seen : List Entry) → WithKinds kinds held → ⟦ knows n ⟧ ∗ ⟦ keys 𝓛 n held ⟧ ∗ ⟦ had seen ⟧ ⊢ H.⇛ (ex 𝓤 (Peeked held seen))
+  peeks : (held : List (Held Entry)) (seen : List Entry) → WithKinds kinds held → ⟦ knows n ⟧ ∗ ⟦ rights 𝓛 n held ⟧ ∗ ⟦ had seen ⟧ ⊢ H.⇛ (ex 𝓤 (Peeked held seen))
   peeks held seen w = let J : Fml = inside n in let Z : Pr = ex 𝓤 (Peeked held seen) in
-      qed 𝓛 (‵ (knows n) ∷ ‵ (keys 𝓛 n held) ∷ ‵ (had seen) ∷ []) ∵ use1 𝓛 (‵ (finv J)) (opens 𝓛 n) $ suffices ! _ (𝓛.invs.inv_acc J Z) $ frame ! $ assume ! (‵ J) $
-      use3 𝓛 (some (λ (log : List Entry). given (Knows held seen log) (‵ J ⊛ ‵ (keys 𝓛 n held) ⊛ ‵ (had log)))) (looks entry_coded (rules st) (beside n) n.log (rows n) 𝓛 held seen w) $
+      qed 𝓛 (‵ (knows n) ∷ ‵ (rights 𝓛 n held) ∷ ‵ (had seen) ∷ []) ∵ use1 𝓛 (‵ (finv J)) (opens 𝓛 n) $ suffices ! _ (𝓛.invs.inv_acc J Z) $ frame ! $ assume ! (‵ J) $
+      use3 𝓛 (some (λ (log : List Entry). given (Knows held seen log) (‵ J ⊛ ‵ (rights 𝓛 n held) ⊛ ‵ (had log)))) (looks entry_coded (rules st) (beside n) n.log (rows n) 𝓛 held seen w) $
       suffices ! _ (upd_i 𝓤 (⟦ J ⟧ ∗ Z)) $ pick ! (λ log. learn ! (λ known. split ! $ frame ! $ show ! (Peeked held seen) log $ check ! known $ done !))
 
   abbrev pub Met : ℕ → ℕ → List Entry → List Entry → List Entry → Pr
@@ -92,9 +92,9 @@ module _ {M : Type 1} {𝓤 : Ura M} (𝓛 : Logic 𝓤) (n : Name) where
   pub meets : (p q : ℕ) (x y : List Entry) → ⟦ pass_owns n p x ⟧ ∗ ⟦ pass_owns n q y ⟧ ⊢ H.⇛ (ex 𝓤 (Met p q x y))
   meets p q x y = qed 𝓛 ((‵ (knows n) ⊛ ‵ (pass_holds n p x)) ∷ (‵ (knows n) ⊛ ‵ (pass_holds n q y)) ∷ []) ∵ updating ! $ split ! $ move ! (2 ∷ []) $ split ! $
       -- [the book; q's pass; the book; p's pass]
-      move ! (3 ∷ []) $ use1 𝓛 (some (λ (a : List Entry). given (IsPrefix a x × (mine st p a ≡ mine st p x)) (‵ (keys 𝓛 n (pass_key p a ∷ [])) ⊛ ‵ (had x) ⊛ ‵ (gives x)))) (apart 𝓛 n p x) $ pick ! (λ a. learn ! (λ past. split3 ! $
+      move ! (3 ∷ []) $ use1 𝓛 (some (λ (a : List Entry). given (IsPrefix a x × (mine st p a ≡ mine st p x)) (‵ (rights 𝓛 n (pass_key p a ∷ [])) ⊛ ‵ (had x) ⊛ ‵ (gives x)))) (apart 𝓛 n p x) $ pick ! (λ a. learn ! (λ past. split3 ! $
       -- [p's key; x was reached; p's copy; the book; q's pass; the book]
-      move ! (4 ∷ []) $ use1 𝓛 (some (λ (b : List Entry). given (IsPrefix b y × (mine st q b ≡ mine st q y)) (‵ (keys 𝓛 n (pass_key q b ∷ [])) ⊛ ‵ (had y) ⊛ ‵ (gives y)))) (apart 𝓛 n q y) $ pick ! (λ b. learn ! (λ past'. split3 ! $
+      move ! (4 ∷ []) $ use1 𝓛 (some (λ (b : List Entry). given (IsPrefix b y × (mine st q b ≡ mine st q y)) (‵ (rights 𝓛 n (pass_key q b ∷ [])) ⊛ ‵ (had y) ⊛ ‵ (gives y)))) (apart 𝓛 n q y) $ pick ! (λ b. learn ! (λ past'. split3 ! $
       -- [q's key; y was reached; q's copy; p's key; x was reached; p's copy; the book; the book]
       move ! (5 ∷ 2 ∷ []) $ use2 𝓛 (given (IsSole n.gate → x ≡ y) (‵ (gives x) ⊛ ‵ (gives y))) (gives_both 𝓛 n.gate x y) $ learn ! (λ one. split ! $
       -- [p's copy; q's copy; q's key; y; p's key; x; the book; the book]
@@ -109,7 +109,7 @@ module _ {M : Type 1} {𝓤 : Ura M} (𝓛 : Logic 𝓤) (n : Name) where
       -- [q's key; nothing; p's key; nothing; the book; the book; q's copy; p's copy; z, three times; the book]
       let held : List (Held Entry) = pass_key p a ∷ pass_key q b ∷ [] in
       fjoin ! $ move ! (1 ∷ 0 ∷ []) $ fjoin ! $ move ! (2 ∷ 0 ∷ 6 ∷ []) $
-      use3 𝓛 (later (some (λ (log : List Entry). given (Knows held z log) (‵ (keys 𝓛 n held) ⊛ ‵ (had log))))) (peeks held z (omega arith, (omega arith, tt))) $ await ! tt $ pick ! (λ log. learn ! (λ known. split ! $
+      use3 𝓛 (later (some (λ (log : List Entry). given (Knows held z log) (‵ (rights 𝓛 n held) ⊛ ‵ (had log))))) (peeks held z (omega arith, (omega arith, tt))) $ await ! tt $ pick ! (λ log. learn ! (λ known. split ! $
       -- [the keys; what was reached; nothing; the book; q's copy; p's copy; z, twice; the book]
       fsplit ! $ move ! (1 ∷ []) $ fsplit ! $
       -- [q's key; nothing; p's key; what was reached; nothing; the book; q's copy; p's copy; z, twice; the book]

@@ -11,7 +11,7 @@ use Rattle.seize_machine.specs.Machine.State.{State, linked, are_distinct}
 use Rattle.seize_words.specs.Ledger.{fact, Held, reached, WithKinds, born}
 use Rattle.seize_words.specs.Entry.{Entry, entry_coded}
 use Rattle.seize_words.specs.Book.{mine, rules, passes, kinds}
-use Rattle.seize_words.specs.Tokens.{Name, rows, start, beside, inside, knows, Gate, many, gate_gives, keys_own, pass_at, pass_holds, pass_owns}
+use Rattle.seize_words.specs.Tokens.{Name, rows, start, beside, inside, knows, Gate, many, gate_gives, rights_own, pass_at, pass_holds, pass_owns}
 use Rattle.seize_words.proofs.Append.{MayMint, mint, Minted}
 use Rattle.seize_words.proofs.Goes.{kept_now}
 use Rattle.seize_words.proofs.Passes.{IsDistinct, keys, by_pass, MayMake, Tells, Trades, keys_after, Made}
@@ -86,17 +86,17 @@ module _ {M : Type 1} {𝓤 : Ura M} (𝓛 : Logic 𝓤) (n : Name) where
   Picks = (ℕ → ℕ) → List (ℕ × ℕ)
 
   abbrev pub NewKeys : List Entry → Picks → (ℕ → ℕ) × List Entry → Pr
-  NewKeys seen births t = guard 𝓤 (IsPrefix seen t.1 × ((r : ℕ) → (rules st).Sized r (t.0 r) t.1)) (⟦ keys_own n (born (births t.0) t.1) ⟧ ∗ ⟦ had t.1 ⟧)
+  NewKeys seen births t = guard 𝓤 (IsPrefix seen t.1 × ((r : ℕ) → (rules st).Sized r (t.0 r) t.1)) (⟦ rights_own n (born (births t.0) t.1) ⟧ ∗ ⟦ had t.1 ⟧)
 
   pub new_keys : (seen : List Entry) (births : Picks) → ((sizes : ℕ → ℕ) → MayMint (rules st) kinds sizes (births sizes)) → ⟦ knows n ⟧ ∗ ⟦ had seen ⟧ ⊢ H.⇛ (ex 𝓤 (NewKeys seen births))
   new_keys seen births may = let Z : Pr = ex 𝓤 (NewKeys seen births) in qed 𝓛 (‵ (knows n) ∷ ‵ (had seen) ∷ []) ∵ use1 𝓛 (‵ (finv J)) opens $ suffices ! _ (𝓛.invs.inv_acc J Z) $ frame ! $ assume ! (‵ J) $
       use2 𝓛 (raw (upd 𝓤 (ex 𝓤 (Minted entry_coded (rules st) (beside n) n.log (rows n) 𝓛 seen births)))) (mint entry_coded (rules st) (beside n) n.log (rows n) 𝓛 seen births (kept_now st) may) $
-      settle 𝓛 (⟦ J ⟧ ∗ Z) (some (λ (t : (ℕ → ℕ) × List Entry). given ((rules st).Legal t.1 × IsPrefix seen t.1 × ((r : ℕ) → (rules st).Sized r (t.0 r) t.1)) (‵ J ⊛ ‵ (keys_own n (born (births t.0) t.1)) ⊛ ‵ (had t.1)))) $
+      settle 𝓛 (⟦ J ⟧ ∗ Z) (some (λ (t : (ℕ → ℕ) × List Entry). given ((rules st).Legal t.1 × IsPrefix seen t.1 × ((r : ℕ) → (rules st).Sized r (t.0 r) t.1)) (‵ J ⊛ ‵ (rights_own n (born (births t.0) t.1)) ⊛ ‵ (had t.1)))) $
       suffices ! _ (upd_i 𝓤 (⟦ J ⟧ ∗ Z)) $ pick ! (λ t. learn ! (λ so. split ! $ frame ! $ show ! (NewKeys seen births) t $ check ! (so.1, so.2) $ done !))
 
   -- what it gives, in a walk
   abbrev pub minted : List Entry → Picks → types.Kit.Item 𝓤
-  minted seen births = later (some (λ (t : (ℕ → ℕ) × List Entry). given (IsPrefix seen t.1 × ((r : ℕ) → (rules st).Sized r (t.0 r) t.1)) (‵ (keys_own n (born (births t.0) t.1)) ⊛ ‵ (had t.1))))
+  minted seen births = later (some (λ (t : (ℕ → ℕ) × List Entry). given (IsPrefix seen t.1 × ((r : ℕ) → (rules st).Sized r (t.0 r) t.1)) (‵ (rights_own n (born (births t.0) t.1)) ⊛ ‵ (had t.1))))
 
   -- a pass that has made nothing yet and has seen as much, where many may append
   abbrev pub Another : List Entry → ℕ × List Entry → Pr

@@ -17,7 +17,7 @@ use Rattle.seize_words.specs.Others.{MakesNone}
 use Rattle.seize_words.specs.Private.{IsOwn, IsOpen, is_one, key_of, label_of, own_of}
 use Rattle.seize_words.specs.Tokens.{Name, start}
 use Rattle.seize_words.proofs.Chains.{unled}
-use Rattle.seize_words.proofs.Sound.{none_named}
+use Rattle.seize_words.proofs.Sound.{no_labels, none_named}
 
 -- the one key there is
 abbrev pub only : ℕ → List (Held Entry) → List (Held Entry)
@@ -34,6 +34,10 @@ pub one_after : (r : ℕ) (held : List (Held Entry)) (births : List (ℕ × ℕ)
 one_after r [] births seen h = absurd (cc)
 one_after r (x ∷ y ∷ held) births seen h = absurd (cc)
 one_after r (x ∷ []) births seen h = (refl, refl)
+
+pub renewed_label : (held : List (Held Entry)) (seen : List Entry) → label_of (renewed held seen) ≡ label_of held
+renewed_label [] seen = refl
+renewed_label (x ∷ held) seen = refl
 
 -- or after a look
 pub after_one : (r : ℕ) (held : List (Held Entry)) (seen : List Entry) → is_one r held ≡ true → (key_of (renewed held seen) ≡ key_of held) × (own_of (renewed held seen) ≡ seen)
@@ -106,6 +110,7 @@ may_add n p seen held e one pe private open_ = subst (λ (hs : List (Held Entry)
           names = λ many was there. (subst (λ (z : ℕ). z < many 0) (sym pe) there.0, (λ j le. (private.3 (after (start n) log) j).0), (λ j le. (private.3 (after (start n) log) j).1), λ f le. refl);
           one = none_named e.size (after (start n) log) e.event d.0 (step_of _ _ _ _ d.1) (λ j. (private.3 (after (start n) log) j).1);
           leads = unled (after (start n) log) (plans (start n) log) (told log) e.event (λ j. (private.2 j).0);
+          labels = no_labels (pass_key p mine ∷ only slots held) e.size (after (start n) log) e.event d.0 (step_of _ _ _ _ d.1) (λ j. (private.3 (after (start n) log) j).1);
         }
 
 -- A slot's key, and others after it.

@@ -23,7 +23,7 @@ use Rattle.seize_words.specs.declared.book.keys.Keys.{Keys}
 use Rattle.seize_words.specs.declared.book.pass.Pass.{Pass}
 use Rattle.seize_words.specs.declared.book.value_key.ValueKey.{ValueKey}
 use Rattle.seize_words.proofs.Lists.{legal_front, reached_after}
-use Rattle.seize_words.proofs.Private.{after_one, only, only_is, differ}
+use Rattle.seize_words.proofs.Private.{renewed_label, after_one, only, only_is, differ}
 use Rattle.seize_words.proofs.Sound.{has_last, new_named, old_named, pushed, vacant_later}
 
 retires : ℕ → ℕ → ℕ → ℕ → Deed
@@ -75,6 +75,7 @@ may_retire n p size seen a b one one' home idle may =
           covers = covers (start n) log p size v mine a b home;
           names = λ many was there. (there.0, (λ k le. refl), (λ k le. later (home_of v) k (many blocks) (subst (λ (z : ℕ). z < many blocks) home there.1.1.0) le), λ f le. refl);
           leads = tt;
+          labels = λ u named. ⊎_elim (λ is. inr (inr (inr (inl (refl, sym is))))) (λ was. inl was) (added v st.named u named);
           one = ⊎_elim (λ h. new_named size st (Begin s (Retire v)) d v step (added v st.named)
               (subst (IsVacant st) home (vacant_later (start n) (own_of b) log (key_of b) before.legal before.kept.1.0 (subst (IsVacant (after (start n) (own_of b))) (sym home) h.1))))
               (λ h. old_named size st (Begin s (Retire v)) d step (λ u is. ⊎_elim (λ e. subst (λ (w : ℕ). has w st.named ≡ true) (sym e) (sym value.0 ∙ h.0)) (λ i. i) (added v st.named u is))) may;
@@ -106,10 +107,6 @@ spends size st v event _ (Step.begun_other s job place idle which from) h = othe
     other (Retire w) h from = absurd (cc)
     other _ h from = absurd (cc)
 spends size st v event _ _ h = absurd (cc)
-
-renewed_label : (held : List (Held Entry)) (seen : List Entry) → label_of (renewed held seen) ≡ label_of held
-renewed_label [] seen = refl
-renewed_label (x ∷ xs) seen = refl
 
 -- and so does its key know
 pub spent : (pass : Pass) (seen' : List Entry) (value value' : Keys) (s : ℕ) (noted : Noted pass.name pass.id pass.seen seen' (Made (private pass (Begin s (Retire (label_of value.held))))))

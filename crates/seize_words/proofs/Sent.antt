@@ -1,12 +1,13 @@
 -- What the tokens own may go to another thread.
-use Rattle.std.proofs.Common.{ℕ, suc, List, [], ◌∷◌}
+use Rattle.std.proofs.Common.{ℕ, suc, Bool, true, false, ◌==◌, List, [], ◌∷◌, Option, Some, None}
 use base.Growing.{latest, at_least}
 use base.Shift.{Keyless}
 use types.Keyed.{entry_keyless, entries_keyless}
 use Rattle.seize_words.specs.Ledger.{Held, halved, roster, rosters, first, rest}
 use Rattle.seize_words.specs.Entry.{Entry, entry_coded}
+use Rattle.seize_words.specs.Book.{after, blocks}
 use Rattle.seize_words.specs.Laws.{ended}
-use Rattle.seize_words.specs.Tokens.{Name, rows, inside, over, Gate, many, sole, gate_keeps, gate_gives, keys_own, pass_owns}
+use Rattle.seize_words.specs.Tokens.{Name, rows, start, inside, over, Gate, many, sole, gate_keeps, gate_gives, leads_in, all_lead, way_if, rights_own, keys_own, pass_owns}
 use Rattle.seize_words.specs.Begin.{book_owns}
 
 roster_keyless : (δ k : ℕ) (owns : List (List Entry)) → Keyless (roster entry_coded δ k owns)
@@ -31,9 +32,21 @@ unfolding latest
 gives_keyless many seen = tt
 gives_keyless (sole η) seen = tt
 
+lead_keyless : (store : Option (List ℕ)) (v : ℕ) → Keyless (leads_in store v)
+lead_keyless None v = tt
+lead_keyless (Some store) v = λ way. tt
+
+leads_keyless : (n : Name) (vs : List ℕ) → Keyless (all_lead n vs)
+leads_keyless n [] = tt
+leads_keyless n (v ∷ vs) = (lead_keyless n.store v, leads_keyless n vs)
+
+way_keyless : (b : Bool) (n : Name) (v : ℕ) → Keyless (way_if b n v)
+way_keyless true n v = lead_keyless n.store v
+way_keyless false n v = tt
+
 inside_keyless : (n : Name) → Keyless (inside n)
 unfolding latest
-inside_keyless n = λ s. (rosters_keyless (rows n) s.0, (tt, ((over_keyless (ended s.1), keeps_keyless n.gate s.1), (λ _. tt))))
+inside_keyless n = λ s. (rosters_keyless (rows n) s.0, (tt, ((over_keyless (ended s.1), (keeps_keyless n.gate s.1, leads_keyless n (after (start n) s.1).named)), (λ _. tt))))
 
 pub book_keyless : (n : Name) (seen : List Entry) → Keyless (book_owns n seen)
 unfolding at_least
@@ -45,4 +58,8 @@ pass_keyless n p seen = ((inside_keyless n, λ _. tt), λ own. (entry_keyless (h
 
 pub keys_keyless : (n : Name) (held : List (Held Entry)) → Keyless (keys_own n held)
 keys_keyless n [] = tt
-keys_keyless n (h ∷ held) = (entry_keyless (halved entry_coded) _ h.key _, keys_keyless n held)
+keys_keyless n (h ∷ held) = ((entry_keyless (halved entry_coded) _ h.key _, way_keyless (h.kind == blocks) n h.label), keys_keyless n held)
+
+pub rights_keyless : (n : Name) (held : List (Held Entry)) → Keyless (rights_own n held)
+rights_keyless n [] = tt
+rights_keyless n (h ∷ held) = (entry_keyless (halved entry_coded) _ h.key _, rights_keyless n held)

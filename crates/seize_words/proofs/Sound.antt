@@ -11,6 +11,8 @@ use Rattle.seize_machine.specs.declared.machine.event.Answer.{Answer}
 use Rattle.seize_machine.proofs.Facts.{Step, eq_true, gone_grows, is_true, slots_length, some_is, step_of, value_frame}
 use Rattle.seize_words.specs.Entry.{Entry, Made, Used, timed}
 use Rattle.seize_words.specs.Book.{IsLegalList, Does, Kept, TheBlock, after}
+use Rattle.seize_words.specs.Ledger.{Held}
+use Rattle.seize_words.specs.Fair.{NamesLabels}
 use Rattle.seize_words.specs.Homes.{HasOne, IsSound, IsVacant, changes_home, home_of}
 use Rattle.seize_words.proofs.Homes.{home_value}
 use Rattle.seize_words.proofs.Lists.{after_push}
@@ -51,12 +53,15 @@ vacant_later st own log k l kept vacant = λ v home named. gone_later st own log
 pub old_named : (size : ℕ) (st : State) (event : Event) (d : State × Answer) → Step size st event d → ((v : ℕ) → has v (d.0).named ≡ true → has v st.named ≡ true) → HasOne st → HasOne d.0
 old_named size st event d step names one = λ v w home a b c e. one v w home (names v a) (names w b) (not_gone v size st event d step c) (not_gone w size st event d step e)
 
--- as one that changes no home
+-- an event that names no value
+pub same_named : (size : ℕ) (st : State) (event : Event) (d : State × Answer) → Step size st event d → ((k : ℕ) → changes_home st k event ≡ false) → (v : ℕ) → has v (d.0).named ≡ has v st.named
+same_named size st event d step none v = (value_frame v size st event d step (home_value st v event (none (home_of v)))).0
+
+pub no_labels : (held : List (Held Entry)) (size : ℕ) (st : State) (event : Event) (d : State × Answer) → Step size st event d → ((k : ℕ) → changes_home st k event ≡ false) → NamesLabels st held d.0
+no_labels held size st event d step none v named = inl (sym (same_named size st event d step none v) ∙ named)
+
 pub none_named : (size : ℕ) (st : State) (event : Event) (d : State × Answer) → Step size st event d → ((k : ℕ) → changes_home st k event ≡ false) → HasOne st → HasOne d.0
-none_named size st event d step none = old_named size st event d step (λ v a. sym (same v) ∙ a)
-  where
-    same : (v : ℕ) → has v (d.0).named ≡ has v st.named
-    same v = (value_frame v size st event d step (home_value st v event (none (home_of v)))).0
+none_named size st event d step none = old_named size st event d step (λ v a. sym (same_named size st event d step none v) ∙ a)
 
 -- an event that names at most this value, in whose home all that were named were reclaimed
 pub new_named : (size : ℕ) (st : State) (event : Event) (d : State × Answer) (new : ℕ) → Step size st event d → ((v : ℕ) → has v (d.0).named ≡ true → (v ≡ new) ⊎ (has v st.named ≡ true)) → IsVacant st (home_of new) → HasOne st → HasOne d.0

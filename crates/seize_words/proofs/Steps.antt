@@ -26,6 +26,7 @@ use Rattle.seize_words.proofs.Values.{blocks_within}
 use Rattle.seize_words.proofs.Lives.{ends_those, living, none_over}
 use Rattle.seize_words.proofs.Looks.{peeks}
 use Rattle.seize_words.proofs.Notes.{knows_twice}
+use Rattle.seize_words.proofs.Ways.{keys_joined, keys_parted, first_parted}
 use Rattle.seize_words.proofs.Passes.{IsDistinct, by_pass, keys_after, Made}
 
 -- what a word stands for is one of the kinds
@@ -103,22 +104,6 @@ module _ {M : Type 1} {𝓤 : Ura M} (𝓛 : Logic 𝓤) (site : Site) where
   abbrev At : Type 0
   At = List Entry × List (Held Entry)
 
-  abbrev one : Held Entry → Fml
-  one x = right entry_coded (rows n) x.kind x.key x.own
-
-  parts : (a b : List (Held Entry)) → ⟦ keys (a ++ b) ⟧ ⊢ ⟦ keys a ⟧ ∗ ⟦ keys b ⟧
-  parts [] b = qed 𝓛 (‵ (keys b) ∷ []) ∵ nothing ! $ done !
-  parts (x ∷ a) b = qed 𝓛 ((‵ (one x) ⊛ ‵ (keys (a ++ b))) ∷ []) ∵ split ! $ move ! (1 ∷ []) $ use1 𝓛 (‵ (keys a) ⊛ ‵ (keys b)) (parts a b) $ split ! $ move ! (2 ∷ 0 ∷ []) $ fjoin ! $ done !
-
-  joins : (a b : List (Held Entry)) → ⟦ keys a ⟧ ∗ ⟦ keys b ⟧ ⊢ ⟦ keys (a ++ b) ⟧
-  joins [] b = qed 𝓛 (‵ ftrue ∷ ‵ (keys b) ∷ []) ∵ keep ! (1 ∷ []) $ done !
-  joins (x ∷ a) b = qed 𝓛 ((‵ (one x) ⊛ ‵ (keys a)) ∷ ‵ (keys b) ∷ []) ∵ split ! $ move ! (1 ∷ 2 ∷ []) $ use2 𝓛 (‵ (keys (a ++ b))) (joins a b) $ move ! (1 ∷ 0 ∷ []) $ fjoin ! $ done !
-
-  parted : (m : ℕ) (held : List (Held Entry)) → ⟦ keys held ⟧ ⊢ ⟦ keys (take m held) ⟧ ∗ ⟦ keys (past m held) ⟧
-  parted zero held = qed 𝓛 (‵ (keys held) ∷ []) ∵ nothing ! $ done !
-  parted (suc m) [] = qed 𝓛 (‵ ftrue ∷ []) ∵ nothing ! $ done !
-  parted (suc m) (x ∷ held) = qed 𝓛 ((‵ (one x) ⊛ ‵ (keys held)) ∷ []) ∵ split ! $ move ! (1 ∷ []) $ use1 𝓛 (‵ (keys (take m held)) ⊛ ‵ (keys (past m held))) (parted m held) $ split ! $ move ! (2 ∷ 0 ∷ []) $ fjoin ! $ done !
-
   -- the right is to the kind and number, so the list that a key knows is no part of where it goes
   renewed_take : (m : ℕ) (held : List (Held Entry)) (log : List Entry) → take m (renewed held log) ≡ renewed (take m held) log
   renewed_take zero held log = refl
@@ -133,18 +118,18 @@ module _ {M : Type 1} {𝓤 : Ura M} (𝓛 : Logic 𝓤) (site : Site) where
   -- what stands beside the word afterwards, and what the holder has
   trade : (kind : Kind) (trades : Bool) (vs held : List (Held Entry)) (log : List Entry)
       → ⟦ keys (renewed (vs ++ held) log) ⟧ ⊢ ⟦ keys (renewed (beside_then kind trades vs held) log) ⟧ ∗ ⟦ keys (renewed (held_then kind trades vs held) log) ⟧
-  trade kind false vs held log = qed 𝓛 (‵ (keys (renewed (vs ++ held) log)) ∷ []) ∵ rewrite ! 0 (λ (hs : List (Held Entry)). ‵ (keys hs)) (renewed_append vs held log) refl $ by ! (parts (renewed vs log) (renewed held log))
+  trade kind false vs held log = qed 𝓛 (‵ (keys (renewed (vs ++ held) log)) ∷ []) ∵ rewrite ! 0 (λ (hs : List (Held Entry)). ‵ (keys hs)) (renewed_append vs held log) refl $ by ! (keys_parted 𝓛 n (renewed vs log) (renewed held log))
   trade kind true vs held log = let m : ℕ = staying kind in qed 𝓛 (‵ (keys (renewed (vs ++ held) log)) ∷ []) ∵ rewrite ! 0 (λ (hs : List (Held Entry)). ‵ (keys hs)) (renewed_append vs held log) refl $
-      use1 𝓛 (‵ (keys (renewed vs log)) ⊛ ‵ (keys (renewed held log))) (parts (renewed vs log) (renewed held log)) $ split ! $ move ! (1 ∷ []) $
-      use1 𝓛 (‵ (keys (take m (renewed held log))) ⊛ ‵ (keys (past m (renewed held log)))) (parted m (renewed held log)) $ split ! $
+      use1 𝓛 (‵ (keys (renewed vs log)) ⊛ ‵ (keys (renewed held log))) (keys_parted 𝓛 n (renewed vs log) (renewed held log)) $ split ! $ move ! (1 ∷ []) $
+      use1 𝓛 (‵ (keys (take m (renewed held log))) ⊛ ‵ (keys (past m (renewed held log)))) (first_parted 𝓛 n m (renewed held log)) $ split ! $
       -- [those that stay with the holder; the others; those that stood beside the word]
-      move ! (0 ∷ 2 ∷ []) $ use2 𝓛 (‵ (keys (take m (renewed held log) ++ renewed vs log))) (joins (take m (renewed held log)) (renewed vs log)) $
+      move ! (0 ∷ 2 ∷ []) $ use2 𝓛 (‵ (keys (take m (renewed held log) ++ renewed vs log))) (keys_joined 𝓛 n (take m (renewed held log)) (renewed vs log)) $
       rewrite ! 0 (λ (hs : List (Held Entry)). ‵ (keys hs)) (ap (λ (hs : List (Held Entry)). hs ++ renewed vs log) (renewed_take m held log) ∙ sym (renewed_append (take m held) vs log)) refl $ move ! (1 ∷ []) $
       rewrite ! 0 (λ (hs : List (Held Entry)). ‵ (keys hs)) (renewed_past m held log) refl $ done !
 
   bears : (held : List (Held Entry)) (births : List (ℕ × ℕ)) (log : List Entry) → ⟦ keys held ⟧ ∗ ⟦ keys (born births log) ⟧ ⊢ ⟦ keys (with_births held births log) ⟧
   bears held [] log = qed 𝓛 (‵ (keys held) ∷ ‵ ftrue ∷ []) ∵ keep ! (0 ∷ []) $ done !
-  bears held (b ∷ births) log = joins held (born (b ∷ births) log)
+  bears held (b ∷ births) log = keys_joined 𝓛 n held (born (b ∷ births) log)
 
   module _ (births : List (ℕ × ℕ)) (p : ℕ) (seen : List Entry) (held : List (Held Entry)) (alive lives : List ℕ) (r : Share) (f : ℕ → ℕ) (entry : ℕ → List Entry → Entry) (trades : ℕ → Bool) where
     -- what is had after a step that found v: the list is `t.0`, and the holder's keys are `t.1`
@@ -200,7 +185,7 @@ module _ {M : Type 1} {𝓤 : Ura M} (𝓛 : Logic 𝓤) (site : Site) where
           suffices ! _ (upd_i 𝓤 Z) $ pick ! (λ log. learn ! (λ made. let is = step log log made.2 made.3 in let log' : List Entry = now log in
           split ! $ move ! (1 ∷ []) $ split3 ! $
           -- [the pass; the keys; the tokens; J; the word]
-          move ! (1 ∷ []) $ rewrite ! 0 (λ (bs : List (ℕ × ℕ)). ‵ (keys (renewed all log' ++ born bs log'))) is.bears refl $ use1 𝓛 (‵ (keys (renewed all log')) ⊛ ‵ (keys (born births log'))) (parts (renewed all log') (born births log')) $ split ! $
+          move ! (1 ∷ []) $ rewrite ! 0 (λ (bs : List (ℕ × ℕ)). ‵ (keys (renewed all log' ++ born bs log'))) is.bears refl $ use1 𝓛 (‵ (keys (renewed all log')) ⊛ ‵ (keys (born births log'))) (keys_parted 𝓛 n (renewed all log') (born births log')) $ split ! $
           fsplit ! $ move ! (1 ∷ []) $ let then_ : List (Held Entry) = renewed (held_then (kind_of site.kind) (trades v) t.1 held) log' in
           use1 𝓛 (‵ (keys (renewed (beside_then (kind_of site.kind) (trades v) t.1 held) log')) ⊛ ‵ (keys then_)) (trade (kind_of site.kind) (trades v) t.1 held log') $ split ! $
           -- [the keys beside the word; the holder's; the word's own; those that were made; the pass; the tokens; J; the word]
@@ -222,7 +207,7 @@ module _ {M : Type 1} {𝓤 : Ura M} (𝓛 : Logic 𝓤) (site : Site) where
         borrowed_with 𝓛 κ q I b o f always after_step i n.number J apart brings (qed 𝓛 (‵ I ∷ ‵ J ∷ ‵ (pass_holds n p seen) ∷ ‵ (keys held) ∷ (‵ (over lives) ⊛ ‵ (living 𝓛 alive r)) ∷ []) ∵ suffices ! _ (upd_i 𝓤 G) $
         fpick ! (λ v. fsplit ! $ move ! (1 ∷ []) $ fpick ! (λ t. fsplit ! $ fpick ! (λ so. drop ! $
         -- [the word's keys; the word; J; the pass; the holder's keys; what is over]
-        fsplit ! $ move ! (1 ∷ 5 ∷ []) $ use2 𝓛 (‵ (keys (t.1 ++ held))) (joins t.1 held) $ move ! (1 ∷ 0 ∷ []) $ fjoin ! $
+        fsplit ! $ move ! (1 ∷ 5 ∷ []) $ use2 𝓛 (‵ (keys (t.1 ++ held))) (keys_joined 𝓛 n t.1 held) $ move ! (1 ∷ 0 ∷ []) $ fjoin ! $
         -- [all keys; the word; J; the pass; what is over]
         move ! (1 ∷ []) $ show ! (LiesWith 𝓛 κ q I b o f always after_step J) v $ frame ! $ each ! (λ (_ : Unit {0}). AgainWith 𝓛 κ q I b o f always after_step J v) (λ _. assume ! (‵ (word b o (f v))) $
         -- [the word; all keys; J; the pass; what is over]
@@ -251,7 +236,7 @@ module _ {M : Type 1} {𝓤 : Ura M} (𝓛 : Logic 𝓤) (site : Site) where
           qed 𝓛 (‵ (word b o v) ∷ ‵ J ∷ ‵ (pass_holds n p seen) ∷ ‵ (keys its) ∷ []) ∵ suffices ! _ (upd_i 𝓤 Z) $ move ! (1 ∷ 2 ∷ 3 ∷ []) $
           use3 𝓛 (some (λ (log : List Entry). given (Before n p seen its log) (‵ J ⊛ ‵ (pass_holds n p log) ⊛ ‵ (keys its)))) (peeks 𝓛 n p seen its (its_within w)) $ pick ! (λ log. learn ! (λ before. split3 ! $
           -- [J; the pass; the keys; the word]
-          move ! (2 ∷ []) $ fsplit ! $ move ! (1 ∷ []) $ use1 𝓛 (‵ (keys t.1) ⊛ ‵ (keys held)) (parts t.1 held) $ split ! $
+          move ! (2 ∷ []) $ fsplit ! $ move ! (1 ∷ []) $ use1 𝓛 (‵ (keys t.1) ⊛ ‵ (keys held)) (keys_parted 𝓛 n t.1 held) $ split ! $
           -- [the keys beside the word; the holder's; the word's own; J; the pass; the word]
           move ! (2 ∷ 0 ∷ []) $ fjoin ! $ nothing ! $ fpack ! (Shows site v t.0 × Stands site t.0 t.1) (λ _. ftrue) so $ move ! (0 ∷ 1 ∷ []) $ fjoin ! $
           fpack ! At (word_knows site v) t $ move ! (4 ∷ 0 ∷ []) $ fjoin ! $ fpack ! ℕ (word_lies site b o) v $ frame ! $
@@ -265,7 +250,7 @@ module _ {M : Type 1} {𝓤 : Ura M} (𝓛 : Logic 𝓤) (site : Site) where
         borrowed_with 𝓛 κ q I b o same always after_look i n.number J apart (⟦ pass_holds n p seen ⟧ ∗ ⟦ keys held ⟧) (qed 𝓛 (‵ I ∷ ‵ J ∷ ‵ (pass_holds n p seen) ∷ ‵ (keys held) ∷ []) ∵ suffices ! _ (upd_i 𝓤 G) $
         fpick ! (λ v. fsplit ! $ move ! (1 ∷ []) $ fpick ! (λ t. fsplit ! $ fpick ! (λ so. drop ! $
         -- [the word's keys; the word; J; the pass; the holder's keys]
-        fsplit ! $ move ! (1 ∷ 5 ∷ []) $ use2 𝓛 (‵ (keys (t.1 ++ held))) (joins t.1 held) $ move ! (1 ∷ 0 ∷ []) $ fjoin ! $
+        fsplit ! $ move ! (1 ∷ 5 ∷ []) $ use2 𝓛 (‵ (keys (t.1 ++ held))) (keys_joined 𝓛 n t.1 held) $ move ! (1 ∷ 0 ∷ []) $ fjoin ! $
         -- [all keys; the word; J; the pass]
         move ! (1 ∷ []) $ show ! (LiesWith 𝓛 κ q I b o same always after_look J) v $ frame ! $ each ! (λ (_ : Unit {0}). AgainWith 𝓛 κ q I b o same always after_look J v) (λ _. assume ! (‵ (word b o v)) $
         -- [the word; all keys; J; the pass]

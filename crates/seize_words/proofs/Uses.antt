@@ -78,6 +78,7 @@ module _ (n : Name) (f : ℕ) where
         names = λ many was there. (there.0, (λ k le. refl), (λ k le. refl), λ k le. other_field k (many fields) there.1.0 le);
         one = λ one. one;
         leads = led;
+        labels = λ v named. inl named;
       };
       its = refl;
       bears = refl;

@@ -2,11 +2,12 @@
 --     Before n p seen held log   what is known of the list just before the entry
 --     Fair st held log e         the entry is legal then; the keys that it touches are held, and it changes no block but theirs; and it
 --                                keeps what the list keeps beside being legal
+--     NamesLabels before held later  each value that it names is one with which a held key of a block is labelled
 --     MayAdd n p seen held e     it is fair whatever the list is by then, and it neither ends nor begins an activation
 --     Added n p seen seen' held held' e     it was added: see Noted; the keys know of it, and its own keys were made
-use Rattle.std.specs.Prelude.{◌≡◌, ℕ, ◌<◌, ◌≤◌, false, List, [], ◌∷◌, ◌++◌}
+use Rattle.std.specs.Prelude.{◌≡◌, ℕ, ◌<◌, ◌≤◌, true, false, ◌⊎◌, List, [], ◌∷◌, ◌++◌}
 use mathlib.Core.List.{IsPrefix}
-use Rattle.seize_machine.specs.Machine.State.{State}
+use Rattle.seize_machine.specs.Machine.State.{State, has}
 use Rattle.seize_machine.specs.Machine.Event.{Event}
 use Rattle.seize_machine.specs.declared.machine.event.Answer.{Answer}
 use Rattle.seize_words.specs.Ledger.{Held, Beside, IsThere, AllThere, AllKept, WithKinds, renewed, born}
@@ -41,6 +42,15 @@ NamesHeld st held log e = (many : ℕ → ℕ) → ((r : ℕ) → Sized st (kind
     × ((k : ℕ) → many blocks ≤ k → touches (after st log) e TheBlock k ≡ false)
     × ((f : ℕ) → many fields ≤ f → touches (after st log) e TheField f ≡ false)
 
+-- a key of a block's values is labelled with the value
+abbrev pub IsLabel : List (Held Entry) → ℕ → Type 0
+IsLabel [] v = ⊥
+IsLabel (h ∷ held) v = ((h.kind ≡ blocks) × (h.label ≡ v)) ⊎ IsLabel held v
+
+abbrev pub NamesLabels : State → List (Held Entry) → State → Type 0
+NamesLabels before held later =
+    (v : ℕ) → has v later.named ≡ true → (has v before.named ≡ true) ⊎ IsLabel held v
+
 pub record Fair (st : State) (held : List (Held Entry)) (log : List Entry) (e : Entry) : Type 0 where
   pub done : State × Answer
   pub legal : Does st log e done
@@ -49,6 +59,7 @@ pub record Fair (st : State) (held : List (Held Entry)) (log : List Entry) (e : 
   -- all earlier values of a home were reclaimed where it names one
   pub one : HasOne (after st log) → HasOne done.0
   pub leads : IsLed (after st log) (plans st log) (told log) e
+  pub labels : NamesLabels (after st log) held done.0
 
 -- it neither ends nor begins an activation
 abbrev pub EndsNone : Event → Type 0

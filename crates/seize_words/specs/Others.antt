@@ -14,7 +14,7 @@
 --                                       its key knows
 --     HasGone value pass                the value was reclaimed, as the pass has seen
 --     labelled v held                   the first key has this label
---     Renames keys keys' number         the first key's label is a value of its block, with this number, that was never named, as it knows
+--     Renames keys keys'                the first key's label is another value of its block, which was never named, as it knows
 --     SameKind keys keys'               if there was one key of some kind, there is one of this kind
 --     Follows keys pass' keys'          they are the same keys, and know all that the pass has seen
 use Rattle.std.specs.Prelude.{◌≡◌, ◌≢◌, ℕ, ◌<◌, Bool, true, false, List, [], ◌∷◌, ◌++◌, length, ◌⊎◌}
@@ -93,12 +93,12 @@ abbrev pub labelled : ℕ → List (Held Entry) → List (Held Entry)
 labelled v [] = []
 labelled v (h ∷ held) = record { kind = h.kind; key = h.key; own = h.own; label = v } ∷ held
 
-pub record Renames (keys keys' : Keys) (number : ℕ) : Type 0 where
+pub record Renames (keys keys' : Keys) : Type 0 where
   pub value : ℕ
   pub book : keys'.name ≡ keys.name
   pub held : keys'.held ≡ labelled value keys.held
-  pub home : home_of value ≡ key_of keys.held
-  pub numbered : block_of value ≡ number
+  pub home : home_of value ≡ home_of (label_of keys.held)
+  pub numbered : block_of value ≡ block_of (label_of keys.held)
   pub unnamed : has value (state_of keys).named ≡ false
 
 abbrev pub SameKind : Keys → Keys → Type 0

@@ -2,9 +2,11 @@
 --     Name          a book: the number of its invariant, its names, who may append, and the opening of its list
 --     inside        what stands in its invariant;  knows   that there is this invariant, for good
 --     pass_owns     a pass: its key, a beginning of the list that it has seen, and at a closed gate the list itself
---     keys_own      keys, in a given order
+--     leads n v     the value's number leads to its home, in the store where the book's blocks lie; and nothing where they lie in none
+--     all_lead n vs     so do the numbers of all these values
+--     rights_own    the rights to some keys, in a given order;  keys_own   and with each key of a block, where its value's number leads
 --     Noted         one entry was appended with a pass
-use Rattle.std.specs.Prelude.{◌≡◌, ℕ, true, List, [], ◌∷◌, ◌++◌, Option, slice_index_or}
+use Rattle.std.specs.Prelude.{◌≡◌, ℕ, Bool, true, false, ◌==◌, List, [], ◌∷◌, ◌++◌, Option, slice_index_or}
 use Rattle.std.specs.Coded.{Coded, code_by, coded_ℕ, coded×, coded_list, coded_option}
 use mathlib.Core.Path.{refl}
 use mathlib.Core.List.{IsPrefix}
@@ -13,12 +15,13 @@ use base.Growing.{latest}
 use base.Fml.{Fml, ftrue, fsep, fex, fdead, fnamed}
 use Rattle.seize_machine.specs.Machine.State.{State, opening, linked, are_distinct}
 use Rattle.seize_machine.specs.declared.machine.event.Answer.{Answer}
+use Rattle.seize_store.specs.Known.{leads_to}
 use Rattle.seize_words.specs.Ledger.{Held, fact, logs, right, rights, reached, contents}
 use Rattle.seize_words.specs.Entry.{Entry, entry_coded}
-use Rattle.seize_words.specs.Book.{IsLegalList, Does, after, mine, passes, rules}
-use Rattle.seize_words.specs.Blocks.{plans}
+use Rattle.seize_words.specs.Book.{IsLegalList, Does, after, mine, blocks, passes, rules}
+use Rattle.seize_words.specs.Blocks.{block_of, plans}
 use Rattle.seize_words.specs.Chains.{Chained, told}
-use Rattle.seize_words.specs.Homes.{IsSound}
+use Rattle.seize_words.specs.Homes.{IsSound, home_of}
 use Rattle.seize_words.specs.Laws.{ended}
 
 -- Who may append: whoever has a pass; or one pass alone, whose copy of the list has this name.
@@ -61,6 +64,8 @@ pub record Name : Type 0 where
   pub gate : Gate
   -- the batch size at each event that is added
   pub size : ℕ
+  -- the store where the blocks lie, if they lie in one: then their numbers are the store's
+  pub store : Option (List ℕ)
   -- the opening
   pub slots : ℕ
   pub links : List (Option ℕ)
@@ -74,8 +79,9 @@ rows n =
 
 abbrev pub name_coded : Coded Name
 name_coded =
-    code_by (List ℕ × (Gate × List (Option ℕ))) (coded× (coded_list coded_ℕ) (coded× gate_coded (coded_list (coded_option coded_ℕ))))
-    (λ n. (n.number ∷ n.log ∷ n.slots ∷ n.size ∷ rows n, (n.gate, n.links)))
+    code_by (List ℕ × (Gate × (List (Option ℕ) × Option (List ℕ))))
+    (coded× (coded_list coded_ℕ) (coded× gate_coded (coded× (coded_list (coded_option coded_ℕ)) (coded_option (coded_list coded_ℕ)))))
+    (λ n. (n.number ∷ n.log ∷ n.slots ∷ n.size ∷ rows n, (n.gate, (n.links, n.store))))
     (λ t. record {
       number = nth t.0 0;
       log = nth t.0 1;
@@ -91,7 +97,8 @@ name_coded =
       field_keys = nth t.0 11;
       total_keys = nth t.0 12;
       gate = t.1.0;
-      links = t.1.1;
+      links = t.1.1.0;
+      store = t.1.1.1;
     })
     (λ _. refl)
 
@@ -112,9 +119,22 @@ abbrev pub gate_gives : Gate → List Entry → Fml
 gate_gives many seen = ftrue
 gate_gives (sole η) seen = latest (logs entry_coded) three_quarters η seen
 
--- what the invariant holds beside the list and the keys: each activation that has ended is over, and the gate
+-- a number leads to one home for good, since a chunk of a store keeps its header
+abbrev pub leads_in : Option (List ℕ) → ℕ → Fml
+leads_in Option.None v = ftrue
+leads_in (Option.Some store) v = leads_to store (block_of v) (home_of v)
+
+abbrev pub leads : Name → ℕ → Fml
+leads n v = leads_in n.store v
+
+abbrev pub all_lead : Name → List ℕ → Fml
+all_lead n [] = ftrue
+all_lead n (v ∷ vs) = fsep (leads n v) (all_lead n vs)
+
+-- what the invariant holds beside the list and the keys: each activation that has ended is over; the gate; and where the numbers of all
+-- values lead that were ever named
 abbrev pub beside : Name → List Entry → Fml
-beside n log = fsep (over (ended log)) (gate_keeps n.gate log)
+beside n log = fsep (over (ended log)) (fsep (gate_keeps n.gate log) (all_lead n (after (start n) log).named))
 
 abbrev pub inside : Name → Fml
 inside n = contents entry_coded (rules (start n)) (beside n) n.log (rows n)
@@ -139,8 +159,23 @@ pass_holds n p seen = fex (List Entry) (pass_at n p seen)
 abbrev pub pass_owns : Name → ℕ → List Entry → Fml
 pass_owns n p seen = fsep (knows n) (pass_holds n p seen)
 
+abbrev pub rights_own : Name → List (Held Entry) → Fml
+rights_own n held = rights entry_coded (rows n) held
+
+-- with the key of a block's values goes where the number leads of the value that it is labelled with
+abbrev pub way_if : Bool → Name → ℕ → Fml
+way_if true n v = leads n v
+way_if false n v = ftrue
+
+abbrev pub way : Name → Held Entry → Fml
+way n h = way_if (h.kind == blocks) n h.label
+
+abbrev pub one_key : Name → Held Entry → Fml
+one_key n h = fsep (key n h.kind h.key h.own) (way n h)
+
 abbrev pub keys_own : Name → List (Held Entry) → Fml
-keys_own n held = rights entry_coded (rows n) held
+keys_own n [] = ftrue
+keys_own n (h ∷ held) = fsep (one_key n h) (keys_own n held)
 
 abbrev pub held_coded : Coded (Held Entry)
 held_coded =

@@ -32,7 +32,7 @@ pub use numbers_key::NumbersKey;
 pub use pass::Pass;
 pub use slot_key::SlotKey;
 pub use slot_keys::SlotKeys;
-pub use token::Book;
+pub use token::{Book, Numbers};
 pub use total_key::TotalKey;
 pub use value_key::ValueKey;
 pub use value_keys::ValueKeys;

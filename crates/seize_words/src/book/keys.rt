@@ -45,9 +45,9 @@ impl Keys {
         ensures { Looks self.old pass.old self.new pass.new }
     {}
 
-    /// The first key's label is a value of its block then, with this number, which was never named.
-    pub(crate) fn rename(&mut self, number: u64)
-        ensures { Renames self.old self.new number }
+    /// The first key's label is another value of its block then, which was never named.
+    pub(crate) fn rename(&mut self)
+        ensures { Renames self.old self.new }
     {}
 
     /// No keys of the same book.

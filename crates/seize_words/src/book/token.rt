@@ -1,5 +1,5 @@
 //! Books: how one begins, and the passes and keys that are made of it later. It uses the passes and keys beside it.
-ghost use Rattle.std.specs.Prelude.{◌≡◌, ◌+◌, ◌<◌, ◌^◌, List};
+ghost use Rattle.std.specs.Prelude.{◌≡◌, ℕ, ◌+◌, ◌<◌, ◌^◌, List, Option, None};
 ghost use base.Stored.{coded_list};
 ghost use denote.Sharing.{said};
 ghost use Rattle.seize_words.specs.Begin.{book_owns};
@@ -13,7 +13,7 @@ use crate::book::field_key::FieldKey;
 use crate::book::keys::Keys;
 use crate::book::pass::Pass;
 use crate::book::value_key::ValueKey;
-use std::marker::{Model, PhantomData};
+use std::marker::{Brand, Model, PhantomData};
 
 /// What shows that there is a book, for good. It may be copied, and shared by `&`.
 pub struct Book {
@@ -30,6 +30,16 @@ impl Model for Book {
     ghost also_shares = { λ b _ κ. said (book_owns b.name b.seen) κ };
 }
 
+/// Where the blocks of a book lie, of which words hold the numbers. A caller passes `Brand`, and its proof picks the store; where none is
+/// picked, they lie in none.
+pub trait Numbers {
+    ghost store: { Option (List ℕ) };
+}
+
+impl Numbers for Brand {
+    ghost store = { None };
+}
+
 impl Book {
     ghost use mathlib.Core.List.{IsPrefix};
     ghost use Rattle.seize_words.specs.Books.{AreOf, Begins, IsAlone, IsCountFor, IsFieldFor, IsFirstIn, IsMany, IsNew, IsNewBlock, Opens, OpensAlone};
@@ -37,24 +47,24 @@ impl Book {
 
     /// A new book, of which any number of passes may be made, and its keys. It has no slot yet, and its links are empty. A slot attempts
     /// its batch when that has `size` values, at least one.
-    pub fn open(links: usize, size: usize) -> (Book, BookKeys)
-        ensures { Opens result.0 result.1 links size }
+    pub fn open<N: Numbers>(links: usize, size: usize) -> (Book, BookKeys)
+        ensures { Opens result.0 result.1 links size N.store }
     {
-        let (book, keys) = Book::open_keys(links, size);
+        let (book, keys) = Book::open_keys::<N>(links, size);
         (book, BookKeys::apart(keys))
     }
 
     /// A new book as `open` makes one, but that its one pass is alone: only who has it appends, and it has seen all there is.
-    pub fn open_alone(links: usize, size: usize) -> (Book, Pass, BookKeys)
-        ensures { OpensAlone result.0 result.1 result.2 links size }
+    pub fn open_alone<N: Numbers>(links: usize, size: usize) -> (Book, Pass, BookKeys)
+        ensures { OpensAlone result.0 result.1 result.2 links size N.store }
     {
-        let (book, pass, keys) = Book::open_sole(links, size);
+        let (book, pass, keys) = Book::open_sole::<N>(links, size);
         (book, pass, BookKeys::apart(keys))
     }
 
     // A new book with all its keys, in the order of `first_keys`.
-    fn open_keys(links: usize, size: usize) -> (Book, Keys)
-        ensures { IsMany result.0 × Begins result.0 result.1 links size }
+    fn open_keys<N: Numbers>(links: usize, size: usize) -> (Book, Keys)
+        ensures { IsMany result.0 × Begins result.0 result.1 links size N.store }
     {
         let book = Book {
             marker: PhantomData,
@@ -65,8 +75,8 @@ impl Book {
         (book, keys)
     }
 
-    fn open_sole(links: usize, size: usize) -> (Book, Pass, Keys)
-        ensures { IsAlone result.0 result.1 × Begins result.0 result.2 links size }
+    fn open_sole<N: Numbers>(links: usize, size: usize) -> (Book, Pass, Keys)
+        ensures { IsAlone result.0 result.1 × Begins result.0 result.2 links size N.store }
     {
         let book = Book {
             marker: PhantomData,
@@ -108,8 +118,11 @@ impl Book {
     /// The key of a new block's values, that of its count, and those of its next and first fields. Words hold this number for it, which
     /// fits beside the 2 of a head's word. None of its values was ever named, and the key is for one of them. Without the other keys no
     /// batch can be counted whose first value lies in the block, and none inserted with it.
+    ///
+    /// This is for a book whose blocks lie in no store: nothing else says then that words hold no other block by this number.
     pub fn block(&self, number: u64) -> BlockKeys
-        requires { number + 2 < 2 ^ 64 }
+        requires none { self.now.name.store ≡ None }
+        requires fits { number + 2 < 2 ^ 64 }
         ensures value { IsFirstIn result.value number }
         ensures count { IsCountFor result.count result.value }
         ensures fields { IsFieldFor next_field result.next result.value × IsFieldFor first_field result.first result.value }
@@ -132,6 +145,7 @@ impl Book {
 
     // The keys of a new block, in this order.
     fn block_keys(&self, number: u64) -> Keys
+        requires { self.now.name.store ≡ None }
         ensures { IsNewBlock result number × (result.name ≡ self.now.name) }
     {
         Keys {

@@ -1,5 +1,6 @@
 //! The key of a value: that of the block in which it lies. It is `Keys` with one key, whose label is the value's name.
-ghost use Rattle.std.specs.Prelude.{◌≡◌, ◌+◌, ◌<◌, ◌^◌, true};
+ghost use Rattle.std.specs.Prelude.{◌≡◌, true};
+ghost use Rattle.seize_words.specs.Blocks.{block_of};
 ghost use Rattle.seize_words.specs.Book.{blocks};
 ghost use Rattle.seize_words.specs.Homes.{home_of};
 ghost use Rattle.seize_words.specs.Private.{is_one, key_of, label_of};
@@ -18,18 +19,17 @@ pub struct ValueKey {
 
 impl ValueKey {
     ghost use Rattle.seize_words.specs.Books.{IsNextIn, MakesNext};
-    ghost use Rattle.seize_words.specs.Others.{HasGone, IsLast, IsOfBook};
+    ghost use Rattle.seize_words.specs.Others.{HasGone, IsLast, IsOfBook, value_of};
 
-    /// The key is for the next value of its block then, which words hold by this number. The last one was reclaimed, as the pass has seen.
-    /// The pass and the key look at the list with no event.
-    pub fn next(&mut self, number: u64, pass: &mut Pass)
+    /// The key is for the next value of its block then, which words hold by the same number. The last one was reclaimed, as the pass has
+    /// seen. The pass and the key look at the list with no event.
+    pub fn next(&mut self, pass: &mut Pass)
         requires book { IsOfBook self.old.keys pass.old }
-        requires fits { number + 2 < 2 ^ 64 }
         requires last { IsLast self.old × HasGone self.old pass.old }
-        ensures value { IsNextIn self.new number }
+        ensures value { IsNextIn self.new (block_of (value_of self.old)) }
         ensures next { MakesNext self.old pass.old self.new pass.new }
     {
         self.keys.look(pass);
-        self.keys.rename(number);
+        self.keys.rename();
     }
 }

@@ -5,7 +5,7 @@ use Rattle.seize_words.specs.Entry.{entry_coded}
 use Rattle.seize_words.specs.Tokens.{Name, rows, start, beside, keys_own}
 use Rattle.seize_words.specs.Book.{rules}
 use Rattle.seize_words.specs.contracts.book.keys.Keys as Keys
-use Rattle.seize_words.proofs.Append.{joins}
+use Rattle.seize_words.proofs.Ways.{keys_joined}
 use Rattle.seize_words.proofs.Fields.{ends}
 use Rattle.seize_words.specs.contracts.book.keys.Keys.join.{ended, clauses}
 use Rattle.seize_words.specs.contracts.book.keys.Keys.join.Key.{name as #self}
@@ -29,7 +29,7 @@ join_spec 𝓤 𝓛 𝓜 𝓡 wired =
     -- [what self owns; self; its cell, in four entries; other, in two; other's token]
     move ! (6 ∷ 7 ∷ 8 ∷ []) $ opens ! tt Keys.the_row rb ro (λ vs1. move ! (1 ∷ []) $ fsplit ! $ move ! (1 ∷ []) $ rewrite ! 0 (λ (z : Name). ‵ (keys_own z r.held)) asked refl $
     -- [what other owns; other; its cell, in four entries; what self owns; self; its cell]
-    move ! (6 ∷ 0 ∷ []) $ use2 𝓛 (‵ (keys_own p.name (p.held ++ r.held))) (joins entry_coded (rules (start p.name)) (beside p.name) p.name.log (rows p.name) 𝓛 p.held r.held) $ nothing ! $ move ! (1 ∷ []) $
+    move ! (6 ∷ 0 ∷ []) $ use2 𝓛 (‵ (keys_own p.name (p.held ++ r.held))) (keys_joined 𝓛 p.name p.held r.held) $ nothing ! $ move ! (1 ∷ []) $
     -- [self's; other's; other; its cell, in four entries; self; its cell]
     let p' : Keys.the_row.Denot = record p { held = p.held ++ r.held } in let r' : Keys.the_row.Denot = record r { name = p.name; held = [] } in
     move ! (2 ∷ 1 ∷ []) $ fjoin ! $ move ! (2 ∷ 0 ∷ 3 ∷ 4 ∷ 5 ∷ []) $ closes ! tt Keys.the_row r' vs1 rb ro $

@@ -6,7 +6,7 @@ use Rattle.seize_words.specs.Entry.{entry_coded}
 use Rattle.seize_words.specs.Tokens.{Name, rows, start, beside, keys_own}
 use Rattle.seize_words.specs.Book.{rules}
 use Rattle.seize_words.specs.contracts.book.keys.Keys as Keys
-use Rattle.seize_words.proofs.Append.{parts_first}
+use Rattle.seize_words.proofs.Ways.{first_parted}
 use Rattle.seize_words.proofs.Fields.{ends}
 use Rattle.seize_words.specs.contracts.book.keys.Keys.part.{ended, clauses}
 use Rattle.seize_words.specs.contracts.book.keys.Keys.part.Key.{name as #self}
@@ -30,7 +30,7 @@ part_spec 𝓤 𝓛 𝓜 𝓡 wired =
     -- [what self owns; self; its cell, in four entries; other, in two; other's token]
     move ! (6 ∷ 7 ∷ 8 ∷ []) $ opens ! tt Keys.the_row rb ro (λ vs1. move ! (1 ∷ []) $ fsplit ! $ move ! (1 ∷ []) $ rewrite ! 0 (λ (z : Name). ‵ (keys_own z r.held)) asked.0 refl $
     -- [what other owns; other; its cell, in four entries; what self owns; self; its cell]
-    drop ! $ move ! (5 ∷ []) $ use1 𝓛 (‵ (keys_own p.name (take 1 p.held)) ⊛ ‵ (keys_own p.name (past 1 p.held))) (parts_first entry_coded (rules (start p.name)) (beside p.name) p.name.log (rows p.name) 𝓛 p.held) $ split ! $
+    drop ! $ move ! (5 ∷ []) $ use1 𝓛 (‵ (keys_own p.name (take 1 p.held)) ⊛ ‵ (keys_own p.name (past 1 p.held))) (first_parted 𝓛 p.name 1 p.held) $ split ! $
     -- [self's; other's; other; its cell, in four entries; self; its cell]
     let p' : Keys.the_row.Denot = record p { held = take 1 p.held } in let r' : Keys.the_row.Denot = record r { name = p.name; held = past 1 p.held } in
     move ! (2 ∷ 1 ∷ []) $ fjoin ! $ move ! (2 ∷ 0 ∷ 3 ∷ 4 ∷ 5 ∷ []) $ closes ! tt Keys.the_row r' vs1 rb ro $

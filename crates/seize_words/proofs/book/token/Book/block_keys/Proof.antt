@@ -1,6 +1,6 @@
 -- `block_keys` makes the keys of a block no value of which was ever named.
-use Rattle.seize_words.proofs.Kit.{◌^◌, ◌<◌, vint, w64, u64, uint_vals, uint_Tells, yes, stay_dropped, Goes-dropped, sym, ap, ◌∙◌, ◌≡◌, ℕ, List, [], ◌∷◌, refl, proved, named, Val, vptr, SProp, emp, Fml, ftrue, fsep, flft, ‵, raw, ◌⊛◌, some, given, later, await, ◌$◌, ◌∵◌, !, qed, by, move, keep, drop, split, fsplit, fjoin, pick, learn, use0, use1, no_more, and_then, returns, enter, alloc_all, pass_all, free_all, look_at, get, sets, agg, fact_i, tables, owns, types_at, plain, RefOf, unhide, shr_vals, shr_Tells, nothing, Stays, walk_of}
-use Rattle.std.specs.Prelude.{false, pos}
+use Rattle.seize_words.proofs.Kit.{fact, heard, ◌^◌, ◌<◌, vint, w64, u64, uint_vals, uint_Tells, yes, stay_dropped, Goes-dropped, sym, ap, ◌∙◌, ◌≡◌, ℕ, List, [], ◌∷◌, refl, proved, named, Val, vptr, SProp, emp, Fml, ftrue, fsep, flft, ‵, raw, ◌⊛◌, some, given, later, await, ◌$◌, ◌∵◌, !, qed, by, move, keep, drop, split, fsplit, fjoin, pick, learn, use0, use1, no_more, and_then, returns, enter, alloc_all, pass_all, free_all, look_at, get, sets, agg, fact_i, tables, owns, types_at, plain, RefOf, unhide, shr_vals, shr_Tells, nothing, Stays, walk_of}
+use Rattle.std.specs.Prelude.{false, pos, None}
 use Rattle.seize_machine.specs.Machine.State.{has}
 use Rattle.seize_words.specs.Entry.{Entry}
 use Rattle.seize_words.specs.Book.{after}
@@ -43,12 +43,12 @@ block_keys_spec 𝓤 𝓛 𝓜 𝓡 wired =
     (λ κs. (shr_vals, (uint_vals w64, tt))) (λ κs. (shr_Tells (named 0) κs.0 Book.the_row, (uint_Tells w64, tt))) (λ κs qs bounds a gh are.
     let b = a.0.now in let number : ℕ = a.1.0 in let pb : ℕ = a.0.ref_ptr.0 in let po : ℕ = a.0.ref_ptr.1 in
     let y : (walk_of 𝓛 ended hs c).Ghost = ((κs, qs, bounds, a, (vptr pb po ∷ [], (vint w64 number ∷ [], tt))), gh) in let Post : Val → SProp 𝓤 = (walk_of 𝓛 ended hs c).post y in let toks : Fml = fsep (flft κs.0 qs.0) ftrue in
-    qed 𝓛 ((‵ toks ⊛ ‵ (owns (types_at ended.signature.params κs) a y.0.4)) ∷ raw ((c κs a).requires gh) ∷ []) ∵ split ! $ move ! (1 ∷ []) $ fsplit ! $ fsplit ! $ drop ! $ unhide ! $ fsplit ! $ drop ! $
-    -- [what the book owns; the number; the tokens; what was asked]
+    qed 𝓛 ((‵ toks ⊛ ‵ (owns (types_at ended.signature.params κs) a y.0.4)) ∷ raw (fact 𝓤 (b.name.store ≡ None)) ∷ []) ∵ move ! (1 ∷ []) $ heard ! (b.name.store ≡ None) (λ none. split ! $ move ! (1 ∷ []) $ fsplit ! $ fsplit ! $ drop ! $ unhide ! $ fsplit ! $ drop ! $
+    -- [what the book owns; the number; the tokens]
     keep ! (0 ∷ 2 ∷ []) $
     enter ! 𝓣.C 𝓣.Λ fn (vptr pb po ∷ vint w64 number ∷ []) Post $ alloc_all ! (λ l. pass_all ! refl ((tt, tt), ((tt, record { fits = are.1.0.1 }), tt)) $
     let value : ℕ → ℕ = λ k. (another_of k number 0 are.1.0.1).0 in
-    use1 𝓛 (later (some (λ (t : ℕ × List Entry). given (IsUnused 𝓛 b.name t) (‵ (keys_own b.name (block_keys 𝓛 b.name (value t.0) t)))))) (block 𝓛 b.name b.seen value) $ await ! tt $ pick ! (λ t. learn ! (λ new.
+    use1 𝓛 (later (some (λ (t : ℕ × List Entry). given (IsUnused 𝓛 b.name t) (‵ (keys_own b.name (block_keys 𝓛 b.name (value t.0) t)))))) (block 𝓛 b.name none b.seen value) $ await ! tt $ pick ! (λ t. learn ! (λ new.
     -- [what the keys own; the tokens]
     let r : Keys.the_row.Denot = record { marker = record {}; name = b.name; held = block_keys 𝓛 b.name (value t.0) t } in
     sets ! (agg ! (no_more !)) refl (tt, tt) $ sets ! (agg ! (and_then ! (get ! refl) (no_more !))) refl (tt, (tt, tt)) $
@@ -56,4 +56,4 @@ block_keys_spec 𝓤 𝓛 𝓜 𝓡 wired =
     -- [the result; the tokens]
     nothing ! $ nothing ! $ fjoin ! $ nothing ! $ fjoin ! $
     returns ! (look_at ! 0 refl) $ free_all ! refl $ keep ! (2 ∷ 0 ∷ 1 ∷ []) $
-    by ! (ends 𝓛 ended hs c y token r (tt, (tt, tt)) (tt, (tt, tt)) (fact_i 𝓤 _ (emp 𝓤) (its number are.1.0.1 b.name t new, refl)))))))
+    by ! (ends 𝓛 ended hs c y token r (tt, (tt, tt)) (tt, (tt, tt)) (fact_i 𝓤 _ (emp 𝓤) (its number are.1.0.1 b.name t new, refl))))))))
