@@ -1,11 +1,12 @@
 -- What the token of a book gives: itself once more, a new pass, and the keys of a new block; and how it learns. Assumes `Logic`.
-use Rattle.std.proofs.Common.{◌≡◌, ℕ, ◌+◌, arith, pos, false, List, [], ◌∷◌, None}
+use Rattle.std.proofs.Common.{◌≡◌, ℕ, ◌+◌, arith, pos, false, List, [], ◌∷◌, refl}
 use seplogic.Ra.Ura.{Ura}
 use base.Logic.{SProp, ent, sep, ex, guard}
 use base.Fml.{Fml}
 use types.Logic.{Logic, sem}
 use types.Growing.{at_least_dup}
 use types.Kit.{‵, ◌⊛◌, some, given, ◌$◌, ◌∵◌, !, qed, by, move, keep, split, split3, fsplit, fjoin, pick, learn, show, check, done, use1, use2, use3, updating, await, now}
+use denote.Steps.{nothing}
 use mathlib.Core.List.{IsPrefix}
 use Rattle.seize_machine.specs.Machine.State.{State, has}
 use Rattle.seize_words.specs.Ledger.{Held, logs, reached}
@@ -16,10 +17,11 @@ use Rattle.seize_words.specs.Deposits.{deposit}
 use Rattle.seize_words.specs.Homes.{count_in, home_of}
 use Rattle.seize_words.specs.Fair.{pass_key}
 use Rattle.seize_words.specs.Tokens.{Name, start, knows, many, gate_gives, rights_own, keys_own, pass_holds, pass_owns}
+use Rattle.seize_words.specs.Bare.{of_header, of_values}
 use Rattle.seize_words.specs.Begin.{book_owns}
 use Rattle.seize_words.proofs.Append.{OneMore}
 use Rattle.seize_words.proofs.Looks.{Idle, apart, together}
-use Rattle.seize_words.proofs.Ways.{all_anywhere}
+use Rattle.seize_words.proofs.Ways.{free_own}
 use Rattle.seize_words.proofs.Notes.{knows_twice, another, Picks, minted, new_keys}
 
 module _ {M : Type 1} {𝓤 : Ura M} (𝓛 : Logic 𝓤) (n : Name) where
@@ -68,22 +70,19 @@ module _ {M : Type 1} {𝓤 : Ura M} (𝓛 : Logic 𝓤) (n : Name) where
   pub new_pass : (seen : List Entry) → n.gate ≡ many → ⟦ book_owns n seen ⟧ ⊢ H.⇛ (ex 𝓤 (HasPass seen))
   new_pass seen free = qed 𝓛 (‵ (book_owns n seen) ∷ []) ∵ fsplit ! $ by ! (another 𝓛 n seen free)
 
-  -- the key of a block's values, labelled with one of them, that of its count, and those of its two fields
-  abbrev pub block_keys : ℕ → ℕ × List Entry → List (Held Entry)
-  block_keys value t = record { kind = blocks; key = t.0; own = t.1; label = value } ∷ record { kind = counts; key = t.0; own = t.1; label = 0 } ∷ record { kind = fields; key = next_field t.0; own = t.1; label = 0 } ∷ record { kind = fields; key = first_field t.0; own = t.1; label = 0 } ∷ []
-
   -- nothing is known of the block
   abbrev pub IsUnused : ℕ × List Entry → Type 0
   IsUnused t = ((v : ℕ) → home_of v ≡ t.0 → has v (after st t.1).named ≡ false) × ((count_in (after st t.1) t.0 ≡ pos 0) × (deposit (after st t.1) t.0 ≡ [])) × (told t.1 (next_field t.0) ≡ 0) × (told t.1 (first_field t.0) ≡ 0)
 
-  abbrev pub HasBlock : (ℕ → ℕ) → ℕ × List Entry → Pr
-  HasBlock value t = guard 𝓤 (IsUnused t) ⟦ keys_own n (block_keys (value t.0) t) ⟧
+  -- the key of its values, labelled with one of them; and those of its count and of its two fields
+  abbrev pub HasChunk : (ℕ → ℕ) → ℕ × List Entry → Pr
+  HasChunk value t = guard 𝓤 (IsUnused t) (⟦ rights_own n (of_values (value t.0) t.0 t.1) ⟧ ∗ ⟦ keys_own n (of_header t.0 t.1) ⟧)
 
-  pub block : n.store ≡ None → (seen : List Entry) (value : ℕ → ℕ) → ⟦ book_owns n seen ⟧ ⊢ H.⇛ (ex 𝓤 (HasBlock value))
-  block none seen value = let number : (ℕ → ℕ) → ℕ = λ sizes. sizes blocks + sizes counts + sizes fields in let births : Picks 𝓛 n = λ sizes. let k : ℕ = number sizes in (blocks, k) ∷ (counts, k) ∷ (fields, next_field k) ∷ (fields, first_field k) ∷ [] in
+  pub chunk : (seen : List Entry) (value : ℕ → ℕ) → ⟦ book_owns n seen ⟧ ⊢ H.⇛ (ex 𝓤 (HasChunk value))
+  chunk seen value = let number : (ℕ → ℕ) → ℕ = λ sizes. sizes blocks + sizes counts + sizes fields in let births : Picks 𝓛 n = λ sizes. let k : ℕ = number sizes in (blocks, k) ∷ (counts, k) ∷ (fields, next_field k) ∷ (fields, first_field k) ∷ [] in
       let more : OneMore (rules st) fields = λ log j h f le. h f (omega (arith, le)) in qed 𝓛 (‵ (book_owns n seen) ∷ []) ∵ updating ! $ fsplit ! $
       use2 𝓛 (minted 𝓛 n seen births) (new_keys 𝓛 n seen births (λ sizes. (omega arith, (λ log j h v le. h v (omega (arith, le))), omega arith, (omega arith, (λ log j h k le. h k (omega (arith, le))), omega arith, (omega arith, more, omega arith, (omega arith, more, omega arith, tt)))))) $
-      await ! tt $ pick ! (λ t. learn ! (λ so. let k : ℕ = number t.0 in split ! $
-      let keys : List (Held Entry) = block_keys (value k) (k, t.1) in
-      use1 𝓛 (‵ (keys_own n keys)) (all_anywhere 𝓛 n none keys) $
-      now ! $ show ! (HasBlock value) (k, t.1) $ check ! ((λ v home. so.1 blocks v (omega (arith, home))), so.1 counts k (omega arith), so.1 fields (next_field k) (omega arith), so.1 fields (first_field k) (omega arith)) $ keep ! (0 ∷ []) $ done !))
+      await ! tt $ pick ! (λ t. learn ! (λ so. let k : ℕ = number t.0 in let header : List (Held Entry) = of_header k t.1 in split ! $ fsplit ! $
+      -- [the right; the header's rights; what was reached]
+      move ! (1 ∷ []) $ use1 𝓛 (‵ (keys_own n header)) (free_own 𝓛 n header (refl, (refl, (refl, tt)))) $ nothing ! $ move ! (2 ∷ 0 ∷ []) $ fjoin ! $
+      now ! $ show ! (HasChunk value) (k, t.1) $ check ! ((λ v home. so.1 blocks v (omega (arith, home))), so.1 counts k (omega arith), so.1 fields (next_field k) (omega arith), so.1 fields (first_field k) (omega arith)) $ keep ! (0 ∷ 1 ∷ []) $ done !))

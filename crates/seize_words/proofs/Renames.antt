@@ -9,6 +9,7 @@ use types.Kit.{‵, ◌$◌, ◌∵◌, !, qed, move, fsplit, fjoin, rewrite, do
 use native.Mathlib.Decide.{ℕ_discrete}
 use Rattle.seize_store.specs.Known.{leads_to}
 use Rattle.seize_machine.specs.Machine.State.{State, has}
+use Rattle.seize_words.specs.Bare.{Numbers}
 use Rattle.seize_words.specs.Blocks.{block_of}
 use Rattle.seize_words.specs.Book.{Kept, TheBlock, after, blocks, rules}
 use Rattle.seize_words.specs.Entry.{Entry}
@@ -17,7 +18,7 @@ use Rattle.seize_words.specs.Homes.{IsVacant, home_of}
 use Rattle.seize_words.specs.Ledger.{AllKept, Held, renewed}
 use Rattle.seize_words.specs.Others.{HasGone, IsLast, Renames, labelled, state_of}
 use Rattle.seize_words.specs.Private.{is_one, key_of, label_of, own_of}
-use Rattle.seize_words.specs.Tokens.{Name, leads_in, way_if, keys_own, start}
+use Rattle.seize_words.specs.Tokens.{Name, leads_in, way_if, rights_own, keys_own, start}
 use Rattle.seize_words.specs.declared.book.keys.Keys.{Keys}
 use Rattle.seize_words.specs.declared.book.pass.Pass.{Pass}
 use Rattle.seize_words.specs.declared.book.value_key.ValueKey.{ValueKey}
@@ -53,6 +54,17 @@ unfolding fresh
 renames marker n held = let v = another n held in
     record { value = v.0; book = refl; held = refl; home = v.1; numbered = v.2; unnamed = (past (after (start n) (own_of held)).named).1 v.0 v.3 }
 
+-- of a block whose number is still to be said, one with this number
+pub fresh_at : (n : Name) (held : List (Held Entry)) (number : ℕ) → number < 2 ^ 64 → ℕ
+fresh_at n held number fits = (another_of (key_of held) number (past (after (start n) (own_of held)).named).0 fits).0
+
+pub numbers : (marker : _) (n : Name) (held : List (Held Entry)) (number : ℕ) (fits : number < 2 ^ 64)
+    → Numbers (record { marker = marker; name = n; held = held }) (record { marker = marker; name = n; held = labelled (fresh_at n held number fits) held }) number
+unfolding fresh_at
+numbers marker n held number fits =
+    let bound = past (after (start n) (own_of held)).named in let v = another_of (key_of held) number bound.0 fits in
+    record { value = v.0; book = refl; held = refl; home = v.1; numbered = v.2; unnamed = bound.1 v.0 v.3 }
+
 own_labelled : (v : ℕ) (held : List (Held Entry)) → own_of (labelled v held) ≡ own_of held
 own_labelled v [] = refl
 own_labelled v (h ∷ held) = refl
@@ -69,6 +81,10 @@ module _ {M : Type 1} {𝓤 : Ura M} (𝓛 : Logic 𝓤) (n : Name) where
   same_way : (b : Bool) (v w : ℕ) → home_of v ≡ home_of w → block_of v ≡ block_of w → way_if b n v ≡ way_if b n w
   same_way true v w home block = same_lead n.store v w home block
   same_way false v w home block = refl
+
+  pub right_labelled : (held : List (Held Entry)) (v : ℕ) → ent 𝓤 (sem 𝓛 (rights_own n held)) (sem 𝓛 (rights_own n (labelled v held)))
+  right_labelled [] v = qed 𝓛 (‵ (rights_own n []) ∷ []) ∵ done !
+  right_labelled (h ∷ held) v = qed 𝓛 (‵ (rights_own n (h ∷ held)) ∷ []) ∵ done !
 
   -- a label is no part of the right, and its number leads to the same home
   pub relabels : (held : List (Held Entry)) (v : ℕ) → home_of (label_of held) ≡ home_of v → block_of (label_of held) ≡ block_of v → ent 𝓤 (sem 𝓛 (keys_own n held)) (sem 𝓛 (keys_own n (labelled v held)))

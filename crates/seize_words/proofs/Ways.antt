@@ -10,13 +10,17 @@ use types.Kit.{‵, ◌⊛◌, ◌$◌, ◌∵◌, !, qed, by, move, keep, drop,
 use denote.Steps.{nothing}
 use Rattle.seize_machine.specs.Machine.State.{has}
 use Rattle.seize_machine.proofs.Facts.{eq_true}
-use Rattle.seize_store.proofs.Leads.{leads_twice}
+use denote.RawPtr.{Ptr}
+use Rattle.seize_table.specs.Place.{IsPlace}
+use Rattle.seize_store.specs.Known.{entry_of, known_row, label_in, leads_to}
+use Rattle.seize_store.proofs.Leads.{known_leads, leads_twice}
 use Rattle.seize_words.specs.Blocks.{block_of}
 use Rattle.seize_words.specs.Book.{blocks}
 use Rattle.seize_words.specs.Entry.{Entry}
 use Rattle.seize_words.specs.Fair.{IsLabel}
 use Rattle.seize_words.specs.Homes.{home_of}
 use Rattle.seize_words.specs.Ledger.{Held, born, renewed}
+use Rattle.seize_words.specs.Private.{is_one, label_of}
 use Rattle.seize_words.specs.Tokens.{Name, leads, leads_in, all_lead, rights_own, keys_own, one_key, key, way, way_if}
 use Rattle.seize_words.proofs.Goes.{AllFree}
 
@@ -61,6 +65,9 @@ module _ {M : Type 1} {𝓤 : Ura M} (𝓛 : Logic 𝓤) (n : Name) where
   keys_apart (h ∷ held) = qed 𝓛 (‵ (keys_own n (h ∷ held)) ∷ []) ∵ fsplit ! $ fsplit ! $ move ! (2 ∷ []) $ use1 𝓛 (‵ (rights_own n held) ⊛ ‵ (ways held)) (keys_apart held) $ split ! $
       -- [the other rights; the other ways; the right; the way]
       move ! (2 ∷ 0 ∷ []) $ fjoin ! $ move ! (2 ∷ 1 ∷ []) $ fjoin ! $ move ! (1 ∷ 0 ∷ []) $ done !
+
+  pub only_rights : (held : Keys) → ⟦ keys_own n held ⟧ ⊢ ⟦ rights_own n held ⟧
+  only_rights held = qed 𝓛 (‵ (keys_own n held) ∷ []) ∵ use1 𝓛 (‵ (rights_own n held) ⊛ ‵ (ways held)) (keys_apart held) $ split ! $ keep ! (0 ∷ []) $ done !
 
   pub keys_whole : (held : Keys) → ⟦ rights_own n held ⟧ ∗ ⟦ ways held ⟧ ⊢ ⟦ keys_own n held ⟧
   keys_whole [] = qed 𝓛 (‵ ftrue ∷ ‵ ftrue ∷ []) ∵ keep ! (0 ∷ []) $ done !
@@ -150,6 +157,19 @@ module _ {M : Type 1} {𝓤 : Ura M} (𝓛 : Logic 𝓤) (n : Name) where
   label_leads [] v is = absurd is
   label_leads (h ∷ held) v (inl is) = qed 𝓛 (‵ (ways (h ∷ held)) ∷ []) ∵ fsplit ! $ keep ! (0 ∷ []) $ rewrite ! 0 (λ (F : Fml). ‵ F) (is_way h v is) refl $ done !
   label_leads (h ∷ held) v (inr is) = qed 𝓛 (‵ (ways (h ∷ held)) ∷ []) ∵ fsplit ! $ drop ! $ by ! (label_leads held v is)
+
+  -- a key whose value's number leads to its home, as a token of the number's row shows
+  pub placed : (store : List ℕ) (row : ℕ) (chunks : List (Ptr × ℕ)) (held : Keys) → is_one blocks held ≡ true → n.store ≡ Some store
+      → IsPlace (block_of (label_of held)) row (entry_of row (block_of (label_of held))) → label_in chunks (entry_of row (block_of (label_of held))) ≡ home_of (label_of held)
+      → ⟦ rights_own n held ⟧ ∗ ⟦ known_row store row chunks ⟧ ⊢ ⟦ keys_own n held ⟧
+  placed store row chunks [] one is place home = absurd (cc)
+  placed store row chunks (h ∷ g ∷ held) one is place home = absurd (cc)
+  placed store row chunks (h ∷ []) one is place home = let v : ℕ = h.label in let b : ℕ = block_of v in let k : ℕ = label_in chunks (entry_of row b) in
+      qed 𝓛 (‵ (rights_own n (h ∷ [])) ∷ ‵ (known_row store row chunks) ∷ []) ∵ move ! (1 ∷ []) $ use1 𝓛 (‵ (leads_to store b k)) (known_leads 𝓛 store b row chunks place) $
+      rewrite ! 0 (λ (j : ℕ). ‵ (leads_to store b j)) home refl $ rewrite ! 0 (λ (s : Option (List ℕ)). ‵ (leads_in s v)) (sym is) refl $
+      rewrite ! 0 (λ (F : Fml). ‵ F) (sym (is_way h v (eq_true h.kind blocks one, refl))) refl $
+      -- [the way; the right]
+      move ! (1 ∷ []) $ fsplit ! $ move ! (0 ∷ 2 ∷ []) $ fjoin ! $ move ! (0 ∷ 1 ∷ []) $ fjoin ! $ done !
 
   -- that of a value among others
   pub one_leads : (vs : List ℕ) (v : ℕ) → has v vs ≡ true → ⟦ all_lead n vs ⟧ ⊢ ⟦ leads n v ⟧

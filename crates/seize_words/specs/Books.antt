@@ -3,8 +3,6 @@
 --     OpensAlone book pass keys links size store     a new book to which this pass alone may append
 --     AreFirst keys, AreApart keys all         those that a book begins with;  the same, each by itself
 --     IsNew pass                               nothing was made with it
---     IsNewBlock keys number                   the key of a block with this number no value of which was ever named, labelled with one of
---                                              them; that of its count, which is 0; and those of its fields, in which nothing was stored
 --     IsNextIn value number                    it was never named, all values that lay in its block before were reclaimed, and this is the
 --                                              number by which words hold the block
 --     IsFirstIn value number                   and no value of its home was ever named
@@ -83,23 +81,6 @@ Opens book keys links size store = IsMany book × HasKeys book keys links size s
 
 abbrev pub OpensAlone : Book → Pass → BookKeys → ℕ → ℕ → Option (List ℕ) → Type 0
 OpensAlone book pass keys links size store = IsAlone book pass × HasKeys book keys links size store
-
--- the keys of the block with home k: that of its values, labelled with this one, and those of its count and of its fields
-abbrev pub of_block : ℕ → ℕ → List Entry → List (Held Entry)
-of_block value k own =
-    record { kind = blocks; key = k; own = own; label = value } ∷ record { kind = counts; key = k; own = own; label = 0 }
-    ∷ record { kind = fields; key = next_field k; own = own; label = 0 }
-    ∷ record { kind = fields; key = first_field k; own = own; label = 0 } ∷ []
-
-pub record IsNewBlock (keys : Keys) (number : ℕ) : Type 0 where
-  pub value : ℕ
-  pub own : List Entry
-  pub held : keys.held ≡ of_block value (home_of value) own
-  pub numbered : block_of value ≡ number
-  pub none_named : (v : ℕ) → home_of v ≡ home_of value → has v (after (start keys.name) own).named ≡ false
-  pub no_count
-      : (count_in (after (start keys.name) own) (home_of value) ≡ pos 0) × (deposit (after (start keys.name) own) (home_of value) ≡ [])
-  pub none_told : (told own (next_field (home_of value)) ≡ 0) × (told own (first_field (home_of value)) ≡ 0)
 
 -- it was never named, all values that lay in its block before were reclaimed, and words hold the block by this number
 abbrev pub IsNextIn : ValueKey → ℕ → Type 0

@@ -15,6 +15,7 @@ pub mod Others
 pub mod Chains
 pub mod Counts
 pub mod Deposits
+pub mod Bare
 pub mod Batches
 pub mod Books
 pub mod Blocks

@@ -5,8 +5,10 @@
 //! it is the key of, and know what the list says of it, whatever others add: a `SlotKey` those of a slot. An entry by a step on a word is
 //! added in that very step; a private event, which no word shows, by a call that does nothing else.
 
+mod bare_key;
 mod block_keys;
 mod book_keys;
+mod chunk_keys;
 mod count_key;
 mod field_key;
 mod head_key;
@@ -14,6 +16,7 @@ mod keys;
 mod link_keys;
 mod numbers_key;
 mod pass;
+mod rights;
 mod slot_key;
 mod slot_keys;
 mod token;
@@ -21,8 +24,10 @@ mod total_key;
 mod value_key;
 mod value_keys;
 
+pub use bare_key::BareKey;
 pub use block_keys::BlockKeys;
 pub use book_keys::BookKeys;
+pub use chunk_keys::ChunkKeys;
 pub use count_key::CountKey;
 pub use field_key::FieldKey;
 pub use head_key::HeadKey;

@@ -7,6 +7,7 @@ ghost use Rattle.seize_words.specs.Ledger.{Held};
 ghost use Rattle.seize_words.specs.Tokens.{Name, held_coded, keys_own, name_coded};
 
 use crate::book::pass::Pass;
+use crate::book::rights::Rights;
 use std::marker::{Brand, Model, PhantomData};
 
 /// Some keys of one book, each with the list as it was when its holder last added an event.
@@ -49,6 +50,15 @@ impl Keys {
     pub(crate) fn rename(&mut self)
         ensures { Renames self.old self.new }
     {}
+
+    /// All of them, without the ways.
+    pub(crate) fn bare(&mut self) -> Rights
+        ensures { (result.name ≡ self.old.name) × (result.held ≡ self.old.held) }
+    {
+        Rights {
+            marker: PhantomData,
+        }
+    }
 
     /// No keys of the same book.
     pub(crate) fn none(&mut self) -> Keys

@@ -6,13 +6,15 @@ ghost use Rattle.seize_words.specs.Begin.{book_owns};
 ghost use Rattle.seize_words.specs.Entry.{Entry, entry_coded};
 ghost use Rattle.seize_words.specs.Tokens.{Name, many, name_coded};
 
+use crate::book::bare_key::BareKey;
 use crate::book::block_keys::BlockKeys;
 use crate::book::book_keys::BookKeys;
+use crate::book::chunk_keys::ChunkKeys;
 use crate::book::count_key::CountKey;
 use crate::book::field_key::FieldKey;
 use crate::book::keys::Keys;
 use crate::book::pass::Pass;
-use crate::book::value_key::ValueKey;
+use crate::book::rights::Rights;
 use std::marker::{Brand, Model, PhantomData};
 
 /// What shows that there is a book, for good. It may be copied, and shared by `&`.
@@ -42,7 +44,8 @@ impl Numbers for Brand {
 
 impl Book {
     ghost use mathlib.Core.List.{IsPrefix};
-    ghost use Rattle.seize_words.specs.Books.{AreOf, Begins, IsAlone, IsCountFor, IsFieldFor, IsFirstIn, IsMany, IsNew, IsNewBlock, Opens, OpensAlone};
+    ghost use Rattle.seize_words.specs.Books.{AreOf, Begins, IsAlone, IsCountFor, IsFieldFor, IsFirstIn, IsMany, IsNew, Opens, OpensAlone};
+    ghost use Rattle.seize_words.specs.Bare.{IsChunkOf, IsNewChunk};
     ghost use Rattle.seize_words.specs.Chains.{first_field, next_field};
 
     /// A new book, of which any number of passes may be made, and its keys. It has no slot yet, and its links are empty. A slot attempts
@@ -128,29 +131,48 @@ impl Book {
         ensures fields { IsFieldFor next_field result.next result.value × IsFieldFor first_field result.first result.value }
         ensures book { AreOf self.now result }
     {
-        let mut value = self.block_keys(number);
-        let mut count = value.none();
-        let mut next = value.none();
-        let mut first = value.none();
-        value.part(&mut count);
+        let ChunkKeys {
+            value,
+            count,
+            next,
+            first,
+        } = self.chunk();
+        BlockKeys {
+            value: value.anywhere(number),
+            count,
+            next,
+            first,
+        }
+    }
+
+    /// The keys of a new block, before it is said where the block lies. None of its values was ever named.
+    pub fn chunk(&self) -> ChunkKeys
+        ensures { IsChunkOf self.now result }
+    {
+        let (rights, mut count) = self.chunk_keys();
+        let mut next = count.none();
+        let mut first = count.none();
         count.part(&mut next);
         next.part(&mut first);
-        BlockKeys {
-            value: ValueKey { keys: value },
+        ChunkKeys {
+            value: BareKey { rights },
             count: CountKey { keys: count },
             next: FieldKey { keys: next },
             first: FieldKey { keys: first },
         }
     }
 
-    // The keys of a new block, in this order.
-    fn block_keys(&self, number: u64) -> Keys
-        requires { self.now.name.store ≡ None }
-        ensures { IsNewBlock result number × (result.name ≡ self.now.name) }
+    // The key of a new block's values, and those of its count and its fields, in this order.
+    fn chunk_keys(&self) -> (Rights, Keys)
+        ensures { IsNewChunk result.0 result.1 × (result.0.name ≡ self.now.name) }
     {
-        Keys {
+        let rights = Rights {
             marker: PhantomData,
-        }
+        };
+        let keys = Keys {
+            marker: PhantomData,
+        };
+        (rights, keys)
     }
 }
 

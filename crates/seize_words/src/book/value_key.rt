@@ -5,6 +5,7 @@ ghost use Rattle.seize_words.specs.Book.{blocks};
 ghost use Rattle.seize_words.specs.Homes.{home_of};
 ghost use Rattle.seize_words.specs.Private.{is_one, key_of, label_of};
 
+use crate::book::bare_key::BareKey;
 use crate::book::keys::Keys;
 use crate::book::pass::Pass;
 
@@ -18,8 +19,10 @@ pub struct ValueKey {
 }
 
 impl ValueKey {
+    ghost use Rattle.seize_words.specs.Bare.{IsLaid};
     ghost use Rattle.seize_words.specs.Books.{IsNextIn, MakesNext};
-    ghost use Rattle.seize_words.specs.Others.{HasGone, IsLast, IsOfBook, value_of};
+    ghost use Rattle.seize_words.specs.Homes.{IsVacant};
+    ghost use Rattle.seize_words.specs.Others.{HasGone, IsLast, IsOfBook, state_of, value_of};
 
     /// The key is for the next value of its block then, which words hold by the same number. The last one was reclaimed, as the pass has
     /// seen. The pass and the key look at the list with no event.
@@ -31,5 +34,16 @@ impl ValueKey {
     {
         self.keys.look(pass);
         self.keys.rename();
+    }
+
+    /// The key of the block by itself, as a chunk of a store keeps it. All values that ever lay in the block were reclaimed.
+    pub fn bare(self) -> BareKey
+        requires vacant { IsVacant (state_of self.keys) (home_of (value_of self)) }
+        ensures { IsLaid self result }
+    {
+        let mut keys = self.keys;
+        BareKey {
+            rights: keys.bare(),
+        }
     }
 }
