@@ -1,7 +1,7 @@
 -- How slots are made, one after the other.
 --     AreUnused total numbers next     the keys are those with which one book began
 --     made_by maker, name_by maker     how many slots there are, as it knows;  its book
---     TakesPart book maker             it is of the book, to which many may append
+--     TakesPart book maker             it is of the book, to which many may append, and whose blocks lie in no store
 --     HasOneMore maker maker'          one more slot was made, and where there is one more number, so can the slot after it
 --     AreLeft left first many          of a book's links, which were empty when it began, those from this one on are to be made, so many
 --     OpensWith book maker left many   the book has no slot, and so many links
@@ -63,7 +63,7 @@ pub record MakesOne (maker : Maker) (pass : Pass) (key : SlotKey) (head : Head) 
   pub goes_on : made_by maker' < all_numbers → CanMake maker'
 
 abbrev pub TakesPart : Book → Maker → Type 0
-TakesPart book maker = (name_by maker ≡ book.name) × (book.name.gate ≡ many)
+TakesPart book maker = (name_by maker ≡ book.name) × (book.name.gate ≡ many) × (book.name.store ≡ None)
 
 abbrev pub HasOneMore : Maker → Maker → Type 0
 HasOneMore maker maker' =

@@ -1,6 +1,6 @@
 //! Swaps of many new values into one link, and many reads, as each of several threads makes them: with an activation of its own, or with
 //! one that it shares.
-ghost use Rattle.std.specs.Prelude.{◌≡◌, ◌<◌, ◌^◌};
+ghost use Rattle.std.specs.Prelude.{◌≡◌, ◌<◌, ◌^◌, None};
 ghost use Rattle.seize_words.specs.LinkWords.{IsIn};
 ghost use Rattle.seize_words_rows.specs.Exchanges.{IsLinkOf, MayShare, MaySwap};
 ghost use Rattle.seize_words_rows.specs.Making.{CanMake, HasOneMore, TakesPart};
@@ -112,7 +112,7 @@ fn swap_each(
     first: u64,
     count: u64,
 ) -> u64
-    requires may { IsIn link.now activation.now pass.old × (book.now.name ≡ pass.old.name) }
+    requires may { IsIn link.now activation.now pass.old × (book.now.name ≡ pass.old.name) × (book.now.name.store ≡ None) }
     requires small { (first < 2 ^ 32) × (count < 2 ^ 32) }
 {
     let mut left: u64 = 0;

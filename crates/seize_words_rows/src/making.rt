@@ -5,6 +5,7 @@ ghost use Rattle.seize_words_rows.specs.Making.{AreUnused, CanMake, MakesOne, Op
 use seize_words::book::{Book, BookKeys, LinkKeys, NumbersKey, Pass, SlotKey, SlotKeys, TotalKey};
 use seize_words::reservation::Head;
 use seize_words::total::Total;
+use std::marker::Brand;
 
 /// What slots are made with: the word that says how many there are, the key of the numbers, and those of the slot that comes next.
 #[derive(Drop)]
@@ -18,7 +19,7 @@ pub struct Maker {
 pub fn open(links: usize) -> (Book, Maker, LinkKeys)
     ensures { OpensWith result.0 result.1 result.2 links }
 {
-    let (book, keys) = Book::open(links, 32);
+    let (book, keys) = Book::open::<Brand>(links, 32);
     let BookKeys {
         numbers,
         total,

@@ -5,7 +5,7 @@
 //! Each function makes one or two of the events. The book is open to one pass alone, so its holder knows the whole list: how many slots
 //! there are when a value is put, which of them are active, and what waits in a list that comes out. So the contracts say which words are
 //! found.
-ghost use Rattle.std.specs.Prelude.{◌≡◌, true, false, Some};
+ghost use Rattle.std.specs.Prelude.{◌≡◌, true, false, None, Some};
 ghost use Rattle.seize_words.specs.Slots.{written_of};
 ghost use Rattle.seize_words.specs.Reservations.{IsLastOf};
 ghost use Rattle.seize_words_rows.specs.Making.{CanMake, made_by, name_by};
@@ -22,6 +22,7 @@ use seize_words::batch::Count;
 use seize_words::book::{BlockKeys, Book, BookKeys, Pass, SlotKey, ValueKeys};
 use seize_words::header::Field;
 use seize_words::reservation::Head;
+use std::marker::Brand;
 
 /// The number of the one block.
 pub const BLOCK: u64 = 5;
@@ -67,6 +68,7 @@ fn make_slots(maker: Maker, pass: &mut Pass) -> (SlotKey, SlotKey, Heads)
 
 // Makes the block, whose count is 0. Nothing was stored in its fields.
 fn make_block(book: &Book) -> Block
+    requires { book.now.name.store ≡ None }
     ensures { IsNewBlock book.now.name result }
 {
     let BlockKeys {
@@ -88,7 +90,7 @@ pub fn begin() -> (SlotKey, SlotKey, Words, Pass)
     ensures words { AreHeads result.2.heads × IsNewBlock (book_of result.2) result.2.block }
     ensures made { Knows (book_of result.2) result.0 0 one_made × Leads (book_of result.2) result.3 result.1 1 two_made }
 {
-    let (book, mut pass, keys) = Book::open_alone(0, 1);
+    let (book, mut pass, keys) = Book::open_alone::<Brand>(0, 1);
     let BookKeys {
         numbers,
         total,
