@@ -51,7 +51,7 @@ module _ {M : Type 1} {𝓤 : Ura M} (𝓛 : Logic 𝓤) (n : Name) where
       nothing ! $ fpack ! (are_distinct (linked n.links) ≡ Rattle.std.specs.Prelude.true) (λ _. ftrue) so $ move ! (1 ∷ 0 ∷ []) $ fjoin ! $
       nothing ! $ fpack ! (are_distinct (linked n.links) ≡ Rattle.std.specs.Prelude.true) (λ _. ftrue) so $ move ! (2 ∷ 0 ∷ []) $ fjoin ! $ done !)
 
-  distinct_links : ⟦ knows n ⟧ ⊢ guard 𝓤 (IsDistinct 𝓛 n) ⟦ knows n ⟧
+  pub distinct_links : ⟦ knows n ⟧ ⊢ guard 𝓤 (IsDistinct 𝓛 n) ⟦ knows n ⟧
   distinct_links = qed 𝓛 (‵ (knows n) ∷ []) ∵ fsplit ! $ move ! (1 ∷ []) $ fpick ! (λ so. drop ! $ check ! so $
       nothing ! $ fpack ! (IsDistinct 𝓛 n) (λ _. ftrue) so $ move ! (1 ∷ 0 ∷ []) $ fjoin ! $ done !)
 

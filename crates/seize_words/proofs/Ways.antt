@@ -1,19 +1,22 @@
 -- Where the numbers of values lead: what goes with the keys of blocks beside the rights, and what the book has of all that were named. Assumes
 -- `Logic`.
-use Rattle.std.proofs.Common.{◌≡◌, ℕ, zero, suc, Bool, true, false, ◌||◌, ◌==◌, List, [], ◌∷◌, ◌++◌, take, Option, Some, None, ◌⊎◌, inl, inr, refl, sym, ◌∙◌, ap, arith}
+use Rattle.std.proofs.Common.{◌≡◌, ℕ, zero, suc, Bool, true, false, ◌||◌, ◌==◌, List, [], ◌∷◌, ◌++◌, take, Option, Some, None, ◌⊎◌, inl, inr, refl, sym, ◌∙◌, ap, subst, nat_lt, ◌+◌, ◌^◌, ◌<◌, arith}
 use Rattle.std.specs.Prelude.{drop as past}
 use seplogic.Ra.Ura.{Ura}
-use base.Logic.{SProp, ent, sep}
+use base.Logic.{SProp, ent, sep, guard}
 use base.Fml.{Fml, ftrue, fsep}
 use types.Logic.{Logic, sem}
-use types.Kit.{‵, ◌⊛◌, ◌$◌, ◌∵◌, !, qed, by, move, keep, drop, split, fsplit, fjoin, rewrite, use1, use2, done}
-use denote.Steps.{nothing}
+use types.Kit.{‵, raw, given, learn, check, ◌⊛◌, ◌$◌, ◌∵◌, !, qed, by, move, keep, drop, split, fsplit, fjoin, rewrite, use1, use2, done}
+use denote.Steps.{heard, nothing}
 use Rattle.seize_machine.specs.Machine.State.{has}
-use Rattle.seize_machine.proofs.Facts.{eq_true}
+use Rattle.seize_machine.proofs.Facts.{eq_true, is_true}
 use denote.RawPtr.{Ptr}
 use Rattle.seize_table.specs.Place.{IsPlace}
 use Rattle.seize_store.specs.Known.{entry_of, known_row, label_in, leads_to}
-use Rattle.seize_store.proofs.Leads.{known_leads, leads_twice}
+use Rattle.seize_store.proofs.Leads.{known_leads, leads_agree, leads_twice}
+use Rattle.seize_store.proofs.Tokens.{row_twice}
+use native.Mathlib.Decide.{ℕ_discrete}
+use contract.Monad.{fact}
 use Rattle.seize_words.specs.Blocks.{block_of}
 use Rattle.seize_words.specs.Book.{blocks}
 use Rattle.seize_words.specs.Entry.{Entry}
@@ -36,6 +39,29 @@ here u us = ap (λ (b : Bool). b || has u us) (same u)
 
 there : (u v : ℕ) (us : List ℕ) → has v us ≡ true → has v (u ∷ us) ≡ true
 there u v us h = ap (λ (b : Bool). (u == v) || b) h ∙ or_true (u == v)
+
+-- whether an entry of a row is the place of a number
+is_place : (b row e : ℕ) → Dec (IsPlace b row e)
+is_place b row e = go (ℕ_discrete (2 ^ (row + 5) + e) (b + 32)) (is_true (nat_lt e (2 ^ (row + 5))))
+  where
+    go : Dec (2 ^ (row + 5) + e ≡ b + 32) → (nat_lt e (2 ^ (row + 5)) ≡ true) ⊎ (nat_lt e (2 ^ (row + 5)) ≡ false) → Dec (IsPlace b row e)
+    go (no out) less = no (λ p. out p.place)
+    go (yes is) (inl less) = yes (record { place = is; within = grind arith })
+    go (yes is) (inr past) = no (λ p. let less : e < 2 ^ (row + 5) = p.within in absurd (grind arith))
+
+-- its block has the label there
+abbrev pub IsIn : ℕ → List (Ptr × ℕ) → ℕ → Type 0
+IsIn row chunks v = IsPlace (block_of v) row (entry_of row (block_of v)) → label_in chunks (entry_of row (block_of v)) ≡ home_of v
+
+abbrev pub AreIn : ℕ → List (Ptr × ℕ) → List ℕ → Type 0
+AreIn row chunks vs = (v : ℕ) → has v vs ≡ true → IsIn row chunks v
+
+both_in : (row : ℕ) (chunks : List (Ptr × ℕ)) (u : ℕ) (vs : List ℕ) → IsIn row chunks u → AreIn row chunks vs → AreIn row chunks (u ∷ vs)
+both_in row chunks u vs one rest v h = go (u == v) refl h
+  where
+    go : (b : Bool) → (u == v) ≡ b → (b || has v vs) ≡ true → IsIn row chunks v
+    go true e t = subst (IsIn row chunks) (eq_true u v e) one
+    go false e t = rest v t
 
 module _ {M : Type 1} {𝓤 : Ura M} (𝓛 : Logic 𝓤) (n : Name) where
   abbrev Pr : Type 2
@@ -179,6 +205,28 @@ module _ {M : Type 1} {𝓤 : Ura M} (𝓛 : Logic 𝓤) (n : Name) where
       go : (b : Bool) → (u == v) ≡ b → (has v vs ≡ true → ⟦ all_lead n vs ⟧ ⊢ ⟦ leads n v ⟧) → (b || has v vs) ≡ true → ⟦ all_lead n (u ∷ vs) ⟧ ⊢ ⟦ leads n v ⟧
       go true e rest t = qed 𝓛 (‵ (all_lead n (u ∷ vs)) ∷ []) ∵ fsplit ! $ keep ! (0 ∷ []) $ rewrite ! 0 (λ (w : ℕ). ‵ (leads n w)) (eq_true u v e) refl $ done !
       go false e rest t = qed 𝓛 (‵ (all_lead n (u ∷ vs)) ∷ []) ∵ fsplit ! $ drop ! $ by ! (rest t)
+
+  -- A value whose number is one of a row that a token shows lies in the block with the label that the row has there.
+
+  in_one : (store : List ℕ) (row : ℕ) (chunks : List (Ptr × ℕ)) → n.store ≡ Some store → (v : ℕ)
+      → ⟦ leads n v ⟧ ∗ ⟦ known_row store row chunks ⟧ ⊢ guard 𝓤 (IsIn row chunks v) (⟦ leads n v ⟧ ∗ ⟦ known_row store row chunks ⟧)
+  in_one store row chunks is v = go (is_place (block_of v) row (entry_of row (block_of v)))
+    where
+      go : Dec (IsPlace (block_of v) row (entry_of row (block_of v))) → ⟦ leads n v ⟧ ∗ ⟦ known_row store row chunks ⟧ ⊢ guard 𝓤 (IsIn row chunks v) (⟦ leads n v ⟧ ∗ ⟦ known_row store row chunks ⟧)
+      go (no out) = qed 𝓛 (‵ (leads n v) ∷ ‵ (known_row store row chunks) ∷ []) ∵ check ! (λ place. absurd (out place)) $ done !
+      go (yes place) = let b : ℕ = block_of v in let k : ℕ = label_in chunks (entry_of row b) in let K : Fml = known_row store row chunks in let Same : Type 0 = k ≡ home_of v in
+          qed 𝓛 (‵ (leads n v) ∷ ‵ K ∷ []) ∵ use1 𝓛 (‵ (leads n v) ⊛ ‵ (leads n v)) (lead_twice v) $ split ! $ rewrite ! 0 (λ (s : Option (List ℕ)). ‵ (leads_in s v)) is refl $
+          move ! (2 ∷ []) $ use1 𝓛 (‵ K ⊛ ‵ K) (row_twice 𝓛 store row chunks) $ split ! $ use1 𝓛 (‵ (leads_to store b k)) (known_leads 𝓛 store b row chunks place) $
+          -- [where the number leads by the row; the row; where it leads by the book; that once more]
+          move ! (0 ∷ 2 ∷ []) $ use2 𝓛 (raw (fact 𝓤 Same)) (leads_agree 𝓛 store b k (home_of v)) $ heard ! Same (λ same. check ! (λ _. same) $ move ! (1 ∷ 0 ∷ []) $ done !)
+
+  pub all_in : (store : List ℕ) (row : ℕ) (chunks : List (Ptr × ℕ)) → n.store ≡ Some store → (vs : List ℕ) → ⟦ all_lead n vs ⟧ ∗ ⟦ known_row store row chunks ⟧ ⊢ guard 𝓤 (AreIn row chunks vs) ⟦ all_lead n vs ⟧
+  all_in store row chunks is [] = qed 𝓛 (‵ ftrue ∷ ‵ (known_row store row chunks) ∷ []) ∵ check ! (λ v named. absurd (cc)) $ keep ! (0 ∷ []) $ done !
+  all_in store row chunks is (u ∷ vs) = let K : Fml = known_row store row chunks in qed 𝓛 (‵ (all_lead n (u ∷ vs)) ∷ ‵ K ∷ []) ∵ fsplit ! $ move ! (0 ∷ 2 ∷ []) $
+      use2 𝓛 (given (IsIn row chunks u) (‵ (leads n u) ⊛ ‵ K)) (in_one store row chunks is u) $ learn ! (λ one. split ! $
+      -- [where the first leads; the row; where the others lead]
+      move ! (2 ∷ 1 ∷ []) $ use2 𝓛 (given (AreIn row chunks vs) (‵ (all_lead n vs))) (all_in store row chunks is vs) $ learn ! (λ rest.
+      check ! (both_in row chunks u vs one rest) $ move ! (1 ∷ 0 ∷ []) $ fjoin ! $ done !))
 
   pub all_twice : (vs : List ℕ) → ⟦ all_lead n vs ⟧ ⊢ ⟦ all_lead n vs ⟧ ∗ ⟦ all_lead n vs ⟧
   all_twice [] = qed 𝓛 (‵ ftrue ∷ []) ∵ nothing ! $ done !

@@ -11,7 +11,7 @@
 --     IsChunkOf book keys            they are the keys of a new block of the book
 use Rattle.std.specs.Prelude.{◌≡◌, ℕ, pos, true, false, List, [], ◌∷◌, Some}
 use Rattle.seize_machine.specs.Machine.State.{State, has}
-use Rattle.seize_store.specs.Known.{entry_of, label_in}
+use Rattle.seize_store.specs.Known.{label_in}
 use Rattle.seize_store.specs.declared.known.Known.{Known}
 use Rattle.seize_table.specs.Place.{IsPlace}
 use Rattle.seize_words.specs.Blocks.{block_of}
@@ -23,6 +23,7 @@ use Rattle.seize_words.specs.Deposits.{deposit}
 use Rattle.seize_words.specs.Entry.{Entry}
 use Rattle.seize_words.specs.Headers.{told_known}
 use Rattle.seize_words.specs.Homes.{count_in, home_of}
+use Rattle.seize_words.specs.Homesteads.{entry_in}
 use Rattle.seize_words.specs.Ledger.{Held}
 use Rattle.seize_words.specs.Others.{book_of, labelled, state_of, value_of}
 use Rattle.seize_words.specs.Private.{is_one, key_of, label_of, own_of}
@@ -46,10 +47,6 @@ pub record Numbers (rights rights' : Rights) (number : ℕ) : Type 0 where
   pub home : home_of value ≡ key_of rights.held
   pub numbered : block_of value ≡ number
   pub unnamed : has value (state_in rights).named ≡ false
-
--- the entry of the value's number, in the token's row
-abbrev pub entry_in : Known → ℕ → ℕ
-entry_in known v = entry_of known.row (block_of v)
 
 pub record IsWay (rights : Rights) (known : Known) : Type 0 where
   pub one : is_one blocks rights.held ≡ true

@@ -1,6 +1,7 @@
 pub mod Ledger
 pub mod Entry
 pub mod Homes
+pub mod Homesteads
 pub mod After
 pub mod Book
 pub mod Laws

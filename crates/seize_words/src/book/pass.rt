@@ -1,9 +1,10 @@
 //! Passes. It uses nothing of the other modules; the keys beside it add entries with a pass.
-ghost use Rattle.std.specs.Prelude.{◌≡◌, ℕ, List};
+ghost use Rattle.std.specs.Prelude.{◌≡◌, ℕ, List, Some};
 ghost use base.Stored.{coded_list};
 ghost use Rattle.seize_words.specs.Entry.{Entry, entry_coded};
 ghost use Rattle.seize_words.specs.Tokens.{Name, name_coded, pass_owns};
 
+use seize_store::Known;
 use std::marker::{Model, PhantomData};
 
 /// What its holder has seen of the list, and the right to add entries under its id.
@@ -22,13 +23,21 @@ impl Model for Pass {
 }
 
 impl Pass {
-    ghost use Rattle.seize_words.specs.Passes.{Meets};
+    ghost use Rattle.seize_words.specs.Homesteads.{AreAt, state_seen};
+    ghost use Rattle.seize_words.specs.Passes.{LooksOn, Meets};
 
     /// Two passes of one book tell each other what they have seen: afterwards both have seen the longer of their two beginnings. No event
     /// is made with either.
     pub fn meet(&mut self, other: &mut Pass)
         requires { other.old.name ≡ self.old.name }
         ensures { Meets self.old other.old self.new other.new }
+    {}
+
+    /// Looks at the list, and adds nothing. Where the blocks of the book lie in the store of this row, each value that was ever named, and
+    /// whose number is one of the row's, lies in the block with the label that the row has there.
+    pub fn find(&mut self, known: &Known)
+        requires { self.old.name.store ≡ Some known.now.store }
+        ensures { LooksOn self.old self.new × AreAt known.now (state_seen self.new) }
     {}
 }
 
