@@ -1,6 +1,6 @@
 -- How a book begins.
---     BeganWith n links size store     its opening has no slot and so many links, which are empty; the batch size at each event is this; and
---                              this is the store where its blocks lie, if they lie in one
+--     BeganWith n links size store   its opening has no slot and so many links, which are empty; the batch size at each event is this;
+--                              and this is the store where its blocks lie, if they lie in one
 --     first_keys many          with so many links, the keys that there are then but for passes: those of the numbers, of the total, of the
 --                              first slot and its head, and of each link
 --     book_owns n seen         what the token of a book owns that has seen this beginning of the list

@@ -18,7 +18,8 @@ entry_in known v = entry_of known.row (block_of v)
 
 abbrev pub AreAt : Known → State → Type 0
 AreAt known st =
-    (v : ℕ) → has v st.named ≡ true → IsPlace (block_of v) known.row (entry_in known v) → label_in known.chunks (entry_in known v) ≡ home_of v
+    (v : ℕ) → has v st.named ≡ true → IsPlace (block_of v) known.row (entry_in known v)
+    → label_in known.chunks (entry_in known v) ≡ home_of v
 
 abbrev pub state_seen : Pass → State
 state_seen pass = after (start pass.name) pass.seen

@@ -19,7 +19,8 @@ abbrev pub IsLinkOf : Link → Book → Type 0
 IsLinkOf link book = IsLink book.name link
 
 abbrev pub MaySwap : Link → Swapper → Type 0
-MaySwap link swapper = IsIn link swapper.activation swapper.pass × (swapper.book.name ≡ swapper.pass.name) × (swapper.book.name.store ≡ None)
+MaySwap link swapper =
+    IsIn link swapper.activation swapper.pass × (swapper.book.name ≡ swapper.pass.name) × (swapper.book.name.store ≡ None)
 
 abbrev pub MayShare : Link → Activation → Book → Type 0
 MayShare link activation book =
