@@ -1,0 +1,12 @@
+pub mod Kit
+pub mod Fields
+pub mod Tokens
+pub mod Rooms
+pub mod Places
+pub mod Sharing
+pub mod Sends
+pub mod Loans
+pub mod Turns
+pub mod Meet
+pub mod Views
+pub mod Readers

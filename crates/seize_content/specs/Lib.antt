@@ -1,0 +1,7 @@
+pub mod Stages
+pub mod Contents
+pub mod Lends
+pub mod Loans
+pub mod Memory
+pub mod Parts
+pub mod Readers

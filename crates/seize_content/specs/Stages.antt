@@ -1,0 +1,55 @@
+-- The stages of a content, one after the other.
+--     Name            a content's name: the name of its list of stages, which has no second holder, and where its value lies
+--     Stage           empty; held, the value in its owner's hands; or lent a g, a value of code g lent under the lifetime a
+--     last s ms       the last of ms, and s where there is none
+--     goes s t        t may come after s: after a loan only what comes once its lifetime is over
+--     stages          lists of stages, of which a longer one goes on from a shorter one
+use Rattle.core.specs.Prelude.{◌≡◌, ℕ, List, [], ◌∷◌}
+use mathlib.Core.Path.{refl, sym, ap, ◌∙◌}
+use base.Stored.{Gv, Coded, gnil, coded×, coded_ℕ, coded_list, coded_via}
+use base.Growing.{Order, prefixes}
+use base.Fml.{Fml, ftrue, fdead}
+use denote.RawPtr.{Ptr, coded_ptr}
+use denote.Struct.Codes.{itself}
+
+abbrev pub Name : Type 0
+Name = ℕ × Ptr
+
+abbrev pub name_coded : Coded Name
+name_coded = coded× coded_ℕ coded_ptr
+
+pub data Stage : Type 0 where
+  empty : Stage
+  held : Stage
+  lent : ℕ → Gv → Stage
+
+-- a loan is coded as itself, `empty` and `held` as no loan and as two
+abbrev loans : Stage → List (ℕ × Gv)
+loans empty = []
+loans held = (0, gnil) ∷ (0, gnil) ∷ []
+loans (lent a g) = (a, g) ∷ []
+
+abbrev of_loans : List (ℕ × Gv) → Stage
+of_loans [] = empty
+of_loans (s ∷ []) = lent s.0 s.1
+of_loans (s ∷ t ∷ ts) = held
+
+pub loans_back : (s : Stage) → of_loans (loans s) ≡ s
+loans_back empty = refl
+loans_back held = refl
+loans_back (lent a g) = refl
+
+abbrev pub stage_coded : Coded Stage
+stage_coded = coded_via (coded_list (coded× coded_ℕ itself)) loans (λ x y e. sym (loans_back x) ∙ (ap of_loans e ∙ loans_back y))
+
+abbrev pub stages : Order (List Stage)
+stages = prefixes stage_coded
+
+abbrev pub last : Stage → List Stage → Stage
+last s [] = s
+last s (t ∷ ts) = last t ts
+
+abbrev pub goes : Stage → Stage → Fml
+goes empty t = ftrue
+goes held t = ftrue
+goes (lent a g) t = fdead (a ∷ [])

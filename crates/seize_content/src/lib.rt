@@ -1,0 +1,16 @@
+//! Contents: values that are lent and not copied. A content lies in its place while its owner has it in hand, while readers see it, and
+//! until it comes back; threads share the place by `&`.
+//!
+//! `content` is the place, `room` the memory that it lies in. What its holders have has no bytes: `ticket` the right to change a content's
+//! stage and the value in hand, `loan` what is left with the lender and what a reader has.
+#![tactic(auto)]
+
+mod content;
+mod loan;
+mod room;
+mod ticket;
+
+pub use content::Content;
+pub use loan::{Pool, Sight};
+pub use room::{Grant, Room};
+pub use ticket::{Held, Ticket};

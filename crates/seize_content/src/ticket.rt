@@ -1,0 +1,78 @@
+//! The right to change a content's stage, and the value in its owner's hands. Nothing here has bytes.
+ghost use Rattle.std.specs.Prelude.{◌≡◌};
+ghost use denote.Sharing.{nothing};
+ghost use Rattle.seize_content.specs.Contents.{held_owns, held_shares, space_owns, ticket_owns};
+ghost use Rattle.seize_content.specs.Stages.{Name, Stage, name_coded, stage_coded};
+
+use crate::content::Content;
+use std::marker::{Model, PhantomData};
+
+/// Who has it changes the stage of one content, and knows it. It knows nothing of the value's type.
+#[derive(Drop)]
+pub struct Ticket {
+    pub(crate) marker: PhantomData<()>,
+    /// Which content it is of.
+    pub ghost name: { Name } by { name_coded },
+    /// The stage that the content is at.
+    pub ghost says: { Stage } by { stage_coded },
+}
+
+impl Model for Ticket {
+    ghost also_owns = { λ t. ticket_owns t.name t.says };
+
+    ghost also_shares = { λ _ _ κ. nothing κ };
+}
+
+/// A content's value in its owner's hands, with the ticket. It has no end of its own: the value is taken out, or lent.
+pub struct Held<T> {
+    pub(crate) ticket: Ticket,
+    pub(crate) marker: PhantomData<T>,
+    pub ghost value: { T },
+}
+
+impl<T> Model for Held<T> {
+    ghost also_owns = { λ h. held_owns T.row h.ticket.name h.ticket.says h.value };
+
+    ghost also_shares = { λ h _ κ. held_shares T.row h.ticket.name h.value κ };
+}
+
+impl<T> Held<T> {
+    ghost use Rattle.seize_content.specs.Lends.{lends_value};
+    ghost use Rattle.seize_content.specs.Parts.{content_of};
+    ghost use Rattle.std.specs.Borrow.{sem};
+
+    /// The value. Its content says where it lies.
+    pub fn get(&self, content: &Content<T>) -> &T
+        requires { content_of self.now ≡ content.now.name }
+        ensures { result.now ≡ self.now.value }
+    {
+        unsafe { &*content.at }
+    }
+
+    /// The value, to be changed. All else of what is in hand stays.
+    pub fn get_mut(&mut self, content: &Content<T>) -> &mut T
+        requires { content_of self.old ≡ content.now.name }
+        ensures* writes_back { sem 𝓛 (lends_value T.row self.entry result) }
+        ensures value { result.now ≡ self.old.value }
+    {
+        unsafe { &mut *content.at }
+    }
+}
+
+/// The place of a value that was not put there yet, or was taken out, with the ticket.
+pub(crate) struct Space<T> {
+    pub(crate) marker: PhantomData<T>,
+    pub(crate) ghost name: { Name } by { name_coded },
+}
+
+impl<T> Model for Space<T> {
+    ghost also_owns = { λ s. space_owns T.row s.name };
+}
+
+unsafe impl Send for Ticket {}
+
+unsafe impl Sync for Ticket {}
+
+unsafe impl<T: Send> Send for Held<T> {}
+
+unsafe impl<T: Sync> Sync for Held<T> {}
