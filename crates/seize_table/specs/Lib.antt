@@ -1,5 +1,9 @@
+pub mod Filled
 pub mod Free
+pub mod Meaning
 pub mod Named
+pub mod Opened
 pub mod Place
 pub mod Refusals
 pub mod Table
+pub mod Walk

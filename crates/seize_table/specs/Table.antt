@@ -1,8 +1,9 @@
 -- What is known of a table: which cells its entries are, and what a token shows of one.
 --     number_at b e          the number whose place is entry e of bucket b
 --     IsCell note e c        the bucket that the note knows has the cell c at entry e
---     Shows bs t f x         the token f shows that the entry of t holds x, in the table of the buckets bs
---     IsOf bs t f            the token f shows some value there
+--     IsItem label i x       what i shows of a cell is that it holds the value x, which has that label
+--     Shows label bs t f x   the token f shows that the entry of t holds x, in the table of the buckets bs
+--     IsOf label bs t f      the token f shows some value there
 --     WalksOn n v m          a step of a walk from number n leads to number m, and yields the value v or ends
 use Rattle.std.specs.Prelude.{◌≡◌, ℕ, ◌+◌, ◌-◌, ◌^◌, ◌<◌, ◌≤◌, List, slice_get, IfSome, IfNone}
 use Rattle.std.specs.declared.option.Option.{Option}
@@ -11,6 +12,7 @@ use Rattle.std.specs.declared.alloc.Global.{Global}
 use Rattle.std.specs.declared.vec.Vec.{Vec}
 use Rattle.once_cell.specs.declared.race.note.Note.{Note}
 use Rattle.seize_table.specs.declared.thread_id.Thread.{Thread}
+use Rattle.seize_table.specs.declared.tls.cells.Item.{Item}
 use Rattle.seize_table.specs.declared.tls.filled.Filled.{Filled}
 use Rattle.seize_table.specs.Place.{all_numbers}
 
@@ -27,22 +29,27 @@ Row = Vec Cell Global
 abbrev pub IsBucket : List Cell → ℕ → ℕ → Type 0
 IsBucket buckets bucket name = (cell : Cell) × (slice_get buckets bucket ≡ Some cell) × (name ≡ cell.1)
 
+-- the cell has the value's label and its name, which means the value
+pub record IsItem {T : Type 0} (label : T → ℕ) (item : Item T) (value : T) : Type 0 where
+  pub known : item.note.known ≡ Some (Some (label value, item.meaning.name))
+  pub meant : item.meaning.value ≡ value
+
 abbrev pub IsCell : Note Row → ℕ → Cell → Type 0
 IsCell note entry cell = (row : Row) × (note.known ≡ Some row) × (slice_get row.items entry ≡ Some cell)
 
-pub record Shows {T : Type 0} (buckets : List Cell) (thread : Thread) (filled : Filled T) (value : T) : Type 0 where
+pub record Shows {T : Type 0} (label : T → ℕ) (buckets : List Cell) (thread : Thread) (filled : Filled T) (value : T) : Type 0 where
   pub bucket_is : IsBucket buckets thread.bucket filled.row.cell
-  pub entry_is : (cell : Cell) × IsCell filled.row thread.entry cell × (filled.item.cell ≡ cell.1)
-  pub value_is : filled.item.known ≡ Some (Some value)
+  pub entry_is : (cell : Cell) × IsCell filled.row thread.entry cell × (filled.item.note.cell ≡ cell.1)
+  pub value_is : IsItem label filled.item value
 
 -- the token is of that entry
-abbrev pub IsOf : {T : Type 0} → List Cell → Thread → Filled T → Type 0
-IsOf {T} buckets thread filled = (value : T) × Shows buckets thread filled value
+abbrev pub IsOf : {T : Type 0} → (T → ℕ) → List Cell → Thread → Filled T → Type 0
+IsOf {T} label buckets thread filled = (value : T) × Shows label buckets thread filled value
 
--- the note shows that entry e of the row holds x
-abbrev pub HasCell : {T : Type 0} → List Cell → ℕ → Note (Option T) → T → Type 0
-HasCell items entry note value =
-    (cell : Cell) × (slice_get items entry ≡ Some cell) × (note.cell ≡ cell.1) × (note.known ≡ Some (Some value))
+-- what shows the value of a cell shows that entry e of the row holds x
+abbrev pub HasCell : {T : Type 0} → (T → ℕ) → List Cell → ℕ → Item T → T → Type 0
+HasCell label items entry item value =
+    (cell : Cell) × (slice_get items entry ≡ Some cell) × (item.note.cell ≡ cell.1) × IsItem label item value
 
 -- A walk by number that comes to `before` next comes to `after` next: it passed the value that it yields, or all numbers.
 abbrev pub WalksOn : {X : Type 0} → ℕ → Option X → ℕ → Type 0

@@ -2,8 +2,10 @@
 //! names. The refusals stand here too, since every layer answers them.
 #![tactic(auto)]
 
+mod labelled;
 mod refusal;
 pub mod thread_id;
 pub mod tls;
 
+pub use labelled::Labelled;
 pub use refusal::Refusal;

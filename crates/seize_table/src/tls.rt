@@ -1,35 +1,45 @@
 //! A table of values that threads share without a lock. It only grows, and a value stays where it was put. It uses
 //! `thread_id` for the places of its entries and `refusal`; the collector keeps its slots in one.
-ghost use Rattle.std.specs.Prelude.{◌≡◌, ◌↔◌, ◌<◌, ◌≤◌, Err, length, IfOk, IfErr, IfSome, IsOkAnd, IsNone, Some, ◌⊎◌};
+ghost use Rattle.std.specs.Prelude.{◌≡◌, ◌↔◌, ◌+◌, ◌<◌, ◌≤◌, Err, length, IfOk, IfErr, IfSome, IsOkAnd, IsNone, Some, ◌⊎◌};
 ghost use Rattle.seize_table.specs.declared.tls.filled.Filled.{Filled as Token};
 ghost use Rattle.std.specs.Option.{ForSome};
 ghost use Rattle.seize_table.specs.Table.{IsBucket, IsCell, IsOf, Shows};
 ghost use Rattle.seize_table.specs.declared.refusal.Refusal.TheVariants.{NoMemory, NoNumbers};
 
+mod all_filled;
 mod cells;
 mod filled;
+mod filled_at;
+mod first;
 mod iter;
+mod meaning;
+mod opened;
 
-use crate::Refusal;
 use crate::thread_id::{BUCKETS, MAX_INDEX, Thread};
-use cells::{Cell, Row};
+use crate::{Labelled, Refusal};
+pub use all_filled::AllFilled;
+use cells::{Cell, Item, Row};
 pub use filled::{Filled, Loaded};
+pub use filled_at::FilledAt;
+pub use first::First;
 pub use iter::Iter;
 use iter::first_filled;
 use once_cell::race::{Note, OnceBox};
+use opened::Opened;
 use std::alloc::Global;
 use std::array;
 
 /// A table with an entry for each number from 0 to `MAX_INDEX`. An entry is filled at most once.
 #[derive(Drop)]
-pub struct ThreadLocal<T> {
+pub struct ThreadLocal<T: Labelled> {
     buckets: [OnceBox<Row<T>>; 59],
     alloc: Global,
     ghost all_there: { 59 ≡ length buckets },
 }
 
-impl<T: Drop> ThreadLocal<T> {
-    ghost use Rattle.seize_table.specs.Named.{cells_of, stands_at, table_of};
+impl<T: Labelled + Drop> ThreadLocal<T> {
+    ghost use Rattle.seize_table.specs.Named.{cells_of, name_of, stands_at, table_of};
+    ghost use Rattle.seize_table.specs.Walk.{end_of, labels_of, walked};
 
     /// A table with the buckets of the numbers from 0 to `capacity`, and no entry filled. Further buckets are made as they are
     /// needed, and the memory is given back when the table ends.
@@ -74,11 +84,23 @@ impl<T: Drop> ThreadLocal<T> {
         Iter::new(self)
     }
 
+    /// The values of the first `count` entries, which are all filled as the token shows, by number. It takes no memory.
+    pub fn first<'a>(&'a self, count: usize, all: &'a AllFilled) -> First<'a, T>
+        requires table { all.now.table ≡ name_of self.now }
+        requires filled { count ≤ length all.now.labels }
+        requires in_table { count ≤ MAX_INDEX + 1 }
+        ensures start { walked result ≡ 0 }
+        ensures end { end_of result ≡ count }
+        ensures labels { labels_of result ≡ all.now.labels }
+    {
+        First::new(self, count, all)
+    }
+
     // The first filled entry of the bucket that is not before `from`.
     fn first_from(&self, bucket: usize, from: usize) -> Option<(Thread, Loaded<'_, T>)>
         requires { bucket < BUCKETS }
         ensures place { IfSome result (λ found. (found.0.bucket ≡ bucket) × (from ≤ found.0.entry)) }
-        ensures shown { IfSome result (λ found. Shows (cells_of self.now) found.0 found.1.filled found.1.value.now) }
+        ensures shown { IfSome result (λ found. Shows T.label (cells_of self.now) found.0 found.1.filled found.1.value.now) }
     {
         let mut row = self.buckets[bucket].note();
         let cells = self.buckets[bucket].get_as(&mut row)?;
@@ -121,19 +143,21 @@ impl<T: Drop> ThreadLocal<T> {
     where
         F: Drop,
         requires { F.pre create }
-        ensures shown { IfOk result (λ found. Shows (cells_of self.now) thread found.filled found.value.now) }
+        ensures shown { IfOk result (λ found. Shows T.label (cells_of self.now) thread found.filled found.value.now) }
         ensures refusal { IfErr result (λ e. e ≡ NoMemory) }
     {
         let alloc = self.alloc;
         let mut row = self.buckets[thread.bucket].note();
         let cell = self.cell(thread, &mut row)?;
-        let mut item = cell.note();
-        let Ok(entry) = cell.get_or_try_init_as(move || cells::filled(alloc, create), &mut item)
+        let mut note = cell.note();
+        let Ok(entry) = cell.get_or_try_init_as(move || cells::filled(alloc, create), &mut note)
         else {
             return Err(Refusal::NoMemory);
         };
         match entry {
-            Some(value) => {
+            Some(entry) => {
+                let (value, meaning) = entry.get();
+                let item = Item { note, meaning };
                 let filled = Filled { row, item };
                 Ok(Loaded { value, filled })
             }
@@ -144,15 +168,15 @@ impl<T: Drop> ThreadLocal<T> {
     /// The entry's value, if it is filled, with the token that shows it from then on. It takes no memory and changes nothing:
     /// three loads, of which two depend on one before them, and no atomic write.
     pub fn try_load(&self, thread: Thread) -> Option<Loaded<'_, T>>
-        ensures { IfSome result (λ found. Shows (cells_of self.now) thread found.filled found.value.now) }
+        ensures { IfSome result (λ found. Shows T.label (cells_of self.now) thread found.filled found.value.now) }
     {
         let mut row = self.buckets[thread.bucket].note();
         let cell = self.buckets[thread.bucket]
             .get_as(&mut row)?
             .get(thread.entry)?;
-        let mut item = cell.note();
-        let entry = cell.get_as(&mut item)?;
-        let value = entry.as_ref()?;
+        let mut note = cell.note();
+        let (value, meaning) = cell.get_as(&mut note)?.as_ref()?.get();
+        let item = Item { note, meaning };
         let filled = Filled { row, item };
         Some(Loaded { value, filled })
     }
@@ -170,7 +194,7 @@ impl<T: Drop> ThreadLocal<T> {
     where
         F: Drop,
         requires { F.IsAlwaysCallable create }
-        ensures shown { IfOk result (λ found. Shows (cells_of self.now) thread found.filled found.value.now) }
+        ensures shown { IfOk result (λ found. Shows T.label (cells_of self.now) thread found.filled found.value.now) }
         ensures refusal { IfErr result (λ e. e ≡ NoMemory) }
     {
         self.fill(create, thread)
@@ -191,9 +215,9 @@ impl<T: Drop> ThreadLocal<T> {
     where
         F: Drop,
         requires callable { IsNone seen → F.IsAlwaysCallable create }
-        requires of_entry { ForSome seen (IsOf (cells_of self.now) thread) }
-        ensures shown { IfOk result (λ found. Shows (cells_of self.now) thread found.filled found.value.now) }
-        ensures kept { (f : Token T) (x : T) → seen ≡ Some f → Shows (cells_of self.now) thread f x
+        requires of_entry { ForSome seen (IsOf T.label (cells_of self.now) thread) }
+        ensures shown { IfOk result (λ found. Shows T.label (cells_of self.now) thread found.filled found.value.now) }
+        ensures kept { (f : Token T) (x : T) → seen ≡ Some f → Shows T.label (cells_of self.now) thread f x
             → IsOkAnd result (λ found. found.value.now ≡ x) }
         ensures refusal { IfErr result (λ e. e ≡ NoMemory) }
     {
@@ -208,32 +232,55 @@ impl<T: Drop> ThreadLocal<T> {
 
     /// The value of an entry that was seen filled. It takes no memory and changes nothing.
     pub fn value<'a>(&'a self, thread: Thread, filled: &mut Filled<T>) -> &'a T
-        requires { IsOf (cells_of self.now) thread filled.old }
-        ensures value { Shows (cells_of self.now) thread filled.new result.now }
-        ensures same { (x : T) → Shows (cells_of self.now) thread filled.old x → result.now ≡ x }
+        requires { IsOf T.label (cells_of self.now) thread filled.old }
+        ensures value { Shows T.label (cells_of self.now) thread filled.new result.now }
+        ensures same { (x : T) → Shows T.label (cells_of self.now) thread filled.old x → result.now ≡ x }
     {
         let Some(row) = self.buckets[thread.bucket].get_as(&mut filled.row) else {
             unreachable!()
         };
-        let Some(Some(value)) = row[thread.entry].get_as(&mut filled.item) else {
+        let Some(Some(entry)) = row[thread.entry].get_as(&mut filled.item.note) else {
             unreachable!()
         };
+        let (value, meaning) = entry.get();
+        filled.item.meaning.agree(&meaning);
         value
+    }
+
+    /// What shows that the entry is filled, free of the type of its value. It does nothing else.
+    pub fn filled_at(&self, thread: Thread, filled: &mut Filled<T>) -> FilledAt
+        requires { IsOf T.label (cells_of self.now) thread filled.old }
+        ensures token { filled.new ≡ filled.old }
+        ensures entry { (result.table ≡ name_of self.now) × (result.number ≡ thread.id) }
+        ensures label { (x : T) → Shows T.label (cells_of self.now) thread filled.old x → result.label ≡ T.label x }
+    {
+        FilledAt::of(self, &thread, &mut filled.row, &mut filled.item.note)
+    }
+
+    /// The value of an entry that a token shows to be filled. It takes no memory and changes nothing: three loads, of which two depend on
+    /// one before them, and no atomic write.
+    pub fn at(&self, thread: Thread, token: &FilledAt) -> &T
+        requires { (token.now.table ≡ name_of self.now) × (token.now.number ≡ thread.id) }
+        ensures { T.label result.now ≡ token.now.label }
+    {
+        Opened::of(self, &thread, token).read(&thread, token)
     }
 
     /// Two tokens of one entry show one value. It does nothing else.
     pub fn agree(&self, thread: Thread, one: &mut Filled<T>, other: Filled<T>)
-        requires one { IsOf (cells_of self.now) thread one.old }
-        requires other { IsOf (cells_of self.now) thread other }
-        ensures { (x y : T) → Shows (cells_of self.now) thread one.old x → Shows (cells_of self.now) thread other y → x ≡ y }
+        requires one { IsOf T.label (cells_of self.now) thread one.old }
+        requires other { IsOf T.label (cells_of self.now) thread other }
+        ensures { (x y : T) → Shows T.label (cells_of self.now) thread one.old x
+            → Shows T.label (cells_of self.now) thread other y → x ≡ y }
     {
         let Filled { row, item } = other;
         one.row.compare(row);
-        one.item.compare(item);
+        one.item.note.compare(item.note);
+        one.item.meaning.agree(&item.meaning);
     }
 }
 
-impl<T: Drop + Default> ThreadLocal<T> {
+impl<T: Labelled + Drop + Default> ThreadLocal<T> {
     ghost use Rattle.seize_table.specs.Named.{cells_of};
 
     /// As `load_or`, with the default value of `T`, which is made only where the entry isn't filled and its memory is there.
@@ -242,7 +289,7 @@ impl<T: Drop + Default> ThreadLocal<T> {
     ///
     /// As `load_or`: `NoMemory` where a growth was refused; then no entry is filled, and no default was made.
     pub fn load(&self, thread: Thread) -> Result<Loaded<'_, T>, Refusal>
-        ensures shown { IfOk result (λ found. Shows (cells_of self.now) thread found.filled found.value.now) }
+        ensures shown { IfOk result (λ found. Shows T.label (cells_of self.now) thread found.filled found.value.now) }
         ensures refusal { IfErr result (λ e. e ≡ NoMemory) }
     {
         self.load_or(|| T::default(), thread)

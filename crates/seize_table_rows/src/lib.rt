@@ -4,3 +4,5 @@
 
 #[cfg(test)]
 mod table;
+#[cfg(test)]
+mod tokens;

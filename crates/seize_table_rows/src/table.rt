@@ -1,7 +1,7 @@
 //! Numbers, their places, and the table.
-use seize_table::Refusal;
 use seize_table::thread_id::{BUCKETS, MAX_INDEX, Numbers, Thread};
 use seize_table::tls::{Filled, Loaded, ThreadLocal};
+use seize_table::{Labelled, Refusal};
 use std::alloc::Global;
 use std::cell::Cell;
 use std::mem::size_of;
@@ -23,6 +23,10 @@ impl Drop for Counted<'_> {
         let Counted { ends, maker: _ } = self;
         ends.fetch_add(1, Ordering::SeqCst);
     }
+}
+
+impl Labelled for Counted<'_> {
+    ghost label = { λ c. c.maker };
 }
 
 fn place(id: usize) -> Option<(usize, usize)> {
@@ -249,11 +253,11 @@ fn is_shared<T: Sync>(value: &T) -> &T {
 }
 
 // A table is `Send` for every `T: Send`, and `Sync` for every `T: Send + Sync`: these two are refused where it isn't.
-fn sends<T: Drop + Send>(table: ThreadLocal<T>) -> ThreadLocal<T> {
+fn sends<T: Labelled + Drop + Send>(table: ThreadLocal<T>) -> ThreadLocal<T> {
     is_sent(table)
 }
 
-fn shares<T: Drop + Send + Sync>(table: &ThreadLocal<T>) -> &ThreadLocal<T> {
+fn shares<T: Labelled + Drop + Send + Sync>(table: &ThreadLocal<T>) -> &ThreadLocal<T> {
     is_shared(table)
 }
 

@@ -1,34 +1,83 @@
 //! The boxes that a table is made of: those of its buckets and of its entries. Only `tls` and its modules use it.
-ghost use Rattle.std.specs.Prelude.{◌≡◌, vec_len, IfOk, IfErr, Some};
+ghost use Rattle.std.specs.Prelude.{◌≡◌, vec_len, IfOk, IfErr, IfSome};
 
-use once_cell::race::OnceBox;
+use super::meaning::Meaning;
+use crate::Labelled;
+use once_cell::race::{Note, OnceBox};
 use std::alloc::{AllocError, Global};
+use std::marker::Model;
+
+/// A value that is in an entry for good, seen as its label and its name: what is known of an entry can then be said without the type of
+/// its value.
+#[derive(Drop)]
+pub(super) struct Entry<T: Labelled> {
+    value: T,
+    meaning: Meaning<T>,
+    ghost same: { meaning.value ≡ value },
+}
+
+impl<T: Labelled> Model for Entry<T> {
+    ghost use base.Stored.{coded×, coded_ℕ};
+    ghost use Rattle.std.specs.Prelude.{ℕ};
+
+    ghost Value = { ℕ × ℕ };
+
+    ghost coded = { coded× coded_ℕ coded_ℕ };
+
+    ghost view = { λ e. (T.label e.value, e.meaning.name) };
+}
+
+impl<T: Labelled> Entry<T> {
+    fn of(value: T) -> Entry<T>
+        ensures { result.0 ≡ T.label value }
+    {
+        let meaning = Meaning::of(&value);
+        Entry { value, meaning }
+    }
+
+    /// The value, and what shows that the entry's name means it.
+    pub(super) fn get(&self) -> (&T, Meaning<T>)
+        ensures { ((T.label result.0.now, result.1.name) ≡ self.now) × (result.1.value ≡ result.0.now) }
+    {
+        (&self.value, self.meaning.again())
+    }
+}
+
+/// What shows which value the cell of an entry holds, for good.
+#[derive(Drop)]
+pub(super) struct Item<T: Labelled> {
+    pub(super) note: Note<Option<Entry<T>>>,
+    pub(super) meaning: Meaning<T>,
+}
 
 /// An entry's cell. Its box is made before the value is, so it holds an `Option`; a box that is in a cell has a value.
-pub(super) type Cell<T> = OnceBox<Option<T>>;
+pub(super) type Cell<T> = OnceBox<Option<Entry<T>>>;
 
 /// The cells of a bucket.
 pub(super) type Row<T> = Vec<Cell<T>>;
 
 /// The box of what `create` answers. The memory comes first: where it is refused, `create` comes back, and a closure that can
 /// be called once comes back only if it was not called.
-pub(super) fn filled<T: Drop, F: FnOnce() -> T>(
+pub(super) fn filled<T: Labelled + Drop, F: FnOnce() -> T>(
     alloc: Global,
     create: F,
-) -> Result<Box<Option<T>>, F>
+) -> Result<Box<Option<Entry<T>>>, F>
     requires { F.pre create }
-    ensures filled { IfOk result (λ b. (x : T) × F.post create x × (b.value ≡ Some x)) }
+    ensures filled { IfOk result (λ b. (x : T) × F.post create x × IfSome b.value (λ seen. seen.0 ≡ T.label x)) }
     ensures refused { IfErr result (λ f. f ≡ create) }
 {
     let Ok(mut entry) = Box::new(alloc, None) else {
         return Err(create);
     };
-    Box::replace(&mut entry, Some(create()));
+    Box::replace(&mut entry, Some(Entry::of(create())));
     Ok(entry)
 }
 
 /// A bucket of so many entries, none of them filled.
-pub(super) fn row<T: Drop>(alloc: Global, capacity: usize) -> Result<Box<Row<T>>, AllocError>
+pub(super) fn row<T: Labelled + Drop>(
+    alloc: Global,
+    capacity: usize,
+) -> Result<Box<Row<T>>, AllocError>
     ensures { IfOk result (λ b. vec_len b.value ≡ capacity) }
 {
     let mut entries = Vec::with_capacity(alloc, capacity)?;

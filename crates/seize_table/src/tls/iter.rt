@@ -3,17 +3,17 @@ ghost use Rattle.std.specs.Prelude.{◌≡◌, ◌+◌, ◌-◌, ◌^◌, ◌<�
 ghost use Rattle.std.specs.Iterator.{at_most};
 ghost use Rattle.seize_table.specs.Table.{HasCell, Shows, WalksOn};
 
-use super::cells::Cell;
+use super::cells::{Cell, Item};
 use super::{Loaded, ThreadLocal};
+use crate::Labelled;
 use crate::thread_id::{BUCKETS, MAX_INDEX, Thread};
-use once_cell::race::Note;
 
 /// The values of the filled entries of a table, by bucket and then by entry, which is by number. It takes no memory.
 ///
 /// An entry that was seen filled when the walk began is among them. Of an entry that another thread fills meanwhile it may
 /// yield the value or not.
 #[derive(Drop)]
-pub struct Iter<'a, T> {
+pub struct Iter<'a, T: Labelled> {
     table: &'a ThreadLocal<T>,
     bucket: usize,
     entry: usize,
@@ -22,7 +22,7 @@ pub struct Iter<'a, T> {
     ghost at_end: { 59 ≤ bucket → entry ≡ 0 },
 }
 
-impl<'a, T: Drop> Iter<'a, T> {
+impl<'a, T: Labelled + Drop> Iter<'a, T> {
     ghost use Rattle.seize_table.specs.Named.{bucket_of, cells_of, entry_of, stands_at, table_of};
 
     pub(super) fn new(table: &'a ThreadLocal<T>) -> Iter<'a, T>
@@ -42,7 +42,7 @@ impl<'a, T: Drop> Iter<'a, T> {
         ensures in_table { stands_at self.new ≤ MAX_INDEX + 1 }
         ensures place { IfSome result (λ found. stands_at self.old ≤ found.0.id) }
         ensures past { IfSome result (λ found. stands_at self.new ≡ found.0.id + 1) }
-        ensures shown { IfSome result (λ found. Shows (cells_of (table_of self.old).now) found.0 found.1.filled found.1.value.now) }
+        ensures shown { IfSome result (λ found. Shows T.label (cells_of (table_of self.old).now) found.0 found.1.filled found.1.value.now) }
         ensures none { IfNone result (stands_at self.new ≡ MAX_INDEX + 1) }
     {
         while self.bucket < BUCKETS {
@@ -63,7 +63,7 @@ impl<'a, T: Drop> Iter<'a, T> {
         ensures same_bucket { IfSome result (λ found. found.0.bucket ≡ bucket_of self.old) }
         ensures place { IfSome result (λ found. entry_of self.old ≤ found.0.entry) }
         ensures past { IfSome result (λ found. entry_of self.new ≡ found.0.entry + 1) }
-        ensures shown { IfSome result (λ found. Shows (cells_of (table_of self.old).now) found.0 found.1.filled found.1.value.now) }
+        ensures shown { IfSome result (λ found. Shows T.label (cells_of (table_of self.old).now) found.0 found.1.filled found.1.value.now) }
         ensures none { IfNone result (entry_of self.new ≡ entry_of self.old) }
     {
         let found = self.table.first_from(self.bucket, self.entry)?;
@@ -72,7 +72,7 @@ impl<'a, T: Drop> Iter<'a, T> {
     }
 }
 
-impl<'a, T: Drop> Iterator for Iter<'a, T> {
+impl<'a, T: Labelled + Drop> Iterator for Iter<'a, T> {
     ghost use Rattle.seize_table.specs.Named.{stands_at, table_of};
     ghost use Rattle.seize_table.specs.Place.{all_numbers};
 
@@ -90,17 +90,18 @@ impl<'a, T: Drop> Iterator for Iter<'a, T> {
 }
 
 // The first filled entry of the row that is neither before `from` nor past `end`.
-pub(super) fn first_filled<T: Drop>(
+pub(super) fn first_filled<T: Labelled + Drop>(
     row: &[Cell<T>],
     from: usize,
     end: usize,
-) -> Option<(usize, &T, Note<Option<T>>)>
-    ensures { IfSome result (λ found. (from ≤ found.0) × (found.0 < end) × HasCell row.now found.0 found.2 found.1.now) }
+) -> Option<(usize, &T, Item<T>)>
+    ensures { IfSome result (λ found. (from ≤ found.0) × (found.0 < end) × HasCell T.label row.now found.0 found.2 found.1.now) }
 {
     for entry in from..row.len().min(end) {
         let mut note = row[entry].note();
-        if let Some(Some(value)) = row[entry].get_as(&mut note) {
-            return Some((entry, value, note));
+        if let Some(Some(filled)) = row[entry].get_as(&mut note) {
+            let (value, meaning) = filled.get();
+            return Some((entry, value, Item { note, meaning }));
         }
     }
     None

@@ -7,6 +7,9 @@ returns g c =
     let at = c.in_ok-cell.ensures.lookup in
     record {
       bucket_is = is_bucket _ _ _ _ c.args.self.now.all_there c.args.thread.in_table c.index-self-thread.is (c.get_as.ensures.cell ∙ c.note-row.ensures.0);
-      entry_is = (c.in_ok-cell.cell.now, is_cell c.get_as.new.note _ _ _ _ c.in_ok-get_as.ensures.value.0 c.deref.ensures.value at.3.0 at.1, c.in_ok-entry.ensures.cell ∙ c.note-item.ensures.0);
-      value_is = c.in_ok-entry.ensures.value.0 ∙ ap (λ e. Some e) (sym c.in_ok-value.ensures.value);
+      entry_is = (c.in_ok-cell.cell.now, is_cell c.get_as.new.note _ _ _ _ c.in_ok-get_as.ensures.value.0 c.deref.ensures.value at.3.0 at.1, c.in_ok-get_as-2.ensures.cell ∙ c.note-note.ensures.0);
+      value_is = record {
+        known = c.in_ok-get_as-2.ensures.value.0 ∙ ap Some (sym c.in_ok-as_ref.ensures.value ∙ ap Some (sym c.get-meaning.ensures.0));
+        meant = c.get-meaning.ensures.1;
+      };
     }
