@@ -11,4 +11,4 @@ pub use collector::{Alone, Call, Collector, IdSource, Reply};
 pub use reclaim::{Further, Watch, Weigh};
 pub use seize_machine::machine;
 pub use seize_model::{agreement, waiting};
-pub use seize_table::{Refusal, thread_id, tls};
+pub use seize_table::{Labelled, Refusal, thread_id, tls};

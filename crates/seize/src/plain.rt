@@ -16,7 +16,7 @@ use batch::Batch;
 use handover::give_all;
 use retired::Retired;
 use seize_model::Kind;
-use seize_store::Store;
+use seize_store::{Empty, Store};
 use seize_table::Refusal;
 use seize_table::thread_id::Numbers;
 use slot::Slot;
@@ -38,7 +38,7 @@ mod slot;
 #[derive(Drop)]
 pub(crate) struct Plain<T: Weigh + Drop, R: Copy> {
     alloc: Global,
-    store: Store<(), T>,
+    store: Store<(), (), T>,
     size: usize,
     slots: Vec<Slot<T, R>>,
     // the numbers of the slots that are in use, so that the least free one is found without a look at each slot
@@ -116,7 +116,7 @@ impl<T: Weigh + Drop, R: Copy> Plain<T, R> {
         ensures made { IfOk result (λ owned. (content owned ≡ value) × (owner_of owned ≡ self.now.name)) }
         ensures refused { IfErr result (λ e. e ≡ (NoMemory, value)) }
     {
-        match self.store.add(value, &|_| ()) {
+        match self.store.add(value, &Empty) {
             Ok(block) => Ok(Owned::of(block)),
             Err(refused) => Err(refused),
         }

@@ -4,7 +4,7 @@ ghost use Rattle.seize_store.specs.Named.{AreOf, name_of};
 
 use crate::clock::{RUNS, Samples};
 use crate::team::{Team, runs};
-use seize_store::{Owned, Spots, Store};
+use seize_store::{Maker, Owned, Spots, Store};
 use std::alloc::{AllocError, Global};
 use std::rt::Clock;
 use std::thread::Threads;
@@ -21,8 +21,14 @@ const BOXED: u64 = 150_000;
 /// How many blocks go from one thread to another in a run.
 pub(crate) const PIPED: u64 = 30_000;
 
-fn zero(_number: usize) -> u64 {
-    0
+/// Makes headers of 0, and empty owners' parts.
+#[derive(Drop)]
+struct Zero;
+
+impl Maker<u64, ()> for Zero {
+    fn make(&self, _number: usize) -> (u64, ()) {
+        (0, ())
+    }
 }
 
 pub(crate) fn make<R: Clock + CpuClock + Threads + Sync>(
@@ -41,11 +47,11 @@ pub(crate) fn make<R: Clock + CpuClock + Threads + Sync>(
     )
 }
 
-fn through_spots(store: &Store<u64, u64>, alloc: Global) -> io::Result<u64> {
+fn through_spots(store: &Store<u64, (), u64>, alloc: Global) -> io::Result<u64> {
     let mut spots = Spots::new(alloc)?;
     let mut sum = 0u64;
     for value in 0..BY_SPOTS {
-        let Ok(owned) = store.add_from(&mut spots, value, &zero) else {
+        let Ok(owned) = store.add_from(&mut spots, value, &Zero) else {
             return Err(AllocError.into());
         };
         sum = sum.wrapping_add(owned.empty_into(&mut spots));
@@ -63,7 +69,7 @@ pub(crate) fn make_bare<R: Clock + CpuClock + Threads + Sync>(
     runs(rt, threads, BARE, samples, &|| through(&store))
 }
 
-fn through(store: &Store<u64, u64>) -> io::Result<u64> {
+fn through(store: &Store<u64, (), u64>) -> io::Result<u64> {
     let mut sum = 0u64;
     for value in 0..BARE {
         sum = sum.wrapping_add(block(store, value)?.into_inner());
@@ -88,8 +94,8 @@ fn through_boxes(alloc: Global) -> io::Result<u64> {
     Ok(sum)
 }
 
-pub(crate) fn block(store: &Store<u64, u64>, value: u64) -> io::Result<Owned<u64, u64>> {
-    match store.add(value, &zero) {
+pub(crate) fn block(store: &Store<u64, (), u64>, value: u64) -> io::Result<Owned<u64, (), u64>> {
+    match store.add(value, &Zero) {
         Ok(owned) => Ok(owned),
         Err(_) => Err(AllocError.into()),
     }

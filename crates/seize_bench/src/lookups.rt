@@ -20,12 +20,12 @@ const PASSES: u64 = 500;
 /// How many blocks stand, of which the first ones are looked up.
 pub(crate) const STAND: u64 = PIPED;
 
-fn found(store: &Store<u64, u64>, number: usize) -> Option<u64> {
+fn found(store: &Store<u64, (), u64>, number: usize) -> Option<u64> {
     let (place, _) = store.find(number)?;
     Some(*place.header())
 }
 
-fn each_found(store: &Store<u64, u64>, numbers: &[usize]) -> u64 {
+fn each_found(store: &Store<u64, (), u64>, numbers: &[usize]) -> u64 {
     let mut sum = 0u64;
     for _ in 0..PASSES {
         for number in numbers.iter() {
@@ -35,7 +35,7 @@ fn each_found(store: &Store<u64, u64>, numbers: &[usize]) -> u64 {
     sum
 }
 
-fn numbers_of(all: &[Owned<u64, u64>], alloc: Global) -> io::Result<Vec<usize>> {
+fn numbers_of(all: &[Owned<u64, (), u64>], alloc: Global) -> io::Result<Vec<usize>> {
     let mut numbers = Vec::with_capacity(alloc, LOOKED as usize)?;
     for owned in all.iter().take(LOOKED as usize) {
         numbers.push(owned.number())?;
@@ -66,10 +66,10 @@ pub(crate) fn look<R: Clock + CpuClock + Threads + Sync>(
 const BY_ONE: usize = 32;
 
 fn some_found(
-    store: &Store<u64, u64>,
+    store: &Store<u64, (), u64>,
     first: usize,
     numbers: &[usize],
-    seen: &mut Seen<u64, u64>,
+    seen: &mut Seen<u64, (), u64>,
 ) -> u64
     requires { (store_by seen.old ≡ name_of store.now) × row_is seen.old first × (first % 32 ≡ 0) }
 {
@@ -82,7 +82,7 @@ fn some_found(
     sum
 }
 
-fn each_by_token(store: &Store<u64, u64>, numbers: &[usize]) -> u64 {
+fn each_by_token(store: &Store<u64, (), u64>, numbers: &[usize]) -> u64 {
     let mut sum = 0u64;
     for _ in 0..PASSES {
         for part in numbers.chunks(BY_ONE) {

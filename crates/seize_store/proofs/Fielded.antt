@@ -11,20 +11,21 @@ use denote.Opens.{shr_dup, unhide, hide}
 use denote.RawPtr.{Ptr, RawPtr, ptr_row_laws}
 use denote.Struct.Struct.{Struct, Struct-row_laws}
 use denote.Struct.Owning.{shape}
+use Rattle.seize_table.specs.declared.labelled.Labelled.{Ghosts}
 use Rattle.seize_store.specs.contracts.block.Block as block
 use Rattle.seize_store.specs.contracts.known.Title as title
 use Rattle.seize_store.proofs.known.Title.TheLaws as title_laws
 
-module _ (X R : RattleType) where
+module _ (X U R : RattleType) (g : Ghosts U.Denot) where
   abbrev pub Words : RattleType
-  Words = Struct (shape (block.the_type X R))
+  Words = Struct (shape (block.the_type X U R g))
 
   module _ {M : Type 1} {𝓤 : Ura M} (𝓛 : Logic 𝓤) (κ : Lft) (b o : ℕ) (p : Ptr) (n : title.the_row.Denot) where
     abbrev S : Fml
     S = hidden_shr Words κ (p, (title.the_field.into n, tt)) b o
 
     laws : RowLaws Words
-    laws = Struct-row_laws (shape (block.the_type X R)) (ptr_row_laws, (title_laws.the_field_shared.shr_laws, tt))
+    laws = Struct-row_laws (shape (block.the_type X U R g)) (ptr_row_laws, (title_laws.the_field_shared.shr_laws, tt))
 
     pub shows_place : ent 𝓤 (sem 𝓛 S) (sep 𝓤 (sem 𝓛 (hidden_shr RawPtr κ p b (o + 0))) (sem 𝓛 S))
     shows_place = qed 𝓛 (‵ S ∷ []) ∵ shr_dup ! Words laws (p, (title.the_field.into n, tt)) b o κ $ unhide ! $ fsplit ! $ fsplit ! $ hide ! $ keep ! (0 ∷ 3 ∷ []) $ done !

@@ -18,7 +18,7 @@ use denote.RawPtr.{block_ptr}
 use denote.Steps.{nothing}
 use Rattle.core.specs.Sync.RawAtomic.{Shift, rests, enters, leaves, word, along, if_none, back, found, asks, always}
 use Rattle.seize_store.specs.Body.{header_room, room, rest}
-use Rattle.seize_store.specs.Chunk.{Phase, free, taken, left, spent, dues, parts, right, legacy, state, Inv, home}
+use Rattle.seize_store.specs.Chunk.{Phase, free, taken, left, spent, dues, held, others, right, legacy, state, Inv, home}
 
 module _ {M : Type 1} {𝓤 : Ura M} (𝓛 : Logic 𝓤) where
   open 𝓛 use {H, A}
@@ -60,18 +60,18 @@ module _ {M : Type 1} {𝓤 : Ura M} (𝓛 : Logic 𝓤) where
         use2 𝓛 (raw (upd 𝓤 (⟦ I ⟧ ∗ T))) (apply∗ 𝓤 ⟦ word b o (f n) ⟧ (upd 𝓤 (⟦ I ⟧ ∗ T))) $ suffices ! _ (ex_i 𝓤 (λ (s : Shift). along 𝓛 s (if_none 𝓛 T) L) (leaves rests)) $
         settle 𝓛 Q (‵ I ⊛ ‵ (after n)) $ suffices ! _ (upd_i 𝓤 Q) $ split ! $ frame ! $ suffices ! _ (upd_i 𝓤 T) $ done !)))
 
-  module _ (X R : RattleType) (b o : ℕ) (a δ η : ℕ) where
+  module _ (X U R : RattleType) (b o : ℕ) (f : U.Denot → ℕ) (k : ℕ) (a δ η : ℕ) where
     abbrev c : ℕ
     c = o + 0
 
     abbrev I : Fml
-    I = Inv X R b o a δ η
+    I = Inv X U R b o f k a δ η
 
     abbrev st : Phase → Fml
-    st = state X R b o a δ η
+    st = state X U R b o f k a δ η
 
     abbrev mine : Fml
-    mine = right X R b o a δ η
+    mine = right X U R b o f k a δ η
 
     -- ---- the token of the lifetime tells that the store is there
     module _ (q : Share) where
@@ -132,7 +132,7 @@ module _ {M : Type 1} {𝓤 : Ura M} (𝓛 : Logic 𝓤) where
     abbrev pub after_give : ℕ → Fml
     after_give zero = ftrue
     after_give (suc zero) = ftrue
-    after_give (suc (suc n)) = fsep (word b c 0) (parts X R b o)
+    after_give (suc (suc n)) = fsep (word b c 0) (fsep (held X U R b o f k) (others X U R b o))
 
     abbrev pub nought : ℕ → ℕ
     nought n = 0
@@ -145,9 +145,9 @@ module _ {M : Type 1} {𝓤 : Ura M} (𝓛 : Logic 𝓤) where
     give_from taken = qed 𝓛 (‵ (st taken) ∷ ‵ mine ∷ []) ∵ suffices ! _ (upd_i 𝓤 (ex 𝓤 Back)) $ show ! Back 1 $ frame ! $ each ! (λ (_ : Unit {0}). Again I b c nought always after_give 1) (λ _. assume ! (‵ (word b c 0)) $
         let Z : Pr = ⟦ I ⟧ ∗ ⟦ after_give 1 ⟧ in suffices ! _ (upd_i 𝓤 Z) $ fjoin ! $ fpack ! Phase st free $ frame ! $ nothing ! $ done !)
     give_from left = qed 𝓛 (‵ (st left) ∷ ‵ mine ∷ []) ∵ suffices ! _ (upd_i 𝓤 (ex 𝓤 Back)) $ fsplit ! $ show ! Back 2 $ frame ! $ each ! (λ (_ : Unit {0}). Again I b c nought always after_give 2) (λ _. assume ! (‵ (word b c 0)) $
-        let Z : Pr = ⟦ I ⟧ ∗ ⟦ after_give 2 ⟧ in suffices ! _ (upd_i 𝓤 Z) $ move ! (1 ∷ []) $ fsplit ! $ move ! (1 ∷ []) $ fsplit ! $ move ! (4 ∷ []) $ fsplit3 ! $
-        -- [the right's name; the room; the rest; the header's room; the dues; what closes; the word]
-        move ! (0 ∷ 5 ∷ []) $ fjoin ! $ fpack ! Phase st spent $ frame ! $ move ! (1 ∷ 3 ∷ []) $ fjoin ! $ move ! (1 ∷ 0 ∷ []) $ fjoin ! $ move ! (1 ∷ 0 ∷ []) $ fjoin ! $ move ! (1 ∷ 0 ∷ []) $ fjoin ! $ done !)
+        let Z : Pr = ⟦ I ⟧ ∗ ⟦ after_give 2 ⟧ in suffices ! _ (upd_i 𝓤 Z) $ move ! (1 ∷ []) $ fsplit ! $ move ! (1 ∷ []) $ fsplit ! $ move ! (4 ∷ []) $ fsplit3 ! $ move ! (2 ∷ []) $ fsplit ! $
+        -- [the room; the rest; the right's name; the owner's part; the header's room; the dues; what closes; the word]
+        move ! (2 ∷ 6 ∷ []) $ fjoin ! $ fpack ! Phase st spent $ frame ! $ move ! (1 ∷ 4 ∷ []) $ fjoin ! $ move ! (1 ∷ 0 ∷ []) $ fjoin ! $ move ! (2 ∷ 0 ∷ []) $ fjoin ! $ move ! (1 ∷ 0 ∷ []) $ fjoin ! $ move ! (1 ∷ 0 ∷ []) $ fjoin ! $ done !)
     give_from spent = qed 𝓛 (‵ (st spent) ∷ ‵ mine ∷ []) ∵ fsplit3 ! $ move ! (3 ∷ []) $ fsplit ! $ keep ! (0 ∷ 2 ∷ []) $ by ! (out_once 𝓛 δ (ex 𝓤 Back))
 
     pub gives : A.inv I ∗ ⟦ mine ⟧ ⊢ asks 𝓛 (block_ptr b c) nought always after_give
@@ -155,23 +155,23 @@ module _ {M : Type 1} {𝓤 : Ura M} (𝓛 : Logic 𝓤) where
 
     -- ---- the store goes, once the chunk's lifetime has ended. It gets all of the memory, if the room was in
     abbrev pub after_close : ℕ → Fml
-    after_close zero = fsep (word b c 2) (parts X R b o)
+    after_close zero = fsep (word b c 2) (fsep (held X U R b o f k) (others X U R b o))
     after_close (suc n) = ftrue
 
     abbrev pub two : ℕ → ℕ
     two n = 2
 
     abbrev going : Fml
-    going = legacy X R b o a δ η
+    going = legacy X U R b o f k a δ η
 
     abbrev Gone : ℕ → Pr
     Gone = Lies I b c two always after_close
 
     close_from : (s : Phase) → ⟦ st s ⟧ ∗ ⟦ going ⟧ ⊢ upd 𝓤 (ex 𝓤 Gone)
     close_from free = qed 𝓛 (‵ (st free) ∷ ‵ going ∷ []) ∵ suffices ! _ (upd_i 𝓤 (ex 𝓤 Gone)) $ fsplit ! $ show ! Gone 0 $ frame ! $ each ! (λ (_ : Unit {0}). Again I b c two always after_close 0) (λ _. assume ! (‵ (word b c 2)) $
-        let Z : Pr = ⟦ I ⟧ ∗ ⟦ after_close 0 ⟧ in suffices ! _ (upd_i 𝓤 Z) $ move ! (2 ∷ []) $ fsplit ! $ move ! (1 ∷ []) $ fsplit ! $ move ! (4 ∷ []) $ fsplit3 ! $
-        -- [the right's name; the room; the rest; the header's room; the dues; what closes; the word]
-        move ! (0 ∷ 5 ∷ []) $ fjoin ! $ fpack ! Phase st spent $ frame ! $ move ! (1 ∷ 3 ∷ []) $ fjoin ! $ move ! (1 ∷ 0 ∷ []) $ fjoin ! $ move ! (1 ∷ 0 ∷ []) $ fjoin ! $ move ! (1 ∷ 0 ∷ []) $ fjoin ! $ done !)
+        let Z : Pr = ⟦ I ⟧ ∗ ⟦ after_close 0 ⟧ in suffices ! _ (upd_i 𝓤 Z) $ move ! (2 ∷ []) $ fsplit ! $ move ! (1 ∷ []) $ fsplit ! $ move ! (4 ∷ []) $ fsplit3 ! $ move ! (2 ∷ []) $ fsplit ! $
+        -- [the room; the rest; the right's name; the owner's part; the header's room; the dues; what closes; the word]
+        move ! (2 ∷ 6 ∷ []) $ fjoin ! $ fpack ! Phase st spent $ frame ! $ move ! (1 ∷ 4 ∷ []) $ fjoin ! $ move ! (1 ∷ 0 ∷ []) $ fjoin ! $ move ! (2 ∷ 0 ∷ []) $ fjoin ! $ move ! (1 ∷ 0 ∷ []) $ fjoin ! $ move ! (1 ∷ 0 ∷ []) $ fjoin ! $ done !)
     close_from taken = qed 𝓛 (‵ (st taken) ∷ ‵ going ∷ []) ∵ suffices ! _ (upd_i 𝓤 (ex 𝓤 Gone)) $ show ! Gone 1 $ frame ! $ each ! (λ (_ : Unit {0}). Again I b c two always after_close 1) (λ _. assume ! (‵ (word b c 2)) $
         let Z : Pr = ⟦ I ⟧ ∗ ⟦ after_close 1 ⟧ in suffices ! _ (upd_i 𝓤 Z) $ fjoin ! $ fpack ! Phase st left $ frame ! $ nothing ! $ done !)
     close_from left = qed 𝓛 (‵ (st left) ∷ ‵ going ∷ []) ∵ fsplit ! $ move ! (1 ∷ []) $ fsplit ! $ fsplit ! $ move ! (4 ∷ []) $ fsplit ! $ fsplit ! $ keep ! (0 ∷ 3 ∷ []) $ by ! (out_once 𝓛 η (ex 𝓤 Gone))
@@ -181,22 +181,25 @@ module _ {M : Type 1} {𝓤 : Ura M} (𝓛 : Logic 𝓤) where
     closes = plainly I b c two always after_close ⟦ going ⟧ (qed 𝓛 (‵ I ∷ ‵ going ∷ []) ∵ fpick ! (λ s. by ! (close_from s)))
 
     -- what the store's side has begins the end, once the header is out
-    pub ends : ⟦ home X R b o a δ η ⟧ ∗ ⟦ header_room X R b o ⟧ ⊢ H.⇛ ⟦ going ⟧
-    ends = qed 𝓛 (‵ (home X R b o a δ η) ∷ ‵ (header_room X R b o) ∷ []) ∵ updating ! $ fsplit3 ! $ lft_end ! tt $
+    pub ends : ⟦ home X U R b o f k a δ η ⟧ ∗ ⟦ header_room X U R b o ⟧ ⊢ H.⇛ ⟦ going ⟧
+    ends = qed 𝓛 (‵ (home X U R b o f k a δ η) ∷ ‵ (header_room X U R b o) ∷ []) ∵ updating ! $ fsplit3 ! $ lft_end ! tt $
         -- [it is over; the name; the dues; the header's room]
         move ! (3 ∷ 2 ∷ []) $ fjoin ! $ move ! (2 ∷ 1 ∷ []) $ fjoin ! $ fjoin ! $ now ! $ done !
 
   word_of' : (b o n : ℕ) (us : List Val) → ⟦ cell_at full_share u64.mir us b o ⟧ ∗ ⟦ u64.own_val n us ⟧ ⊢ ⟦ word b o n ⟧
   word_of' b o n us = qed 𝓛 (‵ (cell_at full_share u64.mir us b o) ∷ ‵ (u64.own_val n us) ∷ []) ∵ move ! (1 ∷ []) $ fsplit ! $ feq_l ! (λ ev. drop ! $ rewrite ! 0 (λ (ws : List Val). ‵ (cell_at full_share u64.mir ws b o)) ev refl $ done !)
 
-  module _ (X R : RattleType) (b o : ℕ) where
+  module _ (X U R : RattleType) (b o : ℕ) (f : U.Denot → ℕ) (k : ℕ) where
     abbrev pub Begun : ℕ × (ℕ × ℕ) → Pr
-    Begun t = ⟦ home X R b o t.0 t.1.0 t.1.1 ⟧ ∗ A.inv (Inv X R b o t.0 t.1.0 t.1.1)
+    Begun t = ⟦ home X U R b o f k t.0 t.1.0 t.1.1 ⟧ ∗ A.inv (Inv X U R b o f k t.0 t.1.0 t.1.1)
 
-    pub begins : ⟦ word b (o + 0) 0 ⟧ ∗ ⟦ fsep (room X R b o) (rest X R b o) ⟧ ∗ ⟦ dues X R b o ⟧ ⊢ H.⇛ (ex 𝓤 Begun)
-    begins = qed 𝓛 (‵ (word b (o + 0) 0) ∷ ‵ (fsep (room X R b o) (rest X R b o)) ∷ ‵ (dues X R b o) ∷ []) ∵ updating ! $ lft_new ! tt (λ a. name_new ! tt (gnum 0) (λ δ. fjoin ! $ name_new ! tt (gnum 0) (λ η. fjoin ! $
-        -- [η; δ; a; the word; the room and the rest; the dues]
-        move ! (1 ∷ 4 ∷ []) $ fjoin ! $ move ! (3 ∷ 0 ∷ []) $ fjoin ! $ fpack ! Phase (state X R b o a δ η) free $
-        use1 𝓛 (later (‵ (finv (Inv X R b o a δ η)))) (𝓛.invs.inv_new (Inv X R b o a δ η)) $ await ! tt $
+    abbrev pub inside : Fml
+    inside = fsep (held X U R b o f k) (fsep (room X U R b o) (rest X U R b o))
+
+    pub begins : ⟦ word b (o + 0) 0 ⟧ ∗ ⟦ inside ⟧ ∗ ⟦ dues X U R b o ⟧ ⊢ H.⇛ (ex 𝓤 Begun)
+    begins = qed 𝓛 (‵ (word b (o + 0) 0) ∷ ‵ inside ∷ ‵ (dues X U R b o) ∷ []) ∵ updating ! $ lft_new ! tt (λ a. name_new ! tt (gnum 0) (λ δ. fjoin ! $ name_new ! tt (gnum 0) (λ η. fjoin ! $
+        -- [η; δ; a; the word; the part, the room and the rest; the dues]
+        move ! (1 ∷ 4 ∷ []) $ fjoin ! $ move ! (3 ∷ 0 ∷ []) $ fjoin ! $ fpack ! Phase (state X U R b o f k a δ η) free $
+        use1 𝓛 (later (‵ (finv (Inv X U R b o f k a δ η)))) (𝓛.invs.inv_new (Inv X U R b o f k a δ η)) $ await ! tt $
         -- [the invariant; η; a; the dues]
         move ! (1 ∷ 3 ∷ []) $ fjoin ! $ move ! (2 ∷ 0 ∷ []) $ fjoin ! $ now ! $ show ! Begun (a, (δ, η)) $ done !)))

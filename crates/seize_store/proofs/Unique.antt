@@ -13,16 +13,21 @@ use denote.RawPtr.{block_ptr, block_of, count_of}
 use Rattle.seize_store.specs.Body.{rest_ty, rest_at}
 use Rattle.seize_store.specs.Block.{empty}
 
-module _ (X R : RattleType) {M : Type 1} {𝓤 : Ura M} (𝓛 : Logic 𝓤) (𝓜 : Model 𝓤 𝓛.H) where
-  abbrev Both : ℕ → ℕ → ℕ × (ℕ × ℕ) → ℕ → ℕ → ℕ × (ℕ × ℕ) → SProp 𝓤
-  Both b o t c k u = sep 𝓤 (sem 𝓛 (empty X R b o t)) (sem 𝓛 (empty X R c k u))
+module _ (X U R : RattleType) (f : U.Denot → ℕ) {M : Type 1} {𝓤 : Ura M} (𝓛 : Logic 𝓤) (𝓜 : Model 𝓤 𝓛.H) where
+  -- a room's label, and its names
+  abbrev Of : Type 0
+  Of = ℕ × (ℕ × (ℕ × ℕ))
 
-  clash : (b o : ℕ) (t u : ℕ × (ℕ × ℕ)) → ent 𝓤 (Both b o t b o u) (never 𝓤)
-  clash b o t u = let bytes : 0 < size rest_ty = lit< tt in let e : ℕ = rest_at X R o in
-      qed 𝓛 (‵ (empty X R b o t) ∷ ‵ (empty X R b o u) ∷ []) ∵ fsplit ! $ fsplit3 ! $ move ! (4 ∷ []) $ fsplit ! $ fsplit3 ! $ keep ! (2 ∷ 6 ∷ []) $
+  abbrev Both : ℕ → ℕ → Of → ℕ → ℕ → Of → SProp 𝓤
+  Both b o t c k u = sep 𝓤 (sem 𝓛 (empty X U R b o f t.0 t.1)) (sem 𝓛 (empty X U R c k f u.0 u.1))
+
+  clash : (b o : ℕ) (t u : Of) → ent 𝓤 (Both b o t b o u) (never 𝓤)
+  clash b o t u = let bytes : 0 < size rest_ty = lit< tt in let e : ℕ = rest_at X U R o in
+      qed 𝓛 (‵ (empty X U R b o f t.0 t.1) ∷ ‵ (empty X U R b o f u.0 u.1) ∷ []) ∵ fsplit ! $ fsplit3 ! $ move ! (2 ∷ []) $ fsplit ! $ keep ! (1 ∷ 5 ∷ []) $
+      move ! (1 ∷ []) $ fsplit ! $ fsplit3 ! $ move ! (2 ∷ []) $ fsplit ! $ keep ! (1 ∷ 5 ∷ []) $
       by ! (𝓜.room-room rest_ty rest_ty b e e e (omega arith, omega arith) (omega arith, omega arith))
 
-  pub apart : (b o : ℕ) (t : ℕ × (ℕ × ℕ)) (c k : ℕ) (u : ℕ × (ℕ × ℕ)) → ent 𝓤 (Both b o t c k u) (fact 𝓤 (block_ptr b o ≡ block_ptr c k → ⊥))
+  pub apart : (b o : ℕ) (t : Of) (c k : ℕ) (u : Of) → ent 𝓤 (Both b o t c k u) (fact 𝓤 (block_ptr b o ≡ block_ptr c k → ⊥))
   apart b o t c k u = let No : Type 0 = block_ptr b o ≡ block_ptr c k → ⊥ in
       elim (cases_eq b c) [
         | inl e ↦ elim (cases_eq o k) [

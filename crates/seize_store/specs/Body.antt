@@ -1,6 +1,6 @@
--- Where the parts of a chunk lie. A chunk lies at b, o: a state word, a header of row X, room for a content of row R, the way to the
--- head of its row, the row's length, and a rest of 32 bytes: chunks lie 64 bytes apart or more, or 56 where both rows are empty. Only
--- the head, which is laid out as a chunk and lies before the row's first one, uses the length.
+-- Where the parts of a chunk lie. A chunk lies at b, o: a state word, a header of row X, an owner's part of row U, room for a content
+-- of row R, the way to the head of its row, the row's length, and a rest of 32 bytes: chunks lie 64 bytes apart or more, or 56 where
+-- the three rows are empty. Only the head, which is laid out as a chunk and lies before the row's first one, uses the length.
 use Rattle.core.specs.Prelude.{ℕ, ◌+◌, []}
 use mir.Syntax.{Ty, w64, ty_int, ty_ptr, ty_array, ty_struct, tcons, tnil}
 use mir.Raw.{raw}
@@ -12,15 +12,15 @@ use denote.Memory.{lone}
 abbrev pub rest_ty : Ty
 rest_ty = ty_array (ty_int w64) 4
 
-module _ (X R : RattleType) where
+module _ (X U R : RattleType) where
   abbrev pub body_ty : Ty
-  body_ty = ty_struct [] (tcons (ty_int w64) (tcons (raw (lone X.mir)) (tcons (raw (lone R.mir))
-      (tcons ty_ptr (tcons (ty_int w64) (tcons rest_ty tnil))))))
+  body_ty = ty_struct [] (tcons (ty_int w64) (tcons (raw (lone X.mir)) (tcons (raw (lone U.mir))
+      (tcons (raw (lone R.mir)) (tcons ty_ptr (tcons (ty_int w64) (tcons rest_ty tnil)))))))
 
   -- the same with the types as they are, of which body_ty is the bare room
   abbrev pub plain_ty : Ty
-  plain_ty = ty_struct [] (tcons (ty_int w64) (tcons (lone X.mir) (tcons (lone R.mir)
-      (tcons ty_ptr (tcons (ty_int w64) (tcons rest_ty tnil))))))
+  plain_ty = ty_struct [] (tcons (ty_int w64) (tcons (lone X.mir) (tcons (lone U.mir)
+      (tcons (lone R.mir) (tcons ty_ptr (tcons (ty_int w64) (tcons rest_ty tnil)))))))
 
   -- how far apart two chunks lie
   abbrev pub stride : ℕ
@@ -33,11 +33,17 @@ module _ (X R : RattleType) where
   abbrev pub header_at : ℕ → ℕ
   header_at o = o + up (align (lone X.mir)) 8
 
+  abbrev owner_off : ℕ
+  owner_off = up (align (lone U.mir)) (up (align (lone X.mir)) 8 + size (lone X.mir))
+
   abbrev room_off : ℕ
-  room_off = up (align (lone R.mir)) (up (align (lone X.mir)) 8 + size (lone X.mir))
+  room_off = up (align (lone R.mir)) (owner_off + size (lone U.mir))
 
   abbrev head_off : ℕ
   head_off = up 8 (room_off + size (lone R.mir))
+
+  abbrev pub owner_at : ℕ → ℕ
+  owner_at o = o + owner_off
 
   abbrev pub room_at : ℕ → ℕ
   room_at o = o + room_off
@@ -55,6 +61,9 @@ module _ (X R : RattleType) where
     abbrev pub header_room : Fml
     header_room = froom (raw (lone X.mir)) b (header_at o)
 
+    abbrev pub owner_room : Fml
+    owner_room = froom (raw (lone U.mir)) b (owner_at o)
+
     abbrev pub room : Fml
     room = froom (raw (lone R.mir)) b (room_at o)
 
@@ -66,8 +75,8 @@ module _ (X R : RattleType) where
 
     -- the fields, given back empty, are the whole of the chunk's memory
     abbrev pub rooms : Fml
-    rooms = fsep (froom (ty_int w64) b (o + 0)) (fsep header_room (fsep room
-        (fsep (froom ty_ptr b (head_at o)) (fsep len_room (fsep rest ftrue)))))
+    rooms = fsep (froom (ty_int w64) b (o + 0)) (fsep header_room (fsep owner_room (fsep room
+        (fsep (froom ty_ptr b (head_at o)) (fsep len_room (fsep rest ftrue))))))
 
     abbrev pub rim : Fml
     rim = fwand rooms (froom body_ty b o)

@@ -2,8 +2,9 @@
 -- stands in these words, so a crate above can state what they say for good.
 --     known_row store r chunks     row r of that store has these chunks, for good
 --     chunk_in chunks e            where the chunk at entry e lies, and the label of its header;  place_in and label_in are the two
+--     IsWhole row chunks           there is such a row, and these are as many chunks as it has
 --     leads_to store n k           the number n leads to the label k in that store, for good;  Way n k is a row that shows it
-use Rattle.std.specs.Prelude.{◌≡◌, ℕ, suc, ◌+◌, ◌-◌, ◌^◌, List, get_or}
+use Rattle.std.specs.Prelude.{◌≡◌, ℕ, suc, ◌+◌, ◌-◌, ◌^◌, ◌<◌, List, get_or, length}
 use base.Stored.{gnil, gcons, coded_list, coded×, coded_ℕ}
 use base.Fml.{Fml, fres, fex}
 use denote.RawPtr.{Ptr, null_ptr, coded_ptr}
@@ -29,10 +30,14 @@ place_in chunks entry = (chunk_in chunks entry).0
 abbrev pub label_in : List (Ptr × ℕ) → ℕ → ℕ
 label_in chunks entry = (chunk_in chunks entry).1
 
+abbrev pub IsWhole : ℕ → List (Ptr × ℕ) → Type 0
+IsWhole row chunks = (row < 59) × (length chunks ≡ 2 ^ (row + 5))
+
 -- a row and its chunks, where the number has the label
 pub record Way (number label : ℕ) : Type 0 where
   pub row : ℕ
   pub chunks : List (Ptr × ℕ)
+  pub whole : IsWhole row chunks
   pub placed : IsPlace number row (entry_of row number)
   pub labelled : label_in chunks (entry_of row number) ≡ label
 

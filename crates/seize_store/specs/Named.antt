@@ -11,16 +11,19 @@
 --     store_by s, row_by s, chunks_by s     the store and the row of the token s, and where the row's chunks lie, with their labels
 --     row_is s n      the row is that of the number n
 --     place_by s n, label_by s n     where the chunk of the number n lies, and the label of its header
+--     IsRowOf k n     the token k shows the row of the number n, and all of its chunks
 --     lies_of p, header_of p   where the chunk p lies, and its header
 --     lies o, label_of o     where the chunk of the block o lies, and the label of its header
+--     bare_value b, bare_title b, bare_store b, bare_number b, bare_label b     the same of a block b without its owner's part
 use Rattle.std.specs.Prelude.{◌≡◌, ℕ, ◌+◌, ◌==◌, if◌then◌else◌, List, [], ◌∷◌, ◌++◌, All, map, length, take, vec_len}
 use denote.RawPtr.{Ptr}
 use Rattle.seize_table.specs.Place.{IsPlace}
-use Rattle.seize_store.specs.Known.{entry_of, label_in, place_in}
+use Rattle.seize_store.specs.Known.{IsWhole, entry_of, label_in, place_in}
 use Rattle.seize_store.specs.Titled.{names_of, place_of}
 use Rattle.seize_store.specs.Titled as titled
+use Rattle.seize_store.specs.declared.bare.Bare.{Bare}
 use Rattle.seize_store.specs.declared.known.Known.{Known}
-use Rattle.seize_store.specs.declared.labelled.Labelled.{Ghosts}
+use Rattle.seize_table.specs.declared.labelled.Labelled.{Ghosts}
 use Rattle.seize_store.specs.declared.known.Title.{Title}
 use Rattle.seize_store.specs.declared.seen.Place.{Place}
 use Rattle.seize_store.specs.declared.seen.Seen.{Seen}
@@ -28,31 +31,31 @@ use Rattle.seize_store.specs.declared.owned.Owned.{Owned}
 use Rattle.seize_store.specs.declared.spot.Spots.{Spots}
 use Rattle.seize_store.specs.declared.store.Store.{Store}
 
-abbrev pub name_of : {H T : Type 0} {g : Ghosts H} → Store H T g → List ℕ
+abbrev pub name_of : {H P T : Type 0} {g : Ghosts H} → Store H P T g → List ℕ
 name_of store = names_of store.rows
 
-abbrev pub store_of : {H T : Type 0} → Owned H T → List ℕ
+abbrev pub store_of : {H P T : Type 0} → Owned H P T → List ℕ
 store_of owned = owned.block.title.known.store
 
-abbrev pub value_of : {H T : Type 0} → Owned H T → T
+abbrev pub value_of : {H P T : Type 0} → Owned H P T → T
 value_of owned = owned.block.value
 
-abbrev pub number_of : {H T : Type 0} → Owned H T → ℕ
+abbrev pub number_of : {H P T : Type 0} → Owned H P T → ℕ
 number_of owned = owned.block.title.number
 
-abbrev pub title_of : {H T : Type 0} → Owned H T → Title
+abbrev pub title_of : {H P T : Type 0} → Owned H P T → Title
 title_of owned = owned.block.title
 
-abbrev pub known_of : {H T : Type 0} → Owned H T → Known
+abbrev pub known_of : {H P T : Type 0} → Owned H P T → Known
 known_of owned = owned.block.title.known
 
-abbrev pub AreOf : {H T : Type 0} → Spots H T → List ℕ → Type 0
+abbrev pub AreOf : {H P T : Type 0} → Spots H P T → List ℕ → Type 0
 AreOf spots store = All (λ spot. spot.title.known.store ≡ store) spots.list.items
 
-abbrev pub is_empty_list : {H T : Type 0} → Spots H T → Type 0
+abbrev pub is_empty_list : {H P T : Type 0} → Spots H P T → Type 0
 is_empty_list spots = spots.list.items ≡ []
 
-abbrev pub titles_of : {H T : Type 0} → Spots H T → List Title
+abbrev pub titles_of : {H P T : Type 0} → Spots H P T → List Title
 titles_of spots = map (λ spot. spot.title) spots.list.items
 
 abbrev pub titles_with : List Title → Title → List Title
@@ -61,41 +64,59 @@ titles_with titles title = (if length titles == 128 then take 64 titles else tit
 abbrev pub count_with : ℕ → ℕ
 count_with count = (if count == 128 then 64 else count) + 1
 
-abbrev pub IsSame : {H T : Type 0} → Owned H T → Owned H T → Type 0
+abbrev pub IsSame : {H P T : Type 0} → Owned H P T → Owned H P T → Type 0
 IsSame one other = (value_of one ≡ value_of other) × (one.block.title ≡ other.block.title)
 
-abbrev pub known_by : {H T : Type 0} {g : Ghosts H} → Seen H T g → Known
+abbrev pub known_by : {H P T : Type 0} {g : Ghosts H} → Seen H P T g → Known
 known_by seen = seen.known
 
-abbrev pub store_by : {H T : Type 0} {g : Ghosts H} → Seen H T g → List ℕ
+abbrev pub store_by : {H P T : Type 0} {g : Ghosts H} → Seen H P T g → List ℕ
 store_by seen = seen.known.store
 
-abbrev pub row_by : {H T : Type 0} {g : Ghosts H} → Seen H T g → ℕ
+abbrev pub row_by : {H P T : Type 0} {g : Ghosts H} → Seen H P T g → ℕ
 row_by seen = seen.known.row
 
-abbrev pub chunks_by : {H T : Type 0} {g : Ghosts H} → Seen H T g → List (Ptr × ℕ)
+abbrev pub chunks_by : {H P T : Type 0} {g : Ghosts H} → Seen H P T g → List (Ptr × ℕ)
 chunks_by seen = seen.known.chunks
 
-abbrev pub row_is : {H T : Type 0} {g : Ghosts H} → Seen H T g → ℕ → Type 0
+abbrev pub row_is : {H P T : Type 0} {g : Ghosts H} → Seen H P T g → ℕ → Type 0
 row_is seen number = IsPlace number seen.known.row (entry_of seen.known.row number)
 
-abbrev pub place_by : {H T : Type 0} {g : Ghosts H} → Seen H T g → ℕ → Ptr
+abbrev pub place_by : {H P T : Type 0} {g : Ghosts H} → Seen H P T g → ℕ → Ptr
 place_by seen number = place_in seen.known.chunks (entry_of seen.known.row number)
 
-abbrev pub label_by : {H T : Type 0} {g : Ghosts H} → Seen H T g → ℕ → ℕ
+abbrev pub label_by : {H P T : Type 0} {g : Ghosts H} → Seen H P T g → ℕ → ℕ
 label_by seen number = label_in seen.known.chunks (entry_of seen.known.row number)
 
-abbrev pub lies_of : {H T : Type 0} → Place H T → Ptr
+abbrev pub IsRowOf : Known → ℕ → Type 0
+IsRowOf known number = IsPlace number known.row (entry_of known.row number) × IsWhole known.row known.chunks
+
+abbrev pub lies_of : {H P T : Type 0} → Place H P T → Ptr
 lies_of place = place.chunk.now.at
 
-abbrev pub header_of : {H T : Type 0} → Place H T → H
+abbrev pub header_of : {H P T : Type 0} → Place H P T → H
 header_of place = place.chunk.now.header
 
-abbrev pub lies : {H T : Type 0} → Owned H T → Ptr
+abbrev pub lies : {H P T : Type 0} → Owned H P T → Ptr
 lies owned = place_of owned.block.title
 
-abbrev pub label_of : {H T : Type 0} → Owned H T → ℕ
+abbrev pub label_of : {H P T : Type 0} → Owned H P T → ℕ
 label_of owned = titled.label_of owned.block.title
 
-abbrev pub count_of : {H T : Type 0} → Spots H T → ℕ
+abbrev pub bare_value : {H P T : Type 0} → Bare H P T → T
+bare_value bare = bare.hull.value
+
+abbrev pub bare_title : {H P T : Type 0} → Bare H P T → Title
+bare_title bare = bare.title
+
+abbrev pub bare_number : {H P T : Type 0} → Bare H P T → ℕ
+bare_number bare = bare.title.number
+
+abbrev pub bare_store : {H P T : Type 0} → Bare H P T → List ℕ
+bare_store bare = bare.title.known.store
+
+abbrev pub bare_label : {H P T : Type 0} → Bare H P T → ℕ
+bare_label bare = titled.label_of bare.title
+
+abbrev pub count_of : {H P T : Type 0} → Spots H P T → ℕ
 count_of spots = vec_len spots.list

@@ -12,7 +12,7 @@ use denote.RawPtr.{Ptr, block_ptr, null_ptr, ◌+ₚ◌}
 use Rattle.core.specs.Sync.RawAtomic.{word}
 use Rattle.core.specs.Sync.RawAtomic.Pointer.{cell}
 use Rattle.seize_store.specs.Freeable.{freeable}
-use Rattle.seize_store.specs.Body.{body_ty, row_ty, stride, head_at, len_at, header_room, room, len_room, rest, rim}
+use Rattle.seize_store.specs.Body.{body_ty, row_ty, stride, head_at, len_at, header_room, owner_room, room, len_room, rest, rim}
 
 -- where the head lies, and the chunks' tickets
 pub record Deed : Type 0 where
@@ -59,24 +59,25 @@ pub data Stage : Type 0 where
   stands : Marks → Stage
   gone : Stage
 
-module _ (X R : RattleType) where
+module _ (X U R : RattleType) where
   abbrev pub Fits : ℕ → Type 0
-  Fits n = n * stride X R < 2 ^ 63
+  Fits n = n * stride X U R < 2 ^ 63
 
-module _ (X R : RattleType) (b : ℕ) where
+module _ (X U R : RattleType) (b : ℕ) where
   abbrev pub laid_one : ℕ → Bool → ℕ → Fml
-  laid_one γ true e = fsep (out γ) (froom (body_ty X R) b e)
+  laid_one γ true e = fsep (out γ) (froom (body_ty X U R) b e)
   laid_one γ false e = ftrue
 
   abbrev pub laid : Marks → ℕ → Fml
   laid [] e = ftrue
-  laid (m ∷ ms) e = fsep (laid_one m.0 m.1 e) (laid ms (e + stride X R))
+  laid (m ∷ ms) e = fsep (laid_one m.0 m.1 e) (laid ms (e + stride X U R))
 
   -- all of the head at o of a row of n chunks, but its word
   abbrev pub head_with : ℕ → ℕ → Fml
-  head_with o n = fsep (header_room X R b o) (fsep (room X R b o) (fsep (froom ty_ptr b (head_at X R o))
-      (fsep (fat full_share (ty_int w64) b (len_at X R o) (vint w64 (suc n)))
-      (fsep (rest X R b o) (fsep (rim X R b o) (fsep (freeable (row_ty X R (suc n)) (block_ptr b o)) (fact (Fits X R (suc n)))))))))
+  head_with o n = fsep (header_room X U R b o) (fsep (owner_room X U R b o) (fsep (room X U R b o) (fsep (froom ty_ptr b (head_at X U R o))
+      (fsep (fat full_share (ty_int w64) b (len_at X U R o) (vint w64 (suc n)))
+      (fsep (rest X U R b o) (fsep (rim X U R b o) (fsep (freeable (row_ty X U R (suc n)) (block_ptr b o))
+      (fact (Fits X U R (suc n))))))))))
 
   module _ (d : Deed) where
     abbrev pub head : Fml
@@ -84,7 +85,7 @@ module _ (X R : RattleType) (b : ℕ) where
 
     abbrev pub stage : Stage → Fml
     stage (stands ms) = fsep (fact ((of_marks ms ≡ d.tickets) × (missing ms < 2 ^ 64)))
-        (fsep (word b (d.at + 0) (missing ms)) (fsep (laid ms (d.at + stride X R)) head))
+        (fsep (word b (d.at + 0) (missing ms)) (fsep (laid ms (d.at + stride X U R)) head))
     stage gone = held_all d.tickets
 
     abbrev pub Shared : Fml
@@ -92,39 +93,40 @@ module _ (X R : RattleType) (b : ℕ) where
 
     -- the chunk at e is the row's i-th, and γ is its ticket
     abbrev pub Lies : ℕ → ℕ → ℕ → Type 0
-    Lies e i γ = Has d.tickets i γ × (e ≡ i * stride X R + (d.at + stride X R))
+    Lies e i γ = Has d.tickets i γ × (e ≡ i * stride X U R + (d.at + stride X U R))
 
     abbrev pub ticket : ℕ → ℕ × ℕ → Fml
     ticket e t = fsep (fact (Lies e t.0 t.1)) (fsep (out t.1) (finv Shared))
 
   -- the way from the chunk at e to its row's head, and the right to lay the chunk back
   abbrev pub leads : ℕ → Deed → Fml
-  leads e d = fsep (cell b (head_at X R e) (block_ptr b d.at)) (fex (ℕ × ℕ) (ticket d e))
+  leads e d = fsep (cell b (head_at X U R e) (block_ptr b d.at)) (fex (ℕ × ℕ) (ticket d e))
 
   abbrev pub due : ℕ → Fml
-  due e = fsep (rim X R b e) (fsep (len_room X R b e) (fex Deed (leads e)))
+  due e = fsep (rim X U R b e) (fsep (len_room X U R b e) (fex Deed (leads e)))
 
   -- of a row, what is not cut into chunks yet: room from e on for each of the tickets, which are the row's from a place on
   abbrev pub uncut : ℕ → ℕ → Deed × ℕ × List ℕ → Fml
   uncut e left t =
-      fsep (fact ((length t.2 ≡ left) × Tail t.0.tickets t.1 t.2 × (e ≡ t.1 * stride X R + (t.0.at + stride X R)) × (stride X R < 2 ^ 63)))
-      (fsep (finv (Shared t.0)) (fsep (froom (row_ty X R left) b e) (held_all t.2)))
+      fsep (fact ((length t.2 ≡ left) × Tail t.0.tickets t.1 t.2
+      × (e ≡ t.1 * stride X U R + (t.0.at + stride X U R)) × (stride X U R < 2 ^ 63)))
+      (fsep (finv (Shared t.0)) (fsep (froom (row_ty X U R left) b e) (held_all t.2)))
 
-module _ (X R : RattleType) where
+module _ (X U R : RattleType) where
   -- the memory of n chunks at p, with the right to give it back
   abbrev pub rooms_own : (Ty → Ptr → Fml) → Ptr → ℕ → Fml
-  rooms_own token (block_ptr b o) n = fsep (froom (row_ty X R n) b o) (token (row_ty X R n) (block_ptr b o))
+  rooms_own token (block_ptr b o) n = fsep (froom (row_ty X U R n) b o) (token (row_ty X U R n) (block_ptr b o))
   rooms_own token null_ptr n = ffalse
 
   -- the places of n chunks, of which the first is p
   abbrev pub line : Ptr → ℕ → List Ptr
   line p zero = []
-  line p (suc n) = p ∷ line (p +ₚ stride X R) n
+  line p (suc n) = p ∷ line (p +ₚ stride X U R) n
 
   -- what is not cut yet: from p on there will be chunks at the places ps, and the head lies at q
   abbrev pub strip_by : ℕ → ℕ → Ptr → List Ptr → Deed × ℕ × List ℕ → Fml
   strip_by b e q ps t =
-      fsep (feq Ptr q (block_ptr b t.0.at)) (fsep (fact (ps ≡ line (block_ptr b e) (length ps))) (uncut X R b e (length ps) t))
+      fsep (feq Ptr q (block_ptr b t.0.at)) (fsep (fact (ps ≡ line (block_ptr b e) (length ps))) (uncut X U R b e (length ps) t))
 
   abbrev pub strip_owns : Ptr → Ptr → List Ptr → Fml
   strip_owns (block_ptr b e) q ps = fex (Deed × ℕ × List ℕ) (strip_by b e q ps)
@@ -132,4 +134,4 @@ module _ (X R : RattleType) where
 
   -- ps are the places of chunks that lie one after the other, from p on, in one block
   abbrev pub IsRow : Ptr → List Ptr → Type 0
-  IsRow p ps = (ps ≡ line p (length ps)) × Fits X R (length ps)
+  IsRow p ps = (ps ≡ line p (length ps)) × Fits X U R (length ps)

@@ -1,5 +1,5 @@
 -- Where the chunk of a title lies, and what a token of a row was made of.
---     place_of t, label_of t      the place and the label that the title t's row has at its entry
+--     chunk_of t                  the place and the label that the title t's row has at its entry;  place_of t and label_of t are the two
 --     names_of rows               the store of these rows: its own name, which it alone has, and then those of its rows, in their order
 --     IsSeen rows row note        the note is of that row's cell, and knows its chunks
 --     Shows rows row note k       k says of that row what the note knows
@@ -9,9 +9,12 @@ use denote.RawPtr.{Ptr}
 use Rattle.once_cell.specs.declared.race.note.Note.{Note}
 use Rattle.seize_store.specs.declared.known.Known.{Known}
 use Rattle.seize_store.specs.declared.known.Title.{Title}
-use Rattle.seize_store.specs.declared.labelled.Labelled.{Ghosts}
+use Rattle.seize_table.specs.declared.labelled.Labelled.{Ghosts}
 use Rattle.seize_store.specs.declared.row.Rows.{Rows}
-use Rattle.seize_store.specs.Known.{entry_of, label_in, name_in, place_in}
+use Rattle.seize_store.specs.Known.{chunk_in, entry_of, label_in, name_in, place_in}
+
+abbrev pub chunk_of : Title → Ptr × ℕ
+chunk_of t = chunk_in t.known.chunks (entry_of t.known.row t.number)
 
 abbrev pub place_of : Title → Ptr
 place_of t = place_in t.known.chunks (entry_of t.known.row t.number)
@@ -19,11 +22,11 @@ place_of t = place_in t.known.chunks (entry_of t.known.row t.number)
 abbrev pub label_of : Title → ℕ
 label_of t = label_in t.known.chunks (entry_of t.known.row t.number)
 
-abbrev pub names_of : {H T : Type 0} {g : Ghosts H} → Rows H T g → List ℕ
+abbrev pub names_of : {H P T : Type 0} {g : Ghosts H} → Rows H P T g → List ℕ
 names_of rows = rows.identity.name ∷ map (λ c. c.1) rows.cells
 
-abbrev pub IsSeen : {H T : Type 0} {g : Ghosts H} → Rows H T g → ℕ → Note (List (Ptr × ℕ)) → Type 0
+abbrev pub IsSeen : {H P T : Type 0} {g : Ghosts H} → Rows H P T g → ℕ → Note (List (Ptr × ℕ)) → Type 0
 IsSeen rows row note = (note.cell ≡ name_in (names_of rows) row) × ((chunks : List (Ptr × ℕ)) × (note.known ≡ Some chunks))
 
-abbrev pub Shows : {H T : Type 0} {g : Ghosts H} → Rows H T g → ℕ → Note (List (Ptr × ℕ)) → Known → Type 0
+abbrev pub Shows : {H P T : Type 0} {g : Ghosts H} → Rows H P T g → ℕ → Note (List (Ptr × ℕ)) → Known → Type 0
 Shows rows row note known = (known.store ≡ names_of rows) × (known.row ≡ row) × (note.known ≡ Some known.chunks)

@@ -1,57 +1,58 @@
-//! A chunk's room in its holder's hands: an empty room, and a block, which is a value in a room. It uses `chunk` for the memory and
-//! `known` for titles; `spot` and `owned` wrap both for who holds them.
-ghost use Rattle.std.specs.Prelude.{◌≡◌, ◌≢◌};
+//! A chunk's room in its holder's hands: an empty room, a block, which is a value in a room, and a hull, which is a block without the
+//! owner's part. It uses `chunk` for the memory and `known` for titles; `spot`, `owned` and `bare` wrap these for who holds them.
+ghost use Rattle.std.specs.Prelude.{◌≡◌, ◌≢◌, ℕ};
 ghost use Rattle.std.specs.Borrow.{sem};
-ghost use Rattle.seize_store.specs.Block.{out_owns, block_owns, block_shares};
-ghost use Rattle.seize_store.specs.Titled.{place_of};
+ghost use Rattle.seize_store.specs.Block.{out_owns, block_owns, block_shares, hull_owns, hull_shares};
+ghost use Rattle.seize_store.specs.Titled.{label_of, place_of};
 
-use crate::chunk::Body;
+use crate::chunk::{Body, Remains};
 use crate::known::Title;
-use crate::strip::Piece;
+use seize_table::Labelled;
 use std::marker::{Brand, Model};
 use std::sync::atomic::Ordering::SeqCst;
 use std::sync::atomic::raw;
 
-/// The room of a chunk that is out, and empty.
-pub(crate) struct Out<H, T> {
-    pub(crate) at: *mut Body<H, T>,
+/// The room of a chunk that is out, and empty, with the owner's part.
+pub(crate) struct Out<H, P: Labelled, T> {
+    pub(crate) at: *mut Body<H, P, T>,
+    pub(crate) ghost label: { ℕ },
 }
 
-impl<H, T> Model for Out<H, T> {
-    ghost also_owns = { λ o. out_owns H.row T.row o.at };
+impl<H, P: Labelled, T> Model for Out<H, P, T> {
+    ghost also_owns = { λ o. out_owns H.row P.row T.row P.label o.at o.label };
 }
 
-/// A value in the room of a chunk.
-pub(crate) struct Block<H, T> {
-    at: *mut Body<H, T>,
+/// A value in the room of a chunk, with the owner's part.
+pub(crate) struct Block<H, P: Labelled, T> {
+    at: *mut Body<H, P, T>,
     pub(crate) title: Title,
     pub(crate) ghost value: { T },
 }
 
-impl<H, T> Model for Block<H, T> {
-    ghost also_owns = { λ o. block_owns H.row T.row (place_of o.title) o.at o.value };
+impl<H, P: Labelled, T> Model for Block<H, P, T> {
+    ghost also_owns = { λ o. block_owns H.row P.row T.row P.label (place_of o.title) (label_of o.title) o.at o.value };
 
-    ghost also_shares = { λ o _ κ. block_shares H.row T.row o.at o.value κ };
+    ghost also_shares = { λ o _ κ. block_shares H.row P.row T.row P.label (label_of o.title) o.at o.value κ };
 }
 
-impl<H, T> Out<H, T> {
-    /// Puts the room back into its chunk: one swap. Where the store is gone, the chunk's memory comes out.
-    pub(crate) fn give_back(self) -> Option<Piece<H, T>> {
+impl<H, P: Labelled, T> Out<H, P, T> {
+    /// Puts the room and the owner's part back into their chunk: one swap. Where the store is gone, the chunk's memory comes out.
+    pub(crate) fn give_back(self) -> Option<Remains<H, P, T>> {
         let Out { at } = self;
         if unsafe { raw::swap::<Brand>(&raw const (*at).state, 0, SeqCst) } == 2 {
-            Some(Piece { at })
+            Some(Remains { at })
         } else {
             None
         }
     }
 }
 
-impl<H, T> Out<H, T> {
-    ghost use Rattle.seize_store.specs.Parts.{room_at};
+impl<H, P: Labelled, T> Out<H, P, T> {
+    ghost use Rattle.seize_store.specs.Parts.{room_at, room_with};
 
     /// Two rooms that are out at once lie apart. It does nothing: its contract says so.
-    pub(crate) fn differ(self, other: Out<H, T>) -> (Out<H, T>, Out<H, T>)
-        ensures { (room_at result.0 ≡ room_at self) × (room_at result.1 ≡ room_at other) × (room_at self ≢ room_at other) }
+    pub(crate) fn differ(self, other: Out<H, P, T>) -> (Out<H, P, T>, Out<H, P, T>)
+        ensures { (room_with result.0 ≡ room_with self) × (room_with result.1 ≡ room_with other) × (room_at self ≢ room_at other) }
     {
         let Out { at: first } = self;
         let Out { at: second } = other;
@@ -59,13 +60,14 @@ impl<H, T> Out<H, T> {
     }
 }
 
-impl<H, T> Block<H, T> {
+impl<H, P: Labelled, T> Block<H, P, T> {
     ghost use Rattle.seize_store.specs.Lends.{lends_room};
-    ghost use Rattle.seize_store.specs.Parts.{block_title, room_at};
+    ghost use Rattle.seize_store.specs.Parts.{block_title, hull_with, room_with};
+    ghost use Rattle.seize_store.specs.Titled.{chunk_of};
 
     /// A block in this room. It takes no memory and no atomic step.
-    pub(crate) fn of(out: Out<H, T>, title: Title, value: T) -> Block<H, T>
-        requires { place_of title ≡ room_at out }
+    pub(crate) fn of(out: Out<H, P, T>, title: Title, value: T) -> Block<H, P, T>
+        requires { chunk_of title ≡ room_with out }
         ensures { (result.value ≡ value) × (block_title result ≡ title) }
     {
         let Out { at } = out;
@@ -82,10 +84,17 @@ impl<H, T> Block<H, T> {
 
     /// The value, to be changed, for as long as the block is borrowed. All else of the block stays.
     pub(crate) fn get_mut(&mut self) -> &mut T
-        ensures* writes_back { sem 𝓛 (lends_room H.row T.row self.entry result) }
+        ensures* writes_back { sem 𝓛 (lends_room H.row P.row T.row P.label self.entry result) }
         ensures value { result.now ≡ self.old.value }
     {
         unsafe { &mut (*self.at).room }
+    }
+
+    /// The owner's part, for as long as the block is borrowed.
+    pub(crate) fn part(&self) -> &P
+        ensures { P.label result.now ≡ label_of (block_title self.now) }
+    {
+        unsafe { &(*self.at).part }
     }
 
     pub(crate) fn title(&self) -> &Title
@@ -95,17 +104,74 @@ impl<H, T> Block<H, T> {
     }
 
     /// The value by value, and the room where it lay.
-    pub(crate) fn empty(self) -> (T, Out<H, T>, Title)
-        ensures { (result.0 ≡ self.value) × (place_of result.2 ≡ room_at result.1) × (result.2 ≡ block_title self) }
+    pub(crate) fn empty(self) -> (T, Out<H, P, T>, Title)
+        ensures { (result.0 ≡ self.value) × (chunk_of result.2 ≡ room_with result.1) × (result.2 ≡ block_title self) }
     {
         let Block { at, title } = self;
         let value = unsafe { (&raw const (*at).room).read() };
         (value, Out { at }, title)
     }
+    /// The owner's part by value, and the block without it.
+    pub(crate) fn split(self) -> (P, Hull<H, P, T>, Title)
+        ensures { (P.label result.0 ≡ label_of (block_title self)) × (result.1.value ≡ self.value)
+            × (chunk_of result.2 ≡ hull_with result.1) × (result.2 ≡ block_title self) }
+    {
+        let Block { at, title } = self;
+        let part = unsafe { (&raw const (*at).part).read() };
+        (part, Hull { at }, title)
+    }
 }
 
-unsafe impl<H, T> Send for Out<H, T> {}
+/// A value in the room of a chunk that is out, while the owner's part is elsewhere.
+pub(crate) struct Hull<H, P: Labelled, T> {
+    pub(crate) at: *mut Body<H, P, T>,
+    pub(crate) ghost label: { ℕ },
+    pub(crate) ghost value: { T },
+}
 
-unsafe impl<H, T: Send> Send for Block<H, T> {}
+impl<H, P: Labelled, T> Model for Hull<H, P, T> {
+    ghost also_owns = { λ o. hull_owns H.row P.row T.row P.label o.at o.label o.value };
 
-unsafe impl<H, T: Sync> Sync for Block<H, T> {}
+    ghost also_shares = { λ o _ κ. hull_shares H.row P.row T.row P.label o.at o.value κ };
+}
+
+impl<H, P: Labelled, T> Hull<H, P, T> {
+    ghost use Rattle.seize_store.specs.Parts.{block_title, hull_with};
+    ghost use Rattle.seize_store.specs.Titled.{chunk_of};
+
+    /// The block, with the owner's part in it. It takes no memory and no atomic step.
+    pub(crate) fn with(self, title: Title, part: P) -> Block<H, P, T>
+        requires { (chunk_of title ≡ hull_with self) × (P.label part ≡ label_of title) }
+        ensures { (result.value ≡ self.value) × (block_title result ≡ title) }
+    {
+        let Hull { at } = self;
+        unsafe { (&raw mut (*at).part).write(part) };
+        Block { at, title }
+    }
+
+    /// The value, for as long as the hull is borrowed.
+    pub(crate) fn get(&self) -> &T
+        ensures { result.now ≡ self.now.value }
+    {
+        let at = self.at;
+        unsafe { &(*at).room }
+    }
+
+    /// The value by value. The chunk stays out for good.
+    pub(crate) fn end(self) -> T
+        ensures { result ≡ self.value }
+    {
+        let Hull { at } = self;
+        unsafe { (&raw const (*at).room).read() }
+    }
+}
+
+unsafe impl<H, P: Labelled + Send, T> Send for Out<H, P, T> {}
+
+unsafe impl<H, P: Labelled + Send, T: Send> Send for Block<H, P, T> {}
+
+unsafe impl<H, P: Labelled + Sync, T: Sync> Sync for Block<H, P, T> {}
+
+unsafe impl<H, P: Labelled + Send, T: Send> Send for Hull<H, P, T> {}
+
+unsafe impl<H, P: Labelled, T: Sync> Sync for Hull<H, P, T> {}

@@ -5,20 +5,22 @@ ghost use base.Stored.{coded_list};
 ghost use denote.RawPtr.{Ptr, coded_ptr};
 ghost use denote.Sharing.{said};
 ghost use Rattle.seize_store.specs.Row.{IsRow, at_entry, fact};
-ghost use Rattle.seize_store.specs.Chunk.{chunk_owns, chunk_shares};
+ghost use Rattle.seize_store.specs.Chunk.{chunk_owns, chunk_shares, remains_own};
 
 use crate::block::Out;
 use crate::strip::Piece;
+use seize_table::Labelled;
 use std::marker::{Brand, Model};
 use std::sync::atomic::Ordering::SeqCst;
 use std::sync::atomic::raw;
 
-/// The memory of a chunk. With the rest two chunks are 64 bytes apart or more, and 56 where header and value are empty. The head of a row
-/// is laid out in the same way: its state counts the row's chunks that were not laid back, and only it has a length, of the row with its
-/// head.
-pub(crate) struct Body<H, T> {
+/// The memory of a chunk. With the rest two chunks are 64 bytes apart or more, and 56 where header, owner's part and value are empty. The
+/// head of a row is laid out in the same way: its state counts the row's chunks that were not laid back, and only it has a length, of the
+/// row with its head.
+pub(crate) struct Body<H, P, T> {
     pub(crate) state: u64,
     pub(crate) header: H,
+    pub(crate) part: P,
     pub(crate) room: T,
     // Where the head lies. The type can't name itself behind a pointer.
     pub(crate) head: *mut u8,
@@ -28,53 +30,55 @@ pub(crate) struct Body<H, T> {
 
 /// Where the chunks of a row lie: one after the other, from a first one on.
 #[derive(Drop)]
-pub(crate) struct Base<H, T> {
-    pub(crate) at: *mut Body<H, T>,
+pub(crate) struct Base<H, P, T> {
+    pub(crate) at: *mut Body<H, P, T>,
     pub(crate) ghost places: { List Ptr } by { coded_list coded_ptr },
 }
 
-impl<H, T> Model for Base<H, T> {
-    ghost also_owns = { λ b. fact (IsRow H.row T.row b.at b.places) };
+impl<H, P, T> Model for Base<H, P, T> {
+    ghost also_owns = { λ b. fact (IsRow H.row P.row T.row b.at b.places) };
 
-    ghost also_shares = { λ b _ κ. said (fact (IsRow H.row T.row b.at b.places)) κ };
+    ghost also_shares = { λ b _ κ. said (fact (IsRow H.row P.row T.row b.at b.places)) κ };
 }
 
-unsafe impl<H, T> Send for Base<H, T> {}
+unsafe impl<H, P, T> Send for Base<H, P, T> {}
 
-unsafe impl<H, T> Sync for Base<H, T> {}
+unsafe impl<H, P, T> Sync for Base<H, P, T> {}
 
 /// The store's side of a chunk.
-pub(crate) struct Chunk<H, T> {
-    pub(crate) at: *mut Body<H, T>,
+pub(crate) struct Chunk<H, P: Labelled, T> {
+    pub(crate) at: *mut Body<H, P, T>,
     pub(crate) ghost life: { ℕ },
     pub(crate) ghost out: { ℕ },
     pub(crate) ghost home: { ℕ },
+    pub(crate) ghost label: { ℕ },
     pub(crate) ghost header: { H },
 }
 
-impl<H, T> Model for Chunk<H, T> {
-    ghost also_owns = { λ c. chunk_owns H.row T.row c.life c.out c.home c.at c.header };
+impl<H, P: Labelled, T> Model for Chunk<H, P, T> {
+    ghost also_owns = { λ c. chunk_owns H.row P.row T.row P.label c.label c.life c.out c.home c.at c.header };
 
-    ghost also_shares = { λ c _ κ. chunk_shares H.row T.row c.life c.out c.home c.at c.header κ };
+    ghost also_shares = { λ c _ κ. chunk_shares H.row P.row T.row P.label c.label c.life c.out c.home c.at c.header κ };
 }
 
-impl<H, T> Chunk<H, T> {
-    ghost use Rattle.seize_store.specs.Parts.{chunk_at, piece_at, room_at};
+impl<H, P: Labelled, T> Chunk<H, P, T> {
+    ghost use Rattle.seize_store.specs.Parts.{chunk_at, lies_with, piece_at, room_with};
 
     /// A chunk that is in.
-    pub(crate) fn of(piece: Piece<H, T>, header: H) -> Chunk<H, T>
-        ensures { (chunk_at result ≡ piece_at piece) × (result.header ≡ header) }
+    pub(crate) fn of(piece: Piece<H, P, T>, header: H, part: P) -> Chunk<H, P, T>
+        ensures { (chunk_at result ≡ piece_at piece) × (result.header ≡ header) × (result.label ≡ P.label part) }
     {
         let Piece { at } = piece;
         unsafe {
             (&raw mut (*at).state).write(0);
             (&raw mut (*at).header).write(header);
+            (&raw mut (*at).part).write(part);
         }
         Chunk { at }
     }
 
     /// The header, for as long as the store is shared, found by where the row's chunks begin and not by this handle.
-    pub(crate) fn header_by(&self, base: &Base<H, T>, entry: usize) -> &H
+    pub(crate) fn header_by(&self, base: &Base<H, P, T>, entry: usize) -> &H
         requires { (entry < length base.now.places) × (chunk_at self.now ≡ at_entry base.now.places entry) }
         ensures { result.now ≡ self.now.header }
     {
@@ -88,9 +92,9 @@ impl<H, T> Chunk<H, T> {
         word == 0
     }
 
-    /// Takes the room, unless it is out. One swap.
-    pub(crate) fn claim(&self) -> Option<Out<H, T>>
-        ensures { IfSome result (λ out. room_at out ≡ chunk_at self.now) }
+    /// Takes the room, with the owner's part, unless it is out. One swap.
+    pub(crate) fn claim(&self) -> Option<Out<H, P, T>>
+        ensures { IfSome result (λ out. room_with out ≡ lies_with self.now) }
     {
         let at = self.at;
         if unsafe { raw::swap::<Brand>(&raw const (*at).state, 1, SeqCst) } == 0 {
@@ -101,20 +105,38 @@ impl<H, T> Chunk<H, T> {
     }
 
     /// The store goes. The header comes out; the memory comes too, unless the room is out: then it goes to who gives that back.
-    pub(crate) fn close(self) -> (H, Option<Piece<H, T>>)
+    pub(crate) fn close(self) -> (H, Option<Remains<H, P, T>>)
         ensures { result.0 ≡ self.header }
     {
         let Chunk { at } = self;
         let header = unsafe { (&raw const (*at).header).read() };
         if unsafe { raw::swap::<Brand>(&raw const (*at).state, 2, SeqCst) } == 0 {
-            (header, Some(Piece { at }))
+            (header, Some(Remains { at }))
         } else {
             (header, None)
         }
     }
 }
 
-// A value passes from thread to thread only with its block, so of T nothing is asked.
-unsafe impl<H: Send, T> Send for Chunk<H, T> {}
+/// All the memory of a chunk that has no two sides any more, with the owner's part in it.
+pub(crate) struct Remains<H, P, T> {
+    pub(crate) at: *mut Body<H, P, T>,
+}
 
-unsafe impl<H: Sync, T> Sync for Chunk<H, T> {}
+impl<H, P, T> Model for Remains<H, P, T> {
+    ghost also_owns = { λ r. remains_own H.row P.row T.row r.at };
+}
+
+impl<H, P, T> Remains<H, P, T> {
+    /// The owner's part by value, and the memory.
+    pub(crate) fn take(self) -> (P, Piece<H, P, T>) {
+        let Remains { at } = self;
+        let part = unsafe { (&raw const (*at).part).read() };
+        (part, Piece { at })
+    }
+}
+
+// A value passes from thread to thread only with its block, so of T nothing is asked. An owner's part does so by a claim.
+unsafe impl<H: Send, P: Labelled + Send, T> Send for Chunk<H, P, T> {}
+
+unsafe impl<H: Sync, P: Labelled + Send, T> Sync for Chunk<H, P, T> {}

@@ -5,7 +5,7 @@ ghost use base.Stored.{coded_list, coded×, coded_ℕ};
 ghost use denote.RawPtr.{Ptr, coded_ptr};
 ghost use denote.Sharing.{said};
 ghost use Rattle.seize_table.specs.Place.{IsPlace};
-ghost use Rattle.seize_store.specs.Known.{known_row, entry_of};
+ghost use Rattle.seize_store.specs.Known.{IsWhole, known_row, entry_of};
 
 mod tells;
 
@@ -13,8 +13,11 @@ use std::alloc::Global;
 use std::marker::{Model, PhantomData};
 
 /// What shows which chunks one row of one store has, for good. It takes no bytes.
+///
+/// A crate above that keeps the lasting fact of a row makes one of that (`known_row`): a proof by hand has to show the fact.
 pub struct Known {
-    pub(super) marker: PhantomData<()>,
+    /// Nothing.
+    pub marker: PhantomData<()>,
     /// The store: its own name and those of its rows.
     pub ghost store: { List ℕ },
     /// Which row it is.
@@ -46,4 +49,5 @@ pub struct Title {
     pub(crate) alloc: Global,
     pub(crate) known: Known,
     ghost placed: { IsPlace number known.row (entry_of known.row number) },
+    ghost whole: { IsWhole known.row known.chunks },
 }

@@ -2,11 +2,12 @@
 //! and memory is asked for only where the store grows. It knows nothing of slots and events; the collector stands on it.
 #![tactic(auto)]
 
+mod bare;
 mod block;
 mod chunk;
 mod identity;
 mod known;
-mod labelled;
+mod maker;
 mod owned;
 mod row;
 mod seen;
@@ -14,9 +15,11 @@ mod spot;
 mod store;
 mod strip;
 
+pub use bare::Bare;
 pub use known::Known;
-pub use labelled::Labelled;
+pub use maker::{Empty, Maker};
 pub use owned::{Owned, apart};
 pub use seen::{Place, Seen};
+pub use seize_table::Labelled;
 pub use spot::{SPOTS, Spots};
 pub use store::Store;

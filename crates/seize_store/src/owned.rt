@@ -2,28 +2,58 @@
 //! `spot`.
 ghost use Rattle.std.specs.Prelude.{◌≡◌, ◌≢◌};
 ghost use Rattle.std.specs.Borrow.{sem};
-ghost use Rattle.seize_store.specs.Named.{AreOf, IsSame, count_of, count_with, known_of, number_of, store_of, title_of, titles_of, titles_with, value_of};
+ghost use Rattle.seize_store.specs.Named.{AreOf, IsRowOf, bare_title, bare_value, IsSame, count_of, count_with, known_of, label_of, number_of, store_of, title_of, titles_of, titles_with, value_of};
+ghost use Rattle.seize_store.specs.Known.{entry_of, label_in};
 ghost use Rattle.seize_store.specs.Parts.{spot_title};
 
+use crate::bare::Bare;
 use crate::block::Block;
 use crate::known::Known;
 use crate::spot::{Spot, Spots};
+use seize_table::Labelled;
 use std::ops::{Deref, DerefMut};
 
-/// A value in a chunk of a store. It reads as the value, and may end on any thread and after its store.
+/// A value in a chunk of a store, with the owner's part of that chunk. It reads as the value, and may end on any thread and after its
+/// store.
 ///
-/// When it ends, its chunk is in again, by one swap, and then the value ends; where the store is gone, the chunk's memory goes back. A
+/// When it ends, its chunk is in again with its part, by one swap, and then the value ends; where the store is gone, the chunk's memory
+/// goes back, and the part ends. A
 /// list of blocks that is dropped whole nests, one call in another, as a list of boxes does. Take it apart from its front.
-pub struct Owned<H, T: Drop> {
-    pub(crate) block: Block<H, T>,
+pub struct Owned<H, P: Labelled + Drop, T: Drop> {
+    pub(crate) block: Block<H, P, T>,
 }
 
-impl<H, T: Drop> Owned<H, T> {
+impl<H, P: Labelled + Drop, T: Drop> Owned<H, P, T> {
     /// The block's number. No other block of its store has it while this one stands.
     pub fn number(&self) -> usize
         ensures { result ≡ number_of self.now }
     {
         self.block.title().number
+    }
+
+    /// What shows the row in which the block's chunk lies, and that it lies there.
+    pub fn known(&self) -> &Known
+        ensures row { (result.now ≡ known_of self.now) × IsRowOf result.now (number_of self.now) }
+        ensures label { label_of self.now ≡ label_in result.now.chunks (entry_of result.now.row (number_of self.now)) }
+    {
+        &self.block.title().known
+    }
+
+    /// The owner's part of the chunk. It has the label of the chunk's header.
+    pub fn part(&self) -> &P
+        ensures { P.label result.now ≡ label_of self.now }
+    {
+        self.block.part()
+    }
+
+    /// The owner's part by value, and the block without it. It takes no memory and no atomic step.
+    pub fn split(self) -> (P, Bare<H, P, T>)
+        ensures label { P.label result.0 ≡ label_of self }
+        ensures block { (bare_value result.1 ≡ value_of self) × (bare_title result.1 ≡ title_of self) }
+    {
+        let Owned { block } = self;
+        let (part, hull, title) = block.split();
+        (part, Bare { hull, title })
     }
 
     /// The value by value. The chunk is in again, by one swap; where the store is gone, its memory goes back.
@@ -48,7 +78,7 @@ impl<H, T: Drop> Owned<H, T> {
 
     /// The value by value. The chunk stays claimed, and its spot goes to the list; where that is full, half of it goes back first. No
     /// atomic step else.
-    pub fn empty_into(self, spots: &mut Spots<H, T>) -> T
+    pub fn empty_into(self, spots: &mut Spots<H, P, T>) -> T
         requires { AreOf spots.old (store_of self) }
         ensures value { result ≡ value_of self }
         ensures spots { AreOf spots.new (store_of self) }
@@ -61,7 +91,7 @@ impl<H, T: Drop> Owned<H, T> {
     }
 
     // The value, and the spot where it lay.
-    pub(crate) fn empty(self) -> (T, Spot<H, T>)
+    pub(crate) fn empty(self) -> (T, Spot<H, P, T>)
         ensures { (result.0 ≡ value_of self) × (spot_title result.1 ≡ title_of self) }
     {
         let Owned { block } = self;
@@ -72,7 +102,10 @@ impl<H, T: Drop> Owned<H, T> {
 
 /// Two blocks of one store that stand at once have different numbers. It gives both back as they were, and does nothing else: its
 /// contract is the law.
-pub fn apart<H, T: Drop>(first: Owned<H, T>, second: Owned<H, T>) -> (Owned<H, T>, Owned<H, T>)
+pub fn apart<H, P: Labelled + Drop, T: Drop>(
+    first: Owned<H, P, T>,
+    second: Owned<H, P, T>,
+) -> (Owned<H, P, T>, Owned<H, P, T>)
     requires { store_of first ≡ store_of second }
     ensures numbers { number_of first ≢ number_of second }
     ensures same { IsSame result.0 first × IsSame result.1 second }
@@ -83,7 +116,7 @@ pub fn apart<H, T: Drop>(first: Owned<H, T>, second: Owned<H, T>) -> (Owned<H, T
     (first.fill(one), second.fill(two))
 }
 
-impl<H, T: Drop> Deref for Owned<H, T> {
+impl<H, P: Labelled + Drop, T: Drop> Deref for Owned<H, P, T> {
     type Target = T;
 
     fn deref(&self) -> &T
@@ -93,20 +126,20 @@ impl<H, T: Drop> Deref for Owned<H, T> {
     }
 }
 
-impl<H, T: Drop> DerefMut for Owned<H, T> {
+impl<H, P: Labelled + Drop, T: Drop> DerefMut for Owned<H, P, T> {
     ghost use Rattle.seize_store.specs.Lends.{lends_value};
 
     ghost deref_mut_gives = { λ owned value. value ≡ value_of owned };
 
     fn deref_mut(&mut self) -> &mut T
-        ensures* writes_back { sem 𝓛 (lends_value H.row T.row self.entry result) }
+        ensures* writes_back { sem 𝓛 (lends_value H.row P.row T.row P.label self.entry result) }
         ensures value { result.now ≡ value_of self.old }
     {
         self.block.get_mut()
     }
 }
 
-impl<H, T: Drop> Drop for Owned<H, T> {
+impl<H, P: Labelled + Drop, T: Drop> Drop for Owned<H, P, T> {
     fn drop(self) {
         drop(self.into_inner());
     }

@@ -6,27 +6,31 @@ ghost use Rattle.seize_table.specs.Table.{number_at};
 
 use crate::chunk::{Base, Body, Chunk};
 use crate::identity::Identity;
-use crate::labelled::Labelled;
+use crate::maker::Maker;
 use crate::seen::Place;
 use crate::strip::{Rooms, Strip};
 use once_cell::race::OnceBox;
+use seize_table::Labelled;
 use seize_table::thread_id::{BUCKETS, Thread};
 use std::alloc::{AllocError, Global};
 use std::marker::Model;
 use std_alloc::room::may_hold;
 
 /// A chunk that is closed when its store lets it go.
-pub(crate) struct Kept<H: Labelled + Drop, T> {
-    pub(crate) chunk: Chunk<H, T>,
+pub(crate) struct Kept<H: Labelled + Drop, P: Labelled + Drop, T> {
+    pub(crate) chunk: Chunk<H, P, T>,
     alloc: Global,
+    ghost labelled: { chunk.label ≡ H.label chunk.header },
 }
 
-impl<H: Labelled + Drop, T> Drop for Kept<H, T> {
+impl<H: Labelled + Drop, P: Labelled + Drop, T> Drop for Kept<H, P, T> {
     fn drop(self) {
         let Self { chunk, alloc } = self;
-        let (header, piece) = chunk.close();
-        if let Some(piece) = piece {
+        let (header, remains) = chunk.close();
+        if let Some(remains) = remains {
+            let (part, piece) = remains.take();
             piece.give(&alloc);
+            drop(part);
         }
         drop(header);
     }
@@ -34,12 +38,12 @@ impl<H: Labelled + Drop, T> Drop for Kept<H, T> {
 
 /// The chunks of a row, seen as the list of where they lie, one after the other from `base` on, with the labels of their headers.
 #[derive(Drop)]
-pub(crate) struct Row<H: Labelled + Drop, T> {
-    pub(crate) base: Base<H, T>,
-    pub(crate) chunks: Vec<Kept<H, T>>,
+pub(crate) struct Row<H: Labelled + Drop, P: Labelled + Drop, T> {
+    pub(crate) base: Base<H, P, T>,
+    pub(crate) chunks: Vec<Kept<H, P, T>>,
 }
 
-impl<H: Labelled + Drop, T> Model for Row<H, T> {
+impl<H: Labelled + Drop, P: Labelled + Drop, T> Model for Row<H, P, T> {
     ghost use base.Stored.{coded_list, coded×, coded_ℕ};
     ghost use denote.RawPtr.{Ptr, coded_ptr};
     ghost use Rattle.std.specs.Prelude.{◌≡◌, ℕ, List, map};
@@ -61,28 +65,29 @@ pub(crate) fn number_at_place(row: usize, entry: usize) -> usize
     Thread::bucket_capacity(row) - 32 + entry
 }
 
-impl<H: Labelled + Drop, T> Row<H, T> {
+impl<H: Labelled + Drop, P: Labelled + Drop, T> Row<H, P, T> {
     ghost use Rattle.seize_store.specs.Named.{header_of, lies_of};
 
-    /// The row of this index, with all its chunks in. `header` makes the header of each from its number. Where memory is refused, what was
-    /// taken goes back, and `header` was not called.
-    pub(crate) fn new<F: Fn(usize) -> H>(
+    /// The row of this index, with all its chunks in. `maker` makes the header and the owner's part of each from its number. Where memory
+    /// is refused, what was taken goes back, and `maker` was not called.
+    pub(crate) fn new<M: Maker<H, P>>(
         alloc: Global,
         bucket: usize,
-        header: &F,
-    ) -> Result<Row<H, T>, AllocError>
-        requires { (bucket < BUCKETS) × F.IsAlwaysCallable header.now }
+        maker: &M,
+    ) -> Result<Row<H, P, T>, AllocError>
+        requires { bucket < BUCKETS }
     {
         let len = Thread::bucket_capacity(bucket);
         let mut chunks = Vec::with_capacity(alloc, len)?;
-        if len == usize::MAX || !may_hold::<Body<H, T>>(len + 1) {
+        if len == usize::MAX || !may_hold::<Body<H, P, T>>(len + 1) {
             return Err(AllocError);
         }
         let (base, mut strip) = Strip::of(Rooms::take(&alloc, len + 1)?, len as u64);
         for entry in 0..len {
             let (piece, rest) = strip.cut();
             strip = rest;
-            let chunk = Chunk::of(piece, header(number_at_place(bucket, entry)));
+            let (header, part) = maker.make(number_at_place(bucket, entry));
+            let chunk = Chunk::of(piece, header, part);
             chunks.push_reserved(Kept { chunk, alloc });
         }
         Ok(Row { base, chunks })
@@ -96,7 +101,7 @@ impl<H: Labelled + Drop, T> Row<H, T> {
     }
 
     /// The chunk at that entry, and its header.
-    pub(crate) fn chunk(&self, entry: usize) -> Place<'_, H, T>
+    pub(crate) fn chunk(&self, entry: usize) -> Place<'_, H, P, T>
         requires { entry < length self.now }
         ensures { (lies_of result, H.label (header_of result)) ≡ chunk_in self.now entry }
     {
@@ -106,21 +111,21 @@ impl<H: Labelled + Drop, T> Row<H, T> {
     }
 
     /// The same in a box.
-    pub(crate) fn boxed<F: Fn(usize) -> H>(
+    pub(crate) fn boxed<M: Maker<H, P>>(
         alloc: Global,
         bucket: usize,
-        header: &F,
-    ) -> Result<Box<Row<H, T>>, AllocError>
-        requires { (bucket < BUCKETS) × F.IsAlwaysCallable header.now }
+        maker: &M,
+    ) -> Result<Box<Row<H, P, T>>, AllocError>
+        requires { bucket < BUCKETS }
     {
-        Ok(Box::new(alloc, Row::new(alloc, bucket, header)?)?)
+        Ok(Box::new(alloc, Row::new(alloc, bucket, maker)?)?)
     }
 }
 
 /// The cells of the rows, each filled at most once, and what their store alone has.
 #[derive(Drop)]
-pub(crate) struct Rows<H: Labelled + Drop, T> {
-    pub(crate) cells: [OnceBox<Row<H, T>>; 59],
+pub(crate) struct Rows<H: Labelled + Drop, P: Labelled + Drop, T> {
+    pub(crate) cells: [OnceBox<Row<H, P, T>>; 59],
     pub(crate) identity: Identity,
     ghost all_there: { 59 ≡ length cells },
 }

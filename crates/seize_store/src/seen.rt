@@ -5,16 +5,16 @@ ghost use Rattle.seize_store.specs.Known.{name_in};
 
 use crate::chunk::Chunk;
 use crate::known::Known;
-use crate::labelled::Labelled;
 use crate::row::Row;
 use once_cell::race::Note;
+use seize_table::Labelled;
 
 mod find;
 
 /// What shows that a row of a store is made, with all its chunks, for good. It takes no bytes and can be copied.
 #[derive(Drop)]
-pub struct Seen<H: Labelled + Drop, T> {
-    pub(crate) note: Note<Row<H, T>>,
+pub struct Seen<H: Labelled + Drop, P: Labelled + Drop, T> {
+    pub(crate) note: Note<Row<H, P, T>>,
     pub(crate) known: Known,
     ghost cell: { note.cell ≡ name_in known.store known.row },
     ghost same: { note.known ≡ Some known.chunks },
@@ -24,8 +24,8 @@ pub struct Seen<H: Labelled + Drop, T> {
 
 /// The chunk of a number.
 #[derive(Drop)]
-pub struct Place<'a, H, T> {
-    pub(crate) chunk: &'a Chunk<H, T>,
+pub struct Place<'a, H, P: Labelled, T> {
+    pub(crate) chunk: &'a Chunk<H, P, T>,
     pub(crate) header: &'a H,
     ghost own: { header.now ≡ chunk.now.header },
 }

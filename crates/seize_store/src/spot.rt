@@ -1,26 +1,27 @@
 //! A claimed chunk with its title, and lists of these. A store makes a spot where it claims a chunk, and a spot with a value in it is a
 //! block of `owned`.
 ghost use Rattle.std.specs.Prelude.{◌≡◌, ◌≢◌, ◌≤◌, vec_len, vec_capacity};
-ghost use Rattle.seize_store.specs.Titled.{place_of};
+ghost use Rattle.seize_store.specs.Titled.{chunk_of};
 
 mod list;
 
 use crate::block::{Block, Out};
 use crate::known::Title;
 use crate::owned::Owned;
+use seize_table::Labelled;
 
-/// A chunk that is out and empty, and its number. Its chunk is in again when it ends.
-pub(crate) struct Spot<H, T> {
-    pub(crate) out: Out<H, T>,
+/// A chunk that is out and empty, with the owner's part, and its number. Its chunk is in again when it ends.
+pub(crate) struct Spot<H, P: Labelled + Drop, T> {
+    pub(crate) out: Out<H, P, T>,
     pub(crate) title: Title,
-    pub(crate) ghost titled: { place_of title ≡ out.at },
+    pub(crate) ghost titled: { chunk_of title ≡ (out.at, out.label) },
 }
 
-impl<H, T> Spot<H, T> {
+impl<H, P: Labelled + Drop, T> Spot<H, P, T> {
     ghost use Rattle.seize_store.specs.Parts.{spot_number, spot_store, spot_title};
 
     /// Two spots of one store have different numbers.
-    pub(crate) fn apart(self, other: Spot<H, T>) -> (Spot<H, T>, Spot<H, T>)
+    pub(crate) fn apart(self, other: Spot<H, P, T>) -> (Spot<H, P, T>, Spot<H, P, T>)
         requires { spot_store self ≡ spot_store other }
         ensures numbers { spot_number self ≢ spot_number other }
         ensures titles { (spot_title result.0 ≡ spot_title self) × (spot_title result.1 ≡ spot_title other) }
@@ -43,12 +44,12 @@ impl<H, T> Spot<H, T> {
     }
 }
 
-impl<H, T: Drop> Spot<H, T> {
+impl<H, P: Labelled + Drop, T: Drop> Spot<H, P, T> {
     ghost use Rattle.seize_store.specs.Named.{title_of, value_of};
     ghost use Rattle.seize_store.specs.Parts.{spot_title};
 
     /// A block of this spot. It takes no memory and no atomic step.
-    pub(crate) fn fill(self, value: T) -> Owned<H, T>
+    pub(crate) fn fill(self, value: T) -> Owned<H, P, T>
         ensures { (value_of result ≡ value) × (title_of result ≡ spot_title self) }
     {
         let Spot { out, title } = self;
@@ -58,12 +59,14 @@ impl<H, T: Drop> Spot<H, T> {
     }
 }
 
-impl<H, T> Drop for Spot<H, T> {
-    // One swap. Where the store is gone, the chunk's memory goes back.
+impl<H, P: Labelled + Drop, T> Drop for Spot<H, P, T> {
+    // One swap. Where the store is gone, the chunk's memory goes back, and the owner's part ends.
     fn drop(self) {
         let Spot { out, title } = self;
-        if let Some(piece) = out.give_back() {
+        if let Some(remains) = out.give_back() {
+            let (part, piece) = remains.take();
             piece.give(&title.alloc);
+            drop(part);
         }
     }
 }
@@ -74,8 +77,8 @@ pub const SPOTS: usize = 128;
 /// Chunks that one holder keeps claimed and empty, at most `SPOTS`, so that making and ending a block takes no atomic step. They are
 /// in again when the list ends.
 #[derive(Drop)]
-pub struct Spots<H, T> {
-    pub(crate) list: Vec<Spot<H, T>>,
+pub struct Spots<H, P: Labelled + Drop, T> {
+    pub(crate) list: Vec<Spot<H, P, T>>,
     ghost room: { 128 ≤ vec_capacity list },
     ghost few: { vec_len list ≤ 128 },
 }

@@ -1,20 +1,20 @@
 //! The store: rows of chunks by their numbers. It claims chunks of `row`, and gives them out as spots and blocks; look-ups are in `seen`.
 ghost use Rattle.std.specs.Prelude.{◌≡◌, ◌≢◌, ℕ, ◌+◌, ◌-◌, ◌^◌, ◌<◌, ◌⊎◌, length, List, [], ◌∷◌, ◌++◌, IfOk, IfErr, IfSome, Some};
 ghost use Rattle.seize_table.specs.declared.refusal.Refusal.TheVariants.{NoMemory};
-ghost use Rattle.seize_store.specs.Known.{name_in, place_in};
+ghost use Rattle.seize_store.specs.Known.{chunk_in, name_in};
 ghost use Rattle.seize_store.specs.Named.{AreOf, count_of, is_empty_list, name_of, store_of, title_of, titles_of, value_of};
-ghost use Rattle.seize_store.specs.Parts.{room_at, spot_store};
+ghost use Rattle.seize_store.specs.Parts.{room_with, spot_store};
 
 use crate::block::Out;
 use crate::identity::Identity;
 use crate::known::{Known, Title};
-use crate::labelled::Labelled;
+use crate::maker::Maker;
 use crate::owned::Owned;
 use crate::row::{Row, Rows, number_at_place};
 use crate::spot::{Spot, Spots};
 use once_cell::race::{Note, OnceBox};
-use seize_table::Refusal;
 use seize_table::thread_id::{BUCKETS, Thread};
+use seize_table::{Labelled, Refusal};
 use std::alloc::Global;
 use std::array;
 use std::sync::atomic::AtomicUsize;
@@ -25,19 +25,19 @@ const BEHIND: usize = 8;
 
 /// Blocks by their numbers. Threads share a store by `&`.
 #[derive(Drop)]
-pub struct Store<H: Labelled + Drop, T> {
-    pub(crate) rows: Rows<H, T>,
+pub struct Store<H: Labelled + Drop, P: Labelled + Drop, T> {
+    pub(crate) rows: Rows<H, P, T>,
     hint: AtomicUsize,
     alloc: Global,
 }
 
 /// Takes the first chunk of the row that is in, from an entry on and before another.
-fn first_in<H: Labelled + Drop, T>(
-    row: &Row<H, T>,
+fn first_in<H: Labelled + Drop, P: Labelled + Drop, T>(
+    row: &Row<H, P, T>,
     from: usize,
     end: usize,
-) -> Option<(usize, Out<H, T>)>
-    ensures { IfSome result (λ found. (found.0 < end) × (room_at found.1 ≡ place_in row.now found.0)) }
+) -> Option<(usize, Out<H, P, T>)>
+    ensures { IfSome result (λ found. (found.0 < end) × (room_with found.1 ≡ chunk_in row.now found.0)) }
 {
     let end = end.min(row.chunks.len());
     for entry in from..end {
@@ -51,9 +51,9 @@ fn first_in<H: Labelled + Drop, T>(
     None
 }
 
-impl<H: Labelled + Drop, T> Store<H, T> {
+impl<H: Labelled + Drop, P: Labelled + Drop, T> Store<H, P, T> {
     /// A store with no rows. It takes no memory.
-    pub fn new(alloc: Global) -> Store<H, T> {
+    pub fn new(alloc: Global) -> Store<H, P, T> {
         Store {
             rows: Rows {
                 cells: array::from_fn(move |_| OnceBox::new(alloc)),
@@ -65,7 +65,7 @@ impl<H: Labelled + Drop, T> Store<H, T> {
     }
 
     /// Two stores that stand at once have different names, whatever they are made for. It does nothing: its contract is the law.
-    pub fn apart<G: Labelled + Drop, U>(&mut self, other: &mut Store<G, U>)
+    pub fn apart<G: Labelled + Drop, Q: Labelled + Drop, U>(&mut self, other: &mut Store<G, Q, U>)
         ensures names { name_of self.old ≢ name_of other.old }
         ensures same { (name_of self.new ≡ name_of self.old) × (name_of other.new ≡ name_of other.old) }
     {
@@ -73,21 +73,20 @@ impl<H: Labelled + Drop, T> Store<H, T> {
     }
 
     /// A block of the value, from any thread. It asks for memory only where no chunk was found in, and then makes the first row that is
-    /// missing: row b has 2^(b + 5) chunks, which are written before the call returns, and `header` makes the header of each from its
-    /// number. Threads that race for a row each make it, and all but one give theirs up. The call looks at each chunk at most twice, and
-    /// waits for nobody.
+    /// missing: row b has 2^(b + 5) chunks, which are written before the call returns, and `maker` makes the header and the owner's part
+    /// of each from its number. Threads that race for a row each make it, and all but one give theirs up, whose headers and parts end. The
+    /// call looks at each chunk at most twice, and waits for nobody.
     ///
     /// # Errors
     ///
-    /// `NoMemory` where that growth was refused; the value comes back, and no row was made, though `header` may have been called.
-    pub fn add<F: Fn(usize) -> H>(&self, value: T, header: &F) -> Result<Owned<H, T>, (Refusal, T)>
+    /// `NoMemory` where that growth was refused; the value comes back, and no row was made, though `maker` may have been called.
+    pub fn add<M: Maker<H, P>>(&self, value: T, maker: &M) -> Result<Owned<H, P, T>, (Refusal, T)>
     where
         T: Drop,
-        requires { F.IsAlwaysCallable header.now }
         ensures ok { IfOk result (λ o. (value_of o ≡ value) × (store_of o ≡ name_of self.now)) }
         ensures refused { IfErr result (λ e. (e.0 ≡ NoMemory) × (e.1 ≡ value)) }
     {
-        match self.claim(header) {
+        match self.claim(maker) {
             Ok(spot) => Ok(spot.fill(value)),
             Err(refusal) => Err((refusal, value)),
         }
@@ -98,15 +97,14 @@ impl<H: Labelled + Drop, T> Store<H, T> {
     /// # Errors
     ///
     /// As `add`, where the list is empty.
-    pub fn add_from<F: Fn(usize) -> H>(
+    pub fn add_from<M: Maker<H, P>>(
         &self,
-        spots: &mut Spots<H, T>,
+        spots: &mut Spots<H, P, T>,
         value: T,
-        header: &F,
-    ) -> Result<Owned<H, T>, (Refusal, T)>
+        maker: &M,
+    ) -> Result<Owned<H, P, T>, (Refusal, T)>
     where
         T: Drop,
-        requires callable { F.IsAlwaysCallable header.now }
         requires spots { AreOf spots.old (name_of self.now) }
         ensures ok { IfOk result (λ o. (value_of o ≡ value) × (store_of o ≡ name_of self.now)) }
         ensures refused { IfErr result (λ e. (e.0 ≡ NoMemory) × (e.1 ≡ value) × is_empty_list spots.old) }
@@ -116,13 +114,12 @@ impl<H: Labelled + Drop, T> Store<H, T> {
     {
         match spots.list.pop() {
             Some(spot) => Ok(spot.fill(value)),
-            None => self.add(value, header),
+            None => self.add(value, maker),
         }
     }
 
     // A chunk that was in: from the hint on in its row, or else the first one, in a new row if need be.
-    fn claim<F: Fn(usize) -> H>(&self, header: &F) -> Result<Spot<H, T>, Refusal>
-        requires { F.IsAlwaysCallable header.now }
+    fn claim<M: Maker<H, P>>(&self, maker: &M) -> Result<Spot<H, P, T>, Refusal>
         ensures ok { IfOk result (λ spot. spot_store spot ≡ name_of self.now) }
         ensures refused { IfErr result (λ e. e ≡ NoMemory) }
     {
@@ -133,7 +130,7 @@ impl<H: Labelled + Drop, T> Store<H, T> {
         for bucket in 0..BUCKETS {
             let mut note = self.rows.cells[bucket].note();
             let row = self.rows.cells[bucket].get_or_try_init_as(
-                move || Row::boxed(alloc, bucket, header),
+                move || Row::boxed(alloc, bucket, maker),
                 &mut note,
             )?;
             if let Some(spot) = self.spot_in(bucket, 0, row, &mut note) {
@@ -143,7 +140,7 @@ impl<H: Labelled + Drop, T> Store<H, T> {
         Err(Refusal::NoMemory)
     }
 
-    fn near_hint(&self) -> Option<Spot<H, T>>
+    fn near_hint(&self) -> Option<Spot<H, P, T>>
         ensures { IfSome result (λ spot. spot_store spot ≡ name_of self.now) }
     {
         let place = Thread::new(self.hint.load(SeqCst))?;
@@ -165,13 +162,17 @@ impl<H: Labelled + Drop, T> Store<H, T> {
         &self,
         bucket: usize,
         from: usize,
-        row: &Row<H, T>,
-        note: &mut Note<Row<H, T>>,
-    ) -> Option<Spot<H, T>>
+        row: &Row<H, P, T>,
+        note: &mut Note<Row<H, P, T>>,
+    ) -> Option<Spot<H, P, T>>
         requires { (bucket < BUCKETS) × (note.old.cell ≡ name_in (name_of self.now) bucket) × (note.old.known ≡ Some row.now) }
         ensures { IfSome result (λ spot. spot_store spot ≡ name_of self.now) }
     {
-        let (entry, out) = first_in(row, from, Thread::bucket_capacity(bucket))?;
+        let end = Thread::bucket_capacity(bucket);
+        if row.len() != end {
+            return None;
+        }
+        let (entry, out) = first_in(row, from, end)?;
         let known = Known::of(&self.rows, bucket, note);
         let number = number_at_place(bucket, entry);
         self.move_hint(number);

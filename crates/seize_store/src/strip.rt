@@ -14,27 +14,30 @@ use std::sync::atomic::Ordering::SeqCst;
 use std::sync::atomic::raw;
 
 /// Room for so many chunks, and the right to give it back.
-pub(crate) struct Rooms<H, T, A: Allocator> {
-    at: *mut Body<H, T>,
+pub(crate) struct Rooms<H, P, T, A: Allocator> {
+    at: *mut Body<H, P, T>,
     pub(crate) len: usize,
     by: PhantomData<A>,
     pub(crate) ghost heap: { A },
 }
 
-impl<H, T, A: Allocator> Model for Rooms<H, T, A> {
-    ghost also_owns = { λ r. rooms_own H.row T.row (A.dealloc_token r.heap) r.at r.len };
+impl<H, P, T, A: Allocator> Model for Rooms<H, P, T, A> {
+    ghost also_owns = { λ r. rooms_own H.row P.row T.row (A.dealloc_token r.heap) r.at r.len };
 }
 
-impl<H, T, A: Allocator> Rooms<H, T, A> {
+impl<H, P, T, A: Allocator> Rooms<H, P, T, A> {
     ghost use Rattle.seize_store.specs.Parts.{room_count};
 
-    pub(crate) fn take(alloc: &A, len: usize) -> Result<Rooms<H, T, A>, AllocError>
-        requires { Fits H.row T.row len }
+    pub(crate) fn take(alloc: &A, len: usize) -> Result<Rooms<H, P, T, A>, AllocError>
+        requires { Fits H.row P.row T.row len }
         ensures { IfOk result (λ r. (room_count r ≡ len) × (r.heap ≡ alloc.now)) }
     {
-        match alloc.allocate(len * size_of::<Body<H, T>>(), align_of::<Body<H, T>>()) {
+        match alloc.allocate(
+            len * size_of::<Body<H, P, T>>(),
+            align_of::<Body<H, P, T>>(),
+        ) {
             Ok(room) => {
-                let at = room as *mut Body<H, T>;
+                let at = room as *mut Body<H, P, T>;
                 let by = PhantomData;
                 Ok(Rooms { at, len, by })
             }
@@ -43,14 +46,14 @@ impl<H, T, A: Allocator> Rooms<H, T, A> {
     }
 
     pub(crate) fn free(self, alloc: &A)
-        requires { (self.heap ≡ alloc.now) × Fits H.row T.row (room_count self) }
+        requires { (self.heap ≡ alloc.now) × Fits H.row P.row T.row (room_count self) }
     {
         let Rooms { at, len, by: _ } = self;
         unsafe {
             alloc.deallocate(
                 at as *mut u8,
-                len * size_of::<Body<H, T>>(),
-                align_of::<Body<H, T>>(),
+                len * size_of::<Body<H, P, T>>(),
+                align_of::<Body<H, P, T>>(),
             );
         }
     }
@@ -58,23 +61,23 @@ impl<H, T, A: Allocator> Rooms<H, T, A> {
 
 /// What is not cut into chunks yet of a row's memory.
 #[derive(Drop)]
-pub(crate) struct Strip<H, T> {
-    at: *mut Body<H, T>,
-    head: *mut Body<H, T>,
+pub(crate) struct Strip<H, P, T> {
+    at: *mut Body<H, P, T>,
+    head: *mut Body<H, P, T>,
     // Where the chunks will lie.
     pub(crate) ghost places: { List Ptr } by { coded_list coded_ptr },
 }
 
-impl<H, T> Model for Strip<H, T> {
-    ghost also_owns = { λ s. strip_owns H.row T.row s.at s.head s.places };
+impl<H, P, T> Model for Strip<H, P, T> {
+    ghost also_owns = { λ s. strip_owns H.row P.row T.row s.at s.head s.places };
 }
 
-impl<H, T> Strip<H, T> {
+impl<H, P, T> Strip<H, P, T> {
     ghost use Rattle.seize_store.specs.Parts.{piece_at, room_count};
 
     /// A row with its head, and room for so many chunks, which begin at that base.
-    pub(crate) fn of(rooms: Rooms<H, T, Global>, left: u64) -> (Base<H, T>, Strip<H, T>)
-        requires { (left + 1 ≡ room_count rooms) × Fits H.row T.row (room_count rooms) }
+    pub(crate) fn of(rooms: Rooms<H, P, T, Global>, left: u64) -> (Base<H, P, T>, Strip<H, P, T>)
+        requires { (left + 1 ≡ room_count rooms) × Fits H.row P.row T.row (room_count rooms) }
         ensures { (result.1.places ≡ result.0.places) × (length result.0.places ≡ left) }
     {
         let Rooms {
@@ -91,7 +94,7 @@ impl<H, T> Strip<H, T> {
     }
 
     /// The first chunk's memory, and the others.
-    pub(crate) fn cut(self) -> (Piece<H, T>, Strip<H, T>)
+    pub(crate) fn cut(self) -> (Piece<H, P, T>, Strip<H, P, T>)
         requires { 0 < length self.places }
         ensures { self.places ≡ piece_at result.0 ∷ result.1.places }
     {
@@ -105,23 +108,23 @@ impl<H, T> Strip<H, T> {
 }
 
 /// The memory of a chunk.
-pub(crate) struct Piece<H, T> {
-    pub(crate) at: *mut Body<H, T>,
+pub(crate) struct Piece<H, P, T> {
+    pub(crate) at: *mut Body<H, P, T>,
 }
 
-impl<H, T> Model for Piece<H, T> {
-    ghost also_owns = { λ p. piece_owns H.row T.row p.at };
+impl<H, P, T> Model for Piece<H, P, T> {
+    ghost also_owns = { λ p. piece_owns H.row P.row T.row p.at };
 }
 
-impl<H, T> Piece<H, T> {
+impl<H, P, T> Piece<H, P, T> {
     ghost use Rattle.seize_store.specs.Parts.{room_count};
 
     // Lays the memory back: one atomic step. The whole row's comes out where this was the last.
-    fn end(self) -> Option<Rooms<H, T, Global>>
-        ensures { IfSome result (λ r. Fits H.row T.row (room_count r)) }
+    fn end(self) -> Option<Rooms<H, P, T, Global>>
+        ensures { IfSome result (λ r. Fits H.row P.row T.row (room_count r)) }
     {
         let Piece { at } = self;
-        let head = unsafe { (&raw const (*at).head).read() } as *mut Body<H, T>;
+        let head = unsafe { (&raw const (*at).head).read() } as *mut Body<H, P, T>;
         if unsafe { raw::fetch_sub::<Brand>(&raw const (*head).state, 1, SeqCst) } == 1 {
             let len = unsafe { (&raw const (*head).len).read() };
             let by = PhantomData;
@@ -139,4 +142,4 @@ impl<H, T> Piece<H, T> {
     }
 }
 
-unsafe impl<H, T> Send for Piece<H, T> {}
+unsafe impl<H, P, T> Send for Piece<H, P, T> {}

@@ -6,6 +6,8 @@
 mod lookups;
 mod node;
 #[cfg(test)]
+mod parts;
+#[cfg(test)]
 mod store;
 #[cfg(test)]
 mod threads;

@@ -3,17 +3,17 @@ ghost use Rattle.std.specs.Prelude.{◌≡◌, ◌<◌, IfSome, length};
 ghost use Rattle.seize_store.specs.Known.{entry_of};
 ghost use Rattle.seize_store.specs.Named.{chunks_by, header_of, label_of, lies, lies_of, name_of, number_of, row_by, row_is, store_by, store_of};
 
-use crate::values::{Tally, tally_of};
+use crate::values::{Tallies, Tally};
 use seize_store::{Labelled, Owned, Place, Seen, Store};
 use seize_table::Refusal;
 use std::sync::atomic::Ordering;
 use std::test::*;
 
 // The block's own chunk, by its number alone.
-fn found_chunk<'a, H: Labelled + Drop, T: Drop>(
-    store: &'a Store<H, T>,
-    owned: &Owned<H, T>,
-) -> Option<Place<'a, H, T>>
+fn found_chunk<'a, H: Labelled + Drop, P: Labelled + Drop, T: Drop>(
+    store: &'a Store<H, P, T>,
+    owned: &Owned<H, P, T>,
+) -> Option<Place<'a, H, P, T>>
     requires { store_of owned.now ≡ name_of store.now }
     ensures place { IfSome result (λ place. lies_of place ≡ lies owned.now) }
     ensures label { IfSome result (λ place. H.label (header_of place) ≡ label_of owned.now) }
@@ -24,11 +24,11 @@ fn found_chunk<'a, H: Labelled + Drop, T: Drop>(
 }
 
 // The same by a token of the number's row.
-fn own_chunk<'a, H: Labelled + Drop, T: Drop>(
-    store: &'a Store<H, T>,
-    owned: &Owned<H, T>,
-    seen: &mut Seen<H, T>,
-) -> Place<'a, H, T>
+fn own_chunk<'a, H: Labelled + Drop, P: Labelled + Drop, T: Drop>(
+    store: &'a Store<H, P, T>,
+    owned: &Owned<H, P, T>,
+    seen: &mut Seen<H, P, T>,
+) -> Place<'a, H, P, T>
     requires block { store_of owned.now ≡ name_of store.now }
     requires token { (store_by seen.old ≡ name_of store.now) × row_is seen.old (number_of owned.now) }
     ensures token { seen.new ≡ seen.old }
@@ -40,11 +40,11 @@ fn own_chunk<'a, H: Labelled + Drop, T: Drop>(
 }
 
 // The same by a token and by a copy of it.
-fn own_chunk_twice<'a, H: Labelled + Drop, T: Drop>(
-    store: &'a Store<H, T>,
-    owned: &Owned<H, T>,
-    seen: &mut Seen<H, T>,
-) -> (Place<'a, H, T>, Place<'a, H, T>)
+fn own_chunk_twice<'a, H: Labelled + Drop, P: Labelled + Drop, T: Drop>(
+    store: &'a Store<H, P, T>,
+    owned: &Owned<H, P, T>,
+    seen: &mut Seen<H, P, T>,
+) -> (Place<'a, H, P, T>, Place<'a, H, P, T>)
     requires block { store_of owned.now ≡ name_of store.now }
     requires token { (store_by seen.old ≡ name_of store.now) × row_is seen.old (number_of owned.now) }
     ensures token { seen.new ≡ seen.old }
@@ -59,7 +59,10 @@ fn own_chunk_twice<'a, H: Labelled + Drop, T: Drop>(
 }
 
 // What two look-ups by tokens of their own say of the chunk's number. They say the same, since both headers have the block's label.
-fn numbers_found(store: &Store<Tally, u64>, owned: &Owned<Tally, u64>) -> Option<(usize, usize)>
+fn numbers_found(
+    store: &Store<Tally, u64, u64>,
+    owned: &Owned<Tally, u64, u64>,
+) -> Option<(usize, usize)>
     requires { store_of owned.now ≡ name_of store.now }
     ensures { IfSome result (λ found. (found.0 ≡ label_of owned.now) × (found.0 ≡ found.1)) }
 {
@@ -69,7 +72,7 @@ fn numbers_found(store: &Store<Tally, u64>, owned: &Owned<Tally, u64>) -> Option
 }
 
 // A number of the token's row has an entry in it.
-fn has_an_entry<H: Labelled + Drop, T>(seen: &Seen<H, T>, number: usize)
+fn has_an_entry<H: Labelled + Drop, P: Labelled + Drop, T>(seen: &Seen<H, P, T>, number: usize)
     requires { row_is seen.now number }
     ensures { entry_of (row_by seen.now) number < length (chunks_by seen.now) }
 {
@@ -77,7 +80,10 @@ fn has_an_entry<H: Labelled + Drop, T>(seen: &Seen<H, T>, number: usize)
 }
 
 // What its chunk's header has once the block's value was added to it by two tokens, and by none.
-fn header_after_look_ups(store: &Store<Tally, u64>, owned: &Owned<Tally, u64>) -> Option<u64>
+fn header_after_look_ups(
+    store: &Store<Tally, u64, u64>,
+    owned: &Owned<Tally, u64, u64>,
+) -> Option<u64>
     requires { store_of owned.now ≡ name_of store.now }
 {
     let mut seen = store.seen(owned.number())?;
@@ -93,14 +99,14 @@ fn header_after_look_ups(store: &Store<Tally, u64>, owned: &Owned<Tally, u64>) -
 // What look-ups of a block showed: what its chunk's header has then, and the numbers that two of them read there.
 #[derive(Drop)]
 struct Looked {
-    owned: Owned<Tally, u64>,
+    owned: Owned<Tally, u64, u64>,
     sum: Option<u64>,
     numbers: Option<(usize, usize)>,
 }
 
 // A block of the value, looked up.
-fn added_and_looked_up(store: &Store<Tally, u64>, value: u64) -> Result<Looked, Refusal> {
-    match store.add(value, &tally_of) {
+fn added_and_looked_up(store: &Store<Tally, u64, u64>, value: u64) -> Result<Looked, Refusal> {
+    match store.add(value, &Tallies) {
         Ok(owned) => {
             let sum = header_after_look_ups(store, &owned);
             let numbers = numbers_found(store, &owned);

@@ -6,5 +6,5 @@ use seize_store::Owned;
 #[derive(Drop)]
 pub(crate) struct Node<'a> {
     pub(crate) counted: Counted<'a>,
-    pub(crate) next: Option<Owned<u64, Node<'a>>>,
+    pub(crate) next: Option<Owned<u64, (), Node<'a>>>,
 }

@@ -3,8 +3,8 @@ ghost use Rattle.std.specs.Prelude.{◌≡◌};
 ghost use Rattle.seize_store.specs.Named.{AreOf, name_of, title_of, value_of};
 
 use crate::node::Node;
-use crate::values::{Counted, Tally, tally_of, zero};
-use seize_store::{Known, Labelled, Owned, Place, SPOTS, Seen, Spots, Store};
+use crate::values::{Counted, Pairs, Tallies, Tally, Zero};
+use seize_store::{Bare, Known, Labelled, Owned, Place, SPOTS, Seen, Spots, Store};
 use seize_table::Refusal;
 use std::alloc::Global;
 use std::mem::size_of;
@@ -22,13 +22,13 @@ fn told<O, T: Drop>(answer: Result<O, (Refusal, T)>) -> Result<O, Refusal> {
     }
 }
 
-fn added<T: Drop>(store: &Store<u64, T>, value: T) -> Result<Owned<u64, T>, Refusal> {
-    told(store.add(value, &zero))
+fn added<T: Drop>(store: &Store<u64, (), T>, value: T) -> Result<Owned<u64, (), T>, Refusal> {
+    told(store.add(value, &Zero))
 }
 
 #[test]
 fn numbers_follow_each_other_and_are_used_again(rt: HostRuntime) -> Result<(), Fail> {
-    let store: Store<u64, u64> = Store::new(rt.alloc());
+    let store: Store<u64, (), u64> = Store::new(rt.alloc());
     let first = added(&store, 10)?;
     let second = added(&store, 11)?;
     assert_eq!(rt; (first.number(), *first), (0, 10));
@@ -41,8 +41,8 @@ fn numbers_follow_each_other_and_are_used_again(rt: HostRuntime) -> Result<(), F
 
 #[test]
 fn two_stores_told_apart_stay_as_they_were(rt: HostRuntime) -> Result<(), Fail> {
-    let mut one: Store<u64, u64> = Store::new(rt.alloc());
-    let mut other: Store<u64, u8> = Store::new(rt.alloc());
+    let mut one: Store<u64, (), u64> = Store::new(rt.alloc());
+    let mut other: Store<u64, (), u8> = Store::new(rt.alloc());
     let first = added(&one, 10)?;
     let second = added(&other, 11)?;
     one.apart(&mut other);
@@ -56,9 +56,9 @@ fn two_stores_told_apart_stay_as_they_were(rt: HostRuntime) -> Result<(), Fail> 
 // As many blocks as asked for, all of which stand at once.
 fn many(
     alloc: Global,
-    store: &Store<u64, u64>,
+    store: &Store<u64, (), u64>,
     count: usize,
-) -> Result<Vec<Owned<u64, u64>>, Refusal> {
+) -> Result<Vec<Owned<u64, (), u64>>, Refusal> {
     let mut all = Vec::with_capacity(alloc, count)?;
     for number in 0..count {
         if all.push(added(store, number as u64)?).is_err() {
@@ -91,18 +91,18 @@ fn rows_are_made_one_at_a_time(rt: HostRuntime) -> Result<(), Fail> {
 }
 
 // What the header of the row's last chunk has, by the token that the row's first number gave.
-fn last_of_the_first_row(store: &Store<Tally, u64>) -> Option<u64> {
+fn last_of_the_first_row(store: &Store<Tally, u64, u64>) -> Option<u64> {
     let mut seen = store.seen(0)?;
     Some(store.at(31, &mut seen).header().sum.load(Ordering::SeqCst))
 }
 
 #[test]
 fn a_number_leads_to_its_own_chunk(rt: HostRuntime) -> Result<(), Fail> {
-    let store: Store<Tally, u64> = Store::new(rt.alloc());
+    let store: Store<Tally, u64, u64> = Store::new(rt.alloc());
     assert!(rt; store.seen(0).is_none());
     let mut all = Vec::with_capacity(rt.alloc(), 200)?;
     for value in 0..200 {
-        all.push(told(store.add(value, &tally_of))?)?;
+        all.push(told(store.add(value, &Tallies))?)?;
     }
     for owned in all.iter() {
         let mut seen = store.seen(owned.number()).expect(&rt, "a row that is made");
@@ -125,10 +125,10 @@ fn a_number_leads_to_its_own_chunk(rt: HostRuntime) -> Result<(), Fail> {
 }
 
 fn list<'a>(
-    store: &Store<u64, Node<'a>>,
+    store: &Store<u64, (), Node<'a>>,
     ends: &'a AtomicU64,
     len: u64,
-) -> Result<Option<Owned<u64, Node<'a>>>, Refusal> {
+) -> Result<Option<Owned<u64, (), Node<'a>>>, Refusal> {
     let mut next = None;
     for name in 0..len {
         let counted = Counted { ends, name };
@@ -177,25 +177,32 @@ fn a_list_outlives_its_store(rt: HostRuntime) -> Result<(), Fail> {
     Ok(())
 }
 
-fn counts(made: &AtomicU64, ends: &AtomicU64) -> (u64, u64) {
-    (made.load(Ordering::SeqCst), ends.load(Ordering::SeqCst))
+fn count(counter: &AtomicU64) -> u64 {
+    counter.load(Ordering::SeqCst)
 }
 
 #[test]
 fn each_header_ends_once_and_with_its_store(rt: HostRuntime) -> Result<(), Fail> {
-    let (made, ends) = (AtomicU64::new(0), AtomicU64::new(0));
-    let header = |_number: usize| Counted {
-        ends: &ends,
-        name: made.fetch_add(1, Ordering::SeqCst),
+    let (made, headers, parts) = (AtomicU64::new(0), AtomicU64::new(0), AtomicU64::new(0));
+    let maker = Pairs {
+        made: &made,
+        headers: &headers,
+        parts: &parts,
     };
     let store = Store::new(rt.alloc());
-    let owned = told(store.add(7u64, &header))?;
-    assert_eq!(rt; counts(&made, &ends), (32, 0));
-    // A block that is out keeps the memory of its chunk, and not the header.
+    let owned = told(store.add(7u64, &maker))?;
+    assert_eq!(rt; (count(&made), count(&headers), count(&parts)), (32, 0, 0));
+    // A block that is out keeps the memory of its chunk and the owner's part, and not the header.
     drop(store);
-    assert_eq!(rt; counts(&made, &ends), (32, 32));
+    assert_eq!(rt;
+        (count(&made), count(&headers), count(&parts)),
+        (32, 32, 31)
+    );
     assert_eq!(rt; owned.into_inner(), 7);
-    assert_eq!(rt; counts(&made, &ends), (32, 32));
+    assert_eq!(rt;
+        (count(&made), count(&headers), count(&parts)),
+        (32, 32, 32)
+    );
     Ok(())
 }
 
@@ -237,14 +244,18 @@ fn each_value_ends_once(rt: HostRuntime) -> Result<(), Fail> {
 }
 
 // So many blocks that stand at once, and then all of them emptied into the list. The sum of their values.
-fn kept(store: &Store<u64, u64>, spots: &mut Spots<u64, u64>, count: u64) -> Result<u64, Refusal>
+fn kept(
+    store: &Store<u64, (), u64>,
+    spots: &mut Spots<u64, (), u64>,
+    count: u64,
+) -> Result<u64, Refusal>
     requires { AreOf spots.old (name_of store.now) }
     ensures { AreOf spots.new (name_of store.now) }
 {
     if count == 0 {
         return Ok(0);
     }
-    match store.add(count, &zero) {
+    match store.add(count, &Zero) {
         Ok(owned) => {
             let sum = kept(store, spots, count - 1)?;
             Ok(owned.empty_into(spots).saturating_add(sum))
@@ -254,11 +265,15 @@ fn kept(store: &Store<u64, u64>, spots: &mut Spots<u64, u64>, count: u64) -> Res
 }
 
 // A block made of a spot of the list and emptied into it again.
-fn through(store: &Store<u64, u64>, spots: &mut Spots<u64, u64>, value: u64) -> Result<u64, Refusal>
+fn through(
+    store: &Store<u64, (), u64>,
+    spots: &mut Spots<u64, (), u64>,
+    value: u64,
+) -> Result<u64, Refusal>
     requires { AreOf spots.old (name_of store.now) }
     ensures { AreOf spots.new (name_of store.now) }
 {
-    match store.add_from(spots, value, &zero) {
+    match store.add_from(spots, value, &Zero) {
         Ok(owned) => Ok(owned.empty_into(spots)),
         Err((refusal, _)) => Err(refusal),
     }
@@ -334,7 +349,7 @@ fn a_list_of_spots_outlives_its_store(rt: HostRuntime) -> Result<(), Fail> {
 }
 
 // Puts another value into the block's chunk.
-fn set<T: Drop>(owned: &mut Owned<u64, T>, value: T)
+fn set<T: Drop>(owned: &mut Owned<u64, (), T>, value: T)
     ensures value { value_of owned.new ≡ value }
     ensures title { title_of owned.new ≡ title_of owned.old }
 {
@@ -377,18 +392,18 @@ fn a_value_is_changed_in_its_chunk(rt: HostRuntime) -> Result<(), Fail> {
 }
 
 // A block made and ended. Where that is refused, whether the value came back as it was, and the call made again succeeds.
-fn comes_back<'a>(store: &Store<u64, Counted<'a>>, ends: &'a AtomicU64, name: u64) -> bool {
-    match store.add(Counted { ends, name }, &zero) {
+fn comes_back<'a>(store: &Store<u64, (), Counted<'a>>, ends: &'a AtomicU64, name: u64) -> bool {
+    match store.add(Counted { ends, name }, &Zero) {
         Ok(_) => true,
         Err((refusal, value)) => {
             let same = refusal == Refusal::NoMemory && value.name == name;
             let none = ends.load(Ordering::SeqCst) == name;
-            same && none && store.add(value, &zero).is_ok()
+            same && none && store.add(value, &Zero).is_ok()
         }
     }
 }
 
-fn wrong_rounds<'a>(store: &Store<u64, Counted<'a>>, ends: &'a AtomicU64) -> u64 {
+fn wrong_rounds<'a>(store: &Store<u64, (), Counted<'a>>, ends: &'a AtomicU64) -> u64 {
     let mut wrong = 0u64;
     for name in 0..100u64 {
         if !comes_back(store, ends, name) || ends.load(Ordering::SeqCst) != name.saturating_add(1) {
@@ -408,9 +423,9 @@ fn a_refused_growth_hands_the_value_back(rt: HostRuntime) {
 #[test]
 fn tokens_have_no_bytes(rt: HostRuntime) {
     assert_eq!(rt; size_of::<Known>(), 0);
-    assert_eq!(rt; size_of::<Seen<u64, u64>>(), 0);
-    assert_eq!(rt; size_of::<Owned<u64, [u64; 9]>>(), 16);
-    assert_eq!(rt; size_of::<Place<u64, u64>>(), 16);
+    assert_eq!(rt; size_of::<Seen<u64, (), u64>>(), 0);
+    assert_eq!(rt; size_of::<Owned<u64, (), [u64; 9]>>(), 16);
+    assert_eq!(rt; size_of::<Place<u64, (), u64>>(), 16);
 }
 
 fn is_sent<T: Send>(value: T) -> T {
@@ -421,24 +436,37 @@ fn is_shared<T: Sync>(value: &T) -> &T {
     value
 }
 
-// A store is `Send` and `Sync` as its headers are, whatever its values; a block is as its value is.
-fn store_sends<H: Labelled + Drop + Send, T>(store: Store<H, T>) -> Store<H, T> {
+// A store is `Send` as its headers and owners' parts are, and `Sync` where its headers are and these parts are `Send`, whatever its
+// values; a block is as its value and its part are.
+fn store_sends<H: Labelled + Drop + Send, P: Labelled + Drop + Send, T>(
+    store: Store<H, P, T>,
+) -> Store<H, P, T> {
     is_sent(store)
 }
 
-fn store_shares<H: Labelled + Drop + Send + Sync, T>(store: &Store<H, T>) -> &Store<H, T> {
+fn store_shares<H: Labelled + Drop + Send + Sync, P: Labelled + Drop + Send, T>(
+    store: &Store<H, P, T>,
+) -> &Store<H, P, T> {
     is_shared(store)
 }
 
-fn block_sends<H, T: Drop + Send>(owned: Owned<H, T>) -> Owned<H, T> {
+fn block_sends<H, P: Labelled + Drop + Send, T: Drop + Send>(
+    owned: Owned<H, P, T>,
+) -> Owned<H, P, T> {
     is_sent(owned)
 }
 
-fn block_shares<H, T: Drop + Sync>(owned: &Owned<H, T>) -> &Owned<H, T> {
+fn block_shares<H, P: Labelled + Drop + Sync, T: Drop + Sync>(
+    owned: &Owned<H, P, T>,
+) -> &Owned<H, P, T> {
     is_shared(owned)
 }
 
-fn spots_send<H, T>(spots: Spots<H, T>) -> Spots<H, T> {
+fn bare_sends<H, P: Labelled + Drop + Send, T: Drop + Send>(bare: Bare<H, P, T>) -> Bare<H, P, T> {
+    is_sent(bare)
+}
+
+fn spots_send<H, P: Labelled + Drop + Send, T>(spots: Spots<H, P, T>) -> Spots<H, P, T> {
     is_sent(spots)
 }
 
@@ -451,15 +479,21 @@ fn known_shares(known: &Known) -> &Known {
     is_shared(known)
 }
 
-fn seen_sends<H: Labelled + Drop + Send + Sync, T>(seen: Seen<H, T>) -> Seen<H, T> {
+fn seen_sends<H: Labelled + Drop + Send + Sync, P: Labelled + Drop + Send, T>(
+    seen: Seen<H, P, T>,
+) -> Seen<H, P, T> {
     is_sent(seen)
 }
 
-fn place_sends<'a, H: Sync, T>(place: Place<'a, H, T>) -> Place<'a, H, T> {
+fn place_sends<'a, H: Sync, P: Labelled + Send, T>(
+    place: Place<'a, H, P, T>,
+) -> Place<'a, H, P, T> {
     is_sent(place)
 }
 
-fn place_shares<'b, 'a, H: Sync, T>(place: &'b Place<'a, H, T>) -> &'b Place<'a, H, T> {
+fn place_shares<'b, 'a, H: Sync, P: Labelled + Send, T>(
+    place: &'b Place<'a, H, P, T>,
+) -> &'b Place<'a, H, P, T> {
     is_shared(place)
 }
 
@@ -467,7 +501,7 @@ fn place_shares<'b, 'a, H: Sync, T>(place: &'b Place<'a, H, T>) -> &'b Place<'a,
 fn stores_and_blocks_pass_to_threads(rt: HostRuntime) -> Result<(), Fail> {
     let store = store_sends(Store::new(rt.alloc()));
     let owned = block_sends(added(store_shares(&store), 7u64)?);
-    let spots: Spots<u64, u64> = spots_send(Spots::new(rt.alloc())?);
+    let spots: Spots<u64, (), u64> = spots_send(Spots::new(rt.alloc())?);
     assert_eq!(rt; (**block_shares(&owned), spots.len()), (7, 0));
     let found = store
         .find(0)

@@ -1,5 +1,5 @@
 //! Blocks from several threads.
-use crate::values::{Counted, Tally, tally_of, zero};
+use crate::values::{Counted, Tallies, Tally, Zero};
 use seize_store::{Owned, Store};
 use seize_table::Refusal;
 use std::alloc::Global;
@@ -14,13 +14,13 @@ const EACH: u64 = 50_000;
 // Where threads hand blocks over. What comes out is counted, and its names are summed.
 #[derive(Drop)]
 struct Hands<'a> {
-    last: Mutex<Option<Owned<u64, Counted<'a>>>>,
+    last: Mutex<Option<Owned<u64, (), Counted<'a>>>>,
     count: AtomicU64,
     names: AtomicU64,
 }
 
 // Leaves this block, or none, and ends the one that was left before.
-fn hand_over<'a, R: Wait>(rt: &R, hands: &Hands<'a>, next: Option<Owned<u64, Counted<'a>>>) {
+fn hand_over<'a, R: Wait>(rt: &R, hands: &Hands<'a>, next: Option<Owned<u64, (), Counted<'a>>>) {
     let before = mem::replace(&mut *hands.last.lock(rt), next);
     if let Some(owned) = before {
         hands.count.fetch_add(1, Ordering::SeqCst);
@@ -30,19 +30,19 @@ fn hand_over<'a, R: Wait>(rt: &R, hands: &Hands<'a>, next: Option<Owned<u64, Cou
 
 // A block of the value. Where its memory is refused, the call is made again with the value that came back.
 fn made<'a>(
-    store: &Store<u64, Counted<'a>>,
+    store: &Store<u64, (), Counted<'a>>,
     value: Counted<'a>,
-) -> Option<Owned<u64, Counted<'a>>> {
-    match store.add(value, &zero) {
+) -> Option<Owned<u64, (), Counted<'a>>> {
+    match store.add(value, &Zero) {
         Ok(owned) => Some(owned),
-        Err((_, value)) => store.add(value, &zero).ok(),
+        Err((_, value)) => store.add(value, &Zero).ok(),
     }
 }
 
 // Makes and ends so many blocks. Every tenth is handed over, to whoever hands over next. How many were not what was put in.
 fn churn<'a, R: Wait>(
     rt: &R,
-    store: &Store<u64, Counted<'a>>,
+    store: &Store<u64, (), Counted<'a>>,
     ends: &'a AtomicU64,
     hands: &Hands<'a>,
     from: u64,
@@ -64,7 +64,7 @@ fn churn<'a, R: Wait>(
 
 fn four<'a, R: Threads + Wait + Sync>(
     rt: &R,
-    store: &Store<u64, Counted<'a>>,
+    store: &Store<u64, (), Counted<'a>>,
     ends: &'a AtomicU64,
     hands: &Hands<'a>,
 ) -> u64 {
@@ -113,9 +113,9 @@ const STORES: u64 = 500;
 // So many blocks of a store.
 fn hundred<'a>(
     alloc: Global,
-    store: &Store<u64, Counted<'a>>,
+    store: &Store<u64, (), Counted<'a>>,
     ends: &'a AtomicU64,
-) -> Option<Vec<Owned<u64, Counted<'a>>>> {
+) -> Option<Vec<Owned<u64, (), Counted<'a>>>> {
     let mut all = Vec::with_capacity(alloc, 100).ok()?;
     for name in 0..100 {
         all.push(made(store, Counted { ends, name })?).ok()?;
@@ -148,13 +148,13 @@ fn stores_end_beside_their_blocks(rt: HostRuntime) -> Result<(), Fail> {
 const ROUND: usize = 1000;
 
 // So many blocks, which all stand, and the greatest of their numbers.
-fn taken(alloc: Global, store: &Store<u64, u64>) -> (Option<Vec<Owned<u64, u64>>>, usize) {
+fn taken(alloc: Global, store: &Store<u64, (), u64>) -> (Option<Vec<Owned<u64, (), u64>>>, usize) {
     let mut greatest = 0;
     let Ok(mut all) = Vec::with_capacity(alloc, ROUND) else {
         return (None, 0);
     };
     for value in 0..ROUND {
-        let Ok(owned) = store.add(value as u64, &zero) else {
+        let Ok(owned) = store.add(value as u64, &Zero) else {
             return (None, 0);
         };
         greatest = greatest.max(owned.number());
@@ -167,7 +167,7 @@ fn taken(alloc: Global, store: &Store<u64, u64>) -> (Option<Vec<Owned<u64, u64>>
 
 // 1,000 rounds, in each of which one thread takes a thousand blocks and another gives those of the round before. The greatest numbers
 // in the first tenth and in all.
-fn rounds<R: Threads + Sync>(rt: &R, alloc: Global, store: &Store<u64, u64>) -> (usize, usize) {
+fn rounds<R: Threads + Sync>(rt: &R, alloc: Global, store: &Store<u64, (), u64>) -> (usize, usize) {
     let mut given = None;
     let (mut early, mut late) = (0, 0);
     for round in 0..1000u64 {
@@ -192,7 +192,7 @@ fn a_store_stops_growing(rt: HostRuntime) {
 }
 
 // How many of the numbers below 200 lead to no header with that number. Each header that is found counts it.
-fn wrongly_labelled(store: &Store<Tally, u64>) -> u64 {
+fn wrongly_labelled(store: &Store<Tally, u64, u64>) -> u64 {
     let mut wrong = 0u64;
     for number in 0..200 {
         let right = store.find(number).is_some_and(|found| {
@@ -207,10 +207,10 @@ fn wrongly_labelled(store: &Store<Tally, u64>) -> u64 {
     wrong
 }
 
-fn tallied(alloc: Global, store: &Store<Tally, u64>) -> Option<Vec<Owned<Tally, u64>>> {
+fn tallied(alloc: Global, store: &Store<Tally, u64, u64>) -> Option<Vec<Owned<Tally, u64, u64>>> {
     let mut all = Vec::with_capacity(alloc, 200).ok()?;
     for value in 0..200 {
-        all.push(store.add(value, &tally_of).ok()?).ok()?;
+        all.push(store.add(value, &Tallies).ok()?).ok()?;
     }
     Some(all)
 }

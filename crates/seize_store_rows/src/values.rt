@@ -1,5 +1,5 @@
-//! Values that count their ends, and headers.
-use seize_store::Labelled;
+//! Values that count their ends, headers, and what makes the parts of chunks.
+use seize_store::{Labelled, Maker};
 use std::sync::atomic::{AtomicU64, Ordering};
 
 /// A value with a name of its own, which counts its end.
@@ -19,9 +19,14 @@ impl Drop for Counted<'_> {
     }
 }
 
-/// The header of a chunk that no test looks at.
-pub(crate) fn zero(_number: usize) -> u64 {
-    0
+/// Makes headers that no test looks at, with empty parts.
+#[derive(Drop)]
+pub(crate) struct Zero;
+
+impl Maker<u64, ()> for Zero {
+    fn make(&self, _number: usize) -> (u64, ()) {
+        (0, ())
+    }
 }
 
 /// A header that knows its chunk's number, which is its label, and in which a test counts.
@@ -35,10 +40,36 @@ impl Labelled for Tally {
     ghost label = { λ tally. tally.number };
 }
 
-/// The header of the chunk of a number.
-pub(crate) fn tally_of(number: usize) -> Tally {
-    Tally {
-        number,
-        sum: AtomicU64::new(0),
+/// Makes a tally of each number. The owner's part is the number too.
+#[derive(Drop)]
+pub(crate) struct Tallies;
+
+impl Maker<Tally, u64> for Tallies {
+    fn make(&self, number: usize) -> (Tally, u64) {
+        let sum = AtomicU64::new(0);
+        (Tally { number, sum }, number as u64)
+    }
+}
+
+/// Makes headers and owners' parts that count their ends, under names of their own. Both of a chunk have one name.
+#[derive(Drop)]
+pub(crate) struct Pairs<'a> {
+    pub(crate) made: &'a AtomicU64,
+    pub(crate) headers: &'a AtomicU64,
+    pub(crate) parts: &'a AtomicU64,
+}
+
+impl<'a> Maker<Counted<'a>, Counted<'a>> for Pairs<'a> {
+    fn make(&self, _number: usize) -> (Counted<'a>, Counted<'a>) {
+        let name = self.made.fetch_add(1, Ordering::SeqCst);
+        let header = Counted {
+            ends: self.headers,
+            name,
+        };
+        let part = Counted {
+            ends: self.parts,
+            name,
+        };
+        (header, part)
     }
 }

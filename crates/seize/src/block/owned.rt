@@ -11,11 +11,11 @@ use std::ops::{Deref, DerefMut};
 /// store. It may outlive its collector, and then keeps the memory of all blocks of its row until it ends.
 #[derive(Drop)]
 pub struct Owned<T: Drop> {
-    block: seize_store::Owned<(), T>,
+    block: seize_store::Owned<(), (), T>,
 }
 
 impl<T: Drop> Owned<T> {
-    pub(crate) fn of(block: seize_store::Owned<(), T>) -> Owned<T>
+    pub(crate) fn of(block: seize_store::Owned<(), (), T>) -> Owned<T>
         ensures content { content result ≡ store.value_of block }
         ensures number { number_of result ≡ store.number_of block }
         ensures owner { owner_of result ≡ store.store_of block }

@@ -1,19 +1,20 @@
 //! How a token comes from a note of the row's cell, how it is copied, and that two of one row agree. The token is that of `known`.
-ghost use Rattle.std.specs.Prelude.{◌≡◌};
+ghost use Rattle.std.specs.Prelude.{◌≡◌, Some};
+ghost use Rattle.seize_store.specs.Known.{name_in};
 ghost use Rattle.seize_store.specs.Titled.{IsSeen, Shows};
 
 use super::Known;
-use crate::labelled::Labelled;
 use crate::row::{Row, Rows};
 use once_cell::race::Note;
+use seize_table::Labelled;
 use std::marker::PhantomData;
 
 impl Known {
     // Of a note that knows the row of this index.
-    pub(crate) fn of<H: Labelled + Drop, T>(
-        rows: &Rows<H, T>,
+    pub(crate) fn of<H: Labelled + Drop, P: Labelled + Drop, T>(
+        rows: &Rows<H, P, T>,
         index: usize,
-        note: &mut Note<Row<H, T>>,
+        note: &mut Note<Row<H, P, T>>,
     ) -> Known
         requires { IsSeen rows.now index note.old }
         ensures { (note.new ≡ note.old) × Shows rows.now index note.old result }
@@ -22,6 +23,15 @@ impl Known {
             marker: PhantomData,
         }
     }
+
+    // A note of the row's cell knows the row then.
+    pub(crate) fn tell<H: Labelled + Drop, P: Labelled + Drop, T>(
+        &self,
+        note: &mut Note<Row<H, P, T>>,
+    )
+        requires { note.old.cell ≡ name_in self.now.store self.now.row }
+        ensures { (note.new.cell ≡ note.old.cell) × (note.new.known ≡ Some self.now.chunks) }
+    {}
 
     /// A copy, as for another thread.
     pub fn again(&mut self) -> Known

@@ -1,18 +1,19 @@
 //! Look-ups: from a number to its chunk, in a store that made the number's row. `seen` says what they answer.
 ghost use Rattle.std.specs.Prelude.{◌≡◌, ◌<◌, ◌≤◌, ◌+◌, ◌^◌, length, IfSome};
-ghost use Rattle.seize_store.specs.Named.{chunks_by, header_of, known_by, label_by, label_of, lies, lies_of, name_of, number_of, place_by, row_by, row_is, store_by, store_of};
+ghost use Rattle.seize_store.specs.Known.{entry_of, label_in, place_in};
+ghost use Rattle.seize_store.specs.Named.{IsRowOf, chunks_by, header_of, known_by, label_by, label_of, lies, lies_of, name_of, number_of, place_by, row_by, row_is, store_by, store_of};
 
 use super::{Place, Seen};
 use crate::known::Known;
-use crate::labelled::Labelled;
 use crate::owned::Owned;
 use crate::row::Row;
 use crate::store::Store;
+use seize_table::Labelled;
 use seize_table::thread_id::Thread;
 
-impl<H: Labelled + Drop, T> Seen<H, T> {
+impl<H: Labelled + Drop, P: Labelled + Drop, T> Seen<H, P, T> {
     /// A copy, as for another thread.
-    pub fn again(&mut self) -> Seen<H, T>
+    pub fn again(&mut self) -> Seen<H, P, T>
         ensures { (self.new ≡ self.old) × (result ≡ self.old) }
     {
         Seen {
@@ -35,10 +36,10 @@ impl<H: Labelled + Drop, T> Seen<H, T> {
     {}
 }
 
-impl<H: Labelled + Drop, T: Drop> Seen<H, T> {
+impl<H: Labelled + Drop, P: Labelled + Drop, T: Drop> Seen<H, P, T> {
     /// Where a look-up of the block's number leads: to the block's own chunk, and to a header with the block's label. It does nothing: its
     /// contract is the law.
-    pub fn leads_to(&self, owned: &Owned<H, T>)
+    pub fn leads_to(&self, owned: &Owned<H, P, T>)
         requires { (store_by self.now ≡ store_of owned.now) × row_is self.now (number_of owned.now) }
         ensures place { place_by self.now (number_of owned.now) ≡ lies owned.now }
         ensures label { label_by self.now (number_of owned.now) ≡ label_of owned.now }
@@ -47,7 +48,7 @@ impl<H: Labelled + Drop, T: Drop> Seen<H, T> {
     }
 }
 
-impl<'a, H, T> Place<'a, H, T> {
+impl<'a, H, P: Labelled, T> Place<'a, H, P, T> {
     /// The chunk's header, for as long as the store is borrowed.
     pub fn header(&self) -> &'a H
         ensures { result.now ≡ header_of self.now }
@@ -56,9 +57,9 @@ impl<'a, H, T> Place<'a, H, T> {
     }
 }
 
-impl<H: Labelled + Drop, T> Store<H, T> {
+impl<H: Labelled + Drop, P: Labelled + Drop, T> Store<H, P, T> {
     /// The chunk of a number, and what shows its row, where that is made.
-    pub fn find(&self, number: usize) -> Option<(Place<'_, H, T>, Seen<H, T>)>
+    pub fn find(&self, number: usize) -> Option<(Place<'_, H, P, T>, Seen<H, P, T>)>
         ensures row { IfSome result (λ found. (store_by found.1 ≡ name_of self.now) × row_is found.1 number) }
         ensures place { IfSome result (λ found. lies_of found.0 ≡ place_by found.1 number) }
         ensures label { IfSome result (λ found. H.label (header_of found.0) ≡ label_by found.1 number) }
@@ -75,7 +76,7 @@ impl<H: Labelled + Drop, T> Store<H, T> {
     }
 
     /// What shows the number's row, where that is made.
-    pub fn seen(&self, number: usize) -> Option<Seen<H, T>>
+    pub fn seen(&self, number: usize) -> Option<Seen<H, P, T>>
         ensures { IfSome result (λ seen. (store_by seen ≡ name_of self.now) × row_is seen number) }
     {
         let (_, seen) = self.find(number)?;
@@ -86,7 +87,7 @@ impl<H: Labelled + Drop, T> Store<H, T> {
     ///
     /// Three loads, each of which waits for the one before: the row's cell, where its chunks begin, and then what is looked for in the
     /// chunk.
-    pub fn at(&self, number: usize, seen: &mut Seen<H, T>) -> Place<'_, H, T>
+    pub fn at(&self, number: usize, seen: &mut Seen<H, P, T>) -> Place<'_, H, P, T>
         requires store { store_by seen.old ≡ name_of self.now }
         requires row { row_is seen.old number }
         ensures token { seen.new ≡ seen.old }
@@ -100,8 +101,35 @@ impl<H: Labelled + Drop, T> Store<H, T> {
         row.chunk(place.entry)
     }
 
+    /// The same for whoever has a token free of the store's types.
+    pub fn place(&self, number: usize, known: &Known) -> Place<'_, H, P, T>
+        requires store { known.now.store ≡ name_of self.now }
+        requires row { IsRowOf known.now number }
+        ensures place { lies_of result ≡ place_in known.now.chunks (entry_of known.now.row number) }
+        ensures label { H.label (header_of result) ≡ label_in known.now.chunks (entry_of known.now.row number) }
+    {
+        let Some(place) = Thread::new(number) else {
+            unreachable!();
+        };
+        let row = self.known_row(place.bucket, known);
+        row.chunk(place.entry)
+    }
+
     // The row that the token shows.
-    fn row(&self, bucket: usize, seen: &mut Seen<H, T>) -> &Row<H, T>
+    fn known_row(&self, bucket: usize, known: &Known) -> &Row<H, P, T>
+        requires { (name_of self.now ≡ known.now.store) × (bucket ≡ known.now.row) × (bucket < 59) }
+        ensures { result.now ≡ known.now.chunks }
+    {
+        let mut note = self.rows.cells[bucket].note();
+        known.tell(&mut note);
+        let Some(row) = self.rows.cells[bucket].get_as(&mut note) else {
+            unreachable!();
+        };
+        row
+    }
+
+    // The row that the token shows.
+    fn row(&self, bucket: usize, seen: &mut Seen<H, P, T>) -> &Row<H, P, T>
         requires { (store_by seen.old ≡ name_of self.now) × (row_by seen.old ≡ bucket) × (bucket < 59) }
         ensures { (seen.new ≡ seen.old) × (result.now ≡ chunks_by seen.old) }
     {

@@ -4,15 +4,16 @@ ghost use Rattle.seize_store.specs.Named.{AreOf, count_of, count_with, is_empty_
 ghost use Rattle.seize_store.specs.Parts.{spot_store, spot_title};
 
 use super::{SPOTS, Spot, Spots};
+use seize_table::Labelled;
 use std::alloc::{AllocError, Global};
 
-impl<H, T> Spots<H, T> {
+impl<H, P: Labelled + Drop, T> Spots<H, P, T> {
     /// An empty list, with all the room that it ever takes.
     ///
     /// # Errors
     ///
     /// Where that memory is refused.
-    pub fn new(alloc: Global) -> Result<Spots<H, T>, AllocError>
+    pub fn new(alloc: Global) -> Result<Spots<H, P, T>, AllocError>
         ensures { IfOk result (λ spots. is_empty_list spots) }
     {
         Ok(Spots {
@@ -35,7 +36,7 @@ impl<H, T> Spots<H, T> {
     }
 
     // One more spot. Where the list is full, half of it goes back first.
-    pub(crate) fn put(&mut self, spot: Spot<H, T>)
+    pub(crate) fn put(&mut self, spot: Spot<H, P, T>)
         requires { AreOf self.old (spot_store spot) }
         ensures store { AreOf self.new (spot_store spot) }
         ensures count { count_of self.new ≡ count_with (count_of self.old) }

@@ -21,8 +21,8 @@ use Rattle.seize_store.proofs.chunk.Base.TheLaw.Statement.{statement}
 twice : {M : Type 1} {𝓤 : Ura M} (𝓛 : Logic 𝓤) (φ : Type 0) → ent 𝓤 (sem 𝓛 (fact φ)) (sep 𝓤 (sem 𝓛 (fact φ)) (sem 𝓛 (fact φ)))
 twice 𝓛 φ = qed 𝓛 (‵ (fact φ) ∷ []) ∵ fpick ! (λ so. drop ! $ nothing ! $ fpack ! φ (λ _. ftrue) so $ nothing ! $ fpack ! φ (λ _. ftrue) so $ done !)
 
-pub shares : (X T : RattleType) (LX : Laws X) (L : Laws T) → statement X T LX L
-shares X T LX L = of_Lends (C.struct X T) (C.the_codes X.Denot T.Denot X.coded T.coded) (C.the_heap X T) (C.the_lent X T)
-    (λ d p. record { contraction = λ M 𝓤 𝓛 κ. twice 𝓛 _; mono = λ M 𝓤 𝓛 κ' κ. snd∗ 𝓤 (sem 𝓛 (before κ' κ)) (sem 𝓛 (C.the_heap X T d)) })
+pub shares : (X U T : RattleType) (LX : Laws X) (LU : Laws U) (L : Laws T) → statement X U T LX LU L
+shares X U T LX LU L = of_Lends (C.struct X U T) (C.the_codes X.Denot U.Denot T.Denot X.coded U.coded T.coded) (C.the_heap X U T) (C.the_lent X U T)
+    (λ d p. record { contraction = λ M 𝓤 𝓛 κ. twice 𝓛 _; mono = λ M 𝓤 𝓛 κ' κ. snd∗ 𝓤 (sem 𝓛 (before κ' κ)) (sem 𝓛 (C.the_heap X U T d)) })
     (copy_shared RawPtr-field RawPtr-copy, tt)
-    (λ M 𝓤 𝓛 d p. lends_twice 𝓛 (C.the_heap X T d) (twice 𝓛 _) (C.the_row X T).lives)
+    (λ M 𝓤 𝓛 d p. lends_twice 𝓛 (C.the_heap X U T d) (twice 𝓛 _) (C.the_row X U T).lives)

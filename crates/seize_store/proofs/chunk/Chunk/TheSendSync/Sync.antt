@@ -1,10 +1,11 @@
 use denote.RattleType.{RattleType}
-use denote.Param.Send.{IsSync, struct_sync, sendable}
+use denote.Param.Send.{IsSend, IsSync, struct_sync, sendable}
 use denote.Builtin.{RawPtr}
 use denote.Struct.Owning.{shape, to}
+use Rattle.seize_table.specs.declared.labelled.Labelled.{Ghosts}
 use Rattle.seize_store.specs.contracts.chunk.Chunk.{the_row, the_type}
 use Rattle.seize_store.proofs.Sends.{chunk_seen}
 
-pub sync : (X T : RattleType) → IsSync X → IsSync (the_row X T)
-sync X T y = let py : IsSync RawPtr = search sendable in
-    record { shared = λ d b o κ. ((struct_sync (shape (the_type X T)) (py, tt)).shared (to (the_type X T) d) b o κ, chunk_seen X T y d.life d.out d.home d.at d.header κ) }
+pub sync : (X U T : RattleType) (g : Ghosts U.Denot) → IsSend U → IsSync X → IsSync (the_row X U T g)
+sync X U T g u y = let py : IsSync RawPtr = search sendable in
+    record { shared = λ d b o κ. ((struct_sync (shape (the_type X U T g)) (py, tt)).shared (to (the_type X U T g) d) b o κ, chunk_seen X U T g.label y u d.label d.life d.out d.home d.at d.header κ) }

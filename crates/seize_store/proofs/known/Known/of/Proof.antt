@@ -23,18 +23,18 @@ use Rattle.seize_store.proofs.known.Known.of.Statement.{statement}
 use Rattle.seize_store.proofs.known.Known.of.Code as code
 
 pub of_spec : {M : Type 1} → statement M
-of_spec 𝓤 𝓛 𝓜 𝓡 wired Y Z LY LZ g dg dx met glue =
-    let H = 𝓛.H in let 𝓣 = tables 𝓤 H 𝓜 𝓡 𝓡.env in let X : RattleType = param 0 Y in let R : RattleType = param 1 Z in let En = ended Y Z g dg dx in let inst = bounded (a_type ∷ a_type ∷ []) (Y, (Z, tt)) (dcons dg (dcons dx dnil)) in let fn = inst_fn inst code.function in
-    let Rw : RattleType = row.the_row X R g in let N : RattleType = notes.Note 𝓛 Rw in let c = clauses Y Z g dg dx 𝓛 𝓜.mem 𝓡.returns in
-    let all_rows = RefOf (0 ∷ []) tt (plain (λ _. rows.the_row X R g)) (λ _. tt) in
+of_spec 𝓤 𝓛 𝓜 𝓡 wired Y W Z LY LW LZ g dg gp dp dx dq met mep glue gluep =
+    let H = 𝓛.H in let 𝓣 = tables 𝓤 H 𝓜 𝓡 𝓡.env in let X : RattleType = param 0 Y in let U : RattleType = param 1 W in let R : RattleType = param 2 Z in let En = ended Y W Z g dg gp dp dx dq in let inst = bounded (a_type ∷ a_type ∷ a_type ∷ []) (Y, (W, (Z, tt))) (dcons dg (dcons dp (dcons dx (dcons dq dnil)))) in let fn = inst_fn inst code.function in
+    let Rw : RattleType = row.the_row X U R g gp in let N : RattleType = notes.Note 𝓛 Rw in let c = clauses Y W Z g dg gp dp dx dq 𝓛 𝓜.mem 𝓡.returns in
+    let all_rows = RefOf (0 ∷ []) tt (plain (λ _. rows.the_row X U R g gp)) (λ _. tt) in
     let hs : Stays En.signature.params En.kept = (stay_dropped all_rows yes, (stay_dropped (plain (λ _. usize)) yes, (stay_ref (1 ∷ []) tt (plain (λ _. N)), tt))) in
-    proved_at 𝓛 En hs c 𝓜 𝓡 (Goes-dropped 𝓛 4 all_rows yes (λ κs x f. refl), (Goes-dropped 𝓛 4 (plain (λ _. usize)) yes (λ κs x f. refl), (Goes-ref 𝓛 4 1 tt (plain (λ _. N)), tt))) (#self inst) fn (code.unfolded 𝓤 H 𝓜 𝓡 wired (Y, (Z, tt)) dg dx) (λ z are.
+    proved_at 𝓛 En hs c 𝓜 𝓡 (Goes-dropped 𝓛 5 all_rows yes (λ κs x f. refl), (Goes-dropped 𝓛 5 (plain (λ _. usize)) yes (λ κs x f. refl), (Goes-ref 𝓛 5 1 tt (plain (λ _. N)), tt))) (#self inst) fn (code.unfolded 𝓤 H 𝓜 𝓡 wired (Y, (W, (Z, tt))) dg dp dx dq) (λ z are.
     let κs = z.0.0 in let qs = z.0.1 in let a = z.0.3 in let Post : Val → SProp 𝓤 = (walk_of 𝓛 En hs c).post z in let Run : List Val → SProp 𝓤 = λ ws. WpFn 𝓤 H 𝓣.C 𝓣.Λ fn ws Post in
     let κ : Lft = κs.1.0 in let q : Share = qs.1.0 in let rb : ℕ = a.0.ref_ptr.0 in let ro : ℕ = a.0.ref_ptr.1 in let i : ℕ = a.1.0 in let m = a.1.1.0 in let nb : ℕ = m.ref_ptr.0 in let no' : ℕ = m.ref_ptr.1 in let ν : ℕ = m.ghost_name in let n = m.now in
-    let store : List ℕ = names_of a.0.now in let At : Type 0 = n.cell ≡ name_in store i in let Knows : Type 0 = (chunks : List (Ptr × ℕ)) × (n.known ≡ Some chunks) in let others : Fml = fsep (flft κs.1.1.0 qs.1.1.0) (fsep (flft κs.1.1.1.0 qs.1.1.1.0) ftrue) in
+    let store : List ℕ = names_of a.0.now in let At : Type 0 = n.cell ≡ name_in store i in let Knows : Type 0 = (chunks : List (Ptr × ℕ)) × (n.known ≡ Some chunks) in let others : Fml = fsep (flft κs.1.1.0 qs.1.1.0) (fsep (flft κs.1.1.1.0 qs.1.1.1.0) (fsep (flft κs.1.1.1.1.0 qs.1.1.1.1.0) ftrue)) in
     let Shuts = notes.Shuts 𝓛 Rw κ q nb no' ν in let T : Fml = noted Rw n.cell n.known in let Vs : List Val = vptr rb ro ∷ vint w64 i ∷ vptr nb no' ∷ [] in
-    qed 𝓛 (((‵ (flft κs.0 qs.0) ⊛ ‵ (flft κ q) ⊛ ‵ others) ⊛ ‵ (owns (types_at En.signature.params κs) z.0.3 z.0.4)) ∷ raw (fact 𝓤 _) ∷ raw (fact 𝓤 _) ∷ raw (fact 𝓤 _) ∷ raw (fact 𝓤 (At × Knows)) ∷ []) ∵
-    move ! (4 ∷ []) $ heard ! (At × Knows) (λ asked. let at : At = asked.0 in let knows : Knows = asked.1 in keep ! (0 ∷ []) $ split ! $ move ! (1 ∷ []) $ fsplit ! $ drop ! $ fsplit ! $ drop ! $ fsplit ! $ fsplit ! $ keep ! (1 ∷ 3 ∷ []) $ move ! (1 ∷ []) $ split ! $ move ! (1 ∷ []) $ split ! $
+    qed 𝓛 (((‵ (flft κs.0 qs.0) ⊛ ‵ (flft κ q) ⊛ ‵ others) ⊛ ‵ (owns (types_at En.signature.params κs) z.0.3 z.0.4)) ∷ raw (fact 𝓤 _) ∷ raw (fact 𝓤 _) ∷ raw (fact 𝓤 _) ∷ raw (fact 𝓤 _) ∷ raw (fact 𝓤 (At × Knows)) ∷ []) ∵
+    move ! (5 ∷ []) $ heard ! (At × Knows) (λ asked. let at : At = asked.0 in let knows : Knows = asked.1 in keep ! (0 ∷ []) $ split ! $ move ! (1 ∷ []) $ fsplit ! $ drop ! $ fsplit ! $ drop ! $ fsplit ! $ fsplit ! $ keep ! (1 ∷ 3 ∷ []) $ move ! (1 ∷ []) $ split ! $ move ! (1 ∷ []) $ split ! $
     -- [the token; others; the rows' token; the note]
     move ! (3 ∷ 0 ∷ []) $ suffices ! (Run Vs) (subst (λ (us : List Val). ent 𝓤 (Run Vs) (Run us)) (sym (λ j. are.0.0 j ++ (are.1.0.0 j ++ (are.1.1.0.0 j ++ [])))) (id⊢ 𝓤 (Run Vs))) $
     enter ! 𝓣.C 𝓣.Λ fn Vs Post $ alloc_all ! (λ l. pass_all ! refl ((tt, tt), ((tt, record { fits = are.1.0.1 }), ((tt, tt), tt))) $ let chunks : List (Ptr × ℕ) = knows.0 in let K : Fml = known_row store i chunks in

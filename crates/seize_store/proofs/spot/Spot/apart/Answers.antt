@@ -24,4 +24,5 @@ agree-requires g c = (c.requires, same_row c.args.self.title c.args.other.title 
 -- src/spot.rt:52:9
 pub unreachable-requires : goal.unreachable-requires
 unreachable-requires g c = let s = c.args.self in let t = c.args.other in
-    c.differ-out.ensures.2 (sym s.titled ∙ (same_place s.title t.title c.if-title-other.true c.agree.ensures ∙ t.titled))
+    let at = λ (q : Ptr × ℕ). q.0 in
+    c.differ-out.ensures.2 (sym (ap at s.titled) ∙ (same_place s.title t.title c.if-title-other.true c.agree.ensures ∙ ap at t.titled))

@@ -7,6 +7,6 @@ use Rattle.std_alloc.proofs.SendSync.{quiet}
 use Rattle.seize_store.specs.contracts.strip.Piece.{the_row, the_type}
 use Rattle.seize_store.proofs.Sends.{piece_owned}
 
-pub send : (X T : RattleType) → IsSend (the_row X T)
-send X T = let O = the_type X T in let ps : IsSend RawPtr = search sendable in owning_send O (ps, tt) (λ d. piece_owned X T d.at)
+pub send : (X U T : RattleType) → IsSend (the_row X U T)
+send X U T = let O = the_type X U T in let ps : IsSend RawPtr = search sendable in owning_send O (ps, tt) (λ d. piece_owned X U T d.at)
     (λ k. quiet (to O) (exits_of k (fields O)) ((struct_send (shape O) (ps, tt)).leaving k))

@@ -1,0 +1,69 @@
+//! A block whose owner's part was taken out, until it is put back. It wraps a hull of `block`, and `owned` makes it.
+ghost use Rattle.std.specs.Prelude.{◌≡◌};
+ghost use Rattle.seize_store.specs.Titled.{chunk_of};
+
+use crate::block::Hull;
+use crate::known::{Known, Title};
+use crate::owned::Owned;
+use seize_table::Labelled;
+use std::ops::Deref;
+
+/// A block without the owner's part of its chunk. It reads as the value.
+///
+/// Its chunk is in again only with its part, so put that back by `with`. Where this is dropped instead, the value ends, the chunk stays
+/// out for good, and its row's memory is never given back, also when the store and the other blocks of the row have ended.
+pub struct Bare<H, P: Labelled + Drop, T: Drop> {
+    pub(crate) hull: Hull<H, P, T>,
+    pub(crate) title: Title,
+    ghost titled: { chunk_of title ≡ (hull.at, hull.label) },
+}
+
+impl<H, P: Labelled + Drop, T: Drop> Bare<H, P, T> {
+    ghost use Rattle.seize_store.specs.Known.{entry_of, label_in};
+    ghost use Rattle.seize_store.specs.Named.{IsRowOf, bare_label, bare_number, bare_store, bare_title, bare_value, title_of, value_of};
+
+    /// The block's number. No other block of its store has it while this one stands.
+    pub fn number(&self) -> usize
+        ensures { result ≡ bare_number self.now }
+    {
+        self.title.number
+    }
+
+    /// What shows the row in which the block's chunk lies, and that it lies there.
+    pub fn known(&self) -> &Known
+        ensures row { (result.now.store ≡ bare_store self.now) × IsRowOf result.now (bare_number self.now) }
+        ensures label { bare_label self.now ≡ label_in result.now.chunks (entry_of result.now.row (bare_number self.now)) }
+    {
+        &self.title.known
+    }
+
+    /// The block with its owner's part, which may be another one of the same label. It takes no memory and no atomic step.
+    pub fn with(self, part: P) -> Owned<H, P, T>
+        requires { P.label part ≡ bare_label self }
+        ensures { (value_of result ≡ bare_value self) × (title_of result ≡ bare_title self) }
+    {
+        let Bare { hull, title } = self;
+        Owned {
+            block: hull.with(title, part),
+        }
+    }
+}
+
+impl<H, P: Labelled + Drop, T: Drop> Deref for Bare<H, P, T> {
+    ghost use Rattle.seize_store.specs.Named.{bare_value};
+
+    type Target = T;
+
+    fn deref(&self) -> &T
+        ensures { result.now ≡ bare_value self.now }
+    {
+        self.hull.get()
+    }
+}
+
+impl<H, P: Labelled + Drop, T: Drop> Drop for Bare<H, P, T> {
+    fn drop(self) {
+        let Bare { hull, title: _ } = self;
+        drop(hull.end());
+    }
+}
