@@ -27,6 +27,7 @@ pub mod Renames
 pub mod Retires
 pub mod Gives
 pub mod Detaches
+pub mod Finds
 pub mod Facts
 pub mod Steps
 pub mod Plans

@@ -1,5 +1,5 @@
 -- The holder of a pass, and of keys, looks at the list with no event. Assumes `Logic`.
-use Rattle.std.proofs.Common.{◌≡◌, ℕ, List, [], ◌∷◌, refl, sym, ◌∙◌, append-nil, Some, arith}
+use Rattle.std.proofs.Common.{◌≡◌, ℕ, List, [], ◌∷◌, refl, sym, ◌∙◌, append-nil, Option, Some, true, arith}
 use mathlib.Core.List.{IsPrefix}
 use seplogic.Ra.Ura.{Ura}
 use base.Logic.{SProp, ent, sep, ex, guard, upd, upd_i}
@@ -8,22 +8,38 @@ use types.Logic.{Logic, sem}
 use types.Growing.{at_least_dup}
 use types.Kit.{‵, raw, later, updating, await, now, settle, keep, ◌⊛◌, some, given, ◌$◌, ◌∵◌, !, qed, move, drop, split, split3, join, fsplit, fjoin, fpick, fpack, pick, learn, show, check, frame, assume, rewrite, suffices, done, use1, use2, use3}
 use denote.Steps.{nothing}
-use Rattle.seize_machine.specs.Machine.State.{State}
+use Rattle.seize_machine.specs.Machine.State.{State, has, linked, are_distinct}
 use Rattle.seize_words.specs.Ledger.{Held, WithKinds, Known, logs, reached, renewed}
 use Rattle.seize_words.specs.Entry.{Entry, entry_coded}
 use denote.RawPtr.{Ptr}
-use Rattle.seize_store.specs.Known.{known_row}
-use Rattle.seize_words.specs.Book.{after, mine, rules, kinds}
+use Rattle.seize_store.specs.Known.{IsWhole, known_row, leads_to}
+use Rattle.seize_words.specs.Blocks.{block_of}
+use Rattle.seize_words.specs.Homes.{home_of}
+use Rattle.seize_words.proofs.Sound.{named_later}
+use Rattle.seize_words.specs.Book.{after, IsLegalList, mine, rules, kinds}
 use Rattle.seize_words.specs.Fair.{Before, pass_key}
 use Rattle.seize_words.specs.Laws.{ended, IsIn}
-use Rattle.seize_words.specs.Tokens.{Name, rows, start, beside, inside, knows, all_lead, keys_own, rights_own, over, IsSole, gate_keeps, gate_gives, pass_at, pass_holds, pass_owns}
+use Rattle.seize_words.specs.Passes.{LooksOn}
+use Rattle.seize_words.specs.Tokens.{leads, leads_in, Name, rows, start, beside, inside, knows, all_lead, keys_own, rights_own, over, IsSole, gate_keeps, gate_gives, pass_at, pass_holds, pass_owns}
 use Rattle.seize_words.proofs.Append.{Renewed, looks_beside, renews}
 use Rattle.seize_words.proofs.Gates.{agrees, gives_as}
 use Rattle.seize_words.proofs.Goes.{kept_now}
 use Rattle.seize_words.proofs.Notes.{distinct_links, knows_twice, opens}
 use Rattle.seize_words.proofs.Passes.{IsDistinct}
 use Rattle.seize_words.proofs.Lives.{ended_grows, over_one}
-use Rattle.seize_words.proofs.Ways.{AreIn, all_in, keys_apart, keys_whole, ways, ways_renewed}
+use Rattle.seize_words.proofs.Ways.{AreIn, all_in, all_twice, one_leads, keys_apart, keys_whole, ways, ways_renewed}
+
+-- the pass has seen more, and nothing was made with it
+pub looked : (n : Name) (p : ℕ) (seen log : List Entry) → Before n p seen [] log → are_distinct (linked n.links) ≡ true → LooksOn (record { marker = record {}; name = n; id = p; seen = seen }) (record { marker = record {}; name = n; id = p; seen = log })
+looked n p seen log before distinct = record {
+  same = (refl, refl);
+  none_made = before.none_made;
+  grows = before.grows;
+  alone = before.alone;
+  legal = before.legal;
+  sound = before.sound;
+  distinct = distinct;
+}
 
 module _ {M : Type 1} {𝓤 : Ura M} (𝓛 : Logic 𝓤) (n : Name) (p : ℕ) where
   open 𝓛 use {H, A}
@@ -112,24 +128,25 @@ module _ {M : Type 1} {𝓤 : Ura M} (𝓛 : Logic 𝓤) (n : Name) (p : ℕ) wh
         -- [the pass; the keys; J]
         show ! Peeked log $ check ! b $ move ! (2 ∷ 0 ∷ 1 ∷ []) $ done !))))
 
-    -- The invariant is opened, and what is brought tells more of the values that were named.
-    module _ (Told : List Entry → Type 0) (X : Pr) where
+    -- The invariant is opened: what is brought tells more of the values that were named, and more is had afterwards.
+    module _ (Told : List Entry → Type 0) (X : Pr) (Y : List Entry → Pr) where
       abbrev lead : List Entry → Fml
       lead log = all_lead n (after st log).named
 
       abbrev pub Asks : Type 1
-      Asks = (log : List Entry) → ⟦ lead log ⟧ ∗ X ⊢ guard 𝓤 (Told log) ⟦ lead log ⟧
+      Asks = (log : List Entry) → IsPrefix seen log → IsLegalList st log → ⟦ lead log ⟧ ∗ X ⊢ guard 𝓤 (Told log) (⟦ lead log ⟧ ∗ Y log)
 
-      tells_more : Asks → (own log : List Entry) → Known (rules st) (pass_key p own ∷ held) seen log → ⟦ beside n log ⟧ ∗ (⟦ gives seen ⟧ ∗ X) ⊢ guard 𝓤 (alone log × Told log) (⟦ beside n log ⟧ ∗ ⟦ gives seen ⟧)
+      tells_more : Asks → (own log : List Entry) → Known (rules st) (pass_key p own ∷ held) seen log → ⟦ beside n log ⟧ ∗ (⟦ gives seen ⟧ ∗ X) ⊢ guard 𝓤 (alone log × Told log) (⟦ beside n log ⟧ ∗ (⟦ gives seen ⟧ ∗ Y log))
       tells_more asks own log known = qed 𝓛 (‵ (beside n log) ∷ (‵ (gives seen) ⊛ raw X) ∷ []) ∵ fsplit ! $ move ! (1 ∷ []) $ fsplit ! $ move ! (3 ∷ []) $ split ! $
           -- [the pass's copy; X; the book's copy; where all lead; what has ended]
-          move ! (3 ∷ 1 ∷ []) $ use2 𝓛 (given (Told log) (‵ (lead log))) (asks log) $ learn ! (λ told.
-          -- [where all lead; the pass's copy; the book's; what has ended]
-          move ! (2 ∷ 1 ∷ []) $ use2 𝓛 (given (alone log) (‵ (gate_keeps n.gate log) ⊛ ‵ (gives seen))) (agrees 𝓛 n.gate log seen) $ learn ! (λ same. check ! (same, told) $ split ! $
-          move ! (0 ∷ 2 ∷ []) $ fjoin ! $ move ! (2 ∷ 0 ∷ []) $ fjoin ! $ done !))
+          move ! (3 ∷ 1 ∷ []) $ use2 𝓛 (given (Told log) (‵ (lead log) ⊛ raw (Y log))) (asks log known.1 known.0.0) $ learn ! (λ told. split ! $
+          -- [where all lead; Y; the pass's copy; the book's; what has ended]
+          move ! (3 ∷ 2 ∷ []) $ use2 𝓛 (given (alone log) (‵ (gate_keeps n.gate log) ⊛ ‵ (gives seen))) (agrees 𝓛 n.gate log seen) $ learn ! (λ same. check ! (same, told) $ split ! $
+          -- [the book's copy; the pass's; where all lead; Y; what has ended]
+          move ! (0 ∷ 2 ∷ []) $ fjoin ! $ move ! (3 ∷ 0 ∷ []) $ fjoin ! $ move ! (1 ∷ 2 ∷ []) $ join ! $ move ! (1 ∷ 0 ∷ []) $ done !))
 
       abbrev pub Found : List Entry → Pr
-      Found log = guard 𝓤 (Before n p seen held log × Told log) (⟦ pass_owns n p log ⟧ ∗ ⟦ keys (renewed held log) ⟧)
+      Found log = guard 𝓤 (Before n p seen held log × Told log) (⟦ pass_owns n p log ⟧ ∗ ⟦ keys (renewed held log) ⟧ ∗ Y log)
 
       -- the pass has seen all then, and the keys know of it
       pub looks_with : Asks → WithKinds kinds held → ⟦ pass_owns n p seen ⟧ ∗ ⟦ keys held ⟧ ∗ X ⊢ H.⇛ (ex 𝓤 Found)
@@ -140,16 +157,18 @@ module _ {M : Type 1} {𝓤 : Ura M} (𝓛 : Logic 𝓤) (n : Name) (p : ℕ) wh
           use1 𝓛 (some (λ (own : List Entry). given (Idle own seen) (‵ (rights (pass_key p own ∷ [])) ⊛ ‵ (had seen) ⊛ ‵ (gives seen)))) (apart seen) $ pick ! (λ own. learn ! (λ past. split3 ! $ fsplit ! $ move ! (1 ∷ []) $ drop ! $
           -- [its key; what it has seen; its copy; J; the book; the rights; the ways; X]
           move ! (0 ∷ 5 ∷ []) $ fjoin ! $ move ! (2 ∷ 6 ∷ []) $ join ! $ move ! (2 ∷ 0 ∷ []) $ join ! $ move ! (2 ∷ 1 ∷ 0 ∷ []) $
-          use3 𝓛 (raw (upd 𝓤 (ex 𝓤 (Renewed entry_coded (rules st) (beside n) n.log (rows n) 𝓛 (pass_key p own ∷ held) seen (λ log. alone log × Told log) (λ _. ⟦ gives seen ⟧)))))
-          (renews entry_coded (rules st) (beside n) n.log (rows n) 𝓛 (pass_key p own ∷ held) seen (λ log. alone log × Told log) (⟦ gives seen ⟧ ∗ X) (λ _. ⟦ gives seen ⟧) (omega arith, within) (kept_now st) (tells_more asks own)) $
-          settle 𝓛 (⟦ J ⟧ ∗ Z) (some (λ (log : List Entry). given (Known (rules st) (pass_key p own ∷ held) seen log × (alone log × Told log)) (‵ J ⊛ ‵ (rights (renewed (pass_key p own ∷ held) log)) ⊛ ‵ (had log) ⊛ ‵ (gives seen)))) $
+          use3 𝓛 (raw (upd 𝓤 (ex 𝓤 (Renewed entry_coded (rules st) (beside n) n.log (rows n) 𝓛 (pass_key p own ∷ held) seen (λ log. alone log × Told log) (λ log. ⟦ gives seen ⟧ ∗ Y log)))))
+          (renews entry_coded (rules st) (beside n) n.log (rows n) 𝓛 (pass_key p own ∷ held) seen (λ log. alone log × Told log) (⟦ gives seen ⟧ ∗ X) (λ log. ⟦ gives seen ⟧ ∗ Y log) (omega arith, within) (kept_now st) (tells_more asks own)) $
+          settle 𝓛 (⟦ J ⟧ ∗ Z) (some (λ (log : List Entry). given (Known (rules st) (pass_key p own ∷ held) seen log × (alone log × Told log)) (‵ J ⊛ ‵ (rights (renewed (pass_key p own ∷ held) log)) ⊛ ‵ (had log) ⊛ (‵ (gives seen) ⊛ raw (Y log))))) $
           suffices ! _ (upd_i 𝓤 (⟦ J ⟧ ∗ Z)) $ pick ! (λ log. learn ! (λ known. let b = before own log past.1 known.0 known.1.0 in split ! $ frame ! $ split3 ! $
-          -- [the rights; what was reached; its copy; the book; the ways]
-          move ! (2 ∷ []) $ use1 𝓛 (‵ (gives log)) (gives_as 𝓛 n.gate seen log (λ s. sym (known.1.0 s))) $ move ! (1 ∷ []) $ fsplit ! $
-          -- [its key; the rights; its copy; what was reached; the book; the ways]
-          move ! (5 ∷ []) $ rewrite ! 0 (λ (F : Fml). ‵ F) (sym (ways_renewed 𝓛 n held log)) refl $ move ! (2 ∷ 0 ∷ []) $ use2 𝓛 (‵ (keys (renewed held log))) (keys_whole 𝓛 n (renewed held log)) $
-          nothing ! $ move ! (2 ∷ 0 ∷ []) $ fjoin ! $ move ! (0 ∷ 3 ∷ 2 ∷ []) $ use3 𝓛 (‵ (pass_holds n p log)) (together log log (([], append-nil log), refl)) $
-          move ! (2 ∷ 0 ∷ []) $ fjoin ! $ show ! Found log $ check ! (b, known.1.1) $ done !))))
+          -- [the rights; what was reached; its copy and Y; the book; the ways]
+          move ! (2 ∷ []) $ split ! $ use1 𝓛 (‵ (gives log)) (gives_as 𝓛 n.gate seen log (λ s. sym (known.1.0 s))) $ move ! (2 ∷ []) $ fsplit ! $
+          -- [its key; the rights; its copy; Y; what was reached; the book; the ways]
+          move ! (6 ∷ []) $ rewrite ! 0 (λ (F : Fml). ‵ F) (sym (ways_renewed 𝓛 n held log)) refl $ move ! (2 ∷ 0 ∷ []) $ use2 𝓛 (‵ (keys (renewed held log))) (keys_whole 𝓛 n (renewed held log)) $
+          -- [the keys; its key; its copy; Y; what was reached; the book]
+          nothing ! $ move ! (2 ∷ 0 ∷ []) $ fjoin ! $ move ! (0 ∷ 4 ∷ 2 ∷ []) $ use3 𝓛 (‵ (pass_holds n p log)) (together log log (([], append-nil log), refl)) $
+          -- [the pass; the keys; Y; the book]
+          move ! (3 ∷ 0 ∷ []) $ fjoin ! $ show ! Found log $ check ! (b, known.1.1) $ done !))))
 
     abbrev pub Looked : List Entry → Pr
     Looked log = guard 𝓤 (Before n p seen held log) (⟦ pass_owns n p log ⟧ ∗ ⟦ keys (renewed held log) ⟧)
@@ -157,9 +176,9 @@ module _ {M : Type 1} {𝓤 : Ura M} (𝓛 : Logic 𝓤) (n : Name) (p : ℕ) wh
     -- where nothing is brought
     pub looks_now : WithKinds kinds held → ⟦ pass_owns n p seen ⟧ ∗ ⟦ keys held ⟧ ⊢ H.⇛ (ex 𝓤 Looked)
     looks_now within = qed 𝓛 (‵ (pass_owns n p seen) ∷ ‵ (keys held) ∷ []) ∵ updating ! $ nothing ! $ move ! (1 ∷ 2 ∷ 0 ∷ []) $
-        use3 𝓛 (later (some (λ (log : List Entry). given (Before n p seen held log × Unit {0}) (‵ (pass_owns n p log) ⊛ ‵ (keys (renewed held log))))))
-        (looks_with (λ _. Unit {0}) ⟦ ftrue ⟧ (λ log. qed 𝓛 (‵ (all_lead n (after st log).named) ∷ ‵ ftrue ∷ []) ∵ check ! tt $ keep ! (0 ∷ []) $ done !) within) $
-        await ! tt $ pick ! (λ log. learn ! (λ so. now ! $ show ! Looked log $ check ! so.0 $ done !))
+        use3 𝓛 (later (some (λ (log : List Entry). given (Before n p seen held log × Unit {0}) (‵ (pass_owns n p log) ⊛ ‵ (keys (renewed held log)) ⊛ ‵ ftrue))))
+        (looks_with (λ _. Unit {0}) ⟦ ftrue ⟧ (λ _. ⟦ ftrue ⟧) (λ log grows legal. qed 𝓛 (‵ (all_lead n (after st log).named) ∷ ‵ ftrue ∷ []) ∵ check ! tt $ done !) within) $
+        await ! tt $ pick ! (λ log. learn ! (λ so. split3 ! $ now ! $ show ! Looked log $ check ! so.0 $ keep ! (0 ∷ 1 ∷ []) $ done !))
 
   -- each value that was named lies in the block that a row shows at its number, if its number is one of the row's
   abbrev pub SeesHomes : ℕ → List (Ptr × ℕ) → List Entry → Type 0
@@ -168,13 +187,32 @@ module _ {M : Type 1} {𝓤 : Ura M} (𝓛 : Logic 𝓤) (n : Name) (p : ℕ) wh
   abbrev pub FoundHomes : List Entry → ℕ → List (Ptr × ℕ) → List Entry → Pr
   FoundHomes seen row chunks log = guard 𝓤 (Before n p seen [] log × SeesHomes row chunks log × IsDistinct 𝓛 n) ⟦ pass_owns n p log ⟧
 
-  pub finds : (seen : List Entry) (store : List ℕ) (row : ℕ) (chunks : List (Ptr × ℕ)) → n.store ≡ Some store
+  pub finds : (seen : List Entry) (store : List ℕ) (row : ℕ) (chunks : List (Ptr × ℕ)) → IsWhole row chunks → n.store ≡ Some store
       → ⟦ pass_owns n p seen ⟧ ∗ ⟦ known_row store row chunks ⟧ ⊢ H.⇛ (ex 𝓤 (FoundHomes seen row chunks))
-  finds seen store row chunks is = qed 𝓛 ((‵ (knows n) ⊛ ‵ (pass_holds n p seen)) ∷ ‵ (known_row store row chunks) ∷ []) ∵ updating ! $ split ! $
+  finds seen store row chunks whole is = qed 𝓛 ((‵ (knows n) ⊛ ‵ (pass_holds n p seen)) ∷ ‵ (known_row store row chunks) ∷ []) ∵ updating ! $ split ! $
       use1 𝓛 (given (IsDistinct 𝓛 n) (‵ (knows n))) (distinct_links 𝓛 n) $ learn ! (λ distinct. fjoin ! $ nothing ! $ move ! (1 ∷ 0 ∷ 2 ∷ []) $
-      use3 𝓛 (later (some (λ (log : List Entry). given (Before n p seen [] log × SeesHomes row chunks log) (‵ (pass_owns n p log) ⊛ ‵ ftrue))))
-      (looks_with seen [] (SeesHomes row chunks) ⟦ known_row store row chunks ⟧ (λ log. all_in 𝓛 n store row chunks is (after st log).named) tt) $
-      await ! tt $ pick ! (λ log. learn ! (λ so. split ! $ now ! $ show ! (FoundHomes seen row chunks) log $ check ! (so.0, so.1, distinct) $ keep ! (0 ∷ []) $ done !)))
+      use3 𝓛 (later (some (λ (log : List Entry). given (Before n p seen [] log × SeesHomes row chunks log) (‵ (pass_owns n p log) ⊛ ‵ ftrue ⊛ ‵ ftrue))))
+      (looks_with seen [] (SeesHomes row chunks) ⟦ known_row store row chunks ⟧ (λ _. ⟦ ftrue ⟧)
+      (λ log grows legal. qed 𝓛 (‵ (all_lead n (after st log).named) ∷ ‵ (known_row store row chunks) ∷ []) ∵ use2 𝓛 (given (SeesHomes row chunks log) (‵ (all_lead n (after st log).named))) (all_in 𝓛 n store row chunks whole is (after st log).named) $
+      learn ! (λ so. check ! so $ nothing ! $ move ! (1 ∷ 0 ∷ []) $ done !)) tt) $
+      await ! tt $ pick ! (λ log. learn ! (λ so. split3 ! $ now ! $ show ! (FoundHomes seen row chunks) log $ check ! (so.0, so.1, distinct) $ keep ! (0 ∷ []) $ done !)))
+
+  -- where the number of a value leads that was named
+  abbrev pub FoundRow : List Entry → List ℕ → ℕ → List Entry → Pr
+  FoundRow seen store v log = guard 𝓤 (Before n p seen [] log × IsDistinct 𝓛 n) (⟦ pass_owns n p log ⟧ ∗ ⟦ leads_to store (block_of v) (home_of v) ⟧)
+
+  pub finds_row : (seen : List Entry) (store : List ℕ) (v : ℕ) → n.store ≡ Some store → has v (after st seen).named ≡ true → ⟦ pass_owns n p seen ⟧ ⊢ H.⇛ (ex 𝓤 (FoundRow seen store v))
+  finds_row seen store v is named = let L : Fml = leads_to store (block_of v) (home_of v) in qed 𝓛 ((‵ (knows n) ⊛ ‵ (pass_holds n p seen)) ∷ []) ∵ updating ! $ split ! $
+      use1 𝓛 (given (IsDistinct 𝓛 n) (‵ (knows n))) (distinct_links 𝓛 n) $ learn ! (λ distinct. fjoin ! $ nothing ! $ nothing ! $ move ! (2 ∷ 0 ∷ 1 ∷ []) $
+      use3 𝓛 (later (some (λ (log : List Entry). given (Before n p seen [] log × Unit {0}) (‵ (pass_owns n p log) ⊛ ‵ ftrue ⊛ ‵ L))))
+      (looks_with seen [] (λ _. Unit {0}) ⟦ ftrue ⟧ (λ _. ⟦ L ⟧) leads_there tt) $
+      await ! tt $ pick ! (λ log. learn ! (λ so. split3 ! $ now ! $ show ! (FoundRow seen store v) log $ check ! (so.0, distinct) $ keep ! (0 ∷ 2 ∷ []) $ done !)))
+    where
+      leads_there : (log : List Entry) → IsPrefix seen log → IsLegalList st log → ⟦ all_lead n (after st log).named ⟧ ∗ ⟦ ftrue ⟧ ⊢ guard 𝓤 (Unit {0}) (⟦ all_lead n (after st log).named ⟧ ∗ ⟦ leads_to store (block_of v) (home_of v) ⟧)
+      leads_there log grows legal = let vs : List ℕ = (after st log).named in qed 𝓛 (‵ (all_lead n vs) ∷ ‵ ftrue ∷ []) ∵ keep ! (0 ∷ []) $
+          use1 𝓛 (‵ (all_lead n vs) ⊛ ‵ (all_lead n vs)) (all_twice 𝓛 n vs) $ split ! $
+          use1 𝓛 (‵ (leads n v)) (one_leads 𝓛 n vs v (named_later st seen log v grows legal named)) $
+          rewrite ! 0 (λ (s : Option (List ℕ)). ‵ (leads_in s v)) is refl $ check ! tt $ move ! (1 ∷ 0 ∷ []) $ done !
 
   -- a lifetime that the pass has seen ended is over
   pub is_over : (seen : List Entry) (a : ℕ) → IsIn (ended seen) a → ⟦ pass_owns n p seen ⟧ ⊢ H.⇛ (⟦ pass_owns n p seen ⟧ ∗ ⟦ fdead (a ∷ []) ⟧)

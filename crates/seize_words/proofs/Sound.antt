@@ -8,7 +8,7 @@ use Rattle.seize_machine.specs.Machine.Frames.{slots_added}
 use Rattle.seize_machine.specs.Machine.History.{done_by}
 use Rattle.seize_machine.specs.Machine.Next.{next}
 use Rattle.seize_machine.specs.declared.machine.event.Answer.{Answer}
-use Rattle.seize_machine.proofs.Facts.{Step, eq_true, gone_grows, is_true, slots_length, some_is, step_of, value_frame}
+use Rattle.seize_machine.proofs.Facts.{Step, eq_true, gone_grows, is_true, named_grows, slots_length, some_is, step_of, value_frame}
 use Rattle.seize_words.specs.Entry.{Entry, Made, Used, timed}
 use Rattle.seize_words.specs.Book.{IsLegalList, Does, Kept, TheBlock, after}
 use Rattle.seize_words.specs.Ledger.{Held}
@@ -26,24 +26,30 @@ not_gone v size st event d step h = go (is_true (has v st.gone))
     go (inl t) = absurd (let b : true ≡ false = sym (gone_grows v size st event d step t) ∙ h in cc)
     go (inr f) = f
 
-gone_after : (st : State) (more : List Entry) (v : ℕ) → IsLegalList st more → has v st.gone ≡ true → has v (after st more).gone ≡ true
-gone_after st [] v l h = h
-gone_after st (Used u ∷ more) v l h = gone_after st more v l h
-gone_after st (Made e ∷ more) v l h =
-    let w = legal_first st e more l in
-    subst (λ (d : State × Answer). has v (after d.0 more).gone ≡ true) (sym w.2) (gone_after (w.0).0 more v w.3 (gone_grows v e.size st e.event w.0 (step_of _ _ _ _ w.1) h))
+-- a change that no event takes back, and no use makes
+module _ (Is : State → Type 0) (stays : (size : ℕ) (st : State) (event : Event) (d : State × Answer) → Step size st event d → Is st → Is d.0) where
+  stays_after : (st : State) (more : List Entry) → IsLegalList st more → Is st → Is (after st more)
+  stays_after st [] l h = h
+  stays_after st (Used u ∷ more) l h = stays_after st more l h
+  stays_after st (Made e ∷ more) l h =
+      let w = legal_first st e more l in subst (λ (d : State × Answer). Is (after d.0 more)) (sym w.2) (stays_after (w.0).0 more w.3 (stays e.size st e.event w.0 (step_of _ _ _ _ w.1) h))
 
-gone_on : (st : State) (own more : List Entry) (v : ℕ) → IsLegalList st (own ++ more) → has v (after st own).gone ≡ true → has v (after st (own ++ more)).gone ≡ true
-gone_on st [] more v l h = gone_after st more v l h
-gone_on st (Used u ∷ own) more v l h = gone_on st own more v l h
-gone_on st (Made e ∷ own) more v l h =
-    let w = legal_first st e (own ++ more) l in
-    gone_on (done_by next st (timed e)).0 own more v (subst (λ (d : State × Answer). IsLegalList d.0 (own ++ more)) (sym w.2) w.3) h
+  stays_on : (st : State) (own more : List Entry) → IsLegalList st (own ++ more) → Is (after st own) → Is (after st (own ++ more))
+  stays_on st [] more l h = stays_after st more l h
+  stays_on st (Used u ∷ own) more l h = stays_on st own more l h
+  stays_on st (Made e ∷ own) more l h =
+      let w = legal_first st e (own ++ more) l in stays_on (done_by next st (timed e)).0 own more (subst (λ (d : State × Answer). IsLegalList d.0 (own ++ more)) (sym w.2) w.3) h
 
--- what was reclaimed stays so as the list goes on
+  stays_later : (st : State) (own log : List Entry) → IsPrefix own log → IsLegalList st log → Is (after st own) → Is (after st log)
+  stays_later st own log grows l h = subst (λ (x : List Entry). Is (after st x)) grows.1 (stays_on st own grows.0 (subst (IsLegalList st) (sym grows.1) l) h)
+
+-- what was named stays so as the list goes on
+pub named_later : (st : State) (own log : List Entry) (v : ℕ) → IsPrefix own log → IsLegalList st log → has v (after st own).named ≡ true → has v (after st log).named ≡ true
+named_later st own log v = stays_later (λ z. has v z.named ≡ true) (λ size st event d step. named_grows v size st event d step) st own log
+
+-- and what was reclaimed
 pub gone_later : (st : State) (own log : List Entry) (v : ℕ) → IsPrefix own log → IsLegalList st log → has v (after st own).gone ≡ true → has v (after st log).gone ≡ true
-gone_later st own log v grows l h =
-    subst (λ (x : List Entry). has v (after st x).gone ≡ true) grows.1 (gone_on st own grows.0 v (subst (IsLegalList st) (sym grows.1) l) h)
+gone_later st own log v = stays_later (λ z. has v z.gone ≡ true) (λ size st event d step. gone_grows v size st event d step) st own log
 
 -- and a home that its key knows to be vacant
 pub vacant_later : (st : State) (own log : List Entry) (k : ℕ) → IsLegalList st log → Kept st TheBlock k own log → IsVacant (after st own) k → IsVacant (after st log) k

@@ -12,7 +12,7 @@ use Rattle.seize_machine.specs.Machine.State.{has}
 use Rattle.seize_machine.proofs.Facts.{eq_true, is_true}
 use denote.RawPtr.{Ptr}
 use Rattle.seize_table.specs.Place.{IsPlace}
-use Rattle.seize_store.specs.Known.{entry_of, known_row, label_in, leads_to}
+use Rattle.seize_store.specs.Known.{IsWhole, entry_of, known_row, label_in, leads_to}
 use Rattle.seize_store.proofs.Leads.{known_leads, leads_agree, leads_twice}
 use Rattle.seize_store.proofs.Tokens.{row_twice}
 use native.Mathlib.Decide.{ℕ_discrete}
@@ -186,12 +186,12 @@ module _ {M : Type 1} {𝓤 : Ura M} (𝓛 : Logic 𝓤) (n : Name) where
 
   -- a key whose value's number leads to its home, as a token of the number's row shows
   pub placed : (store : List ℕ) (row : ℕ) (chunks : List (Ptr × ℕ)) (held : Keys) → is_one blocks held ≡ true → n.store ≡ Some store
-      → IsPlace (block_of (label_of held)) row (entry_of row (block_of (label_of held))) → label_in chunks (entry_of row (block_of (label_of held))) ≡ home_of (label_of held)
+      → IsWhole row chunks → IsPlace (block_of (label_of held)) row (entry_of row (block_of (label_of held))) → label_in chunks (entry_of row (block_of (label_of held))) ≡ home_of (label_of held)
       → ⟦ rights_own n held ⟧ ∗ ⟦ known_row store row chunks ⟧ ⊢ ⟦ keys_own n held ⟧
-  placed store row chunks [] one is place home = absurd (cc)
-  placed store row chunks (h ∷ g ∷ held) one is place home = absurd (cc)
-  placed store row chunks (h ∷ []) one is place home = let v : ℕ = h.label in let b : ℕ = block_of v in let k : ℕ = label_in chunks (entry_of row b) in
-      qed 𝓛 (‵ (rights_own n (h ∷ [])) ∷ ‵ (known_row store row chunks) ∷ []) ∵ move ! (1 ∷ []) $ use1 𝓛 (‵ (leads_to store b k)) (known_leads 𝓛 store b row chunks place) $
+  placed store row chunks [] one is whole place home = absurd (cc)
+  placed store row chunks (h ∷ g ∷ held) one is whole place home = absurd (cc)
+  placed store row chunks (h ∷ []) one is whole place home = let v : ℕ = h.label in let b : ℕ = block_of v in let k : ℕ = label_in chunks (entry_of row b) in
+      qed 𝓛 (‵ (rights_own n (h ∷ [])) ∷ ‵ (known_row store row chunks) ∷ []) ∵ move ! (1 ∷ []) $ use1 𝓛 (‵ (leads_to store b k)) (known_leads 𝓛 store b row chunks whole place) $
       rewrite ! 0 (λ (j : ℕ). ‵ (leads_to store b j)) home refl $ rewrite ! 0 (λ (s : Option (List ℕ)). ‵ (leads_in s v)) (sym is) refl $
       rewrite ! 0 (λ (F : Fml). ‵ F) (sym (is_way h v (eq_true h.kind blocks one, refl))) refl $
       -- [the way; the right]
@@ -208,24 +208,24 @@ module _ {M : Type 1} {𝓤 : Ura M} (𝓛 : Logic 𝓤) (n : Name) where
 
   -- A value whose number is one of a row that a token shows lies in the block with the label that the row has there.
 
-  in_one : (store : List ℕ) (row : ℕ) (chunks : List (Ptr × ℕ)) → n.store ≡ Some store → (v : ℕ)
+  in_one : (store : List ℕ) (row : ℕ) (chunks : List (Ptr × ℕ)) → IsWhole row chunks → n.store ≡ Some store → (v : ℕ)
       → ⟦ leads n v ⟧ ∗ ⟦ known_row store row chunks ⟧ ⊢ guard 𝓤 (IsIn row chunks v) (⟦ leads n v ⟧ ∗ ⟦ known_row store row chunks ⟧)
-  in_one store row chunks is v = go (is_place (block_of v) row (entry_of row (block_of v)))
+  in_one store row chunks whole is v = go (is_place (block_of v) row (entry_of row (block_of v)))
     where
       go : Dec (IsPlace (block_of v) row (entry_of row (block_of v))) → ⟦ leads n v ⟧ ∗ ⟦ known_row store row chunks ⟧ ⊢ guard 𝓤 (IsIn row chunks v) (⟦ leads n v ⟧ ∗ ⟦ known_row store row chunks ⟧)
       go (no out) = qed 𝓛 (‵ (leads n v) ∷ ‵ (known_row store row chunks) ∷ []) ∵ check ! (λ place. absurd (out place)) $ done !
       go (yes place) = let b : ℕ = block_of v in let k : ℕ = label_in chunks (entry_of row b) in let K : Fml = known_row store row chunks in let Same : Type 0 = k ≡ home_of v in
           qed 𝓛 (‵ (leads n v) ∷ ‵ K ∷ []) ∵ use1 𝓛 (‵ (leads n v) ⊛ ‵ (leads n v)) (lead_twice v) $ split ! $ rewrite ! 0 (λ (s : Option (List ℕ)). ‵ (leads_in s v)) is refl $
-          move ! (2 ∷ []) $ use1 𝓛 (‵ K ⊛ ‵ K) (row_twice 𝓛 store row chunks) $ split ! $ use1 𝓛 (‵ (leads_to store b k)) (known_leads 𝓛 store b row chunks place) $
+          move ! (2 ∷ []) $ use1 𝓛 (‵ K ⊛ ‵ K) (row_twice 𝓛 store row chunks) $ split ! $ use1 𝓛 (‵ (leads_to store b k)) (known_leads 𝓛 store b row chunks whole place) $
           -- [where the number leads by the row; the row; where it leads by the book; that once more]
           move ! (0 ∷ 2 ∷ []) $ use2 𝓛 (raw (fact 𝓤 Same)) (leads_agree 𝓛 store b k (home_of v)) $ heard ! Same (λ same. check ! (λ _. same) $ move ! (1 ∷ 0 ∷ []) $ done !)
 
-  pub all_in : (store : List ℕ) (row : ℕ) (chunks : List (Ptr × ℕ)) → n.store ≡ Some store → (vs : List ℕ) → ⟦ all_lead n vs ⟧ ∗ ⟦ known_row store row chunks ⟧ ⊢ guard 𝓤 (AreIn row chunks vs) ⟦ all_lead n vs ⟧
-  all_in store row chunks is [] = qed 𝓛 (‵ ftrue ∷ ‵ (known_row store row chunks) ∷ []) ∵ check ! (λ v named. absurd (cc)) $ keep ! (0 ∷ []) $ done !
-  all_in store row chunks is (u ∷ vs) = let K : Fml = known_row store row chunks in qed 𝓛 (‵ (all_lead n (u ∷ vs)) ∷ ‵ K ∷ []) ∵ fsplit ! $ move ! (0 ∷ 2 ∷ []) $
-      use2 𝓛 (given (IsIn row chunks u) (‵ (leads n u) ⊛ ‵ K)) (in_one store row chunks is u) $ learn ! (λ one. split ! $
+  pub all_in : (store : List ℕ) (row : ℕ) (chunks : List (Ptr × ℕ)) → IsWhole row chunks → n.store ≡ Some store → (vs : List ℕ) → ⟦ all_lead n vs ⟧ ∗ ⟦ known_row store row chunks ⟧ ⊢ guard 𝓤 (AreIn row chunks vs) ⟦ all_lead n vs ⟧
+  all_in store row chunks whole is [] = qed 𝓛 (‵ ftrue ∷ ‵ (known_row store row chunks) ∷ []) ∵ check ! (λ v named. absurd (cc)) $ keep ! (0 ∷ []) $ done !
+  all_in store row chunks whole is (u ∷ vs) = let K : Fml = known_row store row chunks in qed 𝓛 (‵ (all_lead n (u ∷ vs)) ∷ ‵ K ∷ []) ∵ fsplit ! $ move ! (0 ∷ 2 ∷ []) $
+      use2 𝓛 (given (IsIn row chunks u) (‵ (leads n u) ⊛ ‵ K)) (in_one store row chunks whole is u) $ learn ! (λ one. split ! $
       -- [where the first leads; the row; where the others lead]
-      move ! (2 ∷ 1 ∷ []) $ use2 𝓛 (given (AreIn row chunks vs) (‵ (all_lead n vs))) (all_in store row chunks is vs) $ learn ! (λ rest.
+      move ! (2 ∷ 1 ∷ []) $ use2 𝓛 (given (AreIn row chunks vs) (‵ (all_lead n vs))) (all_in store row chunks whole is vs) $ learn ! (λ rest.
       check ! (both_in row chunks u vs one rest) $ move ! (1 ∷ 0 ∷ []) $ fjoin ! $ done !))
 
   pub all_twice : (vs : List ℕ) → ⟦ all_lead n vs ⟧ ⊢ ⟦ all_lead n vs ⟧ ∗ ⟦ all_lead n vs ⟧

@@ -11,7 +11,7 @@
 --     IsChunkOf book keys            they are the keys of a new block of the book
 use Rattle.std.specs.Prelude.{◌≡◌, ℕ, pos, true, false, List, [], ◌∷◌, Some}
 use Rattle.seize_machine.specs.Machine.State.{State, has}
-use Rattle.seize_store.specs.Known.{label_in}
+use Rattle.seize_store.specs.Known.{IsWhole, label_in}
 use Rattle.seize_store.specs.declared.known.Known.{Known}
 use Rattle.seize_table.specs.Place.{IsPlace}
 use Rattle.seize_words.specs.Blocks.{block_of}
@@ -51,6 +51,7 @@ pub record Numbers (rights rights' : Rights) (number : ℕ) : Type 0 where
 pub record IsWay (rights : Rights) (known : Known) : Type 0 where
   pub one : is_one blocks rights.held ≡ true
   pub store : rights.name.store ≡ Some known.store
+  pub whole : IsWhole known.row known.chunks
   pub placed : IsPlace (block_of (label_of rights.held)) known.row (entry_in known (label_of rights.held))
   pub home : label_in known.chunks (entry_in known (label_of rights.held)) ≡ home_of (label_of rights.held)
 

@@ -1,6 +1,7 @@
 -- Where the blocks of values are found that were named, by what a token of the store shows of a row.
 --     entry_in known v     the entry of the value's number in the token's row
 --     AreAt known st       each value that was ever named, and whose number is one of the row's, lies in the block with the label there
+--     HasNumber k st       a value was named whose number this is
 --     state_seen pass      the machine after all that the pass has seen
 use Rattle.std.specs.Prelude.{◌≡◌, ℕ, true}
 use Rattle.seize_machine.specs.Machine.State.{State, has}
@@ -20,6 +21,9 @@ abbrev pub AreAt : Known → State → Type 0
 AreAt known st =
     (v : ℕ) → has v st.named ≡ true → IsPlace (block_of v) known.row (entry_in known v)
     → label_in known.chunks (entry_in known v) ≡ home_of v
+
+abbrev pub HasNumber : ℕ → State → Type 0
+HasNumber number st = (v : ℕ) × (has v st.named ≡ true) × (block_of v ≡ number)
 
 abbrev pub state_seen : Pass → State
 state_seen pass = after (start pass.name) pass.seen

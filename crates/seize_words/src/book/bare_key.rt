@@ -1,7 +1,7 @@
 //! The key of a block that may lie anywhere: what a chunk of a store keeps. It is `Rights` with one key.
 ghost use Rattle.std.specs.Prelude.{◌≡◌, ◌+◌, ◌<◌, ◌^◌, None, Some, true};
 ghost use Rattle.seize_store.specs.Known.{entry_of, label_in};
-ghost use Rattle.seize_table.specs.Place.{IsPlace};
+ghost use Rattle.seize_store.specs.Named.{IsRowOf};
 ghost use Rattle.seize_words.specs.Book.{after, blocks};
 ghost use Rattle.seize_words.specs.Homes.{IsVacant, home_of};
 ghost use Rattle.seize_words.specs.Private.{is_one, key_of, label_of, own_of};
@@ -47,7 +47,7 @@ impl BareKey {
     /// has the block's label. Words hold the block by this number.
     pub fn place(self, number: u64, known: &Known) -> ValueKey
         requires store { (bare_book self).store ≡ Some known.now.store }
-        requires row { IsPlace number known.now.row (entry_of known.now.row number) }
+        requires row { IsRowOf known.now number }
         requires home { label_in known.now.chunks (entry_of known.now.row number) ≡ bare_home self }
         ensures { Becomes self result number }
     {

@@ -1,7 +1,9 @@
 //! Passes. It uses nothing of the other modules; the keys beside it add entries with a pass.
-ghost use Rattle.std.specs.Prelude.{◌≡◌, ℕ, List, Some};
+ghost use Rattle.std.specs.Prelude.{◌≡◌, ℕ, List, Some, is_some, true};
 ghost use base.Stored.{coded_list};
 ghost use Rattle.seize_words.specs.Entry.{Entry, entry_coded};
+ghost use Rattle.seize_store.specs.Known.{IsWhole};
+ghost use Rattle.seize_store.specs.Named.{IsRowOf};
 ghost use Rattle.seize_words.specs.Tokens.{Name, name_coded, pass_owns};
 
 use seize_store::Known;
@@ -23,7 +25,7 @@ impl Model for Pass {
 }
 
 impl Pass {
-    ghost use Rattle.seize_words.specs.Homesteads.{AreAt, state_seen};
+    ghost use Rattle.seize_words.specs.Homesteads.{AreAt, HasNumber, state_seen};
     ghost use Rattle.seize_words.specs.Passes.{LooksOn, Meets};
 
     /// Two passes of one book tell each other what they have seen: afterwards both have seen the longer of their two beginnings. No event
@@ -33,10 +35,36 @@ impl Pass {
         ensures { Meets self.old other.old self.new other.new }
     {}
 
+    /// Looks at the list, and adds nothing. It gives what shows the row of this number, which is that of a value that was named: the value
+    /// lies in the block with the label that the row has there, and so does each other one that was named and whose number is one of the
+    /// row's.
+    pub fn seek(&mut self, number: u64) -> Known
+        requires store { is_some self.old.name.store ≡ true }
+        requires named { HasNumber number (state_seen self.old) }
+        ensures looks { LooksOn self.old self.new }
+        ensures row { (Some result.store ≡ self.old.name.store) × IsRowOf result number }
+        ensures homes { AreAt result (state_seen self.new) }
+    {
+        let known = self.row_of(number);
+        self.find(&known);
+        known
+    }
+
+    // What shows the row of the number.
+    fn row_of(&mut self, number: u64) -> Known
+        requires { (is_some self.old.name.store ≡ true) × HasNumber number (state_seen self.old) }
+        ensures { LooksOn self.old self.new × (Some result.store ≡ self.old.name.store) × IsRowOf result number }
+    {
+        Known {
+            marker: PhantomData,
+        }
+    }
+
     /// Looks at the list, and adds nothing. Where the blocks of the book lie in the store of this row, each value that was ever named, and
     /// whose number is one of the row's, lies in the block with the label that the row has there.
     pub fn find(&mut self, known: &Known)
-        requires { self.old.name.store ≡ Some known.now.store }
+        requires store { self.old.name.store ≡ Some known.now.store }
+        requires whole { IsWhole known.now.row known.now.chunks }
         ensures { LooksOn self.old self.new × AreAt known.now (state_seen self.new) }
     {}
 }

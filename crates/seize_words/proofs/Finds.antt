@@ -1,0 +1,93 @@
+-- Where a slot's call finds the blocks of its walk: the values that lie in them were named, and were not reclaimed, so a row of the store
+-- shows them. These facts are for callers.
+use Rattle.std.proofs.Common.{◌≡◌, ℕ, zero, suc, ◌<◌, true, false, List, [], ◌∷◌, length, Option, Some, None, refl, sym, ◌∙◌, ap, subst, ◌⊎◌, inl, inr, arith}
+use Rattle.std.specs.List.{Contains}
+use mathlib.Core.List.{IsPrefix}
+use Rattle.seize_machine.specs.Machine.State.{State, Rest, batch_at, slot_at, has, linked, are_distinct}
+use Rattle.seize_machine.specs.Machine.History.{IsReached, first_of}
+use Rattle.seize_machine.specs.Machine.Laws.{IsHeld, Walks, walk_of}
+use Rattle.seize_machine.proofs.Facts.{batched_named}
+use Rattle.seize_store.specs.Known.{entry_of, label_in}
+use Rattle.seize_store.specs.declared.known.Known.{Known}
+use Rattle.seize_table.specs.Place.{IsPlace}
+use Rattle.seize_words.specs.Blocks.{Plan, block_for, block_of, front_of, no_plan, plans}
+use Rattle.std.specs.Prelude.{slice_index_or, unwrap_or}
+use Rattle.seize_words.specs.Book.{IsLegalList, after}
+use Rattle.seize_words.specs.Chains.{served}
+use Rattle.seize_words.specs.Entry.{Entry}
+use Rattle.seize_words.specs.Homes.{home_of}
+use Rattle.seize_words.specs.Homesteads.{AreAt, state_seen}
+use Rattle.seize_words.specs.Slots.{IsOf, number_of, own_list, slot_of, start_of}
+use Rattle.seize_words.specs.Tokens.{Name, start}
+use Rattle.seize_words.specs.declared.book.pass.Pass.{Pass}
+use Rattle.seize_words.specs.declared.book.slot_key.SlotKey.{SlotKey}
+use Rattle.seize_words.proofs.Fronts.{held_values}
+use Rattle.seize_words.proofs.Lists.{reached_after}
+use Rattle.seize_words.proofs.Plans.{legal_prefix}
+use Rattle.seize_words.proofs.Serves.{Marked, marked_after, serving_in, slots_in, walks_marked}
+use Rattle.seize_words.proofs.Sound.{named_later}
+
+-- it was named, and not reclaimed
+abbrev pub IsLiving : ℕ → State → Type 0
+IsLiving v st = (has v st.named ≡ true) × (has v st.gone ≡ false)
+
+abbrev pub values_of : State → List Entry → ℕ → List ℕ
+values_of st log b = (slice_index_or (plans st log) b no_plan).values
+
+first_contained : (values : List ℕ) (v : ℕ) → first_of values ≡ Some v → Contains values v
+first_contained [] v e = absurd (cc)
+first_contained (x ∷ values) v e = (zero, omega arith, ap (λ (o : Option ℕ). unwrap_or o 0) e)
+
+module _ (n : Name) (log : List Entry) (distinct : are_distinct (linked n.links) ≡ true) (legal : IsLegalList (start n) log) where
+  abbrev now : State
+  now = after (start n) log
+
+  -- each value of a batch that is held
+  pub held_living : (b v : ℕ) → IsHeld now b → Contains (values_of (start n) log b) v → IsLiving v now
+  held_living b v held there =
+      batched_named now (reached_after n log distinct legal) b v (subst (λ (values : List ℕ). Contains values v) (sym (held_values n log distinct legal b held)) there)
+
+  -- that in whose block a batch waits for the slot that walks it
+  pub walked_living : (b s : ℕ) → Walks now s b → IsLiving (served (plans (start n) log) b s) now
+  walked_living b s walks =
+      let marked = marked_after n log distinct legal in let ps : List Plan = plans (start n) log in
+      held_living b (served ps b s) (inr (inl (s, walks))) (serving_in s (slots_in ps b) (values_of (start n) log b) (walks_marked now ps s b marked walks) (marked.fits b).1)
+
+  -- and the first one, where the count stands
+  pub front_living : (b v s : ℕ) → Walks now s b → front_of (start n) log b ≡ Some v → IsLiving v now
+  front_living b v s walks front = held_living b v (inr (inl (s, walks))) (first_contained (values_of (start n) log b) v front)
+
+-- What a slot's call finds whose next batch this is: the pass has seen what its key knows, and the token's row.
+module _ (known : Known) (key : SlotKey) (pass : Pass) (book : IsOf key pass) (grows : IsPrefix (own_list key) pass.seen) (legal : IsLegalList (start pass.name) pass.seen)
+    (distinct : are_distinct (linked pass.name.links) ≡ true) (homes : AreAt known (state_seen pass)) (b : ℕ) (walk queue : List ℕ)
+    (walking : (slot_of key).call ≡ Some (record { place = Rest [] (b ∷ walk); queue = queue })) where
+  abbrev st : State
+  st = start pass.name
+
+  abbrev own : List Entry
+  own = own_list key
+
+  its_own : IsLegalList st own
+  its_own = legal_prefix st own pass.seen grows legal
+
+  walks : Walks (after st own) (number_of key) b
+  walks = subst (λ (z : Name). Walks (after (start z) own) (number_of key) b) book (subst (λ o. Contains (walk_of o) b) (sym walking) (zero, omega arith, refl))
+
+  -- the label is the home of a living value with this number
+  living_home : (v number : ℕ) → number ≡ block_of v → IsLiving v (after st own) → IsPlace number known.row (entry_of known.row number) → label_in known.chunks (entry_of known.row number) ≡ home_of v
+  living_home v number is living placed =
+      let named : has v (state_seen pass).named ≡ true = named_later st own pass.seen v grows legal living.0 in
+      ap (λ (k : ℕ). label_in known.chunks (entry_of known.row k)) is
+      ∙ homes v named (subst (λ (k : ℕ). IsPlace k known.row (entry_of known.row k)) is placed)
+
+  -- the block with which the batch waited for the slot
+  pub next_home : IsPlace (block_for (start_of key) own b (number_of key)) known.row (entry_of known.row (block_for (start_of key) own b (number_of key)))
+      → label_in known.chunks (entry_of known.row (block_for (start_of key) own b (number_of key))) ≡ home_of (served (plans (start_of key) own) b (number_of key))
+  next_home = subst (λ (z : Name). IsPlace (block_for (start z) own b (number_of key)) known.row (entry_of known.row (block_for (start z) own b (number_of key)))
+      → label_in known.chunks (entry_of known.row (block_for (start z) own b (number_of key))) ≡ home_of (served (plans (start z) own) b (number_of key))) (sym book)
+      (living_home (served (plans st own) b (number_of key)) (block_for st own b (number_of key)) refl (walked_living pass.name own distinct its_own b (number_of key) walks))
+
+  -- and the first block of the batch
+  pub front_home : (front number : ℕ) → front_of (start_of key) own b ≡ Some front → number ≡ block_of front → IsPlace number known.row (entry_of known.row number)
+      → label_in known.chunks (entry_of known.row number) ≡ home_of front
+  front_home front number is its = living_home front number its (front_living pass.name own distinct its_own b front (number_of key) walks (subst (λ (z : Name). front_of (start z) own b ≡ Some front) book is))
