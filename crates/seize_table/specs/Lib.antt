@@ -3,6 +3,7 @@ pub mod Free
 pub mod Meaning
 pub mod Named
 pub mod Opened
+pub mod Pairs
 pub mod Place
 pub mod Refusals
 pub mod Table
