@@ -6,20 +6,22 @@ use seplogic.Ra.Ura.{Ura}
 use base.Fraction.{full_share}
 use base.Share.{quarter, three_quarters, quarters}
 use base.Logic.{SProp, ent, sep, ex, guard, upd, emp, via, upd_i}
-use base.Fml.{Fml, ftrue, fnamed}
+use base.Stored.{Gv, gnil, gcons}
+use base.Fml.{Fml, ftrue, fnamed, fobs, fauth}
 use base.Growing.{latest}
 use types.Logic.{Logic, sem}
 use types.Owned.{basic, named_past}
 use types.Keyed.{entries_new}
 use types.Growing.{latest_new, latest_cut, latest_shows, at_least_dup}
-use types.Kit.{‵, raw, ◌⊛◌, some, given, later, ◌$◌, ◌∵◌, !, qed, move, split, fsplit, fjoin, fpack, pick, learn, show, check, rewrite, suffices, settle, done, use0, use1, use3, updating, await, now}
+use types.Kit.{‵, raw, ◌⊛◌, some, given, later, ◌$◌, ◌∵◌, !, qed, move, split, fsplit, fjoin, fpack, pick, learn, show, check, rewrite, suffices, settle, done, drop, use0, use1, use2, use3, updating, await, now}
+use types.Tokens.{name_new}
 use denote.Steps.{nothing}
 use Rattle.seize_machine.specs.Machine.State.{State, has, linked, are_distinct, opening}
 use Rattle.seize_words.specs.Ledger.{Held, logs, halved, roster, rosters, rights, reached, row, Holds, AllBelow, AreNext, all_bumped, bumped, born}
 use Rattle.seize_words.specs.Entry.{Entry, entry_coded}
 use Rattle.seize_words.specs.Book.{Kept, Sized, mine, kind_of, rules, passes, numbers, slots, heads, links, totals, kinds}
 use Rattle.seize_words.specs.Homes.{IsSound}
-use Rattle.seize_words.specs.Tokens.{Name, Gate, many, sole, IsSole, rows, start, inside, beside, gate_keeps, gate_gives, all_lead, rights_own, keys_own, pass_at, pass_holds}
+use Rattle.seize_words.specs.Tokens.{Name, Gate, many, sole, IsSole, rows, start, inside, beside, called, uncalled, name_coded, gate_keeps, gate_gives, all_lead, rights_own, keys_own, pass_at, pass_holds}
 use Rattle.seize_words.specs.Begin.{BeganWith, unused, first_links, first_keys, book_owns}
 use Rattle.seize_words.proofs.Append.{grown, borns, has_grown, shut, sizes, grown_sizes}
 use Rattle.seize_words.specs.Chains.{told}
@@ -127,11 +129,11 @@ module _ {M : Type 1} {𝓤 : Ura M} (𝓛 : Logic 𝓤) where
   fresh = via 𝓤 _ (entries_new (halved entry_coded) 𝓛 0 (λ _. (full_share, []))) (basic 𝓛 _)
 
   module _ (n size : ℕ) (store : Option (List ℕ)) (Picked : Gate → Type 0) where
-    abbrev pub Begun : Name → Pr
-    Begun m = guard 𝓤 (Picked m.gate × BeganWith m n size store) (⟦ book_owns m [] ⟧ ∗ ⟦ pass_holds m 0 [] ⟧ ∗ ⟦ keys_own m (first_keys n) ⟧)
+    abbrev pub Begun : ℕ → Name → Pr
+    Begun f m = guard 𝓤 (Picked m.gate × (m.family ≡ f) × BeganWith m n size store) (⟦ book_owns m [] ⟧ ∗ ⟦ pass_holds m 0 [] ⟧ ∗ ⟦ keys_own m (first_keys n) ⟧)
 
-    pub begins : emp 𝓤 ⊢ upd 𝓤 (ex 𝓤 (Opened Picked)) → emp 𝓤 ⊢ H.⇛ (ex 𝓤 Begun)
-    begins opened = qed 𝓛 [] ∵ updating ! $
+    pub begins : emp 𝓤 ⊢ upd 𝓤 (ex 𝓤 (Opened Picked)) → (f : ℕ) → ⟦ uncalled f ⟧ ⊢ H.⇛ (ex 𝓤 (Begun f))
+    begins opened f = qed 𝓛 (‵ (uncalled f) ∷ []) ∵ updating ! $ fsplit ! $
         use0 𝓛 fresh_row fresh $ await ! tt $ pick ! (λ d0. use0 𝓛 fresh_row fresh $ await ! tt $ pick ! (λ d1.
         use0 𝓛 fresh_row fresh $ await ! tt $ pick ! (λ d2. use0 𝓛 fresh_row fresh $ await ! tt $ pick ! (λ d3.
         use0 𝓛 fresh_row fresh $ await ! tt $ pick ! (λ d4. use0 𝓛 fresh_row fresh $ await ! tt $ pick ! (λ d5.
@@ -147,6 +149,7 @@ module _ {M : Type 1} {𝓤 : Ura M} (𝓛 : Logic 𝓤) where
         let n₀ : Name = record {
           number = 0;
           log = η;
+          family = f;
           pass_keys = d0;
           number_keys = d1;
           slot_keys = d2;
@@ -169,15 +172,22 @@ module _ {M : Type 1} {𝓤 : Ura M} (𝓛 : Logic 𝓤) where
         nothing ! $ rewrite ! 0 (λ (vs : List ℕ). ‵ (all_lead n₀ vs)) (sym (none_linked n)) refl $ move ! (3 ∷ 0 ∷ []) $ fjoin ! $
         nothing ! $ move ! (0 ∷ 1 ∷ []) $ fjoin ! $ move ! (1 ∷ 6 ∷ 0 ∷ []) $ use3 𝓛 (‵ (inside n₀)) (shut entry_coded (rules st) (beside n₀) η (rows n₀) 𝓛 (grown [] bs []) [] (holds_first n)) $
         use1 𝓛 (later (some (λ (j : ℕ). given (0 ≤ j) (‵ (fnamed j (inside n₀)))))) (named_past 𝓛 0 (inside n₀)) $ await ! tt $ pick ! (λ j. learn ! (λ _. let m : Name = record n₀ { number = j } in
-        -- [the invariant; the rights; the pass's copy; nothing was reached, twice]
-        nothing ! $ fpack ! (are_distinct (linked m.links) ≡ true) (λ _. ftrue) (ap are_distinct (none_linked n)) $ move ! (1 ∷ 0 ∷ []) $ fjoin ! $ move ! (0 ∷ 3 ∷ []) $ fjoin ! $
+        -- [the invariant; the rights; the pass's copy; nothing was reached, twice; what the family says, which is nothing yet]
+        let c : Gv = gcons gnil (name_coded.code m) in move ! (5 ∷ 6 ∷ []) $
+        use2 𝓛 (later (‵ (fobs f c) ⊛ ‵ (fauth f c))) (via 𝓤 _ (𝓛.names.name_set_upd f gnil gnil c) (basic 𝓛 _)) $ await ! tt $ split ! $ use1 𝓛 (‵ (called m)) (𝓛.names.obs-res f c) $ move ! (1 ∷ []) $ drop ! $
+        -- [the book's call; the invariant; the rights; the pass's copy; nothing was reached, twice]
+        nothing ! $ fpack ! (are_distinct (linked m.links) ≡ true) (λ _. ftrue) (ap are_distinct (none_linked n)) $ move ! (1 ∷ 0 ∷ []) $ fjoin ! $ move ! (1 ∷ 0 ∷ []) $ fjoin ! $ move ! (0 ∷ 3 ∷ []) $ fjoin ! $
         -- [the book; the rights; the pass's copy; nothing was reached]
         move ! (1 ∷ []) $ fsplit ! $ nothing ! $ fpack ! (IsPrefix [] [] × (mine st 0 [] ≡ mine st 0 [])) (λ _. ftrue) (([], refl), refl) $
         -- [nothing is past; the pass's key; the other keys; the book; the pass's copy; nothing was reached]
         move ! (4 ∷ 0 ∷ []) $ fjoin ! $ move ! (4 ∷ 0 ∷ []) $ fjoin ! $ move ! (1 ∷ 0 ∷ []) $ fjoin ! $ fpack ! (List Entry) (pass_at m 0 []) [] $
         rewrite ! 1 (λ (hs : List (Held Entry)). ‵ (rights_own m (unused numbers 0 ∷ unused totals 0 ∷ unused slots 0 ∷ unused heads 0 ∷ hs))) (born_links 0 n) refl $
         move ! (1 ∷ []) $ use1 𝓛 (‵ (keys_own m (first_keys n))) (free_own 𝓛 m (first_keys n) (refl, (refl, (refl, (refl, no_links m 0 n))))) $
-        now ! $ show ! Begun m $ check ! (picked, (refl, refl, refl, refl)) $ move ! (2 ∷ 1 ∷ 0 ∷ []) $ done !))))))))))))))
+        now ! $ show ! (Begun f) m $ check ! (picked, refl, (refl, refl, refl, refl)) $ move ! (2 ∷ 1 ∷ 0 ∷ []) $ done !))))))))))))))
+
+  -- a family that no book has
+  pub new_family : emp 𝓤 ⊢ H.⇛ (ex 𝓤 (λ (f : ℕ). ⟦ uncalled f ⟧))
+  new_family = qed 𝓛 [] ∵ updating ! $ name_new ! tt gnil (λ f. fjoin ! $ now ! $ show ! (λ (f : ℕ). ⟦ uncalled f ⟧) f $ done !)
 
   -- where many may append, and where one pass alone
   pub many_opens : emp 𝓤 ⊢ upd 𝓤 (ex 𝓤 (Opened (λ g. g ≡ many)))

@@ -1,12 +1,14 @@
 -- What the token of a book gives: itself once more, a new pass, and the keys of a new block; and how it learns. Assumes `Logic`.
-use Rattle.std.proofs.Common.{◌≡◌, ℕ, ◌+◌, arith, pos, false, List, [], ◌∷◌, refl}
+use Rattle.std.proofs.Common.{◌≡◌, ℕ, ◌+◌, arith, pos, false, List, [], ◌∷◌, refl, sym, ap}
 use seplogic.Ra.Ura.{Ura}
-use base.Logic.{SProp, ent, sep, ex, guard}
-use base.Fml.{Fml}
+use base.Logic.{SProp, ent, sep, ex, guard, via, fst∗, snd∗}
+use base.Stored.{Gv, gnil, gnum, gcons}
+use base.Fml.{Fml, fres}
+use contract.Monad.{fact, conj_i}
 use types.Logic.{Logic, sem}
 use types.Growing.{at_least_dup}
-use types.Kit.{‵, ◌⊛◌, some, given, ◌$◌, ◌∵◌, !, qed, by, move, keep, split, split3, fsplit, fjoin, pick, learn, show, check, done, use1, use2, use3, updating, await, now}
-use denote.Steps.{nothing}
+use types.Kit.{‵, raw, rewrite, drop, ◌⊛◌, some, given, ◌$◌, ◌∵◌, !, qed, by, move, keep, split, split3, fsplit, fjoin, pick, learn, show, check, done, use1, use2, use3, updating, await, now}
+use denote.Steps.{nothing, heard}
 use mathlib.Core.List.{IsPrefix}
 use Rattle.seize_machine.specs.Machine.State.{State, has}
 use Rattle.seize_words.specs.Ledger.{Held, logs, reached}
@@ -16,13 +18,18 @@ use Rattle.seize_words.specs.Chains.{first_field, next_field, told}
 use Rattle.seize_words.specs.Deposits.{deposit}
 use Rattle.seize_words.specs.Homes.{count_in, home_of}
 use Rattle.seize_words.specs.Fair.{pass_key}
-use Rattle.seize_words.specs.Tokens.{Name, start, knows, many, gate_gives, rights_own, keys_own, pass_holds, pass_owns}
+use Rattle.seize_words.specs.Tokens.{Name, name_coded, start, knows, many, gate_gives, rights_own, keys_own, pass_holds, pass_owns}
 use Rattle.seize_words.specs.Bare.{of_header, of_values}
 use Rattle.seize_words.specs.Begin.{book_owns}
 use Rattle.seize_words.proofs.Append.{OneMore}
 use Rattle.seize_words.proofs.Looks.{Idle, apart, together}
 use Rattle.seize_words.proofs.Ways.{free_own}
 use Rattle.seize_words.proofs.Notes.{knows_twice, another, Picks, minted, new_keys}
+
+abbrev code_in : Gv → Gv
+code_in gnil = gnil
+code_in (gnum k) = gnil
+code_in (gcons u v) = v
 
 module _ {M : Type 1} {𝓤 : Ura M} (𝓛 : Logic 𝓤) (n : Name) where
   open 𝓛 use {H}
@@ -46,6 +53,24 @@ module _ {M : Type 1} {𝓤 : Ura M} (𝓛 : Logic 𝓤) (n : Name) where
 
   abbrev had : List Entry → Fml
   had log = reached entry_coded n.log log
+
+  called_once : (f : ℕ) (u v : Gv) → ⟦ fres f u ⟧ ∗ ⟦ fres f v ⟧ ⊢ fact 𝓤 (u ≡ v)
+  called_once f u v = let P : Pr = ⟦ fres f u ⟧ in let Q : Pr = ⟦ fres f v ⟧ in via 𝓤 _ (conj_i 𝓤 P Q (fst∗ 𝓤 P Q) (snd∗ 𝓤 P Q)) (𝓛.names.res_one f u v)
+
+  -- a family is that of one book
+  pub one_book : (m : Name) → n.family ≡ m.family → ⟦ knows n ⟧ ∗ ⟦ knows m ⟧ ⊢ guard 𝓤 (n ≡ m) (⟦ knows n ⟧ ∗ ⟦ knows m ⟧)
+  one_book m same = let u : Gv = gcons gnil (name_coded.code n) in let v : Gv = gcons gnil (name_coded.code m) in let Same : Type 0 = u ≡ v in
+      qed 𝓛 (‵ (knows n) ∷ ‵ (knows m) ∷ []) ∵ use1 𝓛 (‵ (knows n) ⊛ ‵ (knows n)) (knows_twice 𝓛 n) $ split ! $ move ! (2 ∷ []) $ use1 𝓛 (‵ (knows m) ⊛ ‵ (knows m)) (knows_twice 𝓛 m) $ split ! $
+      -- [the other, twice; the one, twice]
+      fsplit ! $ drop ! $ fsplit ! $ move ! (1 ∷ []) $ drop ! $ move ! (2 ∷ []) $ fsplit ! $ drop ! $ fsplit ! $ move ! (1 ∷ []) $ drop ! $
+      -- [what the one's family says; what the other's says; the other; the one]
+      rewrite ! 0 (λ (f : ℕ). ‵ (fres f u)) same refl $ use2 𝓛 (raw (fact 𝓤 Same)) (called_once m.family u v) $ heard ! Same (λ e. check ! (name_coded.inj n m (ap code_in e)) $ move ! (1 ∷ 0 ∷ []) $ done !)
+
+  pub pass_agrees : (p : ℕ) (seen : List Entry) (m : Name) (past : List Entry) → m.family ≡ n.family → ⟦ pass_owns n p seen ⟧ ∗ ⟦ book_owns m past ⟧ ⊢ guard 𝓤 (m ≡ n) ⟦ pass_owns n p seen ⟧
+  pass_agrees p seen m past same = qed 𝓛 ((‵ (knows n) ⊛ ‵ (pass_holds n p seen)) ∷ ‵ (book_owns m past) ∷ []) ∵ split ! $ move ! (2 ∷ []) $ fsplit ! $ move ! (2 ∷ 0 ∷ []) $
+      use2 𝓛 (given (n ≡ m) (‵ (knows n) ⊛ ‵ (knows m))) (one_book m (sym same)) $ learn ! (λ e. split ! $ check ! (sym e) $
+      -- [the book; the other; what the other has seen; the pass]
+      move ! (0 ∷ 3 ∷ []) $ fjoin ! $ keep ! (0 ∷ []) $ done !)
 
   pub book_twice : (seen : List Entry) → ⟦ book_owns n seen ⟧ ⊢ ⟦ book_owns n seen ⟧ ∗ ⟦ book_owns n seen ⟧
   book_twice seen = qed 𝓛 (‵ (book_owns n seen) ∷ []) ∵ fsplit ! $ use1 𝓛 (‵ (knows n) ⊛ ‵ (knows n)) (knows_twice 𝓛 n) $ split ! $

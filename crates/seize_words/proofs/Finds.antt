@@ -1,10 +1,10 @@
 -- Where a slot's call finds the blocks of its walk: the values that lie in them were named, and were not reclaimed, so a row of the store
 -- shows them. These facts are for callers.
-use Rattle.std.proofs.Common.{◌≡◌, ℕ, zero, suc, ◌<◌, true, false, List, [], ◌∷◌, length, Option, Some, None, refl, sym, ◌∙◌, ap, subst, ◌⊎◌, inl, inr, arith}
+use Rattle.std.proofs.Common.{◌≡◌, ℕ, zero, true, false, List, [], ◌∷◌, Option, Some, refl, sym, ◌∙◌, ap, subst, inl, inr, arith}
 use Rattle.std.specs.List.{Contains}
 use mathlib.Core.List.{IsPrefix}
-use Rattle.seize_machine.specs.Machine.State.{State, Rest, batch_at, slot_at, has, linked, are_distinct}
-use Rattle.seize_machine.specs.Machine.History.{IsReached, first_of}
+use Rattle.seize_machine.specs.Machine.State.{State, Rest, has, linked, are_distinct}
+use Rattle.seize_machine.specs.Machine.History.{first_of}
 use Rattle.seize_machine.specs.Machine.Laws.{IsHeld, Walks, walk_of}
 use Rattle.seize_machine.proofs.Facts.{batched_named}
 use Rattle.seize_store.specs.Known.{entry_of, label_in}
@@ -18,13 +18,13 @@ use Rattle.seize_words.specs.Entry.{Entry}
 use Rattle.seize_words.specs.Homes.{home_of}
 use Rattle.seize_words.specs.Homesteads.{AreAt, state_seen}
 use Rattle.seize_words.specs.Slots.{IsOf, number_of, own_list, slot_of, start_of}
-use Rattle.seize_words.specs.Tokens.{Name, start}
+use Rattle.seize_words.specs.Tokens.{Name, label_at, start}
 use Rattle.seize_words.specs.declared.book.pass.Pass.{Pass}
 use Rattle.seize_words.specs.declared.book.slot_key.SlotKey.{SlotKey}
 use Rattle.seize_words.proofs.Fronts.{held_values}
 use Rattle.seize_words.proofs.Lists.{reached_after}
 use Rattle.seize_words.proofs.Plans.{legal_prefix}
-use Rattle.seize_words.proofs.Serves.{Marked, marked_after, serving_in, slots_in, walks_marked}
+use Rattle.seize_words.proofs.Serves.{marked_after, serving_in, slots_in, walks_marked}
 use Rattle.seize_words.proofs.Sound.{named_later}
 
 -- it was named, and not reclaimed
@@ -59,7 +59,7 @@ module _ (n : Name) (log : List Entry) (distinct : are_distinct (linked n.links)
 
 -- What a slot's call finds whose next batch this is: the pass has seen what its key knows, and the token's row.
 module _ (known : Known) (key : SlotKey) (pass : Pass) (book : IsOf key pass) (grows : IsPrefix (own_list key) pass.seen) (legal : IsLegalList (start pass.name) pass.seen)
-    (distinct : are_distinct (linked pass.name.links) ≡ true) (homes : AreAt known (state_seen pass)) (b : ℕ) (walk queue : List ℕ)
+    (distinct : are_distinct (linked pass.name.links) ≡ true) (homes : AreAt pass.name known (state_seen pass)) (b : ℕ) (walk queue : List ℕ)
     (walking : (slot_of key).call ≡ Some (record { place = Rest [] (b ∷ walk); queue = queue })) where
   abbrev st : State
   st = start pass.name
@@ -74,7 +74,7 @@ module _ (known : Known) (key : SlotKey) (pass : Pass) (book : IsOf key pass) (g
   walks = subst (λ (z : Name). Walks (after (start z) own) (number_of key) b) book (subst (λ o. Contains (walk_of o) b) (sym walking) (zero, omega arith, refl))
 
   -- the label is the home of a living value with this number
-  living_home : (v number : ℕ) → number ≡ block_of v → IsLiving v (after st own) → IsPlace number known.row (entry_of known.row number) → label_in known.chunks (entry_of known.row number) ≡ home_of v
+  living_home : (v number : ℕ) → number ≡ block_of v → IsLiving v (after st own) → IsPlace number known.row (entry_of known.row number) → label_in known.chunks (entry_of known.row number) ≡ label_at pass.name (home_of v)
   living_home v number is living placed =
       let named : has v (state_seen pass).named ≡ true = named_later st own pass.seen v grows legal living.0 in
       ap (λ (k : ℕ). label_in known.chunks (entry_of known.row k)) is
@@ -82,12 +82,12 @@ module _ (known : Known) (key : SlotKey) (pass : Pass) (book : IsOf key pass) (g
 
   -- the block with which the batch waited for the slot
   pub next_home : IsPlace (block_for (start_of key) own b (number_of key)) known.row (entry_of known.row (block_for (start_of key) own b (number_of key)))
-      → label_in known.chunks (entry_of known.row (block_for (start_of key) own b (number_of key))) ≡ home_of (served (plans (start_of key) own) b (number_of key))
+      → label_in known.chunks (entry_of known.row (block_for (start_of key) own b (number_of key))) ≡ label_at pass.name (home_of (served (plans (start_of key) own) b (number_of key)))
   next_home = subst (λ (z : Name). IsPlace (block_for (start z) own b (number_of key)) known.row (entry_of known.row (block_for (start z) own b (number_of key)))
-      → label_in known.chunks (entry_of known.row (block_for (start z) own b (number_of key))) ≡ home_of (served (plans (start z) own) b (number_of key))) (sym book)
+      → label_in known.chunks (entry_of known.row (block_for (start z) own b (number_of key))) ≡ label_at pass.name (home_of (served (plans (start z) own) b (number_of key)))) (sym book)
       (living_home (served (plans st own) b (number_of key)) (block_for st own b (number_of key)) refl (walked_living pass.name own distinct its_own b (number_of key) walks))
 
   -- and the first block of the batch
   pub front_home : (front number : ℕ) → front_of (start_of key) own b ≡ Some front → number ≡ block_of front → IsPlace number known.row (entry_of known.row number)
-      → label_in known.chunks (entry_of known.row number) ≡ home_of front
+      → label_in known.chunks (entry_of known.row number) ≡ label_at pass.name (home_of front)
   front_home front number is its = living_home front number its (front_living pass.name own distinct its_own b front (number_of key) walks (subst (λ (z : Name). front_of (start z) own b ≡ Some front) book is))

@@ -1,5 +1,5 @@
 -- Homes: values with a given home, and what an event that leaves a home alone does to its values.
-use Rattle.std.proofs.Common.{◌≡◌, ℕ, zero, suc, ◌+◌, ◌*◌, ◌/◌, ◌^◌, ◌<◌, ◌≤◌, Bool, false, ◌==◌, if◌then◌else◌, List, [], ◌∷◌, Option, Some, None, refl, sym, ap, ◌∙◌, arith}
+use Rattle.std.proofs.Common.{◌≡◌, ℕ, ◌+◌, ◌*◌, ◌/◌, ◌^◌, ◌<◌, ◌≤◌, false, ◌==◌, List, [], ◌∷◌, Option, Some, None, refl, sym, ap, ◌∙◌, arith}
 use Rattle.std.specs.List.{list_any}
 use Rattle.std.proofs.lemmas.Bool.{true≢false, or_from, or_parts}
 use Rattle.seize_machine.specs.Machine.State.{State, link_at, has}
@@ -7,23 +7,17 @@ use Rattle.seize_machine.specs.Machine.Event.{Event, Begin, Hand, ExchangeLink}
 use Rattle.seize_machine.specs.Machine.Next.{new_link}
 use Rattle.seize_machine.specs.Machine.Frames.{is_number, changes_value}
 use Rattle.seize_machine.specs.declared.machine.event.Job.TheVariants.{Retire}
-use Rattle.seize_words.specs.Homes.{next_turn, turn, home_of, is_home, changes_home}
+use Rattle.seize_words.specs.Homes.{home_of, is_home, changes_home}
+use Rattle.seize_table.specs.Pairs.{left_of, pair}
+use Rattle.seize_table.proofs.Pairs.{left_pair, past}
 use Rattle.seize_words.specs.Blocks.{block_of}
 use Rattle.seize_words.proofs.Lists.{equal, unequal}
 
--- each number up to m comes in round m, at m or later
-comes : (m j : ℕ) → j ≤ m → (w : ℕ) × (turn w ≡ (j, m)) × (m ≤ w)
-comes zero zero le = (0, refl, le)
-comes (suc m) zero le = let last = comes m m (omega arith) in
-    (suc last.0, ap next_turn last.1 ∙ ap (λ (b : Bool). if b then (0, suc m) else (suc m, m)) (equal m m refl), omega (arith, last.2))
-comes m (suc j) le = let before = comes m j (omega (arith, le)) in
-    (suc before.0, ap next_turn before.1 ∙ ap (λ (b : Bool). if b then (0, suc m) else (suc j, m)) (unequal j m (λ e. omega (arith, le, e))), omega (arith, before.2))
-
 -- each home has values with any block's number, past any bound
 pub another_of : (k p bound : ℕ) → p < 2 ^ 64 → (v : ℕ) × (home_of v ≡ k) × (block_of v ≡ p) × (bound ≤ v)
-another_of k p bound small = let there = comes (k + bound) k (omega arith) in let w : ℕ = there.0 in let v : ℕ = w * 2 ^ 64 + p in
+another_of k p bound small = let w : ℕ = pair k bound in let v : ℕ = w * 2 ^ 64 + p in
     let place : v / 2 ^ 64 ≡ w = omega (arith, small) in
-    (v, ap (λ (x : ℕ). (turn x).0) place ∙ ap (λ (t : ℕ × ℕ). t.0) there.1, omega (arith, small), omega (arith, there.2))
+    (v, ap left_of place ∙ left_pair k bound, omega (arith, small), omega (arith, past k bound))
 
 -- what changes nothing of a home changes nothing of its values
 

@@ -1,5 +1,5 @@
 -- Steps on a link's word by whoever has an activation of a slot meet what is asked of a step.
-use Rattle.std.proofs.Common.{◌≡◌, ℕ, zero, suc, ◌<◌, ◌≤◌, Bool, true, false, ◌⊎◌, inl, inr, ⊎_elim, not, ◌&&◌, ◌||◌, nat_lt, List, [], ◌∷◌, ◌++◌, length, Option, Some, None, refl, sym, ◌∙◌, ap, subst, append-nil, arith}
+use Rattle.std.proofs.Common.{◌≡◌, ℕ, zero, suc, ◌<◌, ◌≤◌, Bool, true, false, inl, inr, ⊎_elim, not, ◌&&◌, ◌||◌, nat_lt, List, [], ◌∷◌, ◌++◌, length, Option, Some, None, refl, sym, ◌∙◌, ap, subst, append-nil, arith}
 use Rattle.std.proofs.lemmas.List.{get_or-set_same}
 use Rattle.seize_machine.specs.Machine.State.{State, head_at, link_at, is_active, has}
 use Rattle.seize_machine.specs.Machine.Event.{ReadLink, ExchangeLink}

@@ -3,15 +3,16 @@ use Rattle.std.proofs.Common.{◌≡◌, ℕ, List, [], ◌∷◌, ◌++◌, ref
 use mathlib.Core.List.{IsPrefix}
 use seplogic.Ra.Ura.{Ura}
 use base.Logic.{SProp, ent, sep, ex, guard, upd, upd_i}
-use base.Fml.{Fml, ftrue, finv, fnamed}
+use base.Fml.{Fml, ftrue, fsep, finv, fnamed}
 use types.Logic.{Logic, sem}
 use types.Kit.{‵, raw, ◌⊛◌, some, given, later, ◌$◌, ◌∵◌, !, qed, move, keep, drop, split, split3, join, fsplit, fjoin, fpick, fpack, pick, learn, show, check, frame, assume, suffices, settle, done, use1, use2, use3, updating, await, now}
+use types.Tokens.{res_dup}
 use denote.Steps.{nothing}
 use Rattle.seize_machine.specs.Machine.State.{State, linked, are_distinct}
 use Rattle.seize_words.specs.Ledger.{fact, Held, reached, WithKinds, born}
 use Rattle.seize_words.specs.Entry.{Entry, entry_coded}
 use Rattle.seize_words.specs.Book.{mine, rules, passes, kinds}
-use Rattle.seize_words.specs.Tokens.{Name, rows, start, beside, inside, knows, Gate, many, gate_gives, rights_own, pass_at, pass_holds, pass_owns}
+use Rattle.seize_words.specs.Tokens.{Name, rows, start, beside, inside, called, knows, Gate, many, gate_gives, rights_own, pass_at, pass_holds, pass_owns}
 use Rattle.seize_words.proofs.Append.{MayMint, mint, Minted}
 use Rattle.seize_words.proofs.Goes.{kept_now}
 use Rattle.seize_words.proofs.Passes.{IsDistinct, keys, by_pass, MayMake, Tells, Trades, keys_after, Made}
@@ -45,19 +46,28 @@ module _ {M : Type 1} {𝓤 : Ura M} (𝓛 : Logic 𝓤) (n : Name) where
   abbrev distinct : Fml
   distinct = fact (are_distinct (linked n.links) ≡ Rattle.std.specs.Prelude.true)
 
+  abbrev calls : Fml
+  calls = fsep (called n) distinct
+
+  calls_twice : ⟦ calls ⟧ ⊢ ⟦ calls ⟧ ∗ ⟦ calls ⟧
+  calls_twice = qed 𝓛 (‵ calls ∷ []) ∵ fsplit ! $ res_dup ! $ move ! (2 ∷ []) $ fpick ! (λ so. drop ! $
+      nothing ! $ fpack ! (IsDistinct 𝓛 n) (λ _. ftrue) so $ move ! (1 ∷ 0 ∷ []) $ fjoin ! $
+      nothing ! $ fpack ! (IsDistinct 𝓛 n) (λ _. ftrue) so $ move ! (2 ∷ 0 ∷ []) $ fjoin ! $ done !)
+
   -- what is known of a book may be known twice
   pub knows_twice : ⟦ knows n ⟧ ⊢ ⟦ knows n ⟧ ∗ ⟦ knows n ⟧
-  knows_twice = qed 𝓛 (‵ (knows n) ∷ []) ∵ fsplit ! $ move ! (1 ∷ []) $ fpick ! (λ so. drop ! $ use1 𝓛 (‵ (fnamed n.number J) ⊛ ‵ (fnamed n.number J)) (𝓛.invs.named_dup n.number J) $ split ! $
-      nothing ! $ fpack ! (are_distinct (linked n.links) ≡ Rattle.std.specs.Prelude.true) (λ _. ftrue) so $ move ! (1 ∷ 0 ∷ []) $ fjoin ! $
-      nothing ! $ fpack ! (are_distinct (linked n.links) ≡ Rattle.std.specs.Prelude.true) (λ _. ftrue) so $ move ! (2 ∷ 0 ∷ []) $ fjoin ! $ done !)
+  knows_twice = qed 𝓛 (‵ (knows n) ∷ []) ∵ fsplit ! $ use1 𝓛 (‵ (fnamed n.number J) ⊛ ‵ (fnamed n.number J)) (𝓛.invs.named_dup n.number J) $ split ! $
+      move ! (2 ∷ []) $ use1 𝓛 (‵ calls ⊛ ‵ calls) calls_twice $ split ! $
+      -- [the book's call, twice; its invariant, twice]
+      move ! (2 ∷ 0 ∷ []) $ fjoin ! $ move ! (2 ∷ 1 ∷ []) $ fjoin ! $ done !
 
   pub distinct_links : ⟦ knows n ⟧ ⊢ guard 𝓤 (IsDistinct 𝓛 n) ⟦ knows n ⟧
-  distinct_links = qed 𝓛 (‵ (knows n) ∷ []) ∵ fsplit ! $ move ! (1 ∷ []) $ fpick ! (λ so. drop ! $ check ! so $
-      nothing ! $ fpack ! (IsDistinct 𝓛 n) (λ _. ftrue) so $ move ! (1 ∷ 0 ∷ []) $ fjoin ! $ done !)
+  distinct_links = qed 𝓛 (‵ (knows n) ∷ []) ∵ fsplit ! $ move ! (1 ∷ []) $ fsplit ! $ move ! (1 ∷ []) $ fpick ! (λ so. drop ! $ check ! so $
+      nothing ! $ fpack ! (IsDistinct 𝓛 n) (λ _. ftrue) so $ move ! (1 ∷ 0 ∷ []) $ fjoin ! $ move ! (1 ∷ 0 ∷ []) $ fjoin ! $ done !)
 
   -- the invariant is at hand
   pub opens : ⟦ knows n ⟧ ⊢ ⟦ finv J ⟧
-  opens = qed 𝓛 (‵ (knows n) ∷ []) ∵ fsplit ! $ move ! (1 ∷ []) $ fpick ! (λ so. drop ! $ use1 𝓛 (‵ (finv J)) (𝓛.invs.named_inv n.number J) $ done !)
+  opens = qed 𝓛 (‵ (knows n) ∷ []) ∵ fsplit ! $ keep ! (0 ∷ []) $ use1 𝓛 (‵ (finv J)) (𝓛.invs.named_inv n.number J) $ done !
 
   module _ (p : ℕ) (seen : List Entry) (held : List (Held Entry)) (ev : List Entry → Entry) (Told : List Entry → Type 0) (X : Pr) (Y : List Entry → Pr) where
     abbrev now_at : List Entry → List Entry

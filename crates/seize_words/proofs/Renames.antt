@@ -1,5 +1,5 @@
 -- The key of a block is for another of its values then. Assumes `Logic`.
-use Rattle.std.proofs.Common.{◌≡◌, ℕ, suc, ◌+◌, ◌^◌, ◌<◌, ◌≤◌, Bool, true, false, Option, Some, None, ◌==◌, List, [], ◌∷◌, refl, sym, ◌∙◌, ap, subst, arith}
+use Rattle.std.proofs.Common.{◌≡◌, ℕ, suc, ◌+◌, ◌^◌, ◌<◌, ◌≤◌, Bool, true, false, ◌==◌, List, [], ◌∷◌, refl, sym, ◌∙◌, ap, subst, arith}
 use Rattle.std.proofs.lemmas.Bool.{or_from}
 use seplogic.Ra.Ura.{Ura}
 use base.Logic.{ent}
@@ -7,7 +7,6 @@ use base.Fml.{Fml}
 use types.Logic.{Logic, sem}
 use types.Kit.{‵, ◌$◌, ◌∵◌, !, qed, move, fsplit, fjoin, rewrite, done}
 use native.Mathlib.Decide.{ℕ_discrete}
-use Rattle.seize_store.specs.Known.{leads_to}
 use Rattle.seize_machine.specs.Machine.State.{State, has}
 use Rattle.seize_words.specs.Bare.{Numbers}
 use Rattle.seize_words.specs.Blocks.{block_of}
@@ -18,7 +17,7 @@ use Rattle.seize_words.specs.Homes.{IsVacant, home_of}
 use Rattle.seize_words.specs.Ledger.{AllKept, Held, renewed}
 use Rattle.seize_words.specs.Others.{HasGone, IsLast, Renames, labelled, state_of}
 use Rattle.seize_words.specs.Private.{is_one, key_of, label_of, own_of}
-use Rattle.seize_words.specs.Tokens.{Name, leads_in, way_if, rights_own, keys_own, start}
+use Rattle.seize_words.specs.Tokens.{Name, label_at, leads, leads_in, way_if, rights_own, keys_own, start}
 use Rattle.seize_words.specs.declared.book.keys.Keys.{Keys}
 use Rattle.seize_words.specs.declared.book.pass.Pass.{Pass}
 use Rattle.seize_words.specs.declared.book.value_key.ValueKey.{ValueKey}
@@ -74,12 +73,11 @@ label_one [] v one = absurd (cc)
 label_one (h ∷ held) v one = refl
 
 module _ {M : Type 1} {𝓤 : Ura M} (𝓛 : Logic 𝓤) (n : Name) where
-  same_lead : (store : Option (List ℕ)) (v w : ℕ) → home_of v ≡ home_of w → block_of v ≡ block_of w → leads_in store v ≡ leads_in store w
-  same_lead None v w home block = refl
-  same_lead (Some s) v w home block = ap (λ (t : ℕ × ℕ). leads_to s t.0 t.1) (λ j. (block j, home j))
+  same_lead : (v w : ℕ) → home_of v ≡ home_of w → block_of v ≡ block_of w → leads n v ≡ leads n w
+  same_lead v w home block = ap (λ (t : ℕ × ℕ). leads_in n.store t.0 (label_at n t.1)) (λ j. (block j, home j))
 
   same_way : (b : Bool) (v w : ℕ) → home_of v ≡ home_of w → block_of v ≡ block_of w → way_if b n v ≡ way_if b n w
-  same_way true v w home block = same_lead n.store v w home block
+  same_way true v w home block = same_lead v w home block
   same_way false v w home block = refl
 
   pub right_labelled : (held : List (Held Entry)) (v : ℕ) → ent 𝓤 (sem 𝓛 (rights_own n held)) (sem 𝓛 (rights_own n (labelled v held)))

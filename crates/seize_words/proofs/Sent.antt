@@ -32,16 +32,16 @@ unfolding latest
 gives_keyless many seen = tt
 gives_keyless (sole η) seen = tt
 
-lead_keyless : (store : Option (List ℕ)) (v : ℕ) → Keyless (leads_in store v)
-lead_keyless None v = tt
-lead_keyless (Some store) v = λ way. tt
+lead_keyless : (store : Option (List ℕ)) (b label : ℕ) → Keyless (leads_in store b label)
+lead_keyless None b label = tt
+lead_keyless (Some store) b label = λ way. tt
 
 leads_keyless : (n : Name) (vs : List ℕ) → Keyless (all_lead n vs)
 leads_keyless n [] = tt
-leads_keyless n (v ∷ vs) = (lead_keyless n.store v, leads_keyless n vs)
+leads_keyless n (v ∷ vs) = (lead_keyless n.store _ _, leads_keyless n vs)
 
 way_keyless : (b : Bool) (n : Name) (v : ℕ) → Keyless (way_if b n v)
-way_keyless true n v = lead_keyless n.store v
+way_keyless true n v = lead_keyless n.store _ _
 way_keyless false n v = tt
 
 inside_keyless : (n : Name) → Keyless (inside n)
@@ -50,11 +50,11 @@ inside_keyless n = λ s. (rosters_keyless (rows n) s.0, (tt, ((over_keyless (end
 
 pub book_keyless : (n : Name) (seen : List Entry) → Keyless (book_owns n seen)
 unfolding at_least
-book_keyless n seen = ((inside_keyless n, λ _. tt), tt)
+book_keyless n seen = ((inside_keyless n, (tt, λ _. tt)), tt)
 
 pub pass_keyless : (n : Name) (p : ℕ) (seen : List Entry) → Keyless (pass_owns n p seen)
 unfolding at_least
-pass_keyless n p seen = ((inside_keyless n, λ _. tt), λ own. (entry_keyless (halved entry_coded) _ p _, (tt, (gives_keyless n.gate seen, λ _. tt))))
+pass_keyless n p seen = ((inside_keyless n, (tt, λ _. tt)), λ own. (entry_keyless (halved entry_coded) _ p _, (tt, (gives_keyless n.gate seen, λ _. tt))))
 
 pub keys_keyless : (n : Name) (held : List (Held Entry)) → Keyless (keys_own n held)
 keys_keyless n [] = tt

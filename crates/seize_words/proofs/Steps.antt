@@ -13,14 +13,14 @@ use Rattle.core.specs.Sync.RawAtomic.{word, asks, always}
 use Rattle.core.proofs.raw_atomic.Asked.{borrowed_with, LiesWith, AgainWith}
 use Rattle.seize_machine.specs.Machine.State.{State, link_at}
 use Rattle.seize_machine.proofs.Facts.{eq_true}
-use Rattle.seize_words.specs.Ledger.{fact, Held, right, WithKinds, renewed, born}
-use Rattle.seize_words.specs.Entry.{Entry, entry_coded}
+use Rattle.seize_words.specs.Ledger.{fact, Held, WithKinds, renewed, born}
+use Rattle.seize_words.specs.Entry.{Entry}
 use Rattle.seize_words.specs.Book.{Kind, ThePass, TheNumbers, TheSlot, TheHead, TheLink, TheCount, TheBlock, TheField, TheTotal, Nothing, after, kinds, kind_of, blocks}
 use Rattle.seize_words.specs.Laws.{ended}
 use Rattle.seize_words.specs.Fair.{Before}
 use Rattle.seize_words.specs.Private.{is_one}
 use Rattle.seize_words.specs.Stepping.{in_step, FoundAs, NoneEnded, beside_then, held_then, staying, with_births, IsStepWith, LooksAt, MayStepWith, SteppedWith}
-use Rattle.seize_words.specs.Tokens.{Name, rows, start, inside, knows, keys_own, over, pass_holds, pass_owns}
+use Rattle.seize_words.specs.Tokens.{Name, start, inside, knows, keys_own, over, pass_holds, pass_owns}
 use Rattle.seize_words.specs.Words.{Site, Shows, ShowsOf, Stands, StandsOf, IsKeyOf, word_knows, word_lies, word_reading}
 use Rattle.seize_words.proofs.Values.{blocks_within}
 use Rattle.seize_words.proofs.Lives.{ends_those, living, none_over}
@@ -258,6 +258,6 @@ module _ {M : Type 1} {𝓤 : Ura M} (𝓛 : Logic 𝓤) (site : Site) where
 
   -- a pass, opened for a step
   pub opened : (p : ℕ) (seen : List Entry) → ⟦ pass_owns n p seen ⟧ ⊢ guard 𝓤 (IsDistinct 𝓛 n) (⟦ knows n ⟧ ∗ A.named n.number J ∗ ⟦ pass_holds n p seen ⟧)
-  opened p seen = qed 𝓛 ((‵ (knows n) ⊛ ‵ (pass_holds n p seen)) ∷ []) ∵ split ! $ use1 𝓛 (‵ (knows n) ⊛ ‵ (knows n)) (knows_twice 𝓛 n) $ split ! $ fsplit ! $ move ! (1 ∷ []) $ fpick ! (λ distinct. drop ! $ check ! distinct $
+  opened p seen = qed 𝓛 ((‵ (knows n) ⊛ ‵ (pass_holds n p seen)) ∷ []) ∵ split ! $ use1 𝓛 (‵ (knows n) ⊛ ‵ (knows n)) (knows_twice 𝓛 n) $ split ! $ fsplit ! $ move ! (1 ∷ []) $ fsplit ! $ drop ! $ fpick ! (λ distinct. drop ! $ check ! distinct $
       -- [the invariant; the book; the pass]
       move ! (1 ∷ 0 ∷ 2 ∷ []) $ done !)

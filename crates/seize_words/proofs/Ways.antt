@@ -24,7 +24,7 @@ use Rattle.seize_words.specs.Fair.{IsLabel}
 use Rattle.seize_words.specs.Homes.{home_of}
 use Rattle.seize_words.specs.Ledger.{Held, born, renewed}
 use Rattle.seize_words.specs.Private.{is_one, label_of}
-use Rattle.seize_words.specs.Tokens.{Name, leads, leads_in, all_lead, rights_own, keys_own, one_key, key, way, way_if}
+use Rattle.seize_words.specs.Tokens.{Name, leads, label_at, leads_in, all_lead, rights_own, keys_own, one_key, key, way, way_if}
 use Rattle.seize_words.proofs.Goes.{AllFree}
 
 same : (u : ℕ) → (u == u) ≡ true
@@ -50,17 +50,17 @@ is_place b row e = go (ℕ_discrete (2 ^ (row + 5) + e) (b + 32)) (is_true (nat_
     go (yes is) (inr past) = no (λ p. let less : e < 2 ^ (row + 5) = p.within in absurd (grind arith))
 
 -- its block has the label there
-abbrev pub IsIn : ℕ → List (Ptr × ℕ) → ℕ → Type 0
-IsIn row chunks v = IsPlace (block_of v) row (entry_of row (block_of v)) → label_in chunks (entry_of row (block_of v)) ≡ home_of v
+abbrev pub IsIn : Name → ℕ → List (Ptr × ℕ) → ℕ → Type 0
+IsIn n row chunks v = IsPlace (block_of v) row (entry_of row (block_of v)) → label_in chunks (entry_of row (block_of v)) ≡ label_at n (home_of v)
 
-abbrev pub AreIn : ℕ → List (Ptr × ℕ) → List ℕ → Type 0
-AreIn row chunks vs = (v : ℕ) → has v vs ≡ true → IsIn row chunks v
+abbrev pub AreIn : Name → ℕ → List (Ptr × ℕ) → List ℕ → Type 0
+AreIn n row chunks vs = (v : ℕ) → has v vs ≡ true → IsIn n row chunks v
 
-both_in : (row : ℕ) (chunks : List (Ptr × ℕ)) (u : ℕ) (vs : List ℕ) → IsIn row chunks u → AreIn row chunks vs → AreIn row chunks (u ∷ vs)
-both_in row chunks u vs one rest v h = go (u == v) refl h
+both_in : (n : Name) (row : ℕ) (chunks : List (Ptr × ℕ)) (u : ℕ) (vs : List ℕ) → IsIn n row chunks u → AreIn n row chunks vs → AreIn n row chunks (u ∷ vs)
+both_in n row chunks u vs one rest v h = go (u == v) refl h
   where
-    go : (b : Bool) → (u == v) ≡ b → (b || has v vs) ≡ true → IsIn row chunks v
-    go true e t = subst (IsIn row chunks) (eq_true u v e) one
+    go : (b : Bool) → (u == v) ≡ b → (b || has v vs) ≡ true → IsIn n row chunks v
+    go true e t = subst (IsIn n row chunks) (eq_true u v e) one
     go false e t = rest v t
 
 module _ {M : Type 1} {𝓤 : Ura M} (𝓛 : Logic 𝓤) (n : Name) where
@@ -115,12 +115,12 @@ module _ {M : Type 1} {𝓤 : Ura M} (𝓛 : Logic 𝓤) (n : Name) where
   first_parted (suc m) [] = qed 𝓛 (‵ ftrue ∷ []) ∵ nothing ! $ done !
   first_parted (suc m) (x ∷ held) = qed 𝓛 ((‵ (one_key n x) ⊛ ‵ (keys_own n held)) ∷ []) ∵ split ! $ move ! (1 ∷ []) $ use1 𝓛 (‵ (keys_own n (take m held)) ⊛ ‵ (keys_own n (past m held))) (first_parted m held) $ split ! $ move ! (2 ∷ 0 ∷ []) $ fjoin ! $ done !
 
-  lead_twice_in : (store : Option (List ℕ)) (v : ℕ) → ⟦ leads_in store v ⟧ ⊢ ⟦ leads_in store v ⟧ ∗ ⟦ leads_in store v ⟧
-  lead_twice_in None v = qed 𝓛 (‵ ftrue ∷ []) ∵ nothing ! $ done !
-  lead_twice_in (Some store) v = leads_twice 𝓛 store (block_of v) (home_of v)
+  lead_twice_in : (store : Option (List ℕ)) (b label : ℕ) → ⟦ leads_in store b label ⟧ ⊢ ⟦ leads_in store b label ⟧ ∗ ⟦ leads_in store b label ⟧
+  lead_twice_in None b label = qed 𝓛 (‵ ftrue ∷ []) ∵ nothing ! $ done !
+  lead_twice_in (Some store) b label = leads_twice 𝓛 store b label
 
   pub lead_twice : (v : ℕ) → ⟦ leads n v ⟧ ⊢ ⟦ leads n v ⟧ ∗ ⟦ leads n v ⟧
-  lead_twice v = lead_twice_in n.store v
+  lead_twice v = lead_twice_in n.store (block_of v) (label_at n (home_of v))
 
   way_twice : (b : Bool) (v : ℕ) → ⟦ way_if b n v ⟧ ⊢ ⟦ way_if b n v ⟧ ∗ ⟦ way_if b n v ⟧
   way_twice true v = lead_twice v
@@ -163,7 +163,7 @@ module _ {M : Type 1} {𝓤 : Ura M} (𝓛 : Logic 𝓤) (n : Name) where
 
   -- nor does any where blocks lie in no store
   way_none : n.store ≡ None → (b : Bool) (v : ℕ) (P : Fml) → ⟦ P ⟧ ⊢ ⟦ way_if b n v ⟧ ∗ ⟦ P ⟧
-  way_none none true v P = qed 𝓛 (‵ P ∷ []) ∵ nothing ! $ rewrite ! 0 (λ (store : Option (List ℕ)). ‵ (leads_in store v)) (sym none) refl $ done !
+  way_none none true v P = qed 𝓛 (‵ P ∷ []) ∵ nothing ! $ rewrite ! 0 (λ (store : Option (List ℕ)). ‵ (leads_in store (block_of v) (label_at n (home_of v)))) (sym none) refl $ done !
   way_none none false v P = qed 𝓛 (‵ P ∷ []) ∵ nothing ! $ done !
 
   pub all_anywhere : n.store ≡ None → (held : Keys) → ⟦ rights_own n held ⟧ ⊢ ⟦ keys_own n held ⟧
@@ -186,13 +186,13 @@ module _ {M : Type 1} {𝓤 : Ura M} (𝓛 : Logic 𝓤) (n : Name) where
 
   -- a key whose value's number leads to its home, as a token of the number's row shows
   pub placed : (store : List ℕ) (row : ℕ) (chunks : List (Ptr × ℕ)) (held : Keys) → is_one blocks held ≡ true → n.store ≡ Some store
-      → IsWhole row chunks → IsPlace (block_of (label_of held)) row (entry_of row (block_of (label_of held))) → label_in chunks (entry_of row (block_of (label_of held))) ≡ home_of (label_of held)
+      → IsWhole row chunks → IsPlace (block_of (label_of held)) row (entry_of row (block_of (label_of held))) → label_in chunks (entry_of row (block_of (label_of held))) ≡ label_at n (home_of (label_of held))
       → ⟦ rights_own n held ⟧ ∗ ⟦ known_row store row chunks ⟧ ⊢ ⟦ keys_own n held ⟧
   placed store row chunks [] one is whole place home = absurd (cc)
   placed store row chunks (h ∷ g ∷ held) one is whole place home = absurd (cc)
   placed store row chunks (h ∷ []) one is whole place home = let v : ℕ = h.label in let b : ℕ = block_of v in let k : ℕ = label_in chunks (entry_of row b) in
       qed 𝓛 (‵ (rights_own n (h ∷ [])) ∷ ‵ (known_row store row chunks) ∷ []) ∵ move ! (1 ∷ []) $ use1 𝓛 (‵ (leads_to store b k)) (known_leads 𝓛 store b row chunks whole place) $
-      rewrite ! 0 (λ (j : ℕ). ‵ (leads_to store b j)) home refl $ rewrite ! 0 (λ (s : Option (List ℕ)). ‵ (leads_in s v)) (sym is) refl $
+      rewrite ! 0 (λ (j : ℕ). ‵ (leads_to store b j)) home refl $ rewrite ! 0 (λ (s : Option (List ℕ)). ‵ (leads_in s (block_of v) (label_at n (home_of v)))) (sym is) refl $
       rewrite ! 0 (λ (F : Fml). ‵ F) (sym (is_way h v (eq_true h.kind blocks one, refl))) refl $
       -- [the way; the right]
       move ! (1 ∷ []) $ fsplit ! $ move ! (0 ∷ 2 ∷ []) $ fjoin ! $ move ! (0 ∷ 1 ∷ []) $ fjoin ! $ done !
@@ -209,24 +209,24 @@ module _ {M : Type 1} {𝓤 : Ura M} (𝓛 : Logic 𝓤) (n : Name) where
   -- A value whose number is one of a row that a token shows lies in the block with the label that the row has there.
 
   in_one : (store : List ℕ) (row : ℕ) (chunks : List (Ptr × ℕ)) → IsWhole row chunks → n.store ≡ Some store → (v : ℕ)
-      → ⟦ leads n v ⟧ ∗ ⟦ known_row store row chunks ⟧ ⊢ guard 𝓤 (IsIn row chunks v) (⟦ leads n v ⟧ ∗ ⟦ known_row store row chunks ⟧)
+      → ⟦ leads n v ⟧ ∗ ⟦ known_row store row chunks ⟧ ⊢ guard 𝓤 (IsIn n row chunks v) (⟦ leads n v ⟧ ∗ ⟦ known_row store row chunks ⟧)
   in_one store row chunks whole is v = go (is_place (block_of v) row (entry_of row (block_of v)))
     where
-      go : Dec (IsPlace (block_of v) row (entry_of row (block_of v))) → ⟦ leads n v ⟧ ∗ ⟦ known_row store row chunks ⟧ ⊢ guard 𝓤 (IsIn row chunks v) (⟦ leads n v ⟧ ∗ ⟦ known_row store row chunks ⟧)
+      go : Dec (IsPlace (block_of v) row (entry_of row (block_of v))) → ⟦ leads n v ⟧ ∗ ⟦ known_row store row chunks ⟧ ⊢ guard 𝓤 (IsIn n row chunks v) (⟦ leads n v ⟧ ∗ ⟦ known_row store row chunks ⟧)
       go (no out) = qed 𝓛 (‵ (leads n v) ∷ ‵ (known_row store row chunks) ∷ []) ∵ check ! (λ place. absurd (out place)) $ done !
-      go (yes place) = let b : ℕ = block_of v in let k : ℕ = label_in chunks (entry_of row b) in let K : Fml = known_row store row chunks in let Same : Type 0 = k ≡ home_of v in
-          qed 𝓛 (‵ (leads n v) ∷ ‵ K ∷ []) ∵ use1 𝓛 (‵ (leads n v) ⊛ ‵ (leads n v)) (lead_twice v) $ split ! $ rewrite ! 0 (λ (s : Option (List ℕ)). ‵ (leads_in s v)) is refl $
+      go (yes place) = let b : ℕ = block_of v in let k : ℕ = label_in chunks (entry_of row b) in let K : Fml = known_row store row chunks in let Same : Type 0 = k ≡ label_at n (home_of v) in
+          qed 𝓛 (‵ (leads n v) ∷ ‵ K ∷ []) ∵ use1 𝓛 (‵ (leads n v) ⊛ ‵ (leads n v)) (lead_twice v) $ split ! $ rewrite ! 0 (λ (s : Option (List ℕ)). ‵ (leads_in s (block_of v) (label_at n (home_of v)))) is refl $
           move ! (2 ∷ []) $ use1 𝓛 (‵ K ⊛ ‵ K) (row_twice 𝓛 store row chunks) $ split ! $ use1 𝓛 (‵ (leads_to store b k)) (known_leads 𝓛 store b row chunks whole place) $
           -- [where the number leads by the row; the row; where it leads by the book; that once more]
-          move ! (0 ∷ 2 ∷ []) $ use2 𝓛 (raw (fact 𝓤 Same)) (leads_agree 𝓛 store b k (home_of v)) $ heard ! Same (λ same. check ! (λ _. same) $ move ! (1 ∷ 0 ∷ []) $ done !)
+          move ! (0 ∷ 2 ∷ []) $ use2 𝓛 (raw (fact 𝓤 Same)) (leads_agree 𝓛 store b k (label_at n (home_of v))) $ heard ! Same (λ same. check ! (λ _. same) $ move ! (1 ∷ 0 ∷ []) $ done !)
 
-  pub all_in : (store : List ℕ) (row : ℕ) (chunks : List (Ptr × ℕ)) → IsWhole row chunks → n.store ≡ Some store → (vs : List ℕ) → ⟦ all_lead n vs ⟧ ∗ ⟦ known_row store row chunks ⟧ ⊢ guard 𝓤 (AreIn row chunks vs) ⟦ all_lead n vs ⟧
+  pub all_in : (store : List ℕ) (row : ℕ) (chunks : List (Ptr × ℕ)) → IsWhole row chunks → n.store ≡ Some store → (vs : List ℕ) → ⟦ all_lead n vs ⟧ ∗ ⟦ known_row store row chunks ⟧ ⊢ guard 𝓤 (AreIn n row chunks vs) ⟦ all_lead n vs ⟧
   all_in store row chunks whole is [] = qed 𝓛 (‵ ftrue ∷ ‵ (known_row store row chunks) ∷ []) ∵ check ! (λ v named. absurd (cc)) $ keep ! (0 ∷ []) $ done !
   all_in store row chunks whole is (u ∷ vs) = let K : Fml = known_row store row chunks in qed 𝓛 (‵ (all_lead n (u ∷ vs)) ∷ ‵ K ∷ []) ∵ fsplit ! $ move ! (0 ∷ 2 ∷ []) $
-      use2 𝓛 (given (IsIn row chunks u) (‵ (leads n u) ⊛ ‵ K)) (in_one store row chunks whole is u) $ learn ! (λ one. split ! $
+      use2 𝓛 (given (IsIn n row chunks u) (‵ (leads n u) ⊛ ‵ K)) (in_one store row chunks whole is u) $ learn ! (λ one. split ! $
       -- [where the first leads; the row; where the others lead]
-      move ! (2 ∷ 1 ∷ []) $ use2 𝓛 (given (AreIn row chunks vs) (‵ (all_lead n vs))) (all_in store row chunks whole is vs) $ learn ! (λ rest.
-      check ! (both_in row chunks u vs one rest) $ move ! (1 ∷ 0 ∷ []) $ fjoin ! $ done !))
+      move ! (2 ∷ 1 ∷ []) $ use2 𝓛 (given (AreIn n row chunks vs) (‵ (all_lead n vs))) (all_in store row chunks whole is vs) $ learn ! (λ rest.
+      check ! (both_in n row chunks u vs one rest) $ move ! (1 ∷ 0 ∷ []) $ fjoin ! $ done !))
 
   pub all_twice : (vs : List ℕ) → ⟦ all_lead n vs ⟧ ⊢ ⟦ all_lead n vs ⟧ ∗ ⟦ all_lead n vs ⟧
   all_twice [] = qed 𝓛 (‵ ftrue ∷ []) ∵ nothing ! $ done !

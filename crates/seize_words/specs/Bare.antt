@@ -3,7 +3,7 @@
 --     Numbers rights rights' number  the first key's label is a value of its block, with this number, that was never named, as it knows
 --     IsWay rights known             there is one key, and the number of its value leads to its block in the store of their book
 --     Places rights keys             the keys are these
---     bare_book key, bare_home key   the book of a bare key, and the home that its values have
+--     bare_book key, bare_home key   the book of a bare key, and the home that its values have;  bare_label key   the label of that
 --     Becomes key value number       it is the key of a value of this block now, with this number, as IsNextIn says; and it knows no more
 --     IsLaid value key               it is the key of the value's block
 --     IsCountAt count home, IsFieldAt which field home     it is that of the block with this home; the count is 0, and nothing was stored
@@ -27,7 +27,7 @@ use Rattle.seize_words.specs.Homesteads.{entry_in}
 use Rattle.seize_words.specs.Ledger.{Held}
 use Rattle.seize_words.specs.Others.{book_of, labelled, state_of, value_of}
 use Rattle.seize_words.specs.Private.{is_one, key_of, label_of, own_of}
-use Rattle.seize_words.specs.Tokens.{Name, start}
+use Rattle.seize_words.specs.Tokens.{Name, label_at, start}
 use Rattle.seize_words.specs.declared.book.bare_key.BareKey.{BareKey}
 use Rattle.seize_words.specs.declared.book.chunk_keys.ChunkKeys.{ChunkKeys}
 use Rattle.seize_words.specs.declared.book.count_key.CountKey.{CountKey}
@@ -53,7 +53,7 @@ pub record IsWay (rights : Rights) (known : Known) : Type 0 where
   pub store : rights.name.store ≡ Some known.store
   pub whole : IsWhole known.row known.chunks
   pub placed : IsPlace (block_of (label_of rights.held)) known.row (entry_in known (label_of rights.held))
-  pub home : label_in known.chunks (entry_in known (label_of rights.held)) ≡ home_of (label_of rights.held)
+  pub home : label_in known.chunks (entry_in known (label_of rights.held)) ≡ label_at rights.name (home_of (label_of rights.held))
 
 abbrev pub Places : Rights → Keys → Type 0
 Places rights keys = (keys.name ≡ rights.name) × (keys.held ≡ rights.held)
@@ -63,6 +63,9 @@ bare_book key = key.rights.name
 
 abbrev pub bare_home : BareKey → ℕ
 bare_home key = key_of key.rights.held
+
+abbrev pub bare_label : BareKey → ℕ
+bare_label key = label_at (bare_book key) (bare_home key)
 
 pub record Becomes (key : BareKey) (value : ValueKey) (number : ℕ) : Type 0 where
   pub book : book_of value ≡ bare_book key

@@ -9,8 +9,9 @@
 --                                no values; so there is one at most, of which this is the count, where the list is sound
 --     changes_count st k event   the event counts that batch up or down
 --     IsSound st                 at most one value of a home is not reclaimed, and there are no more slots than numbers
-use Rattle.std.specs.Prelude.{◌≡◌, ℕ, zero, suc, ◌/◌, ◌^◌, ◌≤◌, ◌==◌, ℤ, pos, ◌+ℤ◌, Bool, true, false, ◌||◌, if◌then◌else◌, List, [], ◌∷◌, length, Option, Some, None}
+use Rattle.std.specs.Prelude.{◌≡◌, ℕ, ◌/◌, ◌^◌, ◌≤◌, ◌==◌, ℤ, pos, ◌+ℤ◌, Bool, true, false, ◌||◌, if◌then◌else◌, List, [], ◌∷◌, length, Option, Some, None}
 use Rattle.std.specs.List.{list_any}
+use Rattle.seize_table.specs.Pairs.{left_of}
 use Rattle.seize_table.specs.Place.{all_numbers}
 use Rattle.seize_machine.specs.Machine.State.{State, Batch, slot_at, link_at, batch_at, has}
 use Rattle.seize_machine.specs.Machine.Event.{Event, Begin, AddCount, SubCount, Hand, ExchangeLink}
@@ -19,17 +20,9 @@ use Rattle.seize_machine.specs.Machine.History.{first_of}
 use Rattle.seize_machine.specs.Machine.Laws.{added_batch}
 use Rattle.seize_machine.specs.declared.machine.event.Job.TheVariants.{Retire}
 
--- 0; then 0 and 1; then 0, 1 and 2; and so on: each number comes again and again. The second number of a turn says which round it is in,
--- which ends there. So each home has values with each remainder by 2^64, past any bound (`another_of` in `proofs/Homes`).
-abbrev pub next_turn : ℕ × ℕ → ℕ × ℕ
-next_turn t = if t.0 == t.1 then (0, suc t.1) else (suc t.0, t.1)
-
-abbrev pub turn : ℕ → ℕ × ℕ
-turn zero = (0, 0)
-turn (suc n) = next_turn (turn n)
-
+-- each home has values with each remainder by 2^64, past any bound (`another_of` in `proofs/Homes`)
 abbrev pub home_of : ℕ → ℕ
-home_of v = (turn (v / 2 ^ 64)).0
+home_of v = left_of (v / 2 ^ 64)
 
 abbrev pub is_home : ℕ → Option ℕ → Bool
 is_home k None = false

@@ -1,8 +1,11 @@
 -- What the tokens of a book own. None of them has bytes.
 --     Name          a book: the number of its invariant, its names, who may append, and the opening of its list
+--     called        the book's family is the number by which labels say that something is of it: it stands for this name alone, for good;
+--                   uncalled   for none yet
+--     label_at n k  the label of what is of the book and has the home k
 --     inside        what stands in its invariant;  knows   that there is this invariant, for good
 --     pass_owns     a pass: its key, a beginning of the list that it has seen, and at a closed gate the list itself
---     leads n v     the value's number leads to its home, in the store where the book's blocks lie; and nothing where they lie in none
+--     leads n v     the value's number leads to the label of its home, in the store where the book's blocks lie; nothing where they lie in none
 --     all_lead n vs     so do the numbers of all these values
 --     rights_own    the rights to some keys, in a given order;  keys_own   and with each key of a block, where its value's number leads
 --     Noted         one entry was appended with a pass
@@ -12,10 +15,12 @@ use mathlib.Core.Path.{refl}
 use mathlib.Core.List.{IsPrefix}
 use base.Share.{quarter, three_quarters}
 use base.Growing.{latest}
-use base.Fml.{Fml, ftrue, fsep, fex, fdead, fnamed}
+use base.Stored.{gnil, gcons}
+use base.Fml.{Fml, ftrue, fsep, fex, fdead, fnamed, fobs, fauth, fres}
 use Rattle.seize_machine.specs.Machine.State.{State, opening, linked, are_distinct}
 use Rattle.seize_machine.specs.declared.machine.event.Answer.{Answer}
 use Rattle.seize_store.specs.Known.{leads_to}
+use Rattle.seize_table.specs.Pairs.{pair}
 use Rattle.seize_words.specs.Ledger.{Held, fact, logs, right, rights, reached, contents}
 use Rattle.seize_words.specs.Entry.{Entry, entry_coded}
 use Rattle.seize_words.specs.Book.{IsLegalList, Does, after, mine, blocks, passes, rules}
@@ -51,6 +56,7 @@ gate_coded = code_by (Option ℕ) (coded_option coded_ℕ) gate_code gate_of gat
 pub record Name : Type 0 where
   pub number : ℕ
   pub log : ℕ
+  pub family : ℕ
   -- the names of the keys, by kind
   pub pass_keys : ℕ
   pub number_keys : ℕ
@@ -81,21 +87,22 @@ abbrev pub name_coded : Coded Name
 name_coded =
     code_by (List ℕ × (Gate × (List (Option ℕ) × Option (List ℕ))))
     (coded× (coded_list coded_ℕ) (coded× gate_coded (coded× (coded_list (coded_option coded_ℕ)) (coded_option (coded_list coded_ℕ)))))
-    (λ n. (n.number ∷ n.log ∷ n.slots ∷ n.size ∷ rows n, (n.gate, (n.links, n.store))))
+    (λ n. (n.number ∷ n.log ∷ n.family ∷ n.slots ∷ n.size ∷ rows n, (n.gate, (n.links, n.store))))
     (λ t. record {
       number = nth t.0 0;
       log = nth t.0 1;
-      slots = nth t.0 2;
-      size = nth t.0 3;
-      pass_keys = nth t.0 4;
-      number_keys = nth t.0 5;
-      slot_keys = nth t.0 6;
-      head_keys = nth t.0 7;
-      link_keys = nth t.0 8;
-      count_keys = nth t.0 9;
-      block_keys = nth t.0 10;
-      field_keys = nth t.0 11;
-      total_keys = nth t.0 12;
+      family = nth t.0 2;
+      slots = nth t.0 3;
+      size = nth t.0 4;
+      pass_keys = nth t.0 5;
+      number_keys = nth t.0 6;
+      slot_keys = nth t.0 7;
+      head_keys = nth t.0 8;
+      link_keys = nth t.0 9;
+      count_keys = nth t.0 10;
+      block_keys = nth t.0 11;
+      field_keys = nth t.0 12;
+      total_keys = nth t.0 13;
       gate = t.1.0;
       links = t.1.1.0;
       store = t.1.1.1;
@@ -104,6 +111,15 @@ name_coded =
 
 abbrev pub start : Name → State
 start n = opening n.slots n.links
+
+abbrev pub uncalled : ℕ → Fml
+uncalled family = fsep (fobs family gnil) (fauth family gnil)
+
+abbrev pub called : Name → Fml
+called n = fres n.family (gcons gnil (name_coded.code n))
+
+abbrev pub label_at : Name → ℕ → ℕ
+label_at n k = pair n.family k
 
 -- these lifetimes are over
 abbrev pub over : List ℕ → Fml
@@ -119,13 +135,13 @@ abbrev pub gate_gives : Gate → List Entry → Fml
 gate_gives many seen = ftrue
 gate_gives (sole η) seen = latest (logs entry_coded) three_quarters η seen
 
--- a number leads to one home for good, since a chunk of a store keeps its header
-abbrev pub leads_in : Option (List ℕ) → ℕ → Fml
-leads_in Option.None v = ftrue
-leads_in (Option.Some store) v = leads_to store (block_of v) (home_of v)
+-- a number leads to one label for good, since a chunk of a store keeps its header
+abbrev pub leads_in : Option (List ℕ) → ℕ → ℕ → Fml
+leads_in Option.None b label = ftrue
+leads_in (Option.Some store) b label = leads_to store b label
 
 abbrev pub leads : Name → ℕ → Fml
-leads n v = leads_in n.store v
+leads n v = leads_in n.store (block_of v) (label_at n (home_of v))
 
 abbrev pub all_lead : Name → List ℕ → Fml
 all_lead n [] = ftrue
@@ -141,7 +157,7 @@ inside n = contents entry_coded (rules (start n)) (beside n) n.log (rows n)
 
 -- it lasts for good, and may be had twice; and the links of the opening are distinct
 abbrev pub knows : Name → Fml
-knows n = fsep (fnamed n.number (inside n)) (fact (are_distinct (linked n.links) ≡ true))
+knows n = fsep (fnamed n.number (inside n)) (fsep (called n) (fact (are_distinct (linked n.links) ≡ true)))
 
 abbrev pub key : Name → ℕ → ℕ → List Entry → Fml
 key n r k own = right entry_coded (rows n) r k own

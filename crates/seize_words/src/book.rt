@@ -21,6 +21,7 @@ mod slot_key;
 mod slot_keys;
 mod token;
 mod total_key;
+mod unopened;
 mod value_key;
 mod value_keys;
 
@@ -39,5 +40,6 @@ pub use slot_key::SlotKey;
 pub use slot_keys::SlotKeys;
 pub use token::{Book, Numbers};
 pub use total_key::TotalKey;
+pub use unopened::Unopened;
 pub use value_key::ValueKey;
 pub use value_keys::ValueKeys;

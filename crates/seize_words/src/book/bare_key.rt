@@ -5,7 +5,7 @@ ghost use Rattle.seize_store.specs.Named.{IsRowOf};
 ghost use Rattle.seize_words.specs.Book.{after, blocks};
 ghost use Rattle.seize_words.specs.Homes.{IsVacant, home_of};
 ghost use Rattle.seize_words.specs.Private.{is_one, key_of, label_of, own_of};
-ghost use Rattle.seize_words.specs.Tokens.{start};
+ghost use Rattle.seize_words.specs.Tokens.{label_at, start};
 
 use crate::book::rights::Rights;
 use crate::book::value_key::ValueKey;
@@ -24,11 +24,11 @@ pub struct BareKey {
 }
 
 impl Labelled for BareKey {
-    ghost label = { λ key. key_of key.rights.held };
+    ghost label = { λ key. label_at key.rights.name (key_of key.rights.held) };
 }
 
 impl BareKey {
-    ghost use Rattle.seize_words.specs.Bare.{Becomes, bare_book, bare_home};
+    ghost use Rattle.seize_words.specs.Bare.{Becomes, bare_book, bare_label};
 
     /// The key for a value of the block, which words hold by this number. The blocks of its book lie in no store.
     pub fn anywhere(self, number: u64) -> ValueKey
@@ -48,7 +48,7 @@ impl BareKey {
     pub fn place(self, number: u64, known: &Known) -> ValueKey
         requires store { (bare_book self).store ≡ Some known.now.store }
         requires row { IsRowOf known.now number }
-        requires home { label_in known.now.chunks (entry_of known.now.row number) ≡ bare_home self }
+        requires home { label_in known.now.chunks (entry_of known.now.row number) ≡ bare_label self }
         ensures { Becomes self result number }
     {
         let mut rights = self.rights;

@@ -6,6 +6,7 @@ ghost use Rattle.seize_store.specs.Known.{IsWhole};
 ghost use Rattle.seize_store.specs.Named.{IsRowOf};
 ghost use Rattle.seize_words.specs.Tokens.{Name, name_coded, pass_owns};
 
+use crate::book::token::Book;
 use seize_store::Known;
 use std::marker::{Model, PhantomData};
 
@@ -35,6 +36,12 @@ impl Pass {
         ensures { Meets self.old other.old self.new other.new }
     {}
 
+    /// A book of the pass's family is its book. It does nothing: its contract is the law.
+    pub fn agree(&mut self, book: &Book)
+        requires { book.now.name.family ≡ self.old.name.family }
+        ensures { (self.new ≡ self.old) × (book.now.name ≡ self.new.name) }
+    {}
+
     /// Looks at the list, and adds nothing. It gives what shows the row of this number, which is that of a value that was named: the value
     /// lies in the block with the label that the row has there, and so does each other one that was named and whose number is one of the
     /// row's.
@@ -43,7 +50,7 @@ impl Pass {
         requires named { HasNumber number (state_seen self.old) }
         ensures looks { LooksOn self.old self.new }
         ensures row { (Some result.store ≡ self.old.name.store) × IsRowOf result number }
-        ensures homes { AreAt result (state_seen self.new) }
+        ensures homes { AreAt self.new.name result (state_seen self.new) }
     {
         let known = self.row_of(number);
         self.find(&known);
@@ -65,7 +72,7 @@ impl Pass {
     pub fn find(&mut self, known: &Known)
         requires store { self.old.name.store ≡ Some known.now.store }
         requires whole { IsWhole known.now.row known.now.chunks }
-        ensures { LooksOn self.old self.new × AreAt known.now (state_seen self.new) }
+        ensures { LooksOn self.old self.new × AreAt self.new.name known.now (state_seen self.new) }
     {}
 }
 

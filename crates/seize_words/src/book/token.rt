@@ -15,6 +15,7 @@ use crate::book::field_key::FieldKey;
 use crate::book::keys::Keys;
 use crate::book::pass::Pass;
 use crate::book::rights::Rights;
+use crate::book::unopened::Unopened;
 use std::marker::{Brand, Model, PhantomData};
 
 /// What shows that there is a book, for good. It may be copied, and shared by `&`.
@@ -53,22 +54,25 @@ impl Book {
     pub fn open<N: Numbers>(links: usize, size: usize) -> (Book, BookKeys)
         ensures { Opens result.0 result.1 links size N.store }
     {
-        let (book, keys) = Book::open_keys::<N>(links, size);
-        (book, BookKeys::apart(keys))
+        Unopened::new().open::<N>(links, size)
     }
 
     /// A new book as `open` makes one, but that its one pass is alone: only who has it appends, and it has seen all there is.
     pub fn open_alone<N: Numbers>(links: usize, size: usize) -> (Book, Pass, BookKeys)
         ensures { OpensAlone result.0 result.1 result.2 links size N.store }
     {
-        let (book, pass, keys) = Book::open_sole::<N>(links, size);
-        (book, pass, BookKeys::apart(keys))
+        Unopened::new().open_alone::<N>(links, size)
     }
 
     // A new book with all its keys, in the order of `first_keys`.
-    fn open_keys<N: Numbers>(links: usize, size: usize) -> (Book, Keys)
-        ensures { IsMany result.0 × Begins result.0 result.1 links size N.store }
+    pub(crate) fn open_keys<N: Numbers>(
+        unopened: Unopened,
+        links: usize,
+        size: usize,
+    ) -> (Book, Keys)
+        ensures { IsMany result.0 × Begins result.0 result.1 links size N.store × (result.0.name.family ≡ unopened.family) }
     {
+        let Unopened { marker: _ } = unopened;
         let book = Book {
             marker: PhantomData,
         };
@@ -78,9 +82,14 @@ impl Book {
         (book, keys)
     }
 
-    fn open_sole<N: Numbers>(links: usize, size: usize) -> (Book, Pass, Keys)
-        ensures { IsAlone result.0 result.1 × Begins result.0 result.2 links size N.store }
+    pub(crate) fn open_sole<N: Numbers>(
+        unopened: Unopened,
+        links: usize,
+        size: usize,
+    ) -> (Book, Pass, Keys)
+        ensures { IsAlone result.0 result.1 × Begins result.0 result.2 links size N.store × (result.0.name.family ≡ unopened.family) }
     {
+        let Unopened { marker: _ } = unopened;
         let book = Book {
             marker: PhantomData,
         };

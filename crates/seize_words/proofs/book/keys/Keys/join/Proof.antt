@@ -1,9 +1,7 @@
 -- `join` takes the keys of another.
 use Rattle.seize_words.proofs.Kit.{ℕ, List, [], ◌∷◌, refl, proved, named, Val, vptr, vunit, SProp, emp, Fml, ftrue, fsep, flft, ‵, ◌⊛◌, given, ◌$◌, ◌∵◌, !, qed, by, move, keep, drop, split, fsplit, fsplit3, fjoin, fjoin3, learn, use2, rewrite, feq_i, unit_lit, of_opd, returns, enter, alloc_all, pass_all, free_all, look_at, sets, fact_i, tables, owns, types_at, plain, mut_vals, mut_Tells, nothing, opens, closes, Stays, stay_ref, walk_of, Goes-ref}
 use Rattle.std.proofs.Common.{◌++◌}
-use Rattle.seize_words.specs.Entry.{entry_coded}
-use Rattle.seize_words.specs.Tokens.{Name, rows, start, beside, keys_own}
-use Rattle.seize_words.specs.Book.{rules}
+use Rattle.seize_words.specs.Tokens.{Name, keys_own}
 use Rattle.seize_words.specs.contracts.book.keys.Keys as Keys
 use Rattle.seize_words.proofs.Ways.{keys_joined}
 use Rattle.seize_words.proofs.Fields.{ends}

@@ -1,5 +1,5 @@
 -- `anywhere` gives the rights, which need no ways.
-use Rattle.seize_words.proofs.Kit.{ℕ, List, [], ◌∷◌, ◌≡◌, refl, proved, named, Val, vptr, SProp, emp, Fml, ftrue, fsep, flft, ‵, raw, ◌⊛◌, ◌$◌, ◌∵◌, !, qed, by, move, keep, drop, split, fsplit, fsplit3, fjoin, fjoin3, use0, use1, use2, feq_i, no_more, and_then, returns, enter, alloc_all, pass_all, free_all, look_at, get, sets, agg, fact, fact_i, heard, tables, RattleType, RefOf, yes, unhide, owns, types_at, plain, mut_vals, mut_Tells, shr_vals, shr_Tells, nothing, opens, closes, Stays, stay_ref, stay_dropped, walk_of, Goes-ref, Goes-dropped}
+use Rattle.seize_words.proofs.Kit.{ℕ, List, [], ◌∷◌, ◌≡◌, refl, proved, named, Val, vptr, SProp, emp, Fml, ftrue, fsep, flft, ‵, raw, ◌⊛◌, ◌$◌, ◌∵◌, !, qed, by, move, keep, split, fsplit, fsplit3, fjoin, fjoin3, use0, use1, feq_i, no_more, and_then, returns, enter, alloc_all, pass_all, free_all, look_at, get, sets, agg, fact, fact_i, heard, tables, owns, types_at, plain, mut_vals, mut_Tells, nothing, opens, closes, Stays, stay_ref, walk_of, Goes-ref}
 use Rattle.std.specs.Prelude.{None}
 use Rattle.seize_words.specs.Tokens.{keys_own}
 use Rattle.seize_words.proofs.Ways.{all_anywhere}
