@@ -51,3 +51,4 @@ pub mod Exchanged
 pub mod Activations
 pub mod Meets
 pub mod Sent
+pub mod Chunked

@@ -31,3 +31,5 @@ pub mod Totals
 pub mod Links
 pub mod Activations
 pub mod LinkWords
+pub mod Chunk
+pub mod Chunks

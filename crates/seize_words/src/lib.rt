@@ -5,7 +5,9 @@
 
 pub mod activation;
 pub mod batch;
+pub mod blocks;
 pub mod book;
+pub mod chunk;
 pub mod header;
 pub mod link;
 pub mod reservation;

@@ -1,0 +1,38 @@
+-- What the label of a chunk says, which a pass has found by the number of a value. These facts are for callers.
+use Rattle.std.proofs.Common.{◌≡◌, ℕ, true, sym, ◌∙◌, ap, subst}
+use Rattle.seize_machine.specs.Machine.State.{has}
+use Rattle.seize_store.specs.Known.{entry_of, label_in}
+use Rattle.seize_store.specs.declared.known.Known.{Known}
+use Rattle.seize_table.specs.Pairs.{left_of, right_of}
+use Rattle.seize_table.specs.Place.{IsPlace}
+use Rattle.seize_table.proofs.Pairs.{left_pair, right_pair}
+use Rattle.seize_words.specs.Blocks.{block_of}
+use Rattle.seize_words.specs.Book.{after}
+use Rattle.seize_words.specs.Homes.{home_of}
+use Rattle.seize_words.specs.Homesteads.{AreAt, state_seen}
+use Rattle.seize_words.specs.Passes.{LooksOn}
+use Rattle.seize_words.specs.Tokens.{Name, label_at, start}
+use Rattle.seize_words.specs.declared.book.pass.Pass.{Pass}
+use Rattle.seize_words.proofs.Sound.{named_later}
+
+-- labels that are equal say one family and one home
+
+pub same_family : (n m : Name) (k j : ℕ) → label_at n k ≡ label_at m j → n.family ≡ m.family
+same_family n m k j same = sym (left_pair n.family k) ∙ (ap left_of same ∙ left_pair m.family j)
+
+pub same_home : (n m : Name) (k j : ℕ) → label_at n k ≡ label_at m j → k ≡ j
+same_home n m k j same = sym (right_pair n.family k) ∙ (ap right_of same ∙ right_pair m.family j)
+
+-- what a pass has seen named stays so
+pub named_seen : (pass pass' : Pass) (v : ℕ) → LooksOn pass pass' → has v (state_seen pass).named ≡ true → has v (state_seen pass').named ≡ true
+named_seen pass pass' v looks named =
+    subst (λ (n : Name). has v (after (start n) pass'.seen).named ≡ true) (sym looks.same.0)
+    (named_later (start pass.name) pass.seen pass'.seen v looks.grows looks.legal named)
+
+-- what has the label of the number's chunk has that of each value with this number
+pub found_label : (known : Known) (pass : Pass) (label number : ℕ) → AreAt pass.name known (state_seen pass) → IsPlace number known.row (entry_of known.row number)
+    → label ≡ label_in known.chunks (entry_of known.row number)
+    → (v : ℕ) → has v (state_seen pass).named ≡ true → block_of v ≡ number → label ≡ label_at pass.name (home_of v)
+found_label known pass label number homes placed its v named is =
+    its ∙ (ap (λ (k : ℕ). label_in known.chunks (entry_of known.row k)) (sym is)
+    ∙ homes v named (subst (λ (k : ℕ). IsPlace k known.row (entry_of known.row k)) (sym is) placed))
