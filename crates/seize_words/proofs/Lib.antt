@@ -52,3 +52,4 @@ pub mod Activations
 pub mod Meets
 pub mod Sent
 pub mod Chunked
+pub mod Traversals

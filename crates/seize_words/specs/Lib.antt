@@ -33,3 +33,4 @@ pub mod Activations
 pub mod LinkWords
 pub mod Chunk
 pub mod Chunks
+pub mod Walks

@@ -2,7 +2,7 @@
 ghost use Rattle.std.specs.Prelude.{◌≡◌, Some};
 ghost use Rattle.seize_store.specs.Named.{name_of};
 
-use crate::book::{Book, BookKeys, Numbers, Pass, Unopened};
+use crate::book::{Book, BookKeys, Numbers, Pass, SlotKey, Unopened, ValueKeys};
 use crate::chunk::{Header, Part};
 use seize_store::Store;
 use std::alloc::Global;
@@ -22,6 +22,9 @@ impl<T> Blocks<T> {
     ghost use Rattle.seize_words.specs.Chunks.{IsHeaderOf, OpensIn, book_in};
     ghost use Rattle.seize_words.specs.Homesteads.{HasNumber, state_seen};
     ghost use Rattle.seize_words.specs.Passes.{LooksOn};
+    ghost use Rattle.seize_words.specs.Slots.{IsOf};
+    ghost use Rattle.seize_words.specs.Values.{IsEmpty};
+    ghost use Rattle.seize_words.specs.Walks.{CountsDown, IsAtBatch, Knows};
 
     /// A new book, as one of `Book::open`, with its keys; and a store with no rows for its blocks. It takes no memory.
     pub fn new(alloc: Global, links: usize, size: usize) -> (Blocks<T>, BookKeys)
@@ -61,5 +64,30 @@ impl<T> Blocks<T> {
         let header = place.header();
         pass.agree(&header.book);
         header
+    }
+
+    /// Counts down the next batch of a walk, to which this word leads: that of the slot's head as it came out, or what the step before
+    /// gave. It gives the word of the rest of the walk, and whether the batch's values are given up to the slot's call then: if they are,
+    /// their keys come out.
+    ///
+    /// It takes no memory and waits for nobody: two look-ups, two loads and one atomic subtraction.
+    pub fn count_down(
+        &self,
+        word: u64,
+        key: &mut SlotKey,
+        values: &mut ValueKeys,
+        pass: &mut Pass,
+    ) -> (u64, bool)
+        requires book { IsOf key.old pass.old × (book_in self.now ≡ pass.old.name) × IsEmpty values.old pass.old }
+        requires knows { Knows key.old pass.old }
+        requires at { IsAtBatch key.old word }
+        ensures knows { Knows key.new pass.new }
+        ensures counts { (at : IsAtBatch key.old word) → CountsDown at pass.old key.new values.new pass.new result.0 result.1 }
+    {
+        let header = self.header(word - 2, pass);
+        let rest = header.next.load(key, pass);
+        let front = header.first.load(key, pass);
+        let first = self.header(front, pass);
+        (rest, first.count.subtract(key, values, pass))
     }
 }

@@ -1,0 +1,156 @@
+-- A step of a walk from block to block: the block with which the next batch waited, and the first block of that batch, are those of values
+-- that were named, so their headers are found by their numbers.
+use Rattle.std.proofs.Common.{◌≡◌, ℕ, zero, suc, ◌+◌, ◌-◌, ◌<◌, ◌≤◌, true, List, [], ◌∷◌, length, Option, Some, sym, refl, ◌∙◌, ap, subst, ◌⊎◌, inl, inr, arith}
+use Rattle.std.proofs.Math.Bool.{Bool-set}
+use Rattle.std.proofs.lemmas.Bool.{cases_lt}
+use Rattle.std.specs.List.{Contains}
+use Rattle.std.specs.Prelude.{slice_index_or}
+use mathlib.Core.List.{IsPrefix}
+use base.Growing.{prefix_trans}
+use Rattle.seize_machine.specs.Machine.State.{State, Call, are_distinct, has, linked}
+use Rattle.seize_machine.specs.Machine.Laws.{Walks, walk_of}
+use Rattle.seize_words.specs.Blocks.{Plan, block_for, block_of, front_of, no_plan, plans}
+use Rattle.seize_words.specs.Book.{IsLegalList, after, slots}
+use Rattle.seize_words.specs.Private.{is_one}
+use Rattle.seize_words.specs.declared.book.keys.Keys.{Keys}
+use Rattle.seize_words.specs.Chains.{first_field, served}
+use Rattle.seize_words.specs.Chunks.{IsHeaderOf, header_home}
+use Rattle.seize_words.specs.Counts.{home}
+use Rattle.seize_words.specs.Entry.{Entry}
+use Rattle.seize_words.specs.Headers.{IsFrontBlock, Passes}
+use Rattle.seize_words.specs.Homes.{home_of}
+use Rattle.seize_words.specs.Homesteads.{HasNumber, state_seen}
+use Rattle.seize_words.specs.Passes.{LooksOn}
+use Rattle.seize_words.specs.Slots.{IsOf, IsStill, number_of, own_list, start_of}
+use Rattle.seize_words.specs.Tokens.{Name, start}
+use Rattle.seize_words.specs.Walks.{IsAtBatch, Knows, word_for}
+use Rattle.seize_words.specs.declared.book.pass.Pass.{Pass}
+use Rattle.seize_words.specs.declared.book.slot_key.SlotKey.{SlotKey}
+use Rattle.seize_words.specs.declared.chunk.Header.{Header}
+use Rattle.seize_words.proofs.Chunked.{named_seen}
+use Rattle.seize_words.proofs.Facts.{looks_twice}
+use Rattle.seize_words.proofs.Finds.{IsLiving, front_living, walked_living}
+use Rattle.seize_words.proofs.Plans.{block_stays, legal_prefix}
+use Rattle.seize_words.proofs.Serves.{marked_after, slots_in, walks_marked}
+use Rattle.seize_words.proofs.Sound.{named_later}
+
+-- a slot's key is its keys
+pub same_key : (key key' : SlotKey) → IsStill key key' → key' ≡ key
+same_key key key' still = subst (λ (k : Keys). (one : is_one slots k.held ≡ true) → make k one ≡ key) (sym still) (λ one. ap (make key.keys) (Bool-set (is_one slots key.keys.held) true one key.one)) key'.one
+  where
+    make : (k : Keys) → is_one slots k.held ≡ true → SlotKey
+    make k one = record { keys = k; one = one }
+
+-- what the first field showed to a key that knew the same
+pub front_shown : (key key' : SlotKey) → IsStill key key' → (f front : ℕ) → ((w : Passes first_field f key') → IsFrontBlock key' w.batch front) → (word : ℕ) (at : IsAtBatch key word)
+    → f ≡ first_field (home_of (served (plans (start_of key) (own_list key)) at.batch (number_of key))) → IsFrontBlock key at.batch front
+front_shown key key' still f front shows word at its =
+    subst (λ (k : SlotKey). (w : Passes first_field f k) → IsFrontBlock k w.batch front) (same_key key key' still) shows
+    (record { batch = at.batch; walk = at.walk; queue = at.queue; walking = at.walking; its = its })
+
+-- three looks are one
+pub looks_thrice : (a b c d : Pass) → LooksOn a b → LooksOn b c → LooksOn c d → LooksOn a d
+looks_thrice a b c d one two three = looks_twice a c d (looks_twice a b c one two) three
+
+-- after a look the pass has still seen what the key knows
+pub knows_still : (key : SlotKey) (pass pass' : Pass) → Knows key pass → LooksOn pass pass' → Knows key pass'
+knows_still key pass pass' knows looks = record {
+  seen = prefix_trans (own_list key) pass.seen pass'.seen knows.seen looks.grows;
+  legal = subst (λ (n : Name). IsLegalList (start n) pass'.seen) (sym looks.same.0) looks.legal;
+  distinct = subst (λ (n : Name). are_distinct (linked n.links) ≡ true) (sym looks.same.0) looks.distinct;
+}
+
+module _ (key : SlotKey) (pass : Pass) (book : IsOf key pass) (knows : Knows key pass) where
+  abbrev st : State
+  st = start_of key
+
+  abbrev own : List Entry
+  own = own_list key
+
+  legal : IsLegalList st pass.seen
+  legal = subst (λ (n : Name). IsLegalList (start n) pass.seen) (sym book) knows.legal
+
+  distinct : are_distinct (linked key.keys.name.links) ≡ true
+  distinct = subst (λ (n : Name). are_distinct (linked n.links) ≡ true) (sym book) knows.distinct
+
+  its_own : IsLegalList st own
+  its_own = legal_prefix st own pass.seen knows.seen legal
+
+  living_named : (v : ℕ) → IsLiving v (after st own) → has v (state_seen pass).named ≡ true
+  living_named v living = subst (λ (n : Name). has v (after (start n) pass.seen).named ≡ true) book (named_later st own pass.seen v knows.seen legal living.0)
+
+  -- a batch that the slot's call walks
+  module _ (b : ℕ) (walks : Walks (after st own) (number_of key) b) where
+    abbrev pub its_value : ℕ
+    its_value = served (plans st own) b (number_of key)
+
+    pub value_named : has its_value (state_seen pass).named ≡ true
+    value_named = living_named its_value (walked_living key.keys.name own distinct its_own b (number_of key) walks)
+
+    pub front_named : (v : ℕ) → front_of st own b ≡ Some v → has v (state_seen pass).named ≡ true
+    front_named v front = living_named v (front_living key.keys.name own distinct its_own b v (number_of key) walks front)
+
+    -- it was detached
+    pub walked_there : b < length (plans st own)
+    walked_there = go (cases_lt b (length (plans st own)))
+      where
+        none : (ps : List Plan) (k : ℕ) → length ps ≤ k → slice_index_or ps k no_plan ≡ no_plan
+        none [] k le = refl
+        none (p ∷ ps) zero le = absurd (omega (arith, le))
+        none (p ∷ ps) (suc k) le = none ps k (omega (arith, le))
+
+        serves : Contains (slots_in (plans st own) b) (number_of key)
+        serves = walks_marked (after st own) (plans st own) (number_of key) b (marked_after key.keys.name own distinct its_own) walks
+
+        go : (b < length (plans st own)) ⊎ (length (plans st own) ≤ b) → b < length (plans st own)
+        go (inl below) = below
+        go (inr past) = absurd (let there : Contains [] (number_of key) = subst (λ (p : Plan). Contains p.slots (number_of key)) (none (plans st own) b past) serves in let within : there.0 < 0 = there.1 in omega (arith, within))
+
+-- the next batch of a walk
+module _ (key : SlotKey) (pass : Pass) (word : ℕ) (book : IsOf key pass) (knows : Knows key pass) (at : IsAtBatch key word) where
+  pub at_walks : Walks (after (start_of key) (own_list key)) (number_of key) at.batch
+  at_walks = subst (λ (o : Option Call). Contains (walk_of o) at.batch) (sym at.walking) (zero, omega arith, refl)
+
+  less : (k : ℕ) → k + 2 - 2 ≡ k
+  less k = omega arith
+
+  at_block : block_of (its_value key pass book knows at.batch at_walks) ≡ word - 2
+  at_block =
+      let leads : word ≡ block_for (start_of key) (own_list key) at.batch (number_of key) + 2 = at.leads in
+      sym (ap (λ (k : ℕ). k - 2) leads ∙ less (block_for (start_of key) (own_list key) at.batch (number_of key)))
+
+  pub at_number : HasNumber (word - 2) (state_seen pass)
+  at_number = (its_value key pass book knows at.batch at_walks, value_named key pass book knows at.batch at_walks, at_block)
+
+  -- the header that is found there is that of the block with which it waited
+  pub at_header : (pass' : Pass) (header : Header) → LooksOn pass pass' → IsHeaderOf header (word - 2) pass' → home_of (its_value key pass book knows at.batch at_walks) ≡ header_home header
+  at_header pass' header looks is =
+      is.1 (its_value key pass book knows at.batch at_walks)
+      (named_seen pass pass' (its_value key pass book knows at.batch at_walks) looks (value_named key pass book knows at.batch at_walks)) at_block
+
+  -- so its fields may be loaded
+  pub at_field : (which : ℕ → ℕ) (f : ℕ) (header : Header) → home_of (its_value key pass book knows at.batch at_walks) ≡ header_home header → f ≡ which (home header.count)
+      → f ≡ which (home_of (its_value key pass book knows at.batch at_walks))
+  at_field which f header its is = is ∙ ap which (sym its)
+
+  pub front_number : (front : ℕ) → IsFrontBlock key at.batch front → HasNumber front (state_seen pass)
+  front_number front is = (is.0, front_named key pass book knows at.batch at_walks is.0 is.1, sym is.2)
+
+  -- the header that is found by the first field's number is that of the batch's first block
+  pub front_home : (front : ℕ) (is : IsFrontBlock key at.batch front) (pass' : Pass) (header : Header) → LooksOn pass pass' → IsHeaderOf header front pass' → home_of is.0 ≡ home header.count
+  front_home front is pass' header looks found =
+      found.1 is.0 (named_seen pass pass' is.0 looks (front_named key pass book knows at.batch at_walks is.0 is.1)) (sym is.2)
+
+  -- the rest of the walk is walked as well
+  pub rest_walks : (b : ℕ) → Contains at.walk b → Walks (after (start_of key) (own_list key)) (number_of key) b
+  rest_walks b there = subst (λ (o : Option Call). Contains (walk_of o) b) (sym at.walking) (suc there.0, omega (arith, there.1), there.2)
+
+-- the word of the rest of a walk is the same by what the key knows later
+pub word_stays : (key key' : SlotKey) (pass : Pass) (batch : ℕ) (walk queue : List ℕ) → IsOf key pass → Knows key pass → (key'.keys.name ≡ key.keys.name) → (number_of key' ≡ number_of key)
+    → IsPrefix (own_list key) (own_list key') → (walks : (b : ℕ) → Contains walk b → Walks (after (start_of key) (own_list key)) (number_of key) b)
+    → word_for key walk ≡ word_for key' walk
+word_stays key key' pass batch [] queue book knows name slot grows walks = refl
+word_stays key key' pass batch (b ∷ walk) queue book knows name slot grows walks =
+    let there = walked_there key pass book knows b (walks b (zero, omega arith, refl)) in
+    ap (λ (k : ℕ). k + 2) (block_stays (start_of key) (own_list key) (own_list key') b (number_of key) grows there
+    ∙ ap (λ (t : Name × ℕ). block_for (start t.0) (own_list key') b t.1) (λ j. (sym name j, sym slot j)))
