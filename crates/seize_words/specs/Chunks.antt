@@ -30,4 +30,5 @@ OpensIn blocks keys links size = Opens blocks.book keys links size blocks.book.n
 
 abbrev pub IsHeaderOf : Header → ℕ → Pass → Type 0
 IsHeaderOf header number pass =
-    (header_book header ≡ pass.name) × ((v : ℕ) → has v (state_seen pass).named ≡ true → block_of v ≡ number → home_of v ≡ header_home header)
+    (header_book header ≡ pass.name)
+    × ((v : ℕ) → has v (state_seen pass).named ≡ true → block_of v ≡ number → home_of v ≡ header_home header)

@@ -5,7 +5,8 @@
 --     label_at n k  the label of what is of the book and has the home k
 --     inside        what stands in its invariant;  knows   that there is this invariant, for good
 --     pass_owns     a pass: its key, a beginning of the list that it has seen, and at a closed gate the list itself
---     leads n v     the value's number leads to the label of its home, in the store where the book's blocks lie; nothing where they lie in none
+--     leads n v     the value's number leads to the label of its home, in the store where the book's blocks lie; and nothing where they lie
+--                   in none
 --     all_lead n vs     so do the numbers of all these values
 --     rights_own    the rights to some keys, in a given order;  keys_own   and with each key of a block, where its value's number leads
 --     Noted         one entry was appended with a pass

@@ -33,8 +33,8 @@ pub record Knows (key : SlotKey) (pass : Pass) : Type 0 where
   pub legal : IsLegalList (start pass.name) pass.seen
   pub distinct : are_distinct (linked pass.name.links) ≡ true
 
-pub record CountsDown {key : SlotKey} {word : ℕ} (at : IsAtBatch key word) (pass : Pass) (key' : SlotKey) (values' : ValueKeys) (pass' : Pass)
-    (rest : ℕ) (zero : Bool) : Type 0 where
+pub record CountsDown {key : SlotKey} {word : ℕ} (at : IsAtBatch key word) (pass : Pass) (key' : SlotKey) (values' : ValueKeys)
+    (pass' : Pass) (rest : ℕ) (zero : Bool) : Type 0 where
   pub mid : Pass
   pub looks : LooksOn pass mid
   pub counts : Counts key mid key' pass' (SubCount (number_of key)) zero
