@@ -12,8 +12,10 @@ use Rattle.seize_words.specs.Homes.{IsSound}
 use Rattle.seize_words.specs.Slots.{Looks, Moves, number_of, own_list}
 use Rattle.seize_words.specs.Tokens.{Name, start}
 use Rattle.seize_words.specs.Fair.{Before}
-use Rattle.seize_words.specs.Passes.{IsSame}
+use Rattle.seize_words.specs.Adding as adding
+use Rattle.seize_words.specs.Passes.{IsSame, LooksOn}
 use Rattle.seize_words.specs.Private.{is_one, key_of, own_of}
+use Rattle.seize_words.specs.declared.book.keys.Keys.{Keys}
 use Rattle.seize_words.specs.declared.book.pass.Pass.{Pass}
 use Rattle.seize_words.specs.declared.book.slot_key.SlotKey.{SlotKey}
 use Rattle.seize_words.proofs.Lists.{after_push}
@@ -45,6 +47,20 @@ moves key key' n e log d name name' size legal does kept number own =
       legal = ap (λ (m : Name). next m.size (after (start m) log) e.event) name ∙ ap (λ (s : ℕ). next s (after (start n) log) e.event) (sym size) ∙ does;
       is = now key key' n e d.0 log name' own push number (λ s j. slot_at s j);
       is_now_active = now key key' n e d.0 log name' own push number (λ s j. is_active (head_at s j));
+    }
+
+-- what the pass has seen by then
+pub looks_on : (keys keys' : Keys) (pass pass' : Pass) → adding.Looks keys pass keys' pass' → LooksOn pass pass'
+looks_on keys keys' pass pass' looks =
+    let same = looks.0 in let before = looks.2 in
+    record {
+      same = same;
+      none_made = ap (λ (m : Name). mine (start m) pass'.id pass'.seen) same.0 ∙ ap (λ (p : ℕ). mine (start pass.name) p pass'.seen) same.1 ∙ before.none_made;
+      grows = before.grows;
+      alone = before.alone;
+      legal = before.legal;
+      sound = before.sound;
+      distinct = looks.3;
     }
 
 -- where its holder only looked

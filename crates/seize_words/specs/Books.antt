@@ -10,23 +10,17 @@
 --     IsCountFor count value                   it is that of the value's block, the count is 0, and no keys stand beside it
 --     AreOf book keys                          these keys are of the book
 --     IsFieldFor which field value             it is that of this field of the value's block, and nothing was stored there
-use Rattle.std.specs.Prelude.{◌≡◌, ℕ, pos, false, Option, List, [], ◌∷◌, drop, take}
-use mathlib.Core.List.{IsPrefix}
+use Rattle.std.specs.Prelude.{◌≡◌, ℕ, pos, false, Option, List, [], drop, take}
 use Rattle.seize_machine.specs.Machine.State.{has}
-use Rattle.seize_words.specs.Entry.{Entry}
-use Rattle.seize_words.specs.Ledger.{Held}
 use Rattle.seize_words.specs.Blocks.{block_of}
 use Rattle.seize_words.specs.Counts.{count_known, deposit_known, home_in}
 use Rattle.seize_words.specs.Headers.{told_known}
-use Rattle.seize_words.specs.Deposits.{deposit}
-use Rattle.seize_words.specs.Homes.{IsVacant, count_in, home_of}
+use Rattle.seize_words.specs.Homes.{IsVacant, home_of}
 use Rattle.seize_words.specs.Others.{book_of, is_named, state_of, value_of}
-use Rattle.seize_words.specs.Book.{after, counts, blocks, fields}
-use Rattle.seize_words.specs.Chains.{first_field, next_field, told}
-use Rattle.seize_words.specs.Tokens.{many, IsSole, start}
+use Rattle.seize_words.specs.Tokens.{many, IsSole}
 use Rattle.seize_words.specs.Private.{key_of, own_of}
 use Rattle.seize_words.specs.Begin.{BeganWith, first_keys, first_links}
-use Rattle.seize_words.specs.Passes.{IsSame, MadeNone, mine_of}
+use Rattle.seize_words.specs.Passes.{LooksOn, mine_of}
 use Rattle.seize_words.specs.declared.book.block_keys.BlockKeys.{BlockKeys}
 use Rattle.seize_words.specs.declared.book.book_keys.BookKeys.{BookKeys}
 use Rattle.seize_words.specs.declared.book.count_key.CountKey.{CountKey}
@@ -92,11 +86,10 @@ abbrev pub IsFirstIn : ValueKey → ℕ → Type 0
 IsFirstIn value number =
     IsNextIn value number × ((w : ℕ) → home_of w ≡ home_of (value_of value) → has w (state_of value.keys).named ≡ false)
 
--- it is for another value of the same block, and the pass has seen a legal list that goes on; nothing was made with it
+-- it is for another value of the same block, and the pass has seen a legal list that goes on
 abbrev pub MakesNext : ValueKey → Pass → ValueKey → Pass → Type 0
 MakesNext value pass value' pass' =
-    IsSame pass pass' × MadeNone pass pass' × IsPrefix pass.seen pass'.seen
-    × (value'.keys.name ≡ value.keys.name) × (home_of (value_of value') ≡ home_of (value_of value))
+    LooksOn pass pass' × (value'.keys.name ≡ value.keys.name) × (home_of (value_of value') ≡ home_of (value_of value))
 
 -- the count of its block, which is 0
 abbrev pub IsCountFor : CountKey → ValueKey → Type 0
