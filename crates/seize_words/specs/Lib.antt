@@ -31,3 +31,4 @@ pub mod Totals
 pub mod Links
 pub mod Activations
 pub mod LinkWords
+pub mod Named
