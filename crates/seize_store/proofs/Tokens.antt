@@ -2,18 +2,14 @@
 use Rattle.std.proofs.Common.{◌≡◌, ℕ, [], ◌∷◌, refl, List, ap}
 use seplogic.Ra.Ura.{Ura}
 use mir.Val.{Val, vstruct, vcons, vnil}
-use base.Logic.{SProp, ent, sep, wand, all, emp, via, fst∗, snd∗}
+use base.Logic.{SProp, ent, sep, emp, via, fst∗, snd∗}
 use base.Stored.{gnil, gcons, coded_list, coded×, coded_ℕ}
-use base.Fml.{Lft, Share, Fml, fsep, fobs, fbor, flft}
+use base.Fml.{Fml}
 use types.Logic.{Logic, sem}
-use types.SemTy.{Body}
-use types.Kit.{‵, ◌$◌, ◌∵◌, !, qed, move, fsplit, fjoin, frame, each, assume, updating, now, done}
 use contract.Monad.{fact, fact_mono, conj_i}
 use denote.RattleType.{RattleType}
-use denote.Memory.{mem}
 use denote.RawPtr.{Ptr, coded_ptr}
 use denote.Shadow.{makes_shadow}
-use denote.Steps.{opens, closes}
 use denote.Struct.Struct.{Struct}
 use denote.Struct.Owning.{shape}
 use Rattle.once_cell.proofs.Moves.{second}
@@ -47,14 +43,3 @@ module _ {M : Type 1} {𝓤 : Ura M} (𝓛 : Logic 𝓤) where
   pub known_agree : (store : List ℕ) (row : ℕ) (ps qs : List (Ptr × ℕ)) → ent 𝓤 (sep 𝓤 (sem 𝓛 (known_row store row ps)) (sem 𝓛 (known_row store row qs))) (fact 𝓤 (ps ≡ qs))
   known_agree store row ps qs = let c = coded_list (coded× coded_ptr coded_ℕ) in let γ : ℕ = name_in store row in let x = gcons gnil (c.code ps) in let y = gcons gnil (c.code qs) in let P : SProp 𝓤 = 𝓛.A.res γ x in let Q : SProp 𝓤 = 𝓛.A.res γ y in
       via 𝓤 _ (via 𝓤 _ (conj_i 𝓤 P Q (fst∗ 𝓤 P Q) (snd∗ 𝓤 P Q)) (𝓛.names.res_one γ x y)) (fact_mono 𝓤 (x ≡ y) (ps ≡ qs) (λ e. c.inj ps qs (ap second e)))
-
-  module _ (κ : Lft) (q : Share) (b o ν : ℕ) where
-    abbrev pub lent : Known.Denot → Fml
-    lent n = fsep (fobs ν (Known.coded.code n)) (fbor κ (Body (mem Known) b o ν))
-
-    abbrev pub Shuts : Known.Denot → SProp 𝓤
-    Shuts n = wand 𝓤 (sem 𝓛 (told n)) (𝓛.H.⇛ (sep 𝓤 (sem 𝓛 (lent n)) (𝓛.A.lft κ q)))
-
-    pub known_opens : (n : Known.Denot) → ent 𝓤 (sep 𝓤 (sem 𝓛 (lent n)) (𝓛.A.lft κ q)) (𝓛.H.⇛ (sep 𝓤 (sem 𝓛 (told n)) (all 𝓤 Shuts)))
-    known_opens n = qed 𝓛 (‵ (lent n) ∷ ‵ (flft κ q) ∷ []) ∵ updating ! $ fsplit ! $ opens ! tt Known b o (λ vs. move ! (1 ∷ []) $ fsplit ! $ now ! $ move ! (1 ∷ []) $ frame ! $
-        each ! Shuts (λ m. assume ! (‵ (told m)) $ updating ! $ move ! (1 ∷ 0 ∷ []) $ fjoin ! $ move ! (1 ∷ 0 ∷ []) $ closes ! tt Known m vs b o $ fjoin ! $ now ! $ done !))

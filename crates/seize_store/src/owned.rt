@@ -17,8 +17,8 @@ use std::ops::{Deref, DerefMut};
 /// store.
 ///
 /// When it ends, its chunk is in again with its part, by one swap, and then the value ends; where the store is gone, the chunk's memory
-/// goes back, and the part ends. A
-/// list of blocks that is dropped whole nests, one call in another, as a list of boxes does. Take it apart from its front.
+/// goes back, and the part ends. A list of blocks that is dropped whole nests, one call in another, as a list of boxes does. Take it apart
+/// from its front.
 pub struct Owned<H, P: Labelled + Drop, T: Drop> {
     pub(crate) block: Block<H, P, T>,
 }
@@ -69,9 +69,8 @@ impl<H, P: Labelled + Drop, T: Drop> Owned<H, P, T> {
         ensures value { result.0 ≡ value_of self }
         ensures known { result.1 ≡ known_of self }
     {
-        let (value, mut spot) = self.empty();
-        let title = &mut spot.title;
-        let known = title.known.again();
+        let (value, spot) = self.empty();
+        let known = spot.title.known.again();
         drop(spot);
         (value, known)
     }

@@ -49,7 +49,7 @@ module _ (f : ℕ) (key : SlotKey) (pass pass' : Pass) (v : ℕ) (looks : LooksA
   legal : IsLegalList (start n) log
   legal = looks.found.before.legal
 
-  loaded : v ≡ told log f
+  pub loaded : v ≡ told log f
   loaded = shown n f v pass.id pass.seen key.keys.held looks.since log looks.found
 
   module _ (which : ℕ → ℕ) (w : IsPassing (start n) s own which f) where

@@ -171,14 +171,15 @@ module _ {M : Type 1} {𝓤 : Ura M} (𝓛 : Logic 𝓤) (n : Name) (p : ℕ) wh
           move ! (3 ∷ 0 ∷ []) $ fjoin ! $ show ! Found log $ check ! (b, known.1.1) $ done !))))
 
     abbrev pub Looked : List Entry → Pr
-    Looked log = guard 𝓤 (Before n p seen held log) (⟦ pass_owns n p log ⟧ ∗ ⟦ keys (renewed held log) ⟧)
+    Looked log = guard 𝓤 (Before n p seen held log × IsDistinct 𝓛 n) (⟦ pass_owns n p log ⟧ ∗ ⟦ keys (renewed held log) ⟧)
 
     -- where nothing is brought
     pub looks_now : WithKinds kinds held → ⟦ pass_owns n p seen ⟧ ∗ ⟦ keys held ⟧ ⊢ H.⇛ (ex 𝓤 Looked)
-    looks_now within = qed 𝓛 (‵ (pass_owns n p seen) ∷ ‵ (keys held) ∷ []) ∵ updating ! $ nothing ! $ move ! (1 ∷ 2 ∷ 0 ∷ []) $
+    looks_now within = qed 𝓛 ((‵ (knows n) ⊛ ‵ (pass_holds n p seen)) ∷ ‵ (keys held) ∷ []) ∵ updating ! $ split ! $
+        use1 𝓛 (given (IsDistinct 𝓛 n) (‵ (knows n))) (distinct_links 𝓛 n) $ learn ! (λ distinct. fjoin ! $ nothing ! $ move ! (1 ∷ 2 ∷ 0 ∷ []) $
         use3 𝓛 (later (some (λ (log : List Entry). given (Before n p seen held log × Unit {0}) (‵ (pass_owns n p log) ⊛ ‵ (keys (renewed held log)) ⊛ ‵ ftrue))))
         (looks_with (λ _. Unit {0}) ⟦ ftrue ⟧ (λ _. ⟦ ftrue ⟧) (λ log grows legal. qed 𝓛 (‵ (all_lead n (after st log).named) ∷ ‵ ftrue ∷ []) ∵ check ! tt $ done !) within) $
-        await ! tt $ pick ! (λ log. learn ! (λ so. split3 ! $ now ! $ show ! Looked log $ check ! so.0 $ keep ! (0 ∷ 1 ∷ []) $ done !))
+        await ! tt $ pick ! (λ log. learn ! (λ so. split3 ! $ now ! $ show ! Looked log $ check ! (so.0, distinct) $ keep ! (0 ∷ 1 ∷ []) $ done !)))
 
   -- each value that was named lies in the block that a row shows at its number, if its number is one of the row's
   abbrev pub SeesHomes : ℕ → List (Ptr × ℕ) → List Entry → Type 0

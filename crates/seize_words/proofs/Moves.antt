@@ -1,19 +1,18 @@
 -- What a slot's key knows after an event that its holder added.
-use Rattle.std.proofs.Common.{◌≡◌, ℕ, List, [], ◌∷◌, ◌++◌, sym, ap, subst, ◌∙◌, true}
+use Rattle.std.proofs.Common.{◌≡◌, ℕ, List, [], ◌∷◌, ◌++◌, sym, ap, ◌∙◌, true}
 use Rattle.seize_machine.specs.Machine.State.{State, slot_at, head_at, is_active}
 use Rattle.seize_machine.specs.Machine.Next.{next}
 use Rattle.seize_machine.specs.declared.machine.event.Answer.{Answer}
 use Rattle.seize_words.specs.Blocks.{plans}
 use Rattle.seize_words.specs.Chains.{told, written}
 use Rattle.seize_words.specs.Entry.{Entry, Made, Deed}
-use Rattle.seize_words.specs.Ledger.{renewed}
 use Rattle.seize_words.specs.Book.{after, IsLegalList, Does, TheSlot, Kept, mine, slots}
-use Rattle.seize_words.specs.Homes.{IsSound}
 use Rattle.seize_words.specs.Slots.{Looks, Moves, number_of, own_list}
 use Rattle.seize_words.specs.Tokens.{Name, start}
-use Rattle.seize_words.specs.Fair.{Before}
-use Rattle.seize_words.specs.Passes.{IsSame}
+use Rattle.seize_words.specs.Adding as adding
+use Rattle.seize_words.specs.Passes.{LooksOn}
 use Rattle.seize_words.specs.Private.{is_one, key_of, own_of}
+use Rattle.seize_words.specs.declared.book.keys.Keys.{Keys}
 use Rattle.seize_words.specs.declared.book.pass.Pass.{Pass}
 use Rattle.seize_words.specs.declared.book.slot_key.SlotKey.{SlotKey}
 use Rattle.seize_words.proofs.Lists.{after_push}
@@ -47,20 +46,29 @@ moves key key' n e log d name name' size legal does kept number own =
       is_now_active = now key key' n e d.0 log name' own push number (λ s j. is_active (head_at s j));
     }
 
--- where its holder only looked
-pub stays : (key key' : SlotKey) (pass pass' : Pass) → key.keys.name ≡ pass.name → IsSame pass pass' → (key'.keys.name ≡ key.keys.name) × (key'.keys.held ≡ renewed key.keys.held pass'.seen) → Before pass.name pass.id pass.seen key.keys.held pass'.seen
-    → is_one slots key.keys.held ≡ true → Looks key pass key' pass'
-stays key key' pass pass' book same is before one =
-    let k = number_of key in let known = after_one slots key.keys.held pass'.seen one in let kept_all = one_kept (start pass.name) key.keys.held pass'.seen one before.kept in let kept = kept_all.1 in
+-- what the pass has seen by then
+pub looks_on : (keys keys' : Keys) (pass pass' : Pass) → adding.Looks keys pass keys' pass' → LooksOn pass pass'
+looks_on keys keys' pass pass' looks =
+    let same = looks.0 in let before = looks.2 in
     record {
       same = same;
-      seen_by = (is.0, ap key_of is.1 ∙ known.0, ap own_of is.1 ∙ known.1);
       none_made = ap (λ (m : Name). mine (start m) pass'.id pass'.seen) same.0 ∙ ap (λ (p : ℕ). mine (start pass.name) p pass'.seen) same.1 ∙ before.none_made;
       grows = before.grows;
-      knows = kept_all.0;
       alone = before.alone;
-      legal = subst (λ (m : Name). IsLegalList (start m) pass'.seen) (sym book) before.legal;
-      sound = subst (λ (m : Name). IsSound (after (start m) pass'.seen)) (sym book) before.sound;
+      legal = before.legal;
+      sound = before.sound;
+      distinct = looks.3;
+    }
+
+-- where its holder only looked
+pub stays : (key key' : SlotKey) (pass pass' : Pass) → key.keys.name ≡ pass.name → adding.Looks key.keys pass key'.keys pass' → is_one slots key.keys.held ≡ true → Looks key pass key' pass'
+stays key key' pass pass' book looks one =
+    let is = looks.1 in let before = looks.2 in
+    let k = number_of key in let known = after_one slots key.keys.held pass'.seen one in let kept_all = one_kept (start pass.name) key.keys.held pass'.seen one before.kept in let kept = kept_all.1 in
+    record {
+      on = looks_on key.keys key'.keys pass pass' looks;
+      seen_by = (is.0, ap key_of is.1 ∙ known.0, ap own_of is.1 ∙ known.1);
+      knows = kept_all.0;
       lives = sym (life_kept (start pass.name) k (own_list key) pass'.seen kept_all);
       slot = in_book book pass'.seen (λ s. slot_at s k) ∙ sym kept.1 ∙ sym (in_book book (own_list key) (λ s. slot_at s k));
       active = in_book book pass'.seen (λ s. is_active (head_at s k)) ∙ sym kept.2 ∙ sym (in_book book (own_list key) (λ s. is_active (head_at s k)));

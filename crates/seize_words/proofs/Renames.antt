@@ -120,6 +120,9 @@ module _ (value : ValueKey) (pass : Pass) (seen' : List Entry) (looked renamed :
   its_home : home_of is.value ≡ home_of u
   its_home = is.home ∙ ap home_of same_label
 
+  pub next_home : home_of (label_of renamed.held) ≡ home_of u
+  next_home = ap home_of its_value ∙ its_home
+
   gone_all : IsLast value → HasGone value pass → IsVacant (after st seen') (home_of is.value)
   gone_all last gone w home named = go (ℕ_discrete w u)
     where

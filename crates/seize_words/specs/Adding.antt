@@ -3,11 +3,13 @@
 --     Asks keys pass event          the holder of the keys may add it with the pass
 --     Adds keys pass keys' pass' event   it was added: see Added
 --     MayLook keys pass             the holder of the keys may look at the list with the pass
---     Looks keys pass keys' pass'      the pass has seen a legal list, as in Before, and nothing was made with it; the keys know all of it
+--     Looks keys pass keys' pass'      the pass has seen a legal list, as in Before, and nothing was made with it; the keys know all of it;
+--                                      the links of the book's opening are distinct
 --     Joins keys other keys' other'    the other's keys come after its own, and the other has none
 --     Parts keys keys' other'          the other has all but the first
-use Rattle.std.specs.Prelude.{◌≡◌, [], ◌++◌, take, drop}
+use Rattle.std.specs.Prelude.{◌≡◌, true, [], ◌++◌, take, drop}
 use Rattle.seize_machine.specs.Machine.Event.{Event}
+use Rattle.seize_machine.specs.Machine.State.{are_distinct, linked}
 use Rattle.seize_words.specs.Entry.{Deed}
 use Rattle.seize_words.specs.Ledger.{WithKinds, renewed}
 use Rattle.seize_words.specs.Book.{kinds}
@@ -32,7 +34,7 @@ MayLook keys pass = (keys.name ≡ pass.name) × WithKinds kinds keys.held
 abbrev pub Looks : Keys → Pass → Keys → Pass → Type 0
 Looks keys pass keys' pass' =
     IsSame pass pass' × ((keys'.name ≡ keys.name) × (keys'.held ≡ renewed keys.held pass'.seen))
-    × Before pass.name pass.id pass.seen keys.held pass'.seen
+    × Before pass.name pass.id pass.seen keys.held pass'.seen × (are_distinct (linked pass.name.links) ≡ true)
 
 abbrev pub Joins : Keys → Keys → Keys → Keys → Type 0
 Joins keys other keys' other' =

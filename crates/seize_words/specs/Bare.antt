@@ -6,7 +6,6 @@
 --     bare_book key, bare_home key   the book of a bare key, and the home that its values have;  bare_label key   the label of that
 --     Becomes key value number       it is the key of a value of this block now, with this number, as IsNextIn says; and it knows no more
 --     IsLaid value key               it is the key of the value's block
---     IsCountAt count home, IsFieldAt which field home     it is that of the block with this home; the count is 0, and nothing was stored
 --     IsNewChunk rights keys         the key of a block of which no value was ever named, and those of its count and of its fields
 --     IsChunkOf book keys            they are the keys of a new block of the book
 use Rattle.std.specs.Prelude.{◌≡◌, ℕ, pos, true, false, List, [], ◌∷◌, Some}
@@ -16,12 +15,10 @@ use Rattle.seize_store.specs.declared.known.Known.{Known}
 use Rattle.seize_table.specs.Place.{IsPlace}
 use Rattle.seize_words.specs.Blocks.{block_of}
 use Rattle.seize_words.specs.Book.{after, blocks, counts, fields}
-use Rattle.seize_words.specs.Books.{IsNextIn}
+use Rattle.seize_words.specs.Books.{IsCountAt, IsFieldAt, IsNextIn}
 use Rattle.seize_words.specs.Chains.{first_field, next_field, told}
-use Rattle.seize_words.specs.Counts.{count_known, deposit_known, home_in}
 use Rattle.seize_words.specs.Deposits.{deposit}
 use Rattle.seize_words.specs.Entry.{Entry}
-use Rattle.seize_words.specs.Headers.{told_known}
 use Rattle.seize_words.specs.Homes.{count_in, home_of}
 use Rattle.seize_words.specs.Homesteads.{entry_in}
 use Rattle.seize_words.specs.Ledger.{Held}
@@ -30,8 +27,6 @@ use Rattle.seize_words.specs.Private.{is_one, key_of, label_of, own_of}
 use Rattle.seize_words.specs.Tokens.{Name, label_at, start}
 use Rattle.seize_words.specs.declared.book.bare_key.BareKey.{BareKey}
 use Rattle.seize_words.specs.declared.book.chunk_keys.ChunkKeys.{ChunkKeys}
-use Rattle.seize_words.specs.declared.book.count_key.CountKey.{CountKey}
-use Rattle.seize_words.specs.declared.book.field_key.FieldKey.{FieldKey}
 use Rattle.seize_words.specs.declared.book.keys.Keys.{Keys}
 use Rattle.seize_words.specs.declared.book.rights.Rights.{Rights}
 use Rattle.seize_words.specs.declared.book.token.Book.{Book}
@@ -75,12 +70,6 @@ pub record Becomes (key : BareKey) (value : ValueKey) (number : ℕ) : Type 0 wh
 
 abbrev pub IsLaid : ValueKey → BareKey → Type 0
 IsLaid value key = (bare_book key ≡ book_of value) × (bare_home key ≡ home_of (value_of value))
-
-abbrev pub IsCountAt : CountKey → ℕ → Type 0
-IsCountAt count home = (home_in count ≡ home) × (count_known count ≡ pos 0) × (deposit_known count ≡ [])
-
-abbrev pub IsFieldAt : (ℕ → ℕ) → FieldKey → ℕ → Type 0
-IsFieldAt which field home = (key_of field.keys.held ≡ which home) × (told_known field ≡ 0)
 
 -- the key of the values of the block with home k, labelled with this one; and those of its count and of its fields
 abbrev pub of_values : ℕ → ℕ → List Entry → List (Held Entry)

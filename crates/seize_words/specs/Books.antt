@@ -7,11 +7,10 @@
 --                                              number by which words hold the block
 --     IsFirstIn value number                   and no value of its home was ever named
 --     MakesNext value pass value' pass'        it is for the next value of the block, and the pass has looked at the list
---     IsCountFor count value                   it is that of the value's block, the count is 0, and no keys stand beside it
+--     IsCountAt count home                     it is that of the block with this home, the count is 0, and no keys stand beside it
 --     AreOf book keys                          these keys are of the book
---     IsFieldFor which field value             it is that of this field of the value's block, and nothing was stored there
+--     IsFieldAt which field home               it is that of this field of the block with this home, and nothing was stored there
 use Rattle.std.specs.Prelude.{◌≡◌, ℕ, pos, false, Option, List, [], drop, take}
-use mathlib.Core.List.{IsPrefix}
 use Rattle.seize_machine.specs.Machine.State.{has}
 use Rattle.seize_words.specs.Blocks.{block_of}
 use Rattle.seize_words.specs.Counts.{count_known, deposit_known, home_in}
@@ -21,7 +20,7 @@ use Rattle.seize_words.specs.Others.{book_of, is_named, state_of, value_of}
 use Rattle.seize_words.specs.Tokens.{many, IsSole}
 use Rattle.seize_words.specs.Private.{key_of, own_of}
 use Rattle.seize_words.specs.Begin.{BeganWith, first_keys, first_links}
-use Rattle.seize_words.specs.Passes.{IsSame, MadeNone, mine_of}
+use Rattle.seize_words.specs.Passes.{LooksOn, mine_of}
 use Rattle.seize_words.specs.declared.book.block_keys.BlockKeys.{BlockKeys}
 use Rattle.seize_words.specs.declared.book.book_keys.BookKeys.{BookKeys}
 use Rattle.seize_words.specs.declared.book.count_key.CountKey.{CountKey}
@@ -87,18 +86,17 @@ abbrev pub IsFirstIn : ValueKey → ℕ → Type 0
 IsFirstIn value number =
     IsNextIn value number × ((w : ℕ) → home_of w ≡ home_of (value_of value) → has w (state_of value.keys).named ≡ false)
 
--- it is for another value of the same block, and the pass has seen a legal list that goes on; nothing was made with it
+-- it is for another value of the same block, and the pass has seen a legal list that goes on
 abbrev pub MakesNext : ValueKey → Pass → ValueKey → Pass → Type 0
 MakesNext value pass value' pass' =
-    IsSame pass pass' × MadeNone pass pass' × IsPrefix pass.seen pass'.seen
-    × (value'.keys.name ≡ value.keys.name) × (home_of (value_of value') ≡ home_of (value_of value))
+    LooksOn pass pass' × (value'.keys.name ≡ value.keys.name) × (home_of (value_of value') ≡ home_of (value_of value))
 
 -- the count of its block, which is 0
-abbrev pub IsCountFor : CountKey → ValueKey → Type 0
-IsCountFor count value = (home_in count ≡ home_of (value_of value)) × (count_known count ≡ pos 0) × (deposit_known count ≡ [])
+abbrev pub IsCountAt : CountKey → ℕ → Type 0
+IsCountAt count home = (home_in count ≡ home) × (count_known count ≡ pos 0) × (deposit_known count ≡ [])
 
-abbrev pub IsFieldFor : (ℕ → ℕ) → FieldKey → ValueKey → Type 0
-IsFieldFor which field value = (key_of field.keys.held ≡ which (home_of (value_of value))) × (told_known field ≡ 0)
+abbrev pub IsFieldAt : (ℕ → ℕ) → FieldKey → ℕ → Type 0
+IsFieldAt which field home = (key_of field.keys.held ≡ which home) × (told_known field ≡ 0)
 
 abbrev pub AreOf : Book → BlockKeys → Type 0
 AreOf book keys =

@@ -8,6 +8,7 @@
 --     MayStore field key, Wrote field key key' value     it is one of them;  the value was stored there, and not in the other
 --     Passes which f key                the slot's call is about to count down the next batch of its walk, and f is that field of the block
 --                                       with which this was inserted
+--     told_seen field pass              what was last stored in the field, in the list that the pass has seen
 --     MayLoad field key, Shows field key v     it is one of them;  v leads on through the rest of the walk, or to the batch's first block:
 --                                       then the batch has a front, and this is the number of its block (IsFrontBlock)
 --     HasWritten key next batch         these are stored: this next, and the first block of this batch
@@ -89,6 +90,9 @@ Passes which f key = IsPassing (start_of key) (number_of key) (own_list key) whi
 
 abbrev pub MayLoad : Field → SlotKey → Type 0
 MayLoad field key = Passes next_field (number field) key ⊎ Passes first_field (number field) key
+
+abbrev pub told_seen : Field → Pass → ℕ
+told_seen field pass = told pass.seen (number field)
 
 -- it is the number of the block of the batch's first value
 abbrev pub IsFrontBlock : SlotKey → ℕ → ℕ → Type 0

@@ -34,3 +34,4 @@ pub mod LinkWords
 pub mod Chunk
 pub mod Chunks
 pub mod Walks
+pub mod Named

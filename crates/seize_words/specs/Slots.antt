@@ -11,8 +11,8 @@
 --                          the slot, the event took the slot from where its key knew it to where it knows it now
 --     NotesAs key pass key' pass' d     the slot's holder added this one event with the pass: see Noted and Moves
 --     Notes key pass key' pass' event     and it is one of an event that begins no activation
---     Looks key pass key' pass'     the pass and the key have seen a legal list, which goes on from what they knew and in which the slot is
---                          as the key said; nothing was made with the pass
+--     Looks key pass key' pass'     the pass has looked at the list (LooksOn), and so has the key; the list goes on from what it knew, and
+--                          the slot is in it as the key said
 --     hands_next slot      the value that the slot's call is about to hand to its reclaimer
 --     HandsOnce key pass' v    it was handed now, for the first time, all who found it have left or refreshed since, and
 --                          the activations in which they found it are over
@@ -26,12 +26,11 @@ use Rattle.seize_machine.specs.Machine.History.{done_by, handed_value}
 use Rattle.seize_words.specs.Blocks.{plans}
 use Rattle.seize_words.specs.Chains.{told, written}
 use Rattle.seize_words.specs.Entry.{Entry, Made, Deed, timed}
-use Rattle.seize_words.specs.Book.{after, IsLegalList}
-use Rattle.seize_words.specs.Homes.{IsSound}
+use Rattle.seize_words.specs.Book.{after}
 use Rattle.seize_words.specs.Laws.{NotHanded, AllParted, AllOver, life}
-use Rattle.seize_words.specs.Tokens.{IsSole, Noted, start}
+use Rattle.seize_words.specs.Tokens.{Noted, start}
 use Rattle.seize_words.specs.Private.{key_of, own_of}
-use Rattle.seize_words.specs.Passes.{IsSame, MadeNone}
+use Rattle.seize_words.specs.Passes.{IsSame, LooksOn}
 use Rattle.seize_words.specs.Adding.{private}
 use Rattle.seize_words.specs.declared.book.pass.Pass.{Pass}
 use Rattle.seize_words.specs.declared.book.slot_key.SlotKey.{SlotKey}
@@ -93,14 +92,9 @@ abbrev pub Notes : SlotKey → Pass → SlotKey → Pass → Event → Type 0
 Notes key pass key' pass' event = NotesAs key pass key' pass' (private pass event)
 
 pub record Looks (key : SlotKey) (pass : Pass) (key' : SlotKey) (pass' : Pass) : Type 0 where
-  pub same : IsSame pass pass'
+  pub on : LooksOn pass pass'
   pub seen_by : IsAfter key pass' key'
-  pub none_made : MadeNone pass pass'
-  pub grows : IsPrefix pass.seen pass'.seen
   pub knows : IsPrefix (own_list key) pass'.seen
-  pub alone : IsSole pass.name.gate → pass'.seen ≡ pass.seen
-  pub legal : IsLegalList (start_of key) pass'.seen
-  pub sound : IsSound (after (start_of key) pass'.seen)
   pub lives : life (number_of key) pass'.seen ≡ life_of key
   pub slot : slot_at (after (start_of key) pass'.seen) (number_of key) ≡ slot_of key
   pub active : is_active (head_at (after (start_of key) pass'.seen) (number_of key)) ≡ active_of key

@@ -19,7 +19,7 @@ pub struct Field {
 }
 
 impl Field {
-    ghost use Rattle.seize_words.specs.Headers.{IsFieldOf, IsOfBook, MayLoad, MayStore, Shows, Uses, Wrote, number, told_known};
+    ghost use Rattle.seize_words.specs.Headers.{IsFieldOf, IsOfBook, MayLoad, MayStore, Shows, Uses, Wrote, number, told_known, told_seen};
     ghost use Rattle.seize_words.specs.Passes.{LooksOn};
     ghost use Rattle.seize_words.specs.Slots.{IsOf, IsStill};
 
@@ -45,12 +45,13 @@ impl Field {
         self.word.replace::<Brand>(value, &mut key.keys, pass);
     }
 
-    /// Loads the field, by a slot whose call is about to count down the batch that was inserted with this block. It is no event of the
-    /// machine, and nothing is added to the list.
+    /// Loads the field, by a slot whose call is about to count down the batch that was inserted with this block: what was last stored
+    /// there, in the list that the pass has seen then. It is no event of the machine, and nothing is added to the list.
     pub fn load(&self, key: &mut SlotKey, pass: &mut Pass) -> u64
         requires book { IsOf key.old pass.old × IsOfBook self.now pass.old }
         requires passed { MayLoad self.now key.old }
         ensures looks { LooksOn pass.old pass.new × IsStill key.old key.new }
+        ensures told { result ≡ told_seen self.now pass.new }
         ensures shows { Shows self.now key.old result }
     {
         self.word.look(&mut key.keys, pass)

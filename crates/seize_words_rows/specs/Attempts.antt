@@ -14,6 +14,7 @@ use Rattle.seize_words.specs.Counts.{Leaves, home, values_in}
 use Rattle.seize_words.specs.Headers.{Uses, number}
 use Rattle.seize_words.specs.Heads.{IsTrying}
 use Rattle.seize_words.specs.Homes.{home_of}
+use Rattle.seize_words.specs.Named.{slot_book}
 use Rattle.seize_words.specs.Reservations.{slot}
 use Rattle.seize_words.specs.Slots.{number_of, own_list, slot_of, start_of}
 use Rattle.seize_words.specs.Values.{values_of}
@@ -69,5 +70,5 @@ StandsAfter {key} t (Some done) call =
 
 pub record Ends {key : SlotKey} {head : Head} {next first : Field} {count : Count} {attempt : Attempt}
     (t : IsLastTry key head next first count attempt) (key' : SlotKey) (result : Option Bool) : Type 0 where
-  pub its : (key'.keys.name ≡ key.keys.name) × (number_of key' ≡ number_of key)
+  pub its : (slot_book key' ≡ slot_book key) × (number_of key' ≡ number_of key)
   pub stands : StandsAfter t result (slot_of key').call

@@ -6,6 +6,7 @@
 use Rattle.std.specs.Prelude.{◌≡◌, ◌<◌, length, None}
 use Rattle.seize_words.specs.LinkWords.{IsIn, number}
 use Rattle.seize_words.specs.Links.{IsWithin}
+use Rattle.seize_words.specs.Named.{link_book}
 use Rattle.seize_words.specs.Tokens.{Name, many}
 use Rattle.seize_words.specs.declared.activation.Activation.{Activation}
 use Rattle.seize_words.specs.declared.book.token.Book.{Book}
@@ -13,7 +14,7 @@ use Rattle.seize_words.specs.declared.link.Link.{Link}
 use Rattle.seize_words_rows.specs.declared.exchanges.Swapper.{Swapper}
 
 abbrev pub IsLink : Name → Link → Type 0
-IsLink n link = (link.word.name ≡ n) × (number link < length n.links)
+IsLink n link = (link_book link ≡ n) × (number link < length n.links)
 
 abbrev pub IsLinkOf : Link → Book → Type 0
 IsLinkOf link book = IsLink book.name link
@@ -24,5 +25,5 @@ MaySwap link swapper =
 
 abbrev pub MayShare : Link → Activation → Book → Type 0
 MayShare link activation book =
-    (book.name.gate ≡ many) × (book.name.store ≡ None) × (link.word.name ≡ book.name) × (activation.name ≡ book.name)
+    (book.name.gate ≡ many) × (book.name.store ≡ None) × (link_book link ≡ book.name) × (activation.name ≡ book.name)
     × IsWithin book.name activation.slot activation.life activation.since book.seen (number link)

@@ -4,6 +4,7 @@
 --                                      with no further values
 use Rattle.std.specs.Prelude.{◌≡◌, ℕ, true, false, []}
 use Rattle.seize_machine.specs.Machine.State.{is_idle}
+use Rattle.seize_words.specs.Named.{slot_book}
 use Rattle.seize_words.specs.Reservations.{IsOfBook, IsOwn, WalksOn}
 use Rattle.seize_words.specs.Slots.{IsOf, active_of, number_of, slot_of}
 use Rattle.seize_words.specs.declared.book.pass.Pass.{Pass}
@@ -18,7 +19,7 @@ IsOutside key = (is_idle (slot_of key) ≡ true) × (active_of key ≡ false)
 
 pub record GoesOut (head : Head) (pass' : Pass) (key key' : SlotKey) (v : ℕ) : Type 0 where
   pub book : IsOf key' pass' × IsOfBook head pass' × IsOwn head key'
-  pub its : (key'.keys.name ≡ key.keys.name) × (number_of key' ≡ number_of key)
+  pub its : (slot_book key' ≡ slot_book key) × (number_of key' ≡ number_of key)
   pub used : (slot_of key').used ≡ true
   pub inactive : active_of key' ≡ false
   pub walks : WalksOn head key' v []

@@ -13,10 +13,9 @@ use Rattle.seize_table.specs.Place.{all_numbers}
 use Rattle.seize_machine.specs.Machine.Event.{Take}
 use Rattle.seize_machine.specs.Machine.State.{Inactive}
 use Rattle.seize_words.specs.Adding.{private}
-use Rattle.seize_words.specs.Begin.{first_links}
 use Rattle.seize_words.specs.Entry.{Made}
+use Rattle.seize_words.specs.Named.{AreLinks, head_book, links_book, next_book, next_head, next_list, numbers_book, numbers_list, slot_book, total_book, total_key_book, total_list}
 use Rattle.seize_words.specs.Passes.{IsSame}
-use Rattle.seize_words.specs.Private.{key_of, own_of}
 use Rattle.seize_words.specs.Reservations.{head_known, slot}
 use Rattle.seize_words.specs.Slots.{active_of, number_of, own_list, slot_of}
 use Rattle.seize_words.specs.Tokens.{Name, Noted, many}
@@ -33,28 +32,28 @@ use Rattle.seize_words_rows.specs.declared.making.Maker.{Maker}
 
 abbrev pub AreUnused : TotalKey → NumbersKey → SlotKeys → Type 0
 AreUnused total numbers next =
-    (own_of numbers.keys.held ≡ []) × (numbers.keys.name.slots ≡ 0)
-    × ((total.keys.name ≡ numbers.keys.name) × (own_of total.keys.held ≡ []))
-    × ((next.slot.keys.name ≡ numbers.keys.name) × (number_of next.slot ≡ 0))
-    × ((next.head.keys.name ≡ numbers.keys.name) × (own_of next.head.keys.held ≡ []) × (key_of next.head.keys.held ≡ 0))
+    (numbers_list numbers ≡ []) × ((numbers_book numbers).slots ≡ 0)
+    × ((total_key_book total ≡ numbers_book numbers) × (total_list total ≡ []))
+    × ((slot_book next.slot ≡ numbers_book numbers) × (number_of next.slot ≡ 0))
+    × ((next_book next.head ≡ numbers_book numbers) × (next_list next.head ≡ []) × (next_head next.head ≡ 0))
 
 abbrev pub made_by : Maker → ℕ
 made_by maker = made_of maker.numbers
 
 abbrev pub name_by : Maker → Name
-name_by maker = maker.numbers.keys.name
+name_by maker = numbers_book maker.numbers
 
 pub record CanMake (maker : Maker) : Type 0 where
   pub full : IsFull maker.numbers
-  pub total : maker.total.word.name ≡ name_by maker
-  pub slot : (maker.next.slot.keys.name ≡ name_by maker) × (number_of maker.next.slot ≡ made_by maker)
-  pub head : (maker.next.head.keys.name ≡ name_by maker) × (key_of maker.next.head.keys.held ≡ made_by maker)
+  pub total : total_book maker.total ≡ name_by maker
+  pub slot : (slot_book maker.next.slot ≡ name_by maker) × (number_of maker.next.slot ≡ made_by maker)
+  pub head : (next_book maker.next.head ≡ name_by maker) × (next_head maker.next.head ≡ made_by maker)
   pub inactive : head_known maker.next.head ≡ Inactive
 
 pub record MakesOne (maker : Maker) (pass : Pass) (key : SlotKey) (head : Head) (maker' : Maker) (pass' : Pass) : Type 0 where
   pub same : IsSame pass pass'
   pub noted : Noted pass.name pass.id pass.seen pass'.seen (Made (private pass (Take (made_by maker))))
-  pub book : (key.keys.name ≡ pass.name) × (head.word.name ≡ pass.name)
+  pub book : (slot_book key ≡ pass.name) × (head_book head ≡ pass.name)
   pub number : (number_of key ≡ made_by maker) × (slot head ≡ made_by maker)
   pub own : own_list key ≡ pass'.seen
   pub idle : slot_of key ≡ record { used = true; batch = []; call = None }
@@ -70,11 +69,11 @@ HasOneMore maker maker' =
     (name_by maker' ≡ name_by maker) × (made_by maker' ≡ suc (made_by maker)) × (made_by maker' < all_numbers → CanMake maker')
 
 pub record AreLeft (left : LinkKeys) (first count : ℕ) : Type 0 where
-  pub keys : left.keys.held ≡ first_links first count
+  pub keys : AreLinks left first count
   pub all : ℕ
-  pub empty : left.keys.name.links ≡ replicate all None
+  pub empty : (links_book left).links ≡ replicate all None
   pub within : first + count ≤ all
 
 abbrev pub OpensWith : Book → Maker → LinkKeys → ℕ → Type 0
 OpensWith book maker left count =
-    TakesPart book maker × CanMake maker × (made_by maker ≡ 0) × (left.keys.name ≡ book.name) × AreLeft left 0 count
+    TakesPart book maker × CanMake maker × (made_by maker ≡ 0) × (links_book left ≡ book.name) × AreLeft left 0 count

@@ -13,6 +13,7 @@ use Rattle.seize_machine.specs.Machine.State.{Mark, Rest}
 use Rattle.seize_words.specs.Adding.{private}
 use Rattle.seize_words.specs.Batches.{CanDetach}
 use Rattle.seize_words.specs.Entry.{Entry, Made}
+use Rattle.seize_words.specs.Named.{head_book}
 use Rattle.seize_words.specs.Passes.{MadeNone, mine_of}
 use Rattle.seize_words.specs.Reservations.{slot}
 use Rattle.seize_words.specs.Slots.{IsStill, number_of, slot_of}
@@ -26,7 +27,7 @@ use Rattle.seize_words_rows.specs.declared.marking.Marked.TheVariants.{Ready, To
 
 abbrev pub AreHeadsOf : Name → List Head → Type 0
 AreHeadsOf n heads =
-    (i : ℕ) (d : Head) → i < length heads → ((slice_index_or heads i d).word.name ≡ n) × (slot (slice_index_or heads i d) ≡ i)
+    (i : ℕ) (d : Head) → i < length heads → (head_book (slice_index_or heads i d) ≡ n) × (slot (slice_index_or heads i d) ≡ i)
 
 pub record BeginsToMark (key : SlotKey) : Type 0 where
   pub note : ℕ

@@ -12,8 +12,8 @@ use Rattle.seize_words.specs.Chains.{first_field, next_field}
 use Rattle.seize_words.specs.Counts.{home}
 use Rattle.seize_words.specs.Headers.{number}
 use Rattle.seize_words.specs.Homes.{home_of}
+use Rattle.seize_words.specs.Named.{count_book, field_book, first_value, head_book, values_state}
 use Rattle.seize_words.specs.Others as others
-use Rattle.seize_words.specs.Private.{label_of}
 use Rattle.seize_words.specs.Reservations.{slot}
 use Rattle.seize_words.specs.Tokens.{Name}
 use Rattle.seize_words.specs.Values as values
@@ -25,18 +25,18 @@ use Rattle.seize_words_rows.specs.declared.worked_run.Heads.{Heads}
 use Rattle.seize_words_rows.specs.declared.worked_run.Words.{Words}
 
 abbrev pub book_in : Heads → Name
-book_in heads = heads.reader.word.name
+book_in heads = head_book heads.reader
 
 abbrev pub AreHeads : Heads → Type 0
-AreHeads heads = (heads.retirer.word.name ≡ book_in heads) × (slot heads.reader ≡ 0) × (slot heads.retirer ≡ 1)
+AreHeads heads = (head_book heads.retirer ≡ book_in heads) × (slot heads.reader ≡ 0) × (slot heads.retirer ≡ 1)
 
 abbrev pub value_in : Block → ℕ
-value_in block = label_of block.values.keys.held
+value_in block = first_value block.values
 
 -- the fields are of this book, and the block's
 abbrev pub HasFields : Name → Block → Type 0
 HasFields n block =
-    (block.next.word.name ≡ n) × (block.first.word.name ≡ n) × (number block.next ≡ next_field (home_of (value_in block)))
+    (field_book block.next ≡ n) × (field_book block.first ≡ n) × (number block.next ≡ next_field (home_of (value_in block)))
     × (number block.first ≡ first_field (home_of (value_in block)))
 
 -- the keys are of this book, and that of the value is the only one
@@ -46,11 +46,11 @@ HasKey n block = (values.book_in block.values ≡ n) × (values.values_of block.
 -- the block has number 5, and its count, of this book, is that of the batch whose first value lies there
 abbrev pub IsLaid : Name → Block → Type 0
 IsLaid n block =
-    (block.count.word.name ≡ n) × (home block.count ≡ home_of (value_in block)) × (block_of (value_in block) ≡ 5) × HasFields n block
+    (count_book block.count ≡ n) × (home block.count ≡ home_of (value_in block)) × (block_of (value_in block) ≡ 5) × HasFields n block
     × HasKey n block
 
 abbrev pub IsNewBlock : Name → Block → Type 0
-IsNewBlock n block = IsLaid n block × others.MayBegin (value_in block) (others.state_of block.values.keys)
+IsNewBlock n block = IsLaid n block × others.MayBegin (value_in block) (values_state block.values)
 
 abbrev pub book_of : Words → Name
 book_of words = book_in words.heads

@@ -14,6 +14,7 @@ use Rattle.seize_machine.specs.declared.machine.event.Answer.{Answer}
 use Rattle.seize_words.specs.Blocks.{Plan, block_in, no_plan, planned_by, plans, word_of}
 use Rattle.seize_words.specs.Book.{after}
 use Rattle.seize_words.specs.Entry.{Entry}
+use Rattle.seize_words.specs.Named.{slot_book}
 use Rattle.seize_words.specs.Slots.{number_of, own_list}
 use Rattle.seize_words.specs.Tokens.{IsSole, Name, start}
 use Rattle.seize_words.specs.declared.book.pass.Pass.{Pass}
@@ -35,7 +36,7 @@ pub record Sees (n : Name) (pass : Pass) (stage : Stage) : Type 0 where
   pub leads : IsAt n pass.seen stage
 
 pub record Knows (n : Name) (key : SlotKey) (s : ℕ) (stage : Stage) : Type 0 where
-  pub book : key.keys.name ≡ n
+  pub book : slot_book key ≡ n
   pub number : number_of key ≡ s
   pub leads : IsAt n (own_list key) stage
 

@@ -1,5 +1,6 @@
 //! Slots are made, one after the other, each with its head.
 ghost use Rattle.std.specs.Prelude.{◌≡◌};
+ghost use Rattle.seize_words.specs.Named.{numbers_book};
 ghost use Rattle.seize_words_rows.specs.Making.{AreUnused, CanMake, MakesOne, OpensWith, made_by, name_by};
 
 use seize_words::book::{Book, BookKeys, LinkKeys, NumbersKey, Pass, SlotKey, SlotKeys, TotalKey};
@@ -34,7 +35,7 @@ impl Maker {
     pub fn new(total: TotalKey, numbers: NumbersKey, next: SlotKeys) -> Maker
         requires unused { AreUnused total numbers next }
         ensures can { CanMake result }
-        ensures none { (made_by result ≡ 0) × (name_by result ≡ numbers.keys.name) }
+        ensures none { (made_by result ≡ 0) × (name_by result ≡ numbers_book numbers) }
     {
         Maker {
             total: Total::new(total),

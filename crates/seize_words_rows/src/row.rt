@@ -1,5 +1,6 @@
 //! A row of links, made whole and read whole: under an activation that threads share, or by a slot that enters and leaves.
 ghost use Rattle.std.specs.Prelude.{◌≡◌, IfOk, IfSome, length};
+ghost use Rattle.seize_words.specs.Named.{links_book};
 ghost use Rattle.seize_words.specs.Passes.{IsSame};
 ghost use Rattle.seize_words.specs.Reservations.{IsOfBook, IsOwn};
 ghost use Rattle.seize_words.specs.Slots.{IsOf};
@@ -28,7 +29,7 @@ pub fn open_row(alloc: Global, many: usize) -> Result<(Book, Maker, Vec<Link>), 
 // Makes so many links, which are left.
 fn make_row(alloc: Global, left: &mut LinkKeys, many: usize) -> Result<Vec<Link>, AllocError>
     requires left { AreLeft left.old 0 many }
-    ensures row { IfOk result (λ row. AreOf left.old.keys.name row.items × (length row.items ≡ many)) }
+    ensures row { IfOk result (λ row. AreOf (links_book left.old) row.items × (length row.items ≡ many)) }
 {
     let mut row = Vec::with_capacity(alloc, many)?;
     for _ in 0..many {

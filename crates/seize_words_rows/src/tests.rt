@@ -124,6 +124,22 @@ fn a_swapped_value_comes_out(rt: HostRuntime) {
     drop((links, maker, key, value, none));
 }
 
+// Two threads swap. It gives the sum of the words put in, less those that came out.
+fn swap_both<R: Threads + Wait + Sync>(rt: &R, link: &Link, a: Swapper, b: Swapper) -> u64
+    requires { MaySwap link.now a × MaySwap link.now b }
+{
+    let (one, two) = thread::join(
+        rt,
+        move || -> u64
+            requires { MaySwap link.now a }
+        { a.swap_many(link, 1_000_000) },
+        move || -> u64
+            requires { MaySwap link.now b }
+        { b.swap_many(link, 2_000_000) },
+    );
+    one.wrapping_add(two)
+}
+
 // Two threads swap values of their own into one link: each comes out once, or is there in the end.
 #[test]
 fn swaps_lose_and_invent_no_value(rt: HostRuntime) {
@@ -132,23 +148,30 @@ fn swaps_lose_and_invent_no_value(rt: HostRuntime) {
     let (one, maker) = Swapper::enter(&book, maker, &link);
     let (two, maker) = Swapper::enter(&book, maker, &link);
     let (mut last, maker) = Swapper::enter(&book, maker, &link);
-    let shared = &link;
-    let (left_1, left_2) = thread::join(
-        &rt,
-        move || -> u64
-            requires { MaySwap shared.now one }
-        { one.swap_many(shared, 1_000_000) },
-        move || -> u64
-            requires { MaySwap shared.now two }
-        { two.swap_many(shared, 2_000_000) },
-    );
+    let left = swap_both(&rt, &link, one, two);
     let mut none = MaybeKey::none(&mut last.pass);
     let word = link.swap(0, &mut none, &last.activation, &mut last.pass);
-    assert_eq!(rt; left_1.wrapping_add(left_2), word);
+    assert_eq!(rt; left, word);
     drop((links, maker, last, none));
 }
 
-// Two of them swap, and two exchange with what they read just before.
+// The same of two that exchange with what they read just before.
+fn exchange_both<R: Threads + Wait + Sync>(rt: &R, link: &Link, a: Swapper, b: Swapper) -> u64
+    requires { MaySwap link.now a × MaySwap link.now b }
+{
+    let (one, two) = thread::join(
+        rt,
+        move || -> u64
+            requires { MaySwap link.now a }
+        { a.exchange_many(link, 3_000_000) },
+        move || -> u64
+            requires { MaySwap link.now b }
+        { b.exchange_many(link, 4_000_000) },
+    );
+    one.wrapping_add(two)
+}
+
+// Two of them swap, and two exchange.
 fn four<R: Threads + Wait + Sync>(
     rt: &R,
     link: &Link,
@@ -161,37 +184,14 @@ fn four<R: Threads + Wait + Sync>(
     let (c, d) = exchanging;
     let (one, two) = thread::join(
         rt,
-        move || -> (u64, u64)
+        move || -> u64
             requires { MaySwap link.now a × MaySwap link.now b }
-        {
-            thread::join(
-                rt,
-                move || -> u64
-                    requires { MaySwap link.now a }
-                { a.swap_many(link, 1_000_000) },
-                move || -> u64
-                    requires { MaySwap link.now b }
-                { b.swap_many(link, 2_000_000) },
-            )
-        },
-        move || -> (u64, u64)
+        { swap_both(rt, link, a, b) },
+        move || -> u64
             requires { MaySwap link.now c × MaySwap link.now d }
-        {
-            thread::join(
-                rt,
-                move || -> u64
-                    requires { MaySwap link.now c }
-                { c.exchange_many(link, 3_000_000) },
-                move || -> u64
-                    requires { MaySwap link.now d }
-                { d.exchange_many(link, 4_000_000) },
-            )
-        },
+        { exchange_both(rt, link, c, d) },
     );
-    one.0
-        .wrapping_add(one.1)
-        .wrapping_add(two.0)
-        .wrapping_add(two.1)
+    one.wrapping_add(two)
 }
 
 #[test]

@@ -34,8 +34,8 @@ impl Known {
     {}
 
     /// A copy, as for another thread.
-    pub fn again(&mut self) -> Known
-        ensures { (self.new ≡ self.old) × (result ≡ self.old) }
+    pub fn again(&self) -> Known
+        ensures { result ≡ self.now }
     {
         Known {
             marker: PhantomData,

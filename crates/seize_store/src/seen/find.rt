@@ -23,8 +23,8 @@ impl<H: Labelled + Drop, P: Labelled + Drop, T> Seen<H, P, T> {
     }
 
     /// What it shows of the row, free of the types that the store is made for.
-    pub fn known(&mut self) -> Known
-        ensures { (self.new ≡ self.old) × (result ≡ known_by self.old) }
+    pub fn known(&self) -> Known
+        ensures { result ≡ known_by self.now }
     {
         self.known.again()
     }

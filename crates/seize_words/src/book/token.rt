@@ -45,9 +45,11 @@ impl Numbers for Brand {
 
 impl Book {
     ghost use mathlib.Core.List.{IsPrefix};
-    ghost use Rattle.seize_words.specs.Books.{AreOf, Begins, IsAlone, IsCountFor, IsFieldFor, IsFirstIn, IsMany, IsNew, Opens, OpensAlone};
+    ghost use Rattle.seize_words.specs.Books.{AreOf, Begins, IsAlone, IsCountAt, IsFieldAt, IsFirstIn, IsMany, IsNew, Opens, OpensAlone};
     ghost use Rattle.seize_words.specs.Bare.{IsChunkOf, IsNewChunk};
     ghost use Rattle.seize_words.specs.Chains.{first_field, next_field};
+    ghost use Rattle.seize_words.specs.Homes.{home_of};
+    ghost use Rattle.seize_words.specs.Others.{value_of};
 
     /// A new book, of which any number of passes may be made, and its keys. It has no slot yet, and its links are empty. A slot attempts
     /// its batch when that has `size` values, at least one.
@@ -136,8 +138,9 @@ impl Book {
         requires none { self.now.name.store ≡ None }
         requires fits { number + 2 < 2 ^ 64 }
         ensures value { IsFirstIn result.value number }
-        ensures count { IsCountFor result.count result.value }
-        ensures fields { IsFieldFor next_field result.next result.value × IsFieldFor first_field result.first result.value }
+        ensures count { IsCountAt result.count (home_of (value_of result.value)) }
+        ensures next { IsFieldAt next_field result.next (home_of (value_of result.value)) }
+        ensures first { IsFieldAt first_field result.first (home_of (value_of result.value)) }
         ensures book { AreOf self.now result }
     {
         let ChunkKeys {

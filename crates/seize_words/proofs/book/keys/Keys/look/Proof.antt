@@ -7,6 +7,7 @@ use Rattle.seize_words.specs.Tokens.{Name, keys_own, pass_owns}
 use Rattle.seize_words.specs.contracts.book.pass.Pass as Pass
 use Rattle.seize_words.specs.contracts.book.keys.Keys as Keys
 use Rattle.seize_words.proofs.Looks.{looks_now}
+use Rattle.seize_words.proofs.Passes.{IsDistinct}
 use Rattle.seize_words.proofs.Fields.{ends}
 use Rattle.seize_words.specs.contracts.book.keys.Keys.look.{ended, clauses}
 use Rattle.seize_words.specs.contracts.book.keys.Keys.look.Key.{name as #self}
@@ -31,7 +32,7 @@ look_spec 𝓤 𝓛 𝓜 𝓡 wired =
     -- [the rights; the keys; its cell, in four entries; the pass, in two; its token]
     move ! (6 ∷ 7 ∷ 8 ∷ []) $ opens ! tt Pass.the_row rb ro (λ vs1. move ! (1 ∷ []) $ fsplit ! $ move ! (1 ∷ []) $
     -- [what the pass owns; the pass; its cell, in four entries; the rights; the keys; its cell]
-    move ! (0 ∷ 6 ∷ []) $ use2 𝓛 (later (some (λ (log : List Entry). given (Before r.name r.id r.seen p.held log) (‵ (pass_owns r.name r.id log) ⊛ ‵ (keys_own r.name (renewed p.held log))))))
+    move ! (0 ∷ 6 ∷ []) $ use2 𝓛 (later (some (λ (log : List Entry). given (Before r.name r.id r.seen p.held log × IsDistinct 𝓛 r.name) (‵ (pass_owns r.name r.id log) ⊛ ‵ (keys_own r.name (renewed p.held log))))))
     (looks_now 𝓛 r.name r.id r.seen p.held asked.1) $ await ! tt $ pick ! (λ log. learn ! (λ so. split ! $
     -- [what the pass owns; the rights; the pass; its cell, in four entries; the keys; its cell]
     let r' : Pass.the_row.Denot = record r { seen = log } in let p' : Keys.the_row.Denot = record p { held = renewed p.held log } in
@@ -44,4 +45,4 @@ look_spec 𝓤 𝓛 𝓜 𝓡 wired =
     -- [the tokens; the result; the keys, in two; the pass, in two]
     nothing ! $ feq_i ! (List Val) (vptr rb ro ∷ []) (vptr rb ro ∷ []) refl $ move ! (0 ∷ 6 ∷ 7 ∷ []) $ fjoin3 ! $ fjoin ! $ feq_i ! (List Val) (vptr pb po ∷ []) (vptr pb po ∷ []) refl $ move ! (0 ∷ 4 ∷ 5 ∷ []) $ fjoin3 ! $ fjoin ! $
     returns ! (look_at ! 0 refl) $ free_all ! refl $ keep ! (1 ∷ 0 ∷ 2 ∷ []) $
-    by ! (ends 𝓛 ended hs c y vunit tt (p', (r', tt)) (tt, (tt, tt)) (fact_i 𝓤 _ (emp 𝓤) ((refl, refl), (refl, refl), so))))))))))
+    by ! (ends 𝓛 ended hs c y vunit tt (p', (r', tt)) (tt, (tt, tt)) (fact_i 𝓤 _ (emp 𝓤) ((refl, refl), (refl, refl), so.0, so.1))))))))))

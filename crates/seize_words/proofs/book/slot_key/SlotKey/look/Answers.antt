@@ -7,7 +7,7 @@ look-requires c = let key = c.args.self.now in (c.requires.book, one_within key.
 
 pub returns : goal.returns
 returns c =
-    let key = c.args.self.now in let pass = c.args.pass.now in let told = c.look.ensures in let before = told.2 in let same = told.1 in
+    let key = c.args.self.now in let pass = c.args.pass.now in
     record {
-      looked = stays key _ pass c.look.new.pass c.requires.book told.0 same before key.one;
+      looked = stays key _ pass c.look.new.pass c.requires.book c.look.ensures key.one;
     }
