@@ -143,12 +143,12 @@ impl SlotKey {
         self.note::<Brand>(pass);
     }
 
-    /// The event `Hand`: the value that the slot's call is about to hand to its reclaimer goes there, and the reclaimer puts further values,
-    /// which were never named, and in whose blocks all that lay before were reclaimed.
+    /// The event `Hand`: the value that the slot's call is about to hand to its reclaimer goes there, and its reclaimer puts these values,
+    /// which were never named. All that lay in their blocks before were reclaimed.
     ///
     /// The value goes there for the first time, and each slot that found it in a link has left or refreshed since, and the activations in
-    /// which they found it are over. The slot's call has the further values to retire, in their order, after those that it had before. So
-    /// their keys know then that no call may begin to retire them, and that all others that lay in their blocks were reclaimed.
+    /// which they found it are over. The slot's call is to retire the further values then, in their order, after those that it had before.
+    /// So their keys know then that no call may begin to retire them, and that all others that lay in their blocks were reclaimed.
     pub fn hand_with(&mut self, further: &mut ValueKeys, pass: &mut Pass)
         requires book { IsOf self.old pass.old × AreOfBook further.old pass.old }
         requires next { is_some (hands_next (slot_of self.old)) ≡ true }
