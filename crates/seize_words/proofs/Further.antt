@@ -2,6 +2,7 @@
 use Rattle.std.proofs.Common.{◌≡◌, ℕ, zero, suc, ◌<◌, ◌≤◌, Bool, true, false, not, ◌||◌, ◌==◌, if◌then◌else◌, List, [], ◌∷◌, ◌++◌, map, Option, Some, None, is_some, refl, sym, ◌∙◌, ap, subst, ◌⊎◌, inl, inr, ⊎_elim, arith}
 use Rattle.std.specs.Prelude.{slice_set}
 use Rattle.std.specs.List.{Contains, list_all, list_any}
+use mathlib.Core.List.{cons≢nil}
 use Rattle.std.proofs.lemmas.Bool.{and_from, or_from, or_left, or_right}
 use Rattle.seize_machine.specs.Machine.State.{State, are_distinct, has, linked, slot_at}
 use Rattle.seize_machine.specs.Machine.Event.{Event, Hand}
@@ -9,18 +10,18 @@ use Rattle.seize_machine.specs.Machine.Next.{are_fresh, hand, handing_at, next, 
 use Rattle.seize_machine.specs.declared.machine.event.Answer.{Answer}
 use Rattle.seize_machine.specs.declared.machine.event.Answer.TheVariants.{Handed}
 use Rattle.seize_machine.proofs.Facts.{Step, and_true, eq_true, gone_grows, is_true, loose_named, not_true, step_of}
-use Rattle.seize_words.specs.Ledger.{AllKept, AllThere, Beside, Held}
+use Rattle.seize_words.specs.Ledger.{AllKept, AllThere, Beside, Held, renewed}
 use Rattle.seize_words.specs.Entry.{Deed, Entry, Made}
 use Rattle.seize_words.specs.Book.{IsLegalList, Kept, TheBlock, after, blocks, kind_of, rules, slots}
 use Rattle.seize_words.specs.Fair.{Before, Covers, Fair, IsLabel, MayAdd, pass_key}
 use Rattle.seize_words.specs.Homes.{HasOne, IsVacant, home_of}
 use Rattle.seize_words.specs.Books.{IsNextIn}
-use Rattle.seize_words.specs.Counts.{AreOfBook}
-use Rattle.seize_words.specs.Others.{IsLastIn, IsSpent, IsWith, Knew, book_of}
+use Rattle.seize_words.specs.Counts.{AreLast, AreOfBook}
+use Rattle.seize_words.specs.Others.{CannotRetire, IsLast, IsLastIn, IsSpent, IsWith, Knew, book_of, state_of, value_of}
 use Rattle.seize_words.specs.Private.{is_one, key_of, label_of, own_of}
 use Rattle.seize_words.specs.Slots.{IsOf, hands_next, number_of, slot_of}
 use Rattle.seize_words.specs.Tokens.{Name, start}
-use Rattle.seize_words.specs.Values.{AllNew, AreNew, IsEmpty, IsKeyOfOne, LieApart, Pushes, book_in, values_of}
+use Rattle.seize_words.specs.Values.{AllNew, AreNew, AreSpent, IsEmpty, IsKeyOfOne, LieApart, Nexts, Pushes, book_in, values_of}
 use Rattle.seize_words.specs.Words.{are_of_blocks, labels_of}
 use Rattle.seize_words.specs.declared.book.keys.Keys.{Keys}
 use Rattle.seize_words.specs.declared.book.pass.Pass.{Pass}
@@ -318,3 +319,20 @@ pushed_new keys value keys' number pushes book all new =
     subst (λ (t : Name × List (Held Entry)). AllNew t.0 t.1) (λ j. (sym pushes.0 j, sym pushes.2 j))
     (append_new (book_in keys) keys.keys.held value.keys.held all
     (subst (λ (n : Name). AllNew n value.keys.held) book (one_new (book_of value) value.keys.held value.one new.0 new.1)))
+
+-- The key of the first of some values that were put knows what they all know.
+
+first_own : (a b held : List (Held Entry)) (seen : List Entry) → is_one blocks a ≡ true → a ++ b ≡ renewed held seen → own_of a ≡ seen
+first_own [] b held seen one e = absurd (cc)
+first_own (x ∷ y ∷ a) b held seen one e = absurd (cc)
+first_own (x ∷ []) b [] seen one e = absurd (cons≢nil e)
+first_own (x ∷ []) b (h ∷ held) seen one e = ap own_of e
+
+pub next_known : (keys : ValueKeys) (value : ValueKey) (keys' : ValueKeys) (pass : Pass) (held : List (Held Entry)) → Nexts keys value keys' → book_in keys ≡ pass.name → keys.keys.held ≡ renewed held pass.seen → AreSpent keys pass → AreLast keys pass
+    → CannotRetire value × IsLast value
+next_known keys value keys' pass held nexts book own spent last =
+    let v : ℕ = value_of value in
+    let first : Contains (values_of keys) v = subst (λ (vs : List ℕ). Contains vs v) (sym nexts.2) (0, omega arith, refl) in
+    let knows : state_of value.keys ≡ after (start pass.name) pass.seen =
+    ap (λ (t : Name × List Entry). after (start t.0) t.1) (λ j. ((nexts.1 ∙ book) j, first_own value.keys.held keys'.keys.held held pass.seen value.one (sym nexts.3 ∙ own) j)) in
+    (subst (IsSpent v) (sym knows) (spent v first), subst (IsLastIn v) (sym knows) (last v first))
