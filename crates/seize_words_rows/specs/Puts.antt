@@ -59,8 +59,9 @@ IsPut n further =
     (further.count.word.name ≡ n) × (home further.count ≡ home_of (put_in further)) × (block_of (put_in further) ≡ 6)
     × (book_in further.values ≡ n) × (values_of further.values ≡ put_in further ∷ [])
 
-abbrev pub IsNewPut : Name → Further → Type 0
-IsNewPut n further = IsPut n further × AreNew further.values
+pub record IsNewPut (n : Name) (further : Further) : Type 0 where
+  pub put : IsPut n further
+  pub new : AreNew further.values
 
 abbrev pub RunsOn : Words → Further → Pass → (ℕ → ℕ → Stage) → SlotKey → ℕ → (ℕ → ℕ → Stage) → Type 0
 RunsOn words further pass now key s last =

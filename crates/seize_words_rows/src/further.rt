@@ -11,6 +11,7 @@ ghost use Rattle.seize_words_rows.specs.Runs.{AreHeads, IsNewBlock, StandsAt, bo
 ghost use Rattle.seize_words_rows.specs.Stages.{Knows, Leads};
 
 use crate::making::Maker;
+use crate::worked_run;
 use crate::worked_run::{Words, make_block, make_slots};
 use seize_words::batch::Count;
 use seize_words::book::{BlockKeys, Book, BookKeys, Pass, SlotKey, ValueKeys};
@@ -57,8 +58,8 @@ fn make(book: &Book) -> Further
     }
 }
 
-/// What the worked run begins with, and the block of a further value.
-pub fn begin() -> (SlotKey, SlotKey, Words, Further, Pass)
+// What the worked run begins with, and the block of a further value.
+fn begin() -> (SlotKey, SlotKey, Words, Further, Pass)
     ensures words { AreHeads result.2.heads × IsNewBlock (book_of result.2) result.2.block }
     ensures further { IsNewPut (book_of result.2) result.3 }
     ensures made { Knows (book_of result.2) result.0 0 one_made × Leads (book_of result.2) result.4 result.1 1 two_made }
@@ -75,6 +76,25 @@ pub fn begin() -> (SlotKey, SlotKey, Words, Further, Pass)
     let block = make_block(&book);
     let further = make(&book);
     (reader, retirer, Words { heads, block }, further, pass)
+}
+
+/// The worked run up to where its value is given up, and the block of a further value. It gives the keys of the slot that read and of the
+/// other, and the one pass.
+pub fn give_up() -> (SlotKey, SlotKey, Words, Further, Pass)
+    ensures stands { StandsAt result.2 result.4 counted_up result.1 1 counted_up }
+    ensures further { IsNewPut (book_of result.2) result.3 }
+{
+    let (mut reader, mut retirer, mut words, further, mut pass) = begin();
+    let activation = worked_run::enter(&words.heads, &mut reader, &mut pass);
+    worked_run::retire(&words.heads, &mut retirer, &mut words.block, &mut pass);
+    worked_run::mark(&words, &mut retirer, &mut pass);
+    worked_run::detach(&words, &mut retirer, &mut pass);
+    worked_run::store(&words, &mut retirer, &mut pass);
+    worked_run::insert(&words, &mut retirer, &mut pass);
+    worked_run::leave(&words, &mut reader, activation, &mut pass);
+    worked_run::count_down(&words, &mut reader, &mut pass);
+    worked_run::count_up(&mut words, &mut retirer, &mut pass);
+    (reader, retirer, words, further, pass)
 }
 
 /// The slot that gave the batch up hands its value, whose reclaimer puts the further one, and puts that to its batch, which is full with

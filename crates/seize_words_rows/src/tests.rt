@@ -313,16 +313,7 @@ fn a_batch_is_counted_down_and_up(rt: HostRuntime) {
 // too: it fills a batch, which waits for nobody, since no slot is active by then, and is given up at once.
 #[test]
 fn a_further_value_is_retired_by_the_same_call(rt: HostRuntime) {
-    let (mut reader, mut retirer, mut words, mut put, mut pass) = further::begin();
-    let activation = worked_run::enter(&words.heads, &mut reader, &mut pass);
-    worked_run::retire(&words.heads, &mut retirer, &mut words.block, &mut pass);
-    worked_run::mark(&words, &mut retirer, &mut pass);
-    worked_run::detach(&words, &mut retirer, &mut pass);
-    worked_run::store(&words, &mut retirer, &mut pass);
-    worked_run::insert(&words, &mut retirer, &mut pass);
-    worked_run::leave(&words, &mut reader, activation, &mut pass);
-    worked_run::count_down(&words, &mut reader, &mut pass);
-    assert!(rt; worked_run::count_up(&mut words, &mut retirer, &mut pass));
+    let (reader, mut retirer, words, mut put, mut pass) = further::give_up();
     further::hand(&words, &mut put, &mut retirer, &mut pass);
     assert_eq!(rt;
         further::mark(&words, &put, &mut retirer, &mut pass),

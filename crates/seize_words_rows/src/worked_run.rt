@@ -230,6 +230,7 @@ pub fn count_down(words: &Words, reader: &mut SlotKey, pass: &mut Pass) -> bool
 pub fn count_up(words: &mut Words, retirer: &mut SlotKey, pass: &mut Pass) -> bool
     requires stands { StandsAt words.old pass.old reader_over retirer.old 1 inserted }
     ensures zero { result ≡ true }
+    ensures book { book_of words.new ≡ book_of words.old }
     ensures stands { StandsAt words.new pass.new counted_up retirer.new 1 counted_up }
 {
     words
