@@ -28,6 +28,8 @@ use Rattle.seize_words.proofs.Fronts.{front_there}
 use Rattle.seize_words.proofs.Heads.{slots_grow}
 use Rattle.seize_words.proofs.Lists.{reached_after}
 pub use Rattle.seize_words.proofs.Lists.{after_used}
+-- the keys of values that were never named, put together, and what the key of one knows that was put
+pub use Rattle.seize_words.proofs.Further.{none_new, first_new, pushed_new, next_known}
 pub use Rattle.seize_words.proofs.Written.{plans_used}
 use Rattle.seize_words.proofs.Plans.{AllLess, blocks_stay, legal_prefix, plan_stays, plans_append, plans_long, saw_there, tried_there}
 use Rattle.seize_words.proofs.Stepped.{life_push}

@@ -39,6 +39,8 @@ pub mod Uses
 pub mod Loads
 pub mod Heads
 pub mod Values
+pub mod Apart
+pub mod Further
 pub mod Counting
 pub mod Counted
 pub mod Stepped

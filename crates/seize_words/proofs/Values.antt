@@ -20,7 +20,7 @@ pub labels_later : (vs : List (Held Entry)) (log : List Entry) → labels_of (re
 labels_later [] log = refl
 labels_later (x ∷ vs) log = ap (λ (ls : List ℕ). x.label ∷ ls) (labels_later vs log)
 
-blocks_later : (vs : List (Held Entry)) (log : List Entry) → are_of_blocks (renewed vs log) ≡ are_of_blocks vs
+pub blocks_later : (vs : List (Held Entry)) (log : List Entry) → are_of_blocks (renewed vs log) ≡ are_of_blocks vs
 blocks_later [] log = refl
 blocks_later (x ∷ vs) log = ap (λ (b : Bool). ((x.kind == blocks) && (x.key == home_of x.label)) && b) (blocks_later vs log)
 

@@ -98,6 +98,11 @@ abbrev pub Beside : {E : Type 0} → List (Held E) → ℕ → ℕ → Type 0
 Beside [] r k = Unit {0}
 Beside (h ∷ hs) r k = (¬ ((r ≡ h.kind) × (k ≡ h.key))) × Beside hs r k
 
+-- no two of them are one
+abbrev pub AllApart : {E : Type 0} → List (Held E) → Type 0
+AllApart [] = Unit {0}
+AllApart (h ∷ hs) = Beside hs h.kind h.key × AllApart hs
+
 abbrev pub WithKinds : {E : Type 0} → ℕ → List (Held E) → Type 0
 WithKinds n [] = Unit {0}
 WithKinds n (h ∷ hs) = (h.kind < n) × WithKinds n hs

@@ -10,6 +10,7 @@
 --     state_of keys, value_of value     where the keys' list leads, and which value it is
 --     MakesNone n p seen held event     wherever the list is by then, the event makes no keys
 --     IsWith key other pass event       the slot's holder may add the event with the other keys
+--     Knew key other pass pass' event   the event was added where this was known of the list, by the slot's and the other keys
 --     IsLastIn v st                     all other values of its block that were ever named were reclaimed;  IsLast value    so it is, as
 --                                       its key knows
 --     HasGone value pass                the value was reclaimed, as the pass has seen
@@ -27,7 +28,7 @@ use Rattle.seize_machine.specs.Machine.Next.{first_free}
 use Rattle.seize_table.specs.Place.{all_numbers}
 use Rattle.seize_words.specs.Homes.{IsVacant, home_of}
 use Rattle.seize_words.specs.Ledger.{Held, renewed}
-use Rattle.seize_words.specs.Entry.{Entry}
+use Rattle.seize_words.specs.Entry.{Entry, Made}
 use Rattle.seize_words.specs.Adding.{private}
 use Rattle.seize_words.specs.Fair.{Before, MayAdd}
 use Rattle.seize_words.specs.Tokens.{Name, start}
@@ -79,6 +80,12 @@ abbrev pub IsWith : SlotKey → Keys → Pass → Event → Type 0
 IsWith key other pass event =
     MakesNone pass.name pass.id pass.seen (key.keys.held ++ other.held) event
     × MayAdd pass.name pass.id pass.seen (key.keys.held ++ other.held) (private pass event)
+
+-- it was added where this was known of the list, by these keys too
+abbrev pub Knew : SlotKey → Keys → Pass → Pass → Event → Type 0
+Knew key other pass pass' event =
+    (log : List Entry) × (pass'.seen ≡ log ++ Made (private pass event) ∷ [])
+    × Before pass.name pass.id pass.seen (key.keys.held ++ other.held) log
 
 abbrev pub IsLastIn : ℕ → State → Type 0
 IsLastIn v st = (w : ℕ) → home_of w ≡ home_of v → w ≢ v → has w st.named ≡ true → has w st.gone ≡ true

@@ -4,9 +4,20 @@
 --     IsKeyOfOne value keys          it is the value's alone
 --     Pushes keys value keys'        the value's key comes last
 --     Nexts keys value keys'         the value's was the first, and the others are left
-use Rattle.std.specs.Prelude.{◌≡◌, ℕ, List, [], ◌∷◌, ◌++◌}
-use Rattle.seize_words.specs.Others.{book_of, value_of}
-use Rattle.seize_words.specs.Tokens.{Name}
+--     LieApart values                no two of them lie in one block
+--     AllNew n held, AreNew keys     each of the values was never named, and all that lay in its block before were reclaimed, as its key
+--                                    knows
+--     Keep keys pass' keys'          they are the same keys, and know all that the pass has seen
+--     AreSpent keys pass             each value was named, and no call may begin to retire it, as the pass has seen
+use Rattle.std.specs.Prelude.{◌≡◌, ℕ, true, false, map, List, [], ◌∷◌, ◌++◌}
+use Rattle.std.specs.List.{Contains}
+use Rattle.seize_machine.specs.Machine.State.{are_distinct, has}
+use Rattle.seize_words.specs.Book.{after}
+use Rattle.seize_words.specs.Entry.{Entry}
+use Rattle.seize_words.specs.Homes.{IsVacant, home_of}
+use Rattle.seize_words.specs.Ledger.{Held, renewed}
+use Rattle.seize_words.specs.Others.{IsSpent, book_of, value_of}
+use Rattle.seize_words.specs.Tokens.{Name, start}
 use Rattle.seize_words.specs.Words.{labels_of}
 use Rattle.seize_words.specs.declared.book.pass.Pass.{Pass}
 use Rattle.seize_words.specs.declared.book.value_key.ValueKey.{ValueKey}
@@ -36,3 +47,22 @@ abbrev pub Nexts : ValueKeys → ValueKey → ValueKeys → Type 0
 Nexts keys value keys' =
     (book_in keys' ≡ book_in keys) × (book_of value ≡ book_in keys) × (values_of keys ≡ value_of value ∷ values_of keys')
     × (keys.keys.held ≡ value.keys.held ++ keys'.keys.held)
+
+abbrev pub LieApart : List ℕ → Type 0
+LieApart values = are_distinct (map home_of values) ≡ true
+
+-- as each key knows, of its own value
+abbrev pub AllNew : Name → List (Held Entry) → Type 0
+AllNew n [] = Unit {0}
+AllNew n (h ∷ held) =
+    ((has h.label (after (start n) h.own).named ≡ false) × IsVacant (after (start n) h.own) (home_of h.label)) × AllNew n held
+
+abbrev pub AreNew : ValueKeys → Type 0
+AreNew keys = AllNew (book_in keys) keys.keys.held
+
+abbrev pub Keep : ValueKeys → Pass → ValueKeys → Type 0
+Keep keys pass' keys' =
+    (book_in keys' ≡ book_in keys) × (values_of keys' ≡ values_of keys) × (keys'.keys.held ≡ renewed keys.keys.held pass'.seen)
+
+abbrev pub AreSpent : ValueKeys → Pass → Type 0
+AreSpent keys pass = (v : ℕ) → Contains (values_of keys) v → IsSpent v (after (start pass.name) pass.seen)

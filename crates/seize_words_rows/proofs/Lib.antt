@@ -7,3 +7,4 @@ pub mod Rows
 pub mod Stages
 pub mod Tries
 pub mod Runs
+pub mod Puts

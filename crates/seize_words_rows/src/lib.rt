@@ -6,6 +6,7 @@
 pub mod attempts;
 pub mod calls;
 pub mod exchanges;
+pub mod further;
 pub mod leaving;
 pub mod making;
 pub mod marking;

@@ -7,7 +7,7 @@ use crate::leaving::{Visitor, leave_head};
 use crate::making::open;
 use crate::row::{open_row, read_row, visit_many};
 use crate::walking::block_at;
-use crate::worked_run;
+use crate::{further, worked_run};
 use seize_words::activation::Activation;
 use seize_words::batch::Count;
 use seize_words::book::{
@@ -307,6 +307,21 @@ fn a_batch_is_counted_down_and_up(rt: HostRuntime) {
     assert!(rt; worked_run::count_up(&mut words, &mut retirer, &mut pass));
     worked_run::hand(&words, &mut retirer, &mut pass);
     drop((reader, retirer, words));
+}
+
+// The same up to where the batch is given up. The reclaimer of its value puts another one, and the call that handed the first retires that
+// too: it fills a batch, which waits for nobody, since no slot is active by then, and is given up at once.
+#[test]
+fn a_further_value_is_retired_by_the_same_call(rt: HostRuntime) {
+    let (reader, mut retirer, words, mut put, mut pass) = further::give_up();
+    further::hand(&words, &mut put, &mut retirer, &mut pass);
+    assert_eq!(rt;
+        further::mark(&words, &put, &mut retirer, &mut pass),
+        (0, 0)
+    );
+    assert!(rt; further::count_up(&words, &mut put, &mut retirer, &mut pass));
+    further::finish(&words, &put, &mut retirer, &mut pass);
+    drop((reader, retirer, words, put));
 }
 
 // Slots enter and leave side by side, each by steps on its own head, and nothing ever waits for one.

@@ -51,7 +51,7 @@ pub struct Words {
 }
 
 // Makes the slot that reads, and the one that retires.
-fn make_slots(maker: Maker, pass: &mut Pass) -> (SlotKey, SlotKey, Heads)
+pub(crate) fn make_slots(maker: Maker, pass: &mut Pass) -> (SlotKey, SlotKey, Heads)
     requires empty { Sees pass.old.name pass.old opened × (name_by maker ≡ pass.old.name) }
     requires can { CanMake maker × (made_by maker ≡ 0) }
     ensures heads { AreHeads result.2 × (book_in result.2 ≡ pass.old.name) }
@@ -67,7 +67,7 @@ fn make_slots(maker: Maker, pass: &mut Pass) -> (SlotKey, SlotKey, Heads)
 }
 
 // Makes the block, whose count is 0. Nothing was stored in its fields.
-fn make_block(book: &Book) -> Block
+pub(crate) fn make_block(book: &Book) -> Block
     requires { book.now.name.store ≡ None }
     ensures { IsNewBlock book.now.name result }
 {
@@ -230,6 +230,7 @@ pub fn count_down(words: &Words, reader: &mut SlotKey, pass: &mut Pass) -> bool
 pub fn count_up(words: &mut Words, retirer: &mut SlotKey, pass: &mut Pass) -> bool
     requires stands { StandsAt words.old pass.old reader_over retirer.old 1 inserted }
     ensures zero { result ≡ true }
+    ensures book { book_of words.new ≡ book_of words.old }
     ensures stands { StandsAt words.new pass.new counted_up retirer.new 1 counted_up }
 {
     words

@@ -32,6 +32,7 @@ impl Picks for Brand {
 
 impl Keys {
     ghost use Rattle.seize_words.specs.Adding.{Adds, Asks, Joins, Looks, MayLook, Parts};
+    ghost use Rattle.seize_words.specs.Ledger.{AllApart};
     ghost use Rattle.seize_words.specs.Others.{Renames};
 
     /// Adds the event with the pass.
@@ -49,6 +50,11 @@ impl Keys {
     /// The first key's label is another value of its block then, which was never named.
     pub(crate) fn rename(&mut self)
         ensures { Renames self.old self.new }
+    {}
+
+    /// No two of them are one: nobody has a right twice.
+    pub(crate) fn apart(&mut self)
+        ensures { (self.new ≡ self.old) × AllApart self.old.held }
     {}
 
     /// All of them, without the ways.

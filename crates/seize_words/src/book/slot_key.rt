@@ -10,6 +10,7 @@ use crate::book::keys::{Keys, Picks};
 use crate::book::numbers_key::NumbersKey;
 use crate::book::pass::Pass;
 use crate::book::value_key::ValueKey;
+use crate::book::value_keys::ValueKeys;
 use std::marker::Brand;
 
 /// The right to the events of one slot, but for those on links, which whoever has a guard of the slot may make, and to its uses of fields.
@@ -23,9 +24,11 @@ pub struct SlotKey {
 
 impl SlotKey {
     ghost use Rattle.seize_words.specs.Batches.{CanDetach, Detaches};
-    ghost use Rattle.seize_words.specs.Others.{CannotRetire, Follows, IsLast, IsOfBook, IsWith, MayRetire, MayTake, SameKind, value_of};
+    ghost use Rattle.seize_words.specs.Counts.{AreLast, AreOfBook};
+    ghost use Rattle.seize_words.specs.Others.{CannotRetire, Follows, IsLast, IsOfBook, IsWith, Knew, MayRetire, MayTake, SameKind, value_of};
     ghost use Rattle.seize_words.specs.Private.{IsOpen, IsPrivate};
     ghost use Rattle.seize_words.specs.Slots.{HandsOnce, Looks, Notes, IsOf, active_of, hands_next, number_of, size_of, slot_of};
+    ghost use Rattle.seize_words.specs.Values.{AreNew, AreSpent, Keep, values_of};
 
     // Any event that changes nothing but the slot's own record.
     fn note<P: Picks>(&mut self, pass: &mut Pass)
@@ -43,6 +46,7 @@ impl SlotKey {
         requires may { IsWith self.old other.old pass.old P.event }
         ensures noted { Notes self.old pass.old self.new pass.new P.event }
         ensures other { Follows other.old pass.new other.new × SameKind other.old other.new }
+        ensures knew { Knew self.old other.old pass.old pass.new P.event }
     {
         let both = &mut self.keys;
         both.join(other);
@@ -139,6 +143,25 @@ impl SlotKey {
         self.note::<Brand>(pass);
     }
 
+    /// The event `Hand`: the value that the slot's call is about to hand to its reclaimer goes there, and its reclaimer puts these values,
+    /// which were never named. All that lay in their blocks before were reclaimed.
+    ///
+    /// The value goes there for the first time, and each slot that found it in a link has left or refreshed since, and the activations in
+    /// which they found it are over. The slot's call is to retire the further values then, in their order, after those that it had before.
+    /// So their keys know then that no call may begin to retire them, and that all others that lay in their blocks were reclaimed.
+    pub fn hand_with(&mut self, further: &mut ValueKeys, pass: &mut Pass)
+        requires book { IsOf self.old pass.old × AreOfBook further.old pass.old }
+        requires next { is_some (hands_next (slot_of self.old)) ≡ true }
+        requires new { AreNew further.old }
+        ensures noted { Notes self.old pass.old self.new pass.new (Hand (number_of self.old) (values_of further.old)) }
+        ensures once { IfSome (hands_next (slot_of self.old)) (HandsOnce self.old pass.new) }
+        ensures keys { Keep further.old pass.new further.new }
+        ensures spent { AreSpent further.new pass.new × AreLast further.new pass.new }
+    {
+        further.apart();
+        self.note_with::<Brand>(&mut further.keys, pass);
+    }
+
     /// The event `Hand` of a value whose reclaimer puts none: the value that the slot's call is about to hand to its reclaimer goes there.
     ///
     /// It goes there for the first time, and each slot that found it in a link has left or refreshed since, and the
@@ -149,7 +172,8 @@ impl SlotKey {
         ensures noted { Notes self.old pass.old self.new pass.new (Hand (number_of self.old) []) }
         ensures once { IfSome (hands_next (slot_of self.old)) (HandsOnce self.old pass.new) }
     {
-        self.note::<Brand>(pass);
+        let mut none = ValueKeys::new(pass);
+        self.hand_with(&mut none, pass);
     }
 
     /// The event `Return`: the slot's call is over.

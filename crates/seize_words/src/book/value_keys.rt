@@ -14,7 +14,7 @@ pub struct ValueKeys {
 }
 
 impl ValueKeys {
-    ghost use Rattle.seize_words.specs.Values.{IsEmpty, IsKeyOfOne, IsOfBook, Nexts, Pushes, values_of};
+    ghost use Rattle.seize_words.specs.Values.{IsEmpty, IsKeyOfOne, IsOfBook, LieApart, Nexts, Pushes, values_of};
 
     /// No keys, of the pass's book.
     pub fn new(pass: &mut Pass) -> ValueKeys
@@ -39,6 +39,13 @@ impl ValueKeys {
     {
         let mut keys = value.keys;
         self.keys.join(&mut keys);
+    }
+
+    /// No two of the values lie in one block: nobody has the key of a block twice.
+    pub fn apart(&mut self)
+        ensures { (self.new.keys ≡ self.old.keys) × LieApart (values_of self.old) }
+    {
+        self.keys.apart();
     }
 
     /// The key of the first value. There is one.

@@ -1,12 +1,12 @@
-use Rattle.std.proofs.Common.{◌≡◌, ℕ, Option, Some, IfSome, refl}
-use Rattle.seize_words.specs.Slots.{hands_next, slot_of}
-use Rattle.seize_words.proofs.Hands.{hands_once}
+use Rattle.std.proofs.Common.{ℕ, List, ap, subst}
+use Rattle.seize_machine.specs.Machine.Event.{Hand}
+use Rattle.seize_words.specs.Slots.{Notes, number_of}
+use Rattle.seize_words.specs.Words.{labels_of}
+use Rattle.seize_words.specs.declared.book.pass.Pass.{Pass}
 use Rattle.seize_words.proofs.book.slot_key.SlotKey.hand.Goals as goal
 
-if_some : {P : ℕ → Type 0} (o : Option ℕ) → ((v : ℕ) → o ≡ Some v → P v) → IfSome o P
-if_some Option.None h = tt
-if_some (Some v) h = h v refl
-
-pub returns-clause-once : goal.returns-clause-once
-returns-clause-once c =
-    if_some (hands_next (slot_of c.args.self.now)) (λ v is. hands_once c.args.self.now c.note.new.self c.args.pass.now c.note.new.pass v c.requires.book is c.note.ensures.noted)
+-- none is put
+pub returns-clause-noted : goal.returns-clause-noted
+returns-clause-noted c =
+    let key = c.args.self.now in let none = c.new-none.ensures in
+    subst (λ (t : Pass × List ℕ). Notes key t.0 c.hand_with.new.self c.hand_with.new.pass (Hand (number_of key) t.1)) (λ j. (none.1 j, ap labels_of none.0.1 j)) c.hand_with.ensures.noted

@@ -2,6 +2,7 @@ use Rattle.std.proofs.Common.{◌≡◌, refl, ap, subst, sym, ◌∙◌, true}
 use Rattle.std.specs.Prelude.{take, drop}
 use Rattle.seize_words.specs.Ledger.{AllKept}
 use Rattle.seize_words.specs.Book.{rules}
+use Rattle.seize_words.specs.Fair.{Before}
 use Rattle.seize_words.specs.Private.{is_one, key_of, own_of}
 use Rattle.seize_words.specs.Tokens.{start}
 use Rattle.seize_words.specs.Adding.{private}
@@ -32,3 +33,8 @@ returns-clause-other g c =
     let a = key.keys.held in let b = c.args.other.now.held in let e = private pass g.P.Picks.event in let joined = c.join.ensures.2 in
     let held = c.part.ensures.3 ∙ ap (drop 1) (held_after pass.name pass.id pass.seen seen _ _ a b e joined c.requires.may.0 told.2) ∙ (parted a b seen key.one).others in
     ((c.part.ensures.1 ∙ told.1 ∙ c.join.ensures.0 ∙ c.requires.book.0 ∙ sym c.requires.book.1, held), λ r one. subst (λ hs. is_one r hs ≡ true) (sym held) (same_kind r b seen one))
+
+pub returns-clause-knew : goal.returns-clause-knew
+returns-clause-knew g c =
+    let pass = c.args.pass.now in let added = c.note.ensures.2 in let noted = added.noted in
+    (noted.before, noted.appended, subst (λ hs. Before pass.name pass.id pass.seen hs noted.before) c.join.ensures.2 added.before)
