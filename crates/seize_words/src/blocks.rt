@@ -2,9 +2,9 @@
 ghost use Rattle.std.specs.Prelude.{◌≡◌, Some};
 ghost use Rattle.seize_store.specs.Named.{name_of};
 
-use crate::book::{Book, BookKeys, Numbers, Pass, SlotKey, Unopened, ValueKeys};
+use crate::book::{Book, BookKeys, Numbers, Pass, SlotKey, Unopened, ValueKey, ValueKeys};
 use crate::chunk::{Header, Part};
-use seize_store::Store;
+use seize_store::{Bare, Store};
 use std::alloc::Global;
 use std::marker::Brand;
 
@@ -17,9 +17,12 @@ pub struct Blocks<T> {
     ghost stands: { book.name.store ≡ Some (name_of store) },
 }
 
-impl<T> Blocks<T> {
+impl<T: Drop> Blocks<T> {
     ghost use Rattle.seize_words.specs.Books.{Opens};
-    ghost use Rattle.seize_words.specs.Chunks.{IsHeaderOf, OpensIn, book_in};
+    ghost use Rattle.seize_store.specs.Named.{bare_value};
+    ghost use Rattle.seize_words.specs.Chunks.{IsHeaderOf, LiesIn, OpensIn, book_in};
+    ghost use Rattle.seize_words.specs.Homes.{IsVacant, home_of};
+    ghost use Rattle.seize_words.specs.Others.{book_of, state_of, value_of};
     ghost use Rattle.seize_words.specs.Homesteads.{HasNumber, state_seen};
     ghost use Rattle.seize_words.specs.Passes.{LooksOn};
     ghost use Rattle.seize_words.specs.Slots.{IsOf};
@@ -48,6 +51,21 @@ impl<T> Blocks<T> {
         ensures family { result.0.name.family ≡ unopened.family }
     {
         unopened.open::<N>(links, size)
+    }
+
+    /// The value of a block whose values were all reclaimed. Its chunk is in again, with the block's key, by one swap; where the store is
+    /// gone, the chunk's memory goes back.
+    pub fn take_back(&self, key: ValueKey, block: Bare<Header, Part, T>) -> T
+        requires book { book_of key ≡ book_in self.now }
+        requires vacant { IsVacant (state_of key.keys) (home_of (value_of key)) }
+        requires lies { LiesIn key block }
+        ensures { result ≡ bare_value block }
+    {
+        let part = Part {
+            key: key.bare(),
+            book: self.book.again(),
+        };
+        block.with(part).into_inner()
     }
 
     /// The header of the block with this number, which is that of a value that was named, as the pass has seen. The pass looks at the list.
