@@ -4,6 +4,7 @@
 --     IsKeyOfOne value keys          it is the value's alone
 --     Pushes keys value keys'        the value's key comes last
 --     Nexts keys value keys'         the value's was the first, and the others are left
+--     AreStill keys keys'            they are the same, and know what they knew
 --     LieApart values                no two of them lie in one block
 --     AllNew n held, AreNew keys     each of the values was never named, and all that lay in its block before were reclaimed, as its key
 --                                    knows
@@ -47,6 +48,9 @@ abbrev pub Nexts : ValueKeys → ValueKey → ValueKeys → Type 0
 Nexts keys value keys' =
     (book_in keys' ≡ book_in keys) × (book_of value ≡ book_in keys) × (values_of keys ≡ value_of value ∷ values_of keys')
     × (keys.keys.held ≡ value.keys.held ++ keys'.keys.held)
+
+abbrev pub AreStill : ValueKeys → ValueKeys → Type 0
+AreStill keys keys' = keys'.keys ≡ keys.keys
 
 abbrev pub LieApart : List ℕ → Type 0
 LieApart values = are_distinct (map home_of values) ≡ true

@@ -14,7 +14,7 @@ pub struct ValueKeys {
 }
 
 impl ValueKeys {
-    ghost use Rattle.seize_words.specs.Values.{IsEmpty, IsKeyOfOne, IsOfBook, LieApart, Nexts, Pushes, values_of};
+    ghost use Rattle.seize_words.specs.Values.{AreStill, IsEmpty, IsKeyOfOne, IsOfBook, LieApart, Nexts, Pushes, values_of};
 
     /// No keys, of the pass's book.
     pub fn new(pass: &mut Pass) -> ValueKeys
@@ -43,7 +43,7 @@ impl ValueKeys {
 
     /// No two of the values lie in one block: nobody has the key of a block twice.
     pub fn apart(&mut self)
-        ensures { (self.new.keys ≡ self.old.keys) × LieApart (values_of self.old) }
+        ensures { AreStill self.old self.new × LieApart (values_of self.old) }
     {
         self.keys.apart();
     }
