@@ -8,6 +8,8 @@ pub mod Fields
 pub mod Pieces
 pub mod Fielded
 pub mod Tokens
+pub mod Once
+pub mod Families
 pub mod Leads
 pub mod Tokened
 pub mod Identities

@@ -7,4 +7,5 @@ pub mod Known
 pub mod Lends
 pub mod Named
 pub mod Parts
+pub mod Kept
 pub mod Titled

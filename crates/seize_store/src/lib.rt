@@ -5,9 +5,12 @@
 mod bare;
 mod block;
 mod chunk;
+mod family;
 mod identity;
+mod kin;
 mod known;
 mod maker;
+mod once_of;
 mod owned;
 mod row;
 mod seen;
@@ -16,6 +19,7 @@ mod store;
 mod strip;
 
 pub use bare::Bare;
+pub use family::Family;
 pub use known::Known;
 pub use maker::{Empty, Maker};
 pub use owned::{Owned, apart};
