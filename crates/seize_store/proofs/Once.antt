@@ -68,7 +68,7 @@ module _ (P : RattleType) where
   Sole = Struct (record { name = []; args = []; types = []; fields = P ∷ [] })
 
   module _ {M : Type 1} {𝓤 : Ura M} {𝓛 : Logic 𝓤} {K : Type 0} {Γ : List (Item 𝓤)} {G : Goal 𝓤 𝓛.H} (x : P.Denot) where
-    pub sole_in : K → (v : Val) → Step K 𝓛 (‵ (Sole.own_val (x, tt) (single v ∷ [])) ∷ Γ) G (‵ (P.own_val x (v ∷ [])) ∷ Γ)  G
+    pub sole_in : K → (v : Val) → Step K 𝓛 (‵ (Sole.own_val (x, tt) (single v ∷ [])) ∷ Γ) G (‵ (P.own_val x (v ∷ [])) ∷ Γ) G
     sole_in t v = step (λ s. nothing t $ move t (1 ∷ 0 ∷ []) $ fjoin t $ feq_i t (List Val) (single v ∷ []) (single v ∷ []) refl $ fjoin t $
         fpack t (Valss (P ∷ [])) (within (record { name = []; args = []; types = []; fields = P ∷ [] }) (x, tt) (single v ∷ [])) (v ∷ [], tt) $ s)
 

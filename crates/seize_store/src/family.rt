@@ -1,12 +1,10 @@
-//! Which family the chunks of a store are of. It uses no other module; `store` takes it, and `row` keeps its number.
+//! Families of values that lie in cells. It uses no other module; a cell of `once_of` is made with one.
 ghost use Rattle.std.specs.Prelude.{ℕ};
 ghost use base.Fml.{ftrue};
 
 use std::marker::{Model, PhantomData};
 
-/// A family, of which all the chunks of a store are: their labels say so. It takes no bytes.
-///
-/// A crate above that has families of its own makes one with the number: a proof by hand has nothing to show for it.
+/// A family, of which all is that ever lies in a cell. It takes no bytes.
 pub struct Family {
     /// Nothing.
     pub marker: PhantomData<()>,

@@ -74,7 +74,9 @@ pub(crate) fn found_in<'a, T: Kin, F: Named>(
     note: Note<Child<T, F>>,
 ) -> (Option<&'a T>, Note<Child<T, F>>)
     requires { note.cell ≡ cell_name cell.now }
-    ensures { (result.1.cell ≡ note.cell) × MatchOption result.0 ((note.known ≡ None) × (result.1.known ≡ None)) (λ r. (result.1.known ≡ Some r.now) × Agrees note.known r.now × T.is_of F.number r.now) }
+    ensures { (result.1.cell ≡ note.cell)
+        × MatchOption result.0 ((note.known ≡ None) × (result.1.known ≡ None))
+        (λ r. (result.1.known ≡ Some r.now) × Agrees note.known r.now × T.is_of F.number r.now) }
 {
     let mut note = note;
     match cell.get_as(&mut note) {

@@ -1,5 +1,5 @@
 //! A cell that is filled at most once, and only with what is of the cell's family. It wraps a cell of `once_cell`, whose contracts say
-//! nothing of what other threads put there; `row` keeps the rows in such cells.
+//! nothing of what other threads put there. It is for the rows of a store, whose cells are still those of `once_cell`.
 ghost use Rattle.std.specs.Prelude.{◌≡◌, ℕ, IfOk, None, Some};
 ghost use Rattle.std.specs.Option.{MatchOption};
 ghost use Rattle.std.specs.declared.alloc.Global.{Global as Heap};
@@ -44,12 +44,11 @@ impl<T: Kin> OnceOf<T> {
     }
 
     /// What the cell has, and a note that knows it.
-    pub(crate) fn found(
-        &self,
-        note: Note<Child<T, Brand>>,
-    ) -> (Option<&T>, Note<Child<T, Brand>>)
+    pub(crate) fn found(&self, note: Note<Child<T, Brand>>) -> (Option<&T>, Note<Child<T, Brand>>)
         requires { note.cell ≡ cell_name self.now.1 }
-        ensures { (result.1.cell ≡ note.cell) × MatchOption result.0 ((note.known ≡ None) × (result.1.known ≡ None)) (λ r. (result.1.known ≡ Some r.now) × Agrees note.known r.now × T.is_of self.now.0 r.now) }
+        ensures { (result.1.cell ≡ note.cell)
+            × MatchOption result.0 ((note.known ≡ None) × (result.1.known ≡ None))
+            (λ r. (result.1.known ≡ Some r.now) × Agrees note.known r.now × T.is_of self.now.0 r.now) }
     {
         found_in::<T, Brand>(&self.inner, note)
     }

@@ -29,7 +29,7 @@ use Rattle.seize_store.proofs.once_of.OnceOf.note.Code as code
 pub note_spec : {M : Type 1} → statement M
 note_spec 𝓤 𝓛 𝓜 𝓡 wired T L g d kin =
     let H = 𝓛.H in let 𝓣 = tables 𝓤 H 𝓜 𝓡 𝓡.env in let R : RattleType = param 0 T in let LR = param_laws 0 T L in let En = ended T g d in let c = clauses T g d 𝓛 𝓜.mem 𝓡.returns in
-    let inst = bounded (a_type ∷ []) (T, tt) (dcons d dnil) in let fn = inst_fn inst code.function in 
+    let inst = bounded (a_type ∷ []) (T, tt) (dcons d dnil) in let fn = inst_fn inst code.function in
     let self = RefOf (0 ∷ []) tt (plain (λ _. cell.the_row R g)) (λ _. tt) in
     let hs : Stays En.signature.params En.kept = (stay_dropped self yes, tt) in
     proved_at 𝓛 En hs c 𝓜 𝓡 (Goes-dropped 𝓛 2 self yes (λ κs x f. refl), tt) (#self inst) fn (code.unfolded 𝓤 H 𝓜 𝓡 wired (T, tt) d) (λ z are.
