@@ -8,6 +8,8 @@ ghost use Rattle.seize_model.specs.Waiting.Calls as calls;
 ghost use Rattle.seize.specs.Blocks.{content, owner_of};
 ghost use Rattle.seize.specs.Plain.{fixed};
 ghost use Rattle.seize.specs.Effects.{Queued};
+ghost use Rattle.seize_store.specs.Known.{family_in};
+ghost use Rattle.seize_store.specs.Named.{name_of};
 ghost use Rattle.seize_table.specs.declared.refusal.Refusal.TheVariants.{NoMemory};
 
 use crate::block::Owned;
@@ -16,7 +18,7 @@ use batch::Batch;
 use handover::give_all;
 use retired::Retired;
 use seize_model::Kind;
-use seize_store::{Empty, Store};
+use seize_store::{Empty, Family, Store};
 use seize_table::Refusal;
 use seize_table::thread_id::Numbers;
 use slot::Slot;
@@ -45,6 +47,7 @@ pub(crate) struct Plain<T: Weigh + Drop, R: Copy> {
     numbers: Numbers,
     retired: Vec<Batch<T, R>>,
     links: Vec<Option<Owned<T>>>,
+    ghost kin: { family_in (name_of store) ≡ 0 },
 }
 
 impl<T: Weigh + Drop, R: Copy> Model for Plain<T, R> {
@@ -102,7 +105,7 @@ impl<T: Weigh + Drop, R: Copy> Plain<T, R> {
         let links = empty_links(alloc, links)?;
         Ok(Plain {
             alloc,
-            store: Store::new(alloc),
+            store: Store::new(alloc, &Family::new(0)),
             size,
             slots: Vec::new(alloc),
             numbers: Numbers::new(alloc),

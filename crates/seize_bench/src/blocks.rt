@@ -1,10 +1,11 @@
 //! Works that make and end blocks, and the same with boxes.
 ghost use Rattle.std.specs.Prelude.{◌≡◌};
+ghost use Rattle.seize_store.specs.Known.{family_in};
 ghost use Rattle.seize_store.specs.Named.{AreOf, name_of};
 
 use crate::clock::{RUNS, Samples};
 use crate::team::{Team, runs};
-use seize_store::{Maker, Owned, Spots, Store};
+use seize_store::{Family, Maker, Owned, Spots, Store};
 use std::alloc::{AllocError, Global};
 use std::rt::Clock;
 use std::thread::Threads;
@@ -26,6 +27,8 @@ pub(crate) const PIPED: u64 = 30_000;
 struct Zero;
 
 impl Maker<u64, ()> for Zero {
+    ghost family = { λ _. 0 };
+
     fn make(&self, _number: usize) -> (u64, ()) {
         (0, ())
     }
@@ -37,17 +40,21 @@ pub(crate) fn make<R: Clock + CpuClock + Threads + Sync>(
     alloc: Global,
     samples: &mut Samples,
 ) -> io::Result<()> {
-    let store = Store::new(alloc);
+    let store = Store::new(alloc, &Family::new(0));
     runs(
         rt,
         threads,
         BY_SPOTS,
         samples,
-        &|| through_spots(&store, alloc),
+        &|| -> io::Result<u64>
+            requires { family_in (name_of store) ≡ 0 }
+        { through_spots(&store, alloc) },
     )
 }
 
-fn through_spots(store: &Store<u64, (), u64>, alloc: Global) -> io::Result<u64> {
+fn through_spots(store: &Store<u64, (), u64>, alloc: Global) -> io::Result<u64>
+    requires { family_in (name_of store.now) ≡ 0 }
+{
     let mut spots = Spots::new(alloc)?;
     let mut sum = 0u64;
     for value in 0..BY_SPOTS {
@@ -65,11 +72,21 @@ pub(crate) fn make_bare<R: Clock + CpuClock + Threads + Sync>(
     alloc: Global,
     samples: &mut Samples,
 ) -> io::Result<()> {
-    let store = Store::new(alloc);
-    runs(rt, threads, BARE, samples, &|| through(&store))
+    let store = Store::new(alloc, &Family::new(0));
+    runs(
+        rt,
+        threads,
+        BARE,
+        samples,
+        &|| -> io::Result<u64>
+            requires { family_in (name_of store) ≡ 0 }
+        { through(&store) },
+    )
 }
 
-fn through(store: &Store<u64, (), u64>) -> io::Result<u64> {
+fn through(store: &Store<u64, (), u64>) -> io::Result<u64>
+    requires { family_in (name_of store.now) ≡ 0 }
+{
     let mut sum = 0u64;
     for value in 0..BARE {
         sum = sum.wrapping_add(block(store, value)?.into_inner());
@@ -94,7 +111,9 @@ fn through_boxes(alloc: Global) -> io::Result<u64> {
     Ok(sum)
 }
 
-pub(crate) fn block(store: &Store<u64, (), u64>, value: u64) -> io::Result<Owned<u64, (), u64>> {
+pub(crate) fn block(store: &Store<u64, (), u64>, value: u64) -> io::Result<Owned<u64, (), u64>>
+    requires { family_in (name_of store.now) ≡ 0 }
+{
     match store.add(value, &Zero) {
         Ok(owned) => Ok(owned),
         Err(_) => Err(AllocError.into()),
@@ -156,8 +175,15 @@ pub(crate) fn pipe<R: Clock + CpuClock + Threads + Sync>(
     alloc: Global,
     samples: &mut Samples,
 ) -> io::Result<()> {
-    let store = Store::new(alloc);
-    piped(rt, alloc, samples, &|value| block(&store, value))
+    let store = Store::new(alloc, &Family::new(0));
+    piped(
+        rt,
+        alloc,
+        samples,
+        &|value| -> io::Result<Owned<u64, (), u64>>
+            requires { family_in (name_of store) ≡ 0 }
+        { block(&store, value) },
+    )
 }
 
 pub(crate) fn pipe_box<R: Clock + CpuClock + Threads + Sync>(

@@ -1,11 +1,12 @@
 //! Works that look numbers up, and one that follows references.
 ghost use Rattle.std.specs.Prelude.{◌≡◌, ◌%◌};
+ghost use Rattle.seize_store.specs.Known.{family_in};
 ghost use Rattle.seize_store.specs.Named.{name_of, row_is, store_by};
 
 use crate::blocks::{PIPED, block, filled};
 use crate::clock::Samples;
 use crate::team::runs;
-use seize_store::{Owned, Seen, Store};
+use seize_store::{Family, Owned, Seen, Store};
 use std::alloc::Global;
 use std::io;
 use std::rt::Clock;
@@ -43,14 +44,26 @@ fn numbers_of(all: &[Owned<u64, (), u64>], alloc: Global) -> io::Result<Vec<usiz
     Ok(numbers)
 }
 
+// The blocks that stand.
+fn standing(store: &Store<u64, (), u64>, alloc: Global) -> io::Result<Vec<Owned<u64, (), u64>>>
+    requires { family_in (name_of store.now) ≡ 0 }
+{
+    filled(
+        Vec::new(alloc),
+        &|value| -> io::Result<Owned<u64, (), u64>>
+            requires { family_in (name_of store.now) ≡ 0 }
+        { block(store, value) },
+    )
+}
+
 pub(crate) fn look<R: Clock + CpuClock + Threads + Sync>(
     rt: &R,
     threads: u64,
     alloc: Global,
     samples: &mut Samples,
 ) -> io::Result<()> {
-    let store = Store::new(alloc);
-    let all = filled(Vec::new(alloc), &|value| block(&store, value))?;
+    let store = Store::new(alloc, &Family::new(0));
+    let all = standing(&store, alloc)?;
     let numbers = numbers_of(&all, alloc)?;
     let numbers = numbers.as_slice();
     runs(
@@ -103,8 +116,8 @@ pub(crate) fn token<R: Clock + CpuClock + Threads + Sync>(
     alloc: Global,
     samples: &mut Samples,
 ) -> io::Result<()> {
-    let store = Store::new(alloc);
-    let all = filled(Vec::new(alloc), &|value| block(&store, value))?;
+    let store = Store::new(alloc, &Family::new(0));
+    let all = standing(&store, alloc)?;
     let numbers = numbers_of(&all, alloc)?;
     let numbers = numbers.as_slice();
     runs(

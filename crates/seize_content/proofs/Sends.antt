@@ -1,7 +1,10 @@
 -- What may pass to another thread: a content, as its value may be seen and be had there; and what names no value, always.
 use Rattle.std.proofs.Common.{ℕ, List, [], ◌∷◌}
+use mathlib.Core.Option.{Option, none, some}
+use base.Fraction.{full_share}
+use base.Share
 use base.Growing.{latest, at_least}
-use base.Fml.{Lft}
+use base.Fml.{Lft, Share}
 use base.Shift.{Keyless}
 use base.Stored.{Gv}
 use denote.RattleType.{RattleType}
@@ -16,6 +19,7 @@ use denote.Memory.{lone}
 use Rattle.seize_content.specs.Stages.{Name, Stage, empty, held, lent, goes}
 use Rattle.seize_content.specs.Contents.{room, body, onward, place, content_owns, content_shares, ticket_owns, held_owns, stay, pool_owns, pool_shares, sight_owns}
 use Rattle.seize_content.specs.Memory.{grant_owns}
+use Rattle.seize_content.specs.Readers.{Piece, deposit, holds, lent_pool, pool}
 
 pub room_sent : (R : RattleType) (p : Ptr) → Keyless (room R p)
 room_sent R (block_ptr b o) = tt
@@ -40,6 +44,23 @@ pool_seen n a g κ = ((λ _. tt), stay_sent n a g)
 
 pub sight_sent : (κ : Lft) (n : Name) (a : ℕ) (g : Gv) → Keyless (sight_owns κ n a g)
 sight_sent κ n a g = ((λ νs. chain-Keyless νs κ (a ∷ [])), stay_sent n a g)
+
+-- what readers have of a loan, and what is left of it
+
+holds_sent : (o : Option Piece) → Keyless (holds o)
+holds_sent none = tt
+holds_sent (some t) = tt
+
+deposit_sent : (a : ℕ) (e : Share) (d : Lft × ℕ) → Keyless (deposit a e d)
+unfolding latest at_least
+deposit_sent a e d = ((λ o. (tt, holds_sent o)), tt)
+
+pool_kept : (a : ℕ) (r : Share) (ds : List (Lft × ℕ)) → Keyless (pool a r ds)
+pool_kept a r [] = tt
+pool_kept a r (d ∷ ds) = (deposit_sent a (Share.right r) d, pool_kept a (Share.left r) ds)
+
+pub lent_sent : (n : Name) (a : ℕ) (g : Gv) (ds : List (Lft × ℕ)) → Keyless (lent_pool n a g ds)
+lent_sent n a g ds = (pool_kept a full_share ds, stay_sent n a g)
 
 pub held_sent : (R : RattleType) → IsSend R → (n : Name) (t : Stage) (x : R.Denot) → Keyless (held_owns R n t x)
 held_sent R s n t x = (lies_keyless R s n.1 x, tt)

@@ -11,7 +11,8 @@ use std::marker::{Model, PhantomData};
 /// The whole token of a loan's lifetime. While it is shared the value can be seen; whoever has it whole can end the loan.
 #[derive(Drop)]
 pub struct Pool {
-    pub(crate) marker: PhantomData<()>,
+    /// It has no bytes, as that of a sight.
+    pub marker: PhantomData<()>,
     /// Which content is lent.
     pub ghost name: { Name } by { name_coded },
     /// The loan's lifetime.
@@ -29,7 +30,8 @@ impl Model for Pool {
 /// What a reader found: a content that is lent, for `'g` or longer.
 #[derive(Drop)]
 pub struct Sight<'g> {
-    pub(crate) marker: PhantomData<&'g ()>,
+    /// It has no bytes. Who takes a sight apart has nothing of it, and who makes one has to show what it owns.
+    pub marker: PhantomData<&'g ()>,
     /// Which content it is.
     pub ghost name: { Name } by { name_coded },
     /// The loan's lifetime.

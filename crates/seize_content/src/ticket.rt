@@ -10,7 +10,8 @@ use std::marker::{Model, PhantomData};
 /// Who has it changes the stage of one content, and knows it. It knows nothing of the value's type.
 #[derive(Drop)]
 pub struct Ticket {
-    pub(crate) marker: PhantomData<()>,
+    /// It has no bytes, as that of a sight.
+    pub marker: PhantomData<()>,
     /// Which content it is of.
     pub ghost name: { Name } by { name_coded },
     /// The stage that the content is at.

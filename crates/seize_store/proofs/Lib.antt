@@ -9,6 +9,7 @@ pub mod Pieces
 pub mod Fielded
 pub mod Tokens
 pub mod Once
+pub mod Cells
 pub mod Families
 pub mod Leads
 pub mod Tokened

@@ -1,6 +1,6 @@
 -- Two tokens of a row with the same note and the same content are one: all else of a token is a fact. A note is its cell and what it knows.
-use Rattle.std.proofs.Common.{◌≡◌, ◌+◌, ◌^◌, ◌<◌, length}
-use Rattle.std.specs.Coded.{Coded-set, coded_ℕ, coded_list, coded×, coded_option, le_prop}
+use Rattle.std.proofs.Common.{◌≡◌}
+use Rattle.std.specs.Coded.{Coded-set, coded_ℕ, coded_list, coded×, coded_option}
 use Rattle.std.specs.declared.option.Option.TheVariants.{Some}
 use mathlib.Core.HLevel.{is_prop→PathP}
 use denote.RawPtr.{coded_ptr}
@@ -15,8 +15,6 @@ token_is s t e f = λ i. record {
   known = f i;
   cell = is_prop→PathP (λ j. (e j).cell ≡ name_in (f j).store (f j).row) (λ j. Coded-set coded_ℕ _ _) s.cell t.cell i;
   same = is_prop→PathP (λ j. (e j).known ≡ Some (f j).chunks) (λ j. Coded-set (coded_option (coded_list (coded× coded_ptr coded_ℕ))) _ _) s.same t.same i;
-  in_store = is_prop→PathP (λ j. (f j).row < 59) (λ j. le_prop) s.in_store t.in_store i;
-  full = is_prop→PathP (λ j. length (f j).chunks ≡ 2 ^ ((f j).row + 5)) (λ j. Coded-set coded_ℕ _ _) s.full t.full i;
 }
 
 pub note_is : {X : Type 0} (m n : Note X) → m.cell ≡ n.cell → m.known ≡ n.known → m ≡ n

@@ -1,5 +1,5 @@
 -- The words in which the contracts of the store and of its blocks speak.
---     name_of s       the store s: its own name and those of its rows
+--     name_of s       the store s: its own name, its family, and the names of its rows
 --     store_of o      the store that the block o is of
 --     value_of o, number_of o, title_of o, known_of o      its value, its number, its title, and the token of its row
 --     AreOf spots s   each of the spots is of the store s
@@ -11,14 +11,14 @@
 --     store_by s, row_by s, chunks_by s     the store and the row of the token s, and where the row's chunks lie, with their labels
 --     row_is s n      the row is that of the number n
 --     place_by s n, label_by s n     where the chunk of the number n lies, and the label of its header
---     IsRowOf k n     the token k shows the row of the number n, and all of its chunks
+--     IsRowOf k n     the token k shows the row of the number n
 --     lies_of p, header_of p   where the chunk p lies, and its header
 --     lies o, label_of o     where the chunk of the block o lies, and the label of its header
 --     bare_value b, bare_title b, bare_store b, bare_number b, bare_label b     the same of a block b without its owner's part
 use Rattle.std.specs.Prelude.{◌≡◌, ℕ, ◌+◌, ◌==◌, if◌then◌else◌, List, [], ◌∷◌, ◌++◌, All, map, length, take, vec_len}
 use denote.RawPtr.{Ptr}
 use Rattle.seize_table.specs.Place.{IsPlace}
-use Rattle.seize_store.specs.Known.{IsWhole, entry_of, label_in, place_in}
+use Rattle.seize_store.specs.Known.{entry_of, label_in, place_in}
 use Rattle.seize_store.specs.Titled.{names_of, place_of}
 use Rattle.seize_store.specs.Titled as titled
 use Rattle.seize_store.specs.declared.bare.Bare.{Bare}
@@ -89,7 +89,7 @@ abbrev pub label_by : {H P T : Type 0} {g : Ghosts H} → Seen H P T g → ℕ �
 label_by seen number = label_in seen.known.chunks (entry_of seen.known.row number)
 
 abbrev pub IsRowOf : Known → ℕ → Type 0
-IsRowOf known number = IsPlace number known.row (entry_of known.row number) × IsWhole known.row known.chunks
+IsRowOf known number = IsPlace number known.row (entry_of known.row number)
 
 abbrev pub lies_of : {H P T : Type 0} → Place H P T → Ptr
 lies_of place = place.chunk.now.at

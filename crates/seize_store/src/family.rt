@@ -1,10 +1,12 @@
-//! Families of values that lie in cells. It uses no other module; a cell of `once_of` is made with one.
-ghost use Rattle.std.specs.Prelude.{ℕ};
+//! Which family the chunks of a store are of: their labels say so. It uses no other module; a store is made with one, and so are its cells.
+ghost use Rattle.std.specs.Prelude.{◌≡◌, ℕ};
 ghost use base.Fml.{ftrue};
 
 use std::marker::{Model, PhantomData};
 
-/// A family, of which all is that ever lies in a cell. It takes no bytes.
+/// A family, of which all chunks of a store are. It takes no bytes.
+///
+/// A crate above that has families of its own makes one with the number: a proof by hand has nothing to show for it.
 pub struct Family {
     /// Nothing.
     pub marker: PhantomData<()>,
@@ -17,8 +19,19 @@ impl Model for Family {
 }
 
 impl Family {
-    /// Some family, for who tells none from another.
-    pub fn new() -> Family {
+    /// The family of this number.
+    pub fn new(number: u64) -> Family
+        ensures { result.number ≡ number }
+    {
+        Family {
+            marker: PhantomData,
+        }
+    }
+
+    /// The same family.
+    pub fn again(&self) -> Family
+        ensures { result ≡ self.now }
+    {
         Family {
             marker: PhantomData,
         }

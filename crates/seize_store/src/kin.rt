@@ -21,6 +21,9 @@ impl Named for Brand {
     ghost number = { 0 };
 }
 
+/// What is known of the cell of a value that is of some family. It doesn't say of which.
+pub(crate) type NoteOf<T> = Note<Child<T, Brand>>;
+
 /// A value of that family.
 #[derive(Drop)]
 pub(crate) struct Child<T: Kin, F: Named> {

@@ -5,7 +5,7 @@ ghost use base.Stored.{coded_list, coded×, coded_ℕ};
 ghost use denote.RawPtr.{Ptr, coded_ptr};
 ghost use denote.Sharing.{said};
 ghost use Rattle.seize_table.specs.Place.{IsPlace};
-ghost use Rattle.seize_store.specs.Known.{IsWhole, known_row, entry_of};
+ghost use Rattle.seize_store.specs.Known.{IsRowIn, entry_of, known_row};
 
 mod tells;
 
@@ -14,7 +14,8 @@ use std::marker::{Model, PhantomData};
 
 /// What shows which chunks one row of one store has, for good. It takes no bytes.
 ///
-/// A crate above that keeps the lasting fact of a row makes one of that (`known_row`): a proof by hand has to show the fact.
+/// A crate above that keeps the lasting fact of a row makes one of that (`known_row`, and what `made` says): a proof by hand has to show
+/// both.
 pub struct Known {
     /// Nothing.
     pub marker: PhantomData<()>,
@@ -24,6 +25,8 @@ pub struct Known {
     pub ghost row: { ℕ },
     /// Where its chunks lie, and the labels of their headers.
     pub ghost chunks: { List (Ptr × ℕ) } by { coded_list (coded× coded_ptr coded_ℕ) },
+    /// The row has these chunks and no others, and they are of the store's family.
+    pub ghost made: { IsRowIn store row chunks },
 }
 
 impl Model for Known {
@@ -49,5 +52,4 @@ pub struct Title {
     pub(crate) alloc: Global,
     pub(crate) known: Known,
     ghost placed: { IsPlace number known.row (entry_of known.row number) },
-    ghost whole: { IsWhole known.row known.chunks },
 }

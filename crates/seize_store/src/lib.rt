@@ -19,6 +19,7 @@ mod store;
 mod strip;
 
 pub use bare::Bare;
+pub use family::Family;
 pub use known::Known;
 pub use maker::{Empty, Maker};
 pub use owned::{Owned, apart};

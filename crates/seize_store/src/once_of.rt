@@ -1,5 +1,5 @@
 //! A cell that is filled at most once, and only with what is of the cell's family. It wraps a cell of `once_cell`, whose contracts say
-//! nothing of what other threads put there. It is for the rows of a store, whose cells are still those of `once_cell`.
+//! nothing of what other threads put there. The rows of a store lie in such cells.
 ghost use Rattle.std.specs.Prelude.{◌≡◌, ℕ, IfOk, None, Some};
 ghost use Rattle.std.specs.Option.{MatchOption};
 ghost use Rattle.std.specs.declared.alloc.Global.{Global as Heap};
@@ -7,8 +7,8 @@ ghost use Rattle.once_cell.specs.Once.{Agrees, cell_name};
 ghost use Rattle.seize_store.specs.Kept.{once_owns, once_shares};
 
 use crate::family::Family;
-use crate::kin::{Child, Kin, empty_cell, ended, found_in, note_of, put_in};
-use once_cell::race::{Note, OnceBox};
+use crate::kin::{Child, Kin, NoteOf, empty_cell, ended, found_in, note_of, put_in};
+use once_cell::race::OnceBox;
 use std::alloc::{AllocError, Global};
 use std::marker::{Brand, Move, Owns};
 
@@ -37,14 +37,14 @@ impl<T: Kin> OnceOf<T> {
     }
 
     /// A note that knows nothing yet.
-    pub(crate) fn note(&self) -> Note<Child<T, Brand>>
+    pub(crate) fn note(&self) -> NoteOf<T>
         ensures { (result.cell ≡ cell_name self.now.1) × (result.known ≡ None) }
     {
         note_of::<T, Brand>(&self.inner)
     }
 
     /// What the cell has, and a note that knows it.
-    pub(crate) fn found(&self, note: Note<Child<T, Brand>>) -> (Option<&T>, Note<Child<T, Brand>>)
+    pub(crate) fn found(&self, note: NoteOf<T>) -> (Option<&T>, NoteOf<T>)
         requires { note.cell ≡ cell_name self.now.1 }
         ensures { (result.1.cell ≡ note.cell)
             × MatchOption result.0 ((note.known ≡ None) × (result.1.known ≡ None))
@@ -60,8 +60,8 @@ impl<T: Kin + Drop> OnceOf<T> {
         &self,
         value: T,
         alloc: Global,
-        note: Note<Child<T, Brand>>,
-    ) -> Result<(&T, Note<Child<T, Brand>>), AllocError>
+        note: NoteOf<T>,
+    ) -> Result<(&T, NoteOf<T>), AllocError>
         requires { (note.cell ≡ cell_name self.now.1) × T.is_of self.now.0 value }
         ensures { IfOk result (λ r. (r.1.cell ≡ note.cell) × (r.1.known ≡ Some r.0.now) × T.is_of self.now.0 r.0.now) }
     {

@@ -1,18 +1,21 @@
 //! A row of chunks, and the cells that the rows stand in. It cuts the memory of `strip` into chunks of `chunk`; `store` keeps the rows.
-ghost use Rattle.std.specs.Prelude.{◌≡◌, ◌+◌, ◌^◌, ◌<◌, length};
-ghost use Rattle.seize_store.specs.Known.{chunk_in};
+ghost use Rattle.std.specs.Prelude.{◌≡◌, ◌+◌, ◌^◌, ◌<◌, All, IfOk, IfSome, length};
+ghost use Rattle.seize_store.specs.Known.{AreKin, chunk_in};
 ghost use Rattle.seize_table.specs.Place.{IsPlace};
 ghost use Rattle.seize_table.specs.Table.{number_at};
 
 use crate::chunk::{Base, Body, Chunk};
+use crate::family::Family;
 use crate::identity::Identity;
+use crate::kin::{Kin, NoteOf};
 use crate::maker::Maker;
+use crate::once_of::OnceOf;
 use crate::seen::Place;
 use crate::strip::{Rooms, Strip};
-use once_cell::race::OnceBox;
 use seize_table::Labelled;
 use seize_table::thread_id::{BUCKETS, Thread};
 use std::alloc::{AllocError, Global};
+use std::array;
 use std::marker::Model;
 use std_alloc::room::may_hold;
 
@@ -57,6 +60,11 @@ impl<H: Labelled + Drop, P: Labelled + Drop, T> Model for Row<H, P, T> {
     ghost invariant = { λ r. r.base.places ≡ map (λ k. k.chunk.at) r.chunks.items };
 }
 
+/// A row is of a family where the labels of all its chunks are.
+impl<H: Labelled + Drop, P: Labelled + Drop, T> Kin for Row<H, P, T> {
+    ghost is_of = { λ family chunks. AreKin family chunks };
+}
+
 /// The number whose place is that entry of that row.
 pub(crate) fn number_at_place(row: usize, entry: usize) -> usize
     requires { (row < BUCKETS) × (entry < 2 ^ (row + 5)) }
@@ -76,6 +84,7 @@ impl<H: Labelled + Drop, P: Labelled + Drop, T> Row<H, P, T> {
         maker: &M,
     ) -> Result<Row<H, P, T>, AllocError>
         requires { bucket < BUCKETS }
+        ensures { IfOk result (λ row. AreKin (M.family maker.now) row) }
     {
         let len = Thread::bucket_capacity(bucket);
         let mut chunks = Vec::with_capacity(alloc, len)?;
@@ -109,23 +118,63 @@ impl<H: Labelled + Drop, P: Labelled + Drop, T> Row<H, P, T> {
         let header = chunk.header_by(&self.base, entry);
         Place { chunk, header }
     }
-
-    /// The same in a box.
-    pub(crate) fn boxed<M: Maker<H, P>>(
-        alloc: Global,
-        bucket: usize,
-        maker: &M,
-    ) -> Result<Box<Row<H, P, T>>, AllocError>
-        requires { bucket < BUCKETS }
-    {
-        Ok(Box::new(alloc, Row::new(alloc, bucket, maker)?)?)
-    }
 }
 
 /// The cells of the rows, each filled at most once, and what their store alone has.
 #[derive(Drop)]
 pub(crate) struct Rows<H: Labelled + Drop, P: Labelled + Drop, T> {
-    pub(crate) cells: [OnceBox<Row<H, P, T>>; 59],
+    pub(crate) cells: [OnceOf<Row<H, P, T>>; 59],
     pub(crate) identity: Identity,
+    pub(crate) family: Family,
     ghost all_there: { 59 ≡ length cells },
+    ghost kin: { All (λ cell. cell.0 ≡ family.number) cells },
+}
+
+impl<H: Labelled + Drop, P: Labelled + Drop, T> Rows<H, P, T> {
+    ghost use Rattle.seize_store.specs.Titled.{IsMade, family_of, names_of};
+
+    /// The cells of a new store of this family. They take no memory.
+    pub(crate) fn new(alloc: Global, family: &Family) -> Rows<H, P, T>
+        ensures { family_of result ≡ family.now.number }
+    {
+        let cells = array::from_fn(
+            move |_|
+                ensures cell { result.0 ≡ family.entry.now.number }
+                ensures same { family.exit.now ≡ family.entry.now }
+            { OnceOf::new(alloc, family) },
+        );
+        Rows {
+            cells,
+            identity: Identity::new(),
+            family: family.again(),
+        }
+    }
+
+    /// The row of this index, where it is made, and a note that knows it.
+    pub(crate) fn found(&self, bucket: usize) -> Option<(&Row<H, P, T>, NoteOf<Row<H, P, T>>)>
+        requires { bucket < BUCKETS }
+        ensures { IfSome result (λ found. IsMade (names_of self.now) bucket found.0.now found.1) }
+    {
+        let cell = &self.cells[bucket];
+        let (row, note) = cell.found(cell.note());
+        Some((row?, note))
+    }
+
+    /// The same of a row that is made if it is missing.
+    pub(crate) fn made<M: Maker<H, P>>(
+        &self,
+        alloc: Global,
+        bucket: usize,
+        maker: &M,
+    ) -> Result<(&Row<H, P, T>, NoteOf<Row<H, P, T>>), AllocError>
+        requires bucket { bucket < BUCKETS }
+        requires family { M.family maker.now ≡ family_of self.now }
+        ensures { IfOk result (λ made. IsMade (names_of self.now) bucket made.0.now made.1) }
+    {
+        if let Some(found) = self.found(bucket) {
+            return Ok(found);
+        }
+        let cell = &self.cells[bucket];
+        cell.put(Row::new(alloc, bucket, maker)?, alloc, cell.note())
+    }
 }

@@ -1,12 +1,12 @@
 //! The way from a number to its chunk, for whoever knows that the number's row is made. It stands on `row` and `known`; the look-ups
 //! are in `find`.
-ghost use Rattle.std.specs.Prelude.{◌≡◌, ◌+◌, ◌^◌, ◌<◌, length, Some};
+ghost use Rattle.std.specs.Prelude.{◌≡◌, Some};
 ghost use Rattle.seize_store.specs.Known.{name_in};
 
 use crate::chunk::Chunk;
+use crate::kin::NoteOf;
 use crate::known::Known;
 use crate::row::Row;
-use once_cell::race::Note;
 use seize_table::Labelled;
 
 mod find;
@@ -14,12 +14,10 @@ mod find;
 /// What shows that a row of a store is made, with all its chunks, for good. It takes no bytes and can be copied.
 #[derive(Drop)]
 pub struct Seen<H: Labelled + Drop, P: Labelled + Drop, T> {
-    pub(crate) note: Note<Row<H, P, T>>,
+    pub(crate) note: NoteOf<Row<H, P, T>>,
     pub(crate) known: Known,
     ghost cell: { note.cell ≡ name_in known.store known.row },
     ghost same: { note.known ≡ Some known.chunks },
-    ghost in_store: { known.row < 59 },
-    ghost full: { length known.chunks ≡ 2 ^ (known.row + 5) },
 }
 
 /// The chunk of a number.

@@ -1,22 +1,22 @@
 //! The store: rows of chunks by their numbers. It claims chunks of `row`, and gives them out as spots and blocks; look-ups are in `seen`.
 ghost use Rattle.std.specs.Prelude.{◌≡◌, ◌≢◌, ℕ, ◌+◌, ◌-◌, ◌^◌, ◌<◌, ◌⊎◌, length, List, [], ◌∷◌, ◌++◌, IfOk, IfErr, IfSome, Some};
 ghost use Rattle.seize_table.specs.declared.refusal.Refusal.TheVariants.{NoMemory};
-ghost use Rattle.seize_store.specs.Known.{chunk_in, name_in};
+ghost use Rattle.seize_store.specs.Known.{chunk_in, family_in};
 ghost use Rattle.seize_store.specs.Named.{AreOf, count_of, is_empty_list, name_of, store_of, title_of, titles_of, value_of};
 ghost use Rattle.seize_store.specs.Parts.{room_with, spot_store};
+ghost use Rattle.seize_store.specs.Titled.{IsMade};
 
 use crate::block::Out;
-use crate::identity::Identity;
+use crate::family::Family;
+use crate::kin::NoteOf;
 use crate::known::{Known, Title};
 use crate::maker::Maker;
 use crate::owned::Owned;
 use crate::row::{Row, Rows, number_at_place};
 use crate::spot::{Spot, Spots};
-use once_cell::race::{Note, OnceBox};
 use seize_table::thread_id::{BUCKETS, Thread};
 use seize_table::{Labelled, Refusal};
 use std::alloc::Global;
-use std::array;
 use std::sync::atomic::AtomicUsize;
 use std::sync::atomic::Ordering::SeqCst;
 
@@ -52,13 +52,12 @@ fn first_in<H: Labelled + Drop, P: Labelled + Drop, T>(
 }
 
 impl<H: Labelled + Drop, P: Labelled + Drop, T> Store<H, P, T> {
-    /// A store with no rows. It takes no memory.
-    pub fn new(alloc: Global) -> Store<H, P, T> {
+    /// A store with no rows, whose chunks will all be of this family. It takes no memory.
+    pub fn new(alloc: Global, family: &Family) -> Store<H, P, T>
+        ensures { family_in (name_of result) ≡ family.now.number }
+    {
         Store {
-            rows: Rows {
-                cells: array::from_fn(move |_| OnceBox::new(alloc)),
-                identity: Identity::new(),
-            },
+            rows: Rows::new(alloc, family),
             hint: AtomicUsize::new(0),
             alloc,
         }
@@ -75,7 +74,7 @@ impl<H: Labelled + Drop, P: Labelled + Drop, T> Store<H, P, T> {
     /// A block of the value, from any thread. It asks for memory only where no chunk was found in, and then makes the first row that is
     /// missing: row b has 2^(b + 5) chunks, which are written before the call returns, and `maker` makes the header and the owner's part
     /// of each from its number. Threads that race for a row each make it, and all but one give theirs up, whose headers and parts end. The
-    /// call looks at each chunk at most twice, and waits for nobody.
+    /// call looks at each chunk at most twice, and waits for nobody. What the maker makes has to be of the store's family.
     ///
     /// # Errors
     ///
@@ -83,6 +82,7 @@ impl<H: Labelled + Drop, P: Labelled + Drop, T> Store<H, P, T> {
     pub fn add<M: Maker<H, P>>(&self, value: T, maker: &M) -> Result<Owned<H, P, T>, (Refusal, T)>
     where
         T: Drop,
+        requires { M.family maker.now ≡ family_in (name_of self.now) }
         ensures ok { IfOk result (λ o. (value_of o ≡ value) × (store_of o ≡ name_of self.now)) }
         ensures refused { IfErr result (λ e. (e.0 ≡ NoMemory) × (e.1 ≡ value)) }
     {
@@ -105,6 +105,7 @@ impl<H: Labelled + Drop, P: Labelled + Drop, T> Store<H, P, T> {
     ) -> Result<Owned<H, P, T>, (Refusal, T)>
     where
         T: Drop,
+        requires family { M.family maker.now ≡ family_in (name_of self.now) }
         requires spots { AreOf spots.old (name_of self.now) }
         ensures ok { IfOk result (λ o. (value_of o ≡ value) × (store_of o ≡ name_of self.now)) }
         ensures refused { IfErr result (λ e. (e.0 ≡ NoMemory) × (e.1 ≡ value) × is_empty_list spots.old) }
@@ -120,20 +121,16 @@ impl<H: Labelled + Drop, P: Labelled + Drop, T> Store<H, P, T> {
 
     // A chunk that was in: from the hint on in its row, or else the first one, in a new row if need be.
     fn claim<M: Maker<H, P>>(&self, maker: &M) -> Result<Spot<H, P, T>, Refusal>
+        requires { M.family maker.now ≡ family_in (name_of self.now) }
         ensures ok { IfOk result (λ spot. spot_store spot ≡ name_of self.now) }
         ensures refused { IfErr result (λ e. e ≡ NoMemory) }
     {
         if let Some(spot) = self.near_hint() {
             return Ok(spot);
         }
-        let alloc = self.alloc;
         for bucket in 0..BUCKETS {
-            let mut note = self.rows.cells[bucket].note();
-            let row = self.rows.cells[bucket].get_or_try_init_as(
-                move || Row::boxed(alloc, bucket, maker),
-                &mut note,
-            )?;
-            if let Some(spot) = self.spot_in(bucket, 0, row, &mut note) {
+            let (row, note) = self.rows.made(self.alloc, bucket, maker)?;
+            if let Some(spot) = self.spot_in(bucket, 0, row, note) {
                 return Ok(spot);
             }
         }
@@ -144,9 +141,8 @@ impl<H: Labelled + Drop, P: Labelled + Drop, T> Store<H, P, T> {
         ensures { IfSome result (λ spot. spot_store spot ≡ name_of self.now) }
     {
         let place = Thread::new(self.hint.load(SeqCst))?;
-        let mut note = self.rows.cells[place.bucket].note();
-        let row = self.rows.cells[place.bucket].get_as(&mut note)?;
-        self.spot_in(place.bucket, place.entry, row, &mut note)
+        let (row, note) = self.rows.found(place.bucket)?;
+        self.spot_in(place.bucket, place.entry, row, note)
     }
 
     // The next search begins at that number, or at most so many before it.
@@ -163,9 +159,9 @@ impl<H: Labelled + Drop, P: Labelled + Drop, T> Store<H, P, T> {
         bucket: usize,
         from: usize,
         row: &Row<H, P, T>,
-        note: &mut Note<Row<H, P, T>>,
+        note: NoteOf<Row<H, P, T>>,
     ) -> Option<Spot<H, P, T>>
-        requires { (bucket < BUCKETS) × (note.old.cell ≡ name_in (name_of self.now) bucket) × (note.old.known ≡ Some row.now) }
+        requires { (bucket < BUCKETS) × IsMade (name_of self.now) bucket row.now note }
         ensures { IfSome result (λ spot. spot_store spot ≡ name_of self.now) }
     {
         let end = Thread::bucket_capacity(bucket);
@@ -173,7 +169,8 @@ impl<H: Labelled + Drop, P: Labelled + Drop, T> Store<H, P, T> {
             return None;
         }
         let (entry, out) = first_in(row, from, end)?;
-        let known = Known::of(&self.rows, bucket, note);
+        let mut note = note;
+        let known = Known::of(&self.rows, bucket, &mut note);
         let number = number_at_place(bucket, entry);
         self.move_hint(number);
         let title = Title {

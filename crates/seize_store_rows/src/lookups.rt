@@ -1,10 +1,11 @@
 //! What a caller can pass on of the contracts of look-ups and tokens. The clauses here follow from those contracts alone.
 ghost use Rattle.std.specs.Prelude.{◌≡◌, ◌<◌, IfSome, length};
-ghost use Rattle.seize_store.specs.Known.{entry_of};
+ghost use Rattle.seize_store.specs.Known.{entry_of, family_in};
 ghost use Rattle.seize_store.specs.Named.{chunks_by, header_of, label_of, lies, lies_of, name_of, number_of, row_by, row_is, store_by, store_of};
+ghost use Rattle.seize_table.specs.Pairs.{pair};
 
-use crate::values::{Tallies, Tally};
-use seize_store::{Labelled, Owned, Place, Seen, Store};
+use crate::values::{Numbered, Tallies, Tally};
+use seize_store::{Family, Labelled, Owned, Place, Seen, Store};
 use seize_table::Refusal;
 use std::sync::atomic::Ordering;
 use std::test::*;
@@ -60,11 +61,11 @@ fn own_chunk_twice<'a, H: Labelled + Drop, P: Labelled + Drop, T: Drop>(
 
 // What two look-ups by tokens of their own say of the chunk's number. They say the same, since both headers have the block's label.
 fn numbers_found(
-    store: &Store<Tally, u64, u64>,
-    owned: &Owned<Tally, u64, u64>,
+    store: &Store<Tally, Numbered, u64>,
+    owned: &Owned<Tally, Numbered, u64>,
 ) -> Option<(usize, usize)>
     requires { store_of owned.now ≡ name_of store.now }
-    ensures { IfSome result (λ found. (found.0 ≡ label_of owned.now) × (found.0 ≡ found.1)) }
+    ensures { IfSome result (λ found. (pair 0 found.0 ≡ label_of owned.now) × (found.0 ≡ found.1)) }
 {
     let one = found_chunk(store, owned)?;
     let other = found_chunk(store, owned)?;
@@ -81,8 +82,8 @@ fn has_an_entry<H: Labelled + Drop, P: Labelled + Drop, T>(seen: &Seen<H, P, T>,
 
 // What its chunk's header has once the block's value was added to it by two tokens, and by none.
 fn header_after_look_ups(
-    store: &Store<Tally, u64, u64>,
-    owned: &Owned<Tally, u64, u64>,
+    store: &Store<Tally, Numbered, u64>,
+    owned: &Owned<Tally, Numbered, u64>,
 ) -> Option<u64>
     requires { store_of owned.now ≡ name_of store.now }
 {
@@ -99,13 +100,15 @@ fn header_after_look_ups(
 // What look-ups of a block showed: what its chunk's header has then, and the numbers that two of them read there.
 #[derive(Drop)]
 struct Looked {
-    owned: Owned<Tally, u64, u64>,
+    owned: Owned<Tally, Numbered, u64>,
     sum: Option<u64>,
     numbers: Option<(usize, usize)>,
 }
 
 // A block of the value, looked up.
-fn added_and_looked_up(store: &Store<Tally, u64, u64>, value: u64) -> Result<Looked, Refusal> {
+fn added_and_looked_up(store: &Store<Tally, Numbered, u64>, value: u64) -> Result<Looked, Refusal>
+    requires { family_in (name_of store.now) ≡ 0 }
+{
     match store.add(value, &Tallies) {
         Ok(owned) => {
             let sum = header_after_look_ups(store, &owned);
@@ -122,7 +125,7 @@ fn added_and_looked_up(store: &Store<Tally, u64, u64>, value: u64) -> Result<Loo
 
 #[test]
 fn each_look_up_leads_to_the_chunk_of_the_block(rt: HostRuntime) -> Result<(), Fail> {
-    let store = Store::new(rt.alloc());
+    let store = Store::new(rt.alloc(), &Family::new(0));
     let mut all = Vec::with_capacity(rt.alloc(), 100)?;
     for value in 1..101u64 {
         let Looked {

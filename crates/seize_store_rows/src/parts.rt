@@ -1,9 +1,11 @@
 //! Owners' parts: each is made once, goes with whoever has its chunk, and ends once.
 ghost use Rattle.std.specs.Prelude.{◌≡◌};
+ghost use Rattle.seize_store.specs.Known.{family_in};
 ghost use Rattle.seize_store.specs.Named.{AreOf, label_of, name_of, title_of, value_of};
+ghost use Rattle.seize_table.specs.Pairs.{pair};
 
-use crate::values::{Counted, Pairs, Tally};
-use seize_store::{Labelled, Maker, Owned, Spots, Store};
+use crate::values::{Counted, Numbered, Pairs, Tally};
+use seize_store::{Family, Labelled, Maker, Owned, Spots, Store};
 use seize_table::Refusal;
 use std::alloc::Global;
 use std::sync::atomic::{AtomicU64, Ordering};
@@ -30,44 +32,47 @@ fn put_back<H, P: Labelled + Drop, T: Drop>(owned: Owned<H, P, T>) -> Owned<H, P
     bare.with(part)
 }
 
-// The label of the block's header, as its part says it.
-fn label_in_part<H>(owned: &Owned<H, u64, u64>) -> u64
-    ensures { result ≡ label_of owned.now }
+// The number that the block's header is labelled with, as its part says it.
+fn number_in_part<H>(owned: &Owned<H, Numbered, u64>) -> usize
+    ensures { pair 0 result ≡ label_of owned.now }
 {
-    *owned.part()
+    owned.part().number
 }
 
-/// Makes headers and parts that are their chunk's number.
+/// Makes headers and parts that know their chunk's number.
 #[derive(Drop)]
 struct Numbers;
 
-impl Maker<u64, u64> for Numbers {
-    fn make(&self, number: usize) -> (u64, u64) {
-        (number as u64, number as u64)
+impl Maker<Numbered, Numbered> for Numbers {
+    ghost family = { λ _. 0 };
+
+    #[tactic(auto, using(seize_table::proofs::Pairs::left_pair))]
+    fn make(&self, number: usize) -> (Numbered, Numbered) {
+        (Numbered { number }, Numbered { number })
     }
 }
 
 #[test]
 fn a_part_goes_with_its_block(rt: HostRuntime) -> Result<(), Fail> {
-    let store = Store::new(rt.alloc());
+    let store = Store::new(rt.alloc(), &Family::new(0));
     let mut all = Vec::with_capacity(rt.alloc(), 100)?;
     for value in 0..100u64 {
         all.push(put_back(told(store.add(value, &Numbers))?))?;
     }
     for (number, owned) in all.iter().enumerate() {
         assert_eq!(rt; (owned.number(), **owned), (number, number as u64));
-        assert_eq!(rt; label_in_part(owned), number as u64);
+        assert_eq!(rt; number_in_part(owned), number);
     }
     Ok(())
 }
 
 #[test]
 fn a_bare_block_has_its_number(rt: HostRuntime) -> Result<(), Fail> {
-    let store = Store::new(rt.alloc());
+    let store = Store::new(rt.alloc(), &Family::new(0));
     let first = told(store.add(7u64, &Numbers))?;
     let second = told(store.add(8u64, &Numbers))?;
     let (part, bare) = second.split();
-    assert_eq!(rt; (part, bare.number()), (1, 1));
+    assert_eq!(rt; (part.number, bare.number()), (1, 1));
     let second = bare.with(part);
     assert_eq!(rt; (first.number(), second.number()), (0, 1));
     assert_eq!(rt; (first.into_inner(), second.into_inner()), (7, 8));
@@ -88,7 +93,7 @@ fn each_part_ends_once(rt: HostRuntime) -> Result<(), Fail> {
         headers: &headers,
         parts: &parts,
     };
-    let store: Paired<'_> = Store::new(rt.alloc());
+    let store: Paired<'_> = Store::new(rt.alloc(), &Family::new(0));
     let first = told(store.add(1, &maker))?;
     drop(told(store.add(2, &maker))?);
     assert_eq!(rt; told(store.add(3, &maker))?.into_inner(), 3);
@@ -116,7 +121,9 @@ fn forty<'a>(
     alloc: Global,
     store: &Paired<'a>,
     maker: &Pairs<'a>,
-) -> Option<Vec<Owned<Counted<'a>, Counted<'a>, u64>>> {
+) -> Option<Vec<Owned<Counted<'a>, Counted<'a>, u64>>>
+    requires { family_in (name_of store.now) ≡ 0 }
+{
     let mut all = Vec::with_capacity(alloc, 40).ok()?;
     for value in 0..40 {
         all.push(store.add(value, maker).ok()?).ok()?;
@@ -132,7 +139,7 @@ fn parts_of_blocks_that_end_first_end_with_their_store(rt: HostRuntime) -> Resul
         headers: &headers,
         parts: &parts,
     };
-    let store = Store::new(rt.alloc());
+    let store = Store::new(rt.alloc(), &Family::new(0));
     let all = forty(rt.alloc(), &store, &maker).ok_or(Refusal::NoMemory)?;
     assert_eq!(rt; (count(&made), count(&parts)), (96, 0));
     drop(all);
@@ -152,7 +159,7 @@ fn a_chunk_without_its_part_stays_out(rt: HostRuntime) -> Result<(), Fail> {
         headers: &headers,
         parts: &parts,
     };
-    let store = Store::new(rt.alloc());
+    let store = Store::new(rt.alloc(), &Family::new(0));
     let value = Counted {
         ends: &ends,
         name: 7,
@@ -183,7 +190,7 @@ struct Uses<'a> {
 }
 
 impl Labelled for Uses<'_> {
-    ghost label = { λ uses. uses.number };
+    ghost label = { λ uses. pair 0 uses.number };
 }
 
 impl Drop for Uses<'_> {
@@ -208,6 +215,9 @@ struct Users<'a> {
 }
 
 impl<'a> Maker<Tally, Uses<'a>> for Users<'a> {
+    ghost family = { λ _. 0 };
+
+    #[tactic(auto, using(seize_table::proofs::Pairs::left_pair))]
     fn make(&self, number: usize) -> (Tally, Uses<'a>) {
         self.made.fetch_add(1, Ordering::SeqCst);
         let sum = AtomicU64::new(0);
@@ -263,7 +273,9 @@ fn used<'a>(owned: Use<'a>) -> Use<'a>
 const EACH: u64 = 20_000;
 
 // So many blocks made, used and ended. How many were wrong.
-fn round<'a>(store: &Used<'a>, maker: &Users<'a>) -> Result<u64, Refusal> {
+fn round<'a>(store: &Used<'a>, maker: &Users<'a>) -> Result<u64, Refusal>
+    requires { family_in (name_of store.now) ≡ 0 }
+{
     let mut wrong = 0u64;
     for value in 0..EACH {
         let owned = told(store.add(value, maker))?;
@@ -280,7 +292,8 @@ fn round_by_list<'a>(
     spots: &mut Spots<Tally, Uses<'a>, u64>,
     maker: &Users<'a>,
 ) -> Result<u64, Refusal>
-    requires { AreOf spots.old (name_of store.now) }
+    requires family { family_in (name_of store.now) ≡ 0 }
+    requires spots { AreOf spots.old (name_of store.now) }
     ensures { AreOf spots.new (name_of store.now) }
 {
     let mut wrong = 0u64;
@@ -297,8 +310,18 @@ fn round_by_list<'a>(
     Ok(wrong)
 }
 
-fn two<'a, R: Threads + Sync>(rt: &R, store: &Used<'a>, maker: &Users<'a>) -> Result<u64, Refusal> {
-    let (one, other) = thread::join(rt, || round(store, maker), || round(store, maker));
+fn two<'a, R: Threads + Sync>(rt: &R, store: &Used<'a>, maker: &Users<'a>) -> Result<u64, Refusal>
+    requires { family_in (name_of store.now) ≡ 0 }
+{
+    let (one, other) = thread::join(
+        rt,
+        || -> Result<u64, Refusal>
+            requires { family_in (name_of store.now) ≡ 0 }
+        { round(store, maker) },
+        || -> Result<u64, Refusal>
+            requires { family_in (name_of store.now) ≡ 0 }
+        { round(store, maker) },
+    );
     Ok(one?.saturating_add(other?))
 }
 
@@ -306,7 +329,7 @@ fn two<'a, R: Threads + Sync>(rt: &R, store: &Used<'a>, maker: &Users<'a>) -> Re
 fn two_threads_lose_no_use_of_a_part(rt: HostRuntime) -> Result<(), Fail> {
     let users = Counters::new();
     let maker = users.maker();
-    let store = Store::new(rt.alloc());
+    let store = Store::new(rt.alloc(), &Family::new(0));
     assert_eq!(rt; two(&rt, &store, &maker)?, 0);
     drop(store);
     assert_eq!(rt;
@@ -319,7 +342,7 @@ fn two_threads_lose_no_use_of_a_part(rt: HostRuntime) -> Result<(), Fail> {
 // What the counters of parts made and ended, and of their uses, say once a list outlived its store, and once it has ended too.
 fn counted_by_list(alloc: Global, users: &Counters) -> Result<(u64, u64, u64), Refusal> {
     let maker = users.maker();
-    let store = Store::new(alloc);
+    let store = Store::new(alloc, &Family::new(0));
     let mut spots = Spots::new(alloc)?;
     let wrong = round_by_list(&store, &mut spots, &maker)?;
     drop(store);
@@ -341,7 +364,9 @@ fn ended_beside<'a, R: Threads + Sync>(
     rt: &R,
     store: Used<'a>,
     maker: &Users<'a>,
-) -> Result<(), Refusal> {
+) -> Result<(), Refusal>
+    requires { family_in (name_of store) ≡ 0 }
+{
     let one = used(told(store.add(1, maker))?);
     let other = used(told(store.add(2, maker))?);
     let end = move || {
@@ -357,7 +382,7 @@ fn parts_end_once_whoever_comes_second(rt: HostRuntime) -> Result<(), Fail> {
     let users = Counters::new();
     let maker = users.maker();
     for _ in 0..500u64 {
-        ended_beside(&rt, Store::new(rt.alloc()), &maker)?;
+        ended_beside(&rt, Store::new(rt.alloc(), &Family::new(0)), &maker)?;
     }
     let told = (count(&users.made), count(&users.sum), count(&users.ends));
     assert_eq!(rt; told, (16_000, 1000, 16_000));

@@ -1,10 +1,11 @@
 //! Blocks and their numbers on one thread, and what becomes of their memory.
 ghost use Rattle.std.specs.Prelude.{◌≡◌};
+ghost use Rattle.seize_store.specs.Known.{family_in};
 ghost use Rattle.seize_store.specs.Named.{AreOf, name_of, title_of, value_of};
 
 use crate::node::Node;
-use crate::values::{Counted, Pairs, Tallies, Tally, Zero};
-use seize_store::{Bare, Known, Labelled, Owned, Place, SPOTS, Seen, Spots, Store};
+use crate::values::{Counted, Numbered, Pairs, Tallies, Tally, Zero};
+use seize_store::{Bare, Family, Known, Labelled, Owned, Place, SPOTS, Seen, Spots, Store};
 use seize_table::Refusal;
 use std::alloc::Global;
 use std::mem::size_of;
@@ -22,13 +23,15 @@ fn told<O, T: Drop>(answer: Result<O, (Refusal, T)>) -> Result<O, Refusal> {
     }
 }
 
-fn added<T: Drop>(store: &Store<u64, (), T>, value: T) -> Result<Owned<u64, (), T>, Refusal> {
+fn added<T: Drop>(store: &Store<u64, (), T>, value: T) -> Result<Owned<u64, (), T>, Refusal>
+    requires { family_in (name_of store.now) ≡ 0 }
+{
     told(store.add(value, &Zero))
 }
 
 #[test]
 fn numbers_follow_each_other_and_are_used_again(rt: HostRuntime) -> Result<(), Fail> {
-    let store: Store<u64, (), u64> = Store::new(rt.alloc());
+    let store: Store<u64, (), u64> = Store::new(rt.alloc(), &Family::new(0));
     let first = added(&store, 10)?;
     let second = added(&store, 11)?;
     assert_eq!(rt; (first.number(), *first), (0, 10));
@@ -41,8 +44,8 @@ fn numbers_follow_each_other_and_are_used_again(rt: HostRuntime) -> Result<(), F
 
 #[test]
 fn two_stores_told_apart_stay_as_they_were(rt: HostRuntime) -> Result<(), Fail> {
-    let mut one: Store<u64, (), u64> = Store::new(rt.alloc());
-    let mut other: Store<u64, (), u8> = Store::new(rt.alloc());
+    let mut one: Store<u64, (), u64> = Store::new(rt.alloc(), &Family::new(0));
+    let mut other: Store<u64, (), u8> = Store::new(rt.alloc(), &Family::new(0));
     let first = added(&one, 10)?;
     let second = added(&other, 11)?;
     one.apart(&mut other);
@@ -58,7 +61,9 @@ fn many(
     alloc: Global,
     store: &Store<u64, (), u64>,
     count: usize,
-) -> Result<Vec<Owned<u64, (), u64>>, Refusal> {
+) -> Result<Vec<Owned<u64, (), u64>>, Refusal>
+    requires { family_in (name_of store.now) ≡ 0 }
+{
     let mut all = Vec::with_capacity(alloc, count)?;
     for number in 0..count {
         if all.push(added(store, number as u64)?).is_err() {
@@ -70,7 +75,7 @@ fn many(
 
 #[test]
 fn blocks_that_stand_have_the_numbers_from_0_on(rt: HostRuntime) -> Result<(), Fail> {
-    let store = Store::new(rt.alloc());
+    let store = Store::new(rt.alloc(), &Family::new(0));
     let all = many(rt.alloc(), &store, 300)?;
     for (number, owned) in all.iter().enumerate() {
         assert_eq!(rt; (owned.number(), **owned), (number, number as u64));
@@ -80,7 +85,7 @@ fn blocks_that_stand_have_the_numbers_from_0_on(rt: HostRuntime) -> Result<(), F
 
 #[test]
 fn rows_are_made_one_at_a_time(rt: HostRuntime) -> Result<(), Fail> {
-    let store = Store::new(rt.alloc());
+    let store = Store::new(rt.alloc(), &Family::new(0));
     let first = many(rt.alloc(), &store, 32)?;
     assert!(rt; store.seen(31).is_some() && store.seen(32).is_none());
     let next = added(&store, 32)?;
@@ -91,14 +96,14 @@ fn rows_are_made_one_at_a_time(rt: HostRuntime) -> Result<(), Fail> {
 }
 
 // What the header of the row's last chunk has, by the token that the row's first number gave.
-fn last_of_the_first_row(store: &Store<Tally, u64, u64>) -> Option<u64> {
+fn last_of_the_first_row(store: &Store<Tally, Numbered, u64>) -> Option<u64> {
     let mut seen = store.seen(0)?;
     Some(store.at(31, &mut seen).header().sum.load(Ordering::SeqCst))
 }
 
 #[test]
 fn a_number_leads_to_its_own_chunk(rt: HostRuntime) -> Result<(), Fail> {
-    let store: Store<Tally, u64, u64> = Store::new(rt.alloc());
+    let store: Store<Tally, Numbered, u64> = Store::new(rt.alloc(), &Family::new(0));
     assert!(rt; store.seen(0).is_none());
     let mut all = Vec::with_capacity(rt.alloc(), 200)?;
     for value in 0..200 {
@@ -128,7 +133,9 @@ fn list<'a>(
     store: &Store<u64, (), Node<'a>>,
     ends: &'a AtomicU64,
     len: u64,
-) -> Result<Option<Owned<u64, (), Node<'a>>>, Refusal> {
+) -> Result<Option<Owned<u64, (), Node<'a>>>, Refusal>
+    requires { family_in (name_of store.now) ≡ 0 }
+{
     let mut next = None;
     for name in 0..len {
         let counted = Counted { ends, name };
@@ -140,7 +147,7 @@ fn list<'a>(
 #[test]
 fn a_list_of_100_000_is_taken_apart_from_its_front(rt: HostRuntime) -> Result<(), Fail> {
     let ends = AtomicU64::new(0);
-    let store = Store::new(rt.alloc());
+    let store = Store::new(rt.alloc(), &Family::new(0));
     let mut rest = list(&store, &ends, 100_000)?;
     let mut names = 0u64;
     for _ in 0..100_000u64 {
@@ -157,7 +164,7 @@ fn a_list_of_100_000_is_taken_apart_from_its_front(rt: HostRuntime) -> Result<()
 #[test]
 fn a_list_dropped_whole_ends_all_its_nodes(rt: HostRuntime) -> Result<(), Fail> {
     let ends = AtomicU64::new(0);
-    let store = Store::new(rt.alloc());
+    let store = Store::new(rt.alloc(), &Family::new(0));
     let list = list(&store, &ends, 100)?;
     assert_eq!(rt; ends.load(Ordering::SeqCst), 0);
     drop(list);
@@ -168,7 +175,7 @@ fn a_list_dropped_whole_ends_all_its_nodes(rt: HostRuntime) -> Result<(), Fail> 
 #[test]
 fn a_list_outlives_its_store(rt: HostRuntime) -> Result<(), Fail> {
     let ends = AtomicU64::new(0);
-    let store = Store::new(rt.alloc());
+    let store = Store::new(rt.alloc(), &Family::new(0));
     let list = list(&store, &ends, 100)?;
     drop(store);
     assert_eq!(rt; ends.load(Ordering::SeqCst), 0);
@@ -189,7 +196,7 @@ fn each_header_ends_once_and_with_its_store(rt: HostRuntime) -> Result<(), Fail>
         headers: &headers,
         parts: &parts,
     };
-    let store = Store::new(rt.alloc());
+    let store = Store::new(rt.alloc(), &Family::new(0));
     let owned = told(store.add(7u64, &maker))?;
     assert_eq!(rt; (count(&made), count(&headers), count(&parts)), (32, 0, 0));
     // A block that is out keeps the memory of its chunk and the owner's part, and not the header.
@@ -209,7 +216,7 @@ fn each_header_ends_once_and_with_its_store(rt: HostRuntime) -> Result<(), Fail>
 #[test]
 fn each_value_ends_once(rt: HostRuntime) -> Result<(), Fail> {
     let ends = AtomicU64::new(0);
-    let store = Store::new(rt.alloc());
+    let store = Store::new(rt.alloc(), &Family::new(0));
     let kept = added(
         &store,
         Counted {
@@ -249,7 +256,8 @@ fn kept(
     spots: &mut Spots<u64, (), u64>,
     count: u64,
 ) -> Result<u64, Refusal>
-    requires { AreOf spots.old (name_of store.now) }
+    requires family { family_in (name_of store.now) ≡ 0 }
+    requires spots { AreOf spots.old (name_of store.now) }
     ensures { AreOf spots.new (name_of store.now) }
 {
     if count == 0 {
@@ -270,7 +278,8 @@ fn through(
     spots: &mut Spots<u64, (), u64>,
     value: u64,
 ) -> Result<u64, Refusal>
-    requires { AreOf spots.old (name_of store.now) }
+    requires family { family_in (name_of store.now) ≡ 0 }
+    requires spots { AreOf spots.old (name_of store.now) }
     ensures { AreOf spots.new (name_of store.now) }
 {
     match store.add_from(spots, value, &Zero) {
@@ -281,7 +290,7 @@ fn through(
 
 #[test]
 fn spots_are_filled_and_kept(rt: HostRuntime) -> Result<(), Fail> {
-    let store = Store::new(rt.alloc());
+    let store = Store::new(rt.alloc(), &Family::new(0));
     let mut spots = Spots::new(rt.alloc())?;
     assert_eq!(rt; through(&store, &mut spots, 7)?, 7);
     assert_eq!(rt; spots.len(), 1);
@@ -298,7 +307,7 @@ fn spots_are_filled_and_kept(rt: HostRuntime) -> Result<(), Fail> {
 
 #[test]
 fn a_list_of_spots_is_emptied(rt: HostRuntime) -> Result<(), Fail> {
-    let store = Store::new(rt.alloc());
+    let store = Store::new(rt.alloc(), &Family::new(0));
     let mut spots = Spots::new(rt.alloc())?;
     assert_eq!(rt; kept(&store, &mut spots, 40)?, 820);
     assert_eq!(rt; spots.len(), 40);
@@ -312,7 +321,7 @@ fn a_list_of_spots_is_emptied(rt: HostRuntime) -> Result<(), Fail> {
 
 #[test]
 fn a_full_list_gives_64_chunks_back(rt: HostRuntime) -> Result<(), Fail> {
-    let store = Store::new(rt.alloc());
+    let store = Store::new(rt.alloc(), &Family::new(0));
     let mut spots = Spots::new(rt.alloc())?;
     // With the 129 for the list, all 224 chunks of three rows are out, so each that is in afterwards was given back.
     let standing = many(rt.alloc(), &store, 95)?;
@@ -327,7 +336,7 @@ fn a_full_list_gives_64_chunks_back(rt: HostRuntime) -> Result<(), Fail> {
 
 #[test]
 fn the_chunks_of_a_list_that_ends_are_in_again(rt: HostRuntime) -> Result<(), Fail> {
-    let store = Store::new(rt.alloc());
+    let store = Store::new(rt.alloc(), &Family::new(0));
     let mut spots = Spots::new(rt.alloc())?;
     assert_eq!(rt; kept(&store, &mut spots, 96)?, 4656);
     drop(spots);
@@ -339,7 +348,7 @@ fn the_chunks_of_a_list_that_ends_are_in_again(rt: HostRuntime) -> Result<(), Fa
 
 #[test]
 fn a_list_of_spots_outlives_its_store(rt: HostRuntime) -> Result<(), Fail> {
-    let store = Store::new(rt.alloc());
+    let store = Store::new(rt.alloc(), &Family::new(0));
     let mut spots = Spots::new(rt.alloc())?;
     assert_eq!(rt; kept(&store, &mut spots, 40)?, 820);
     drop(store);
@@ -359,7 +368,7 @@ fn set<T: Drop>(owned: &mut Owned<u64, (), T>, value: T)
 #[test]
 fn a_value_is_changed_in_its_chunk(rt: HostRuntime) -> Result<(), Fail> {
     let ends = AtomicU64::new(0);
-    let store = Store::new(rt.alloc());
+    let store = Store::new(rt.alloc(), &Family::new(0));
     let first = added(&store, 1u64)?;
     let mut second = added(&store, 2)?;
     *second = 7;
@@ -367,7 +376,7 @@ fn a_value_is_changed_in_its_chunk(rt: HostRuntime) -> Result<(), Fail> {
     set(&mut second, twice);
     assert_eq!(rt; (first.number(), *first), (0, 1));
     assert_eq!(rt; (second.number(), second.into_inner()), (1, 14));
-    let store = Store::new(rt.alloc());
+    let store = Store::new(rt.alloc(), &Family::new(0));
     let mut counted = added(
         &store,
         Counted {
@@ -392,7 +401,9 @@ fn a_value_is_changed_in_its_chunk(rt: HostRuntime) -> Result<(), Fail> {
 }
 
 // A block made and ended. Where that is refused, whether the value came back as it was, and the call made again succeeds.
-fn comes_back<'a>(store: &Store<u64, (), Counted<'a>>, ends: &'a AtomicU64, name: u64) -> bool {
+fn comes_back<'a>(store: &Store<u64, (), Counted<'a>>, ends: &'a AtomicU64, name: u64) -> bool
+    requires { family_in (name_of store.now) ≡ 0 }
+{
     match store.add(Counted { ends, name }, &Zero) {
         Ok(_) => true,
         Err((refusal, value)) => {
@@ -403,7 +414,9 @@ fn comes_back<'a>(store: &Store<u64, (), Counted<'a>>, ends: &'a AtomicU64, name
     }
 }
 
-fn wrong_rounds<'a>(store: &Store<u64, (), Counted<'a>>, ends: &'a AtomicU64) -> u64 {
+fn wrong_rounds<'a>(store: &Store<u64, (), Counted<'a>>, ends: &'a AtomicU64) -> u64
+    requires { family_in (name_of store.now) ≡ 0 }
+{
     let mut wrong = 0u64;
     for name in 0..100u64 {
         if !comes_back(store, ends, name) || ends.load(Ordering::SeqCst) != name.saturating_add(1) {
@@ -416,7 +429,7 @@ fn wrong_rounds<'a>(store: &Store<u64, (), Counted<'a>>, ends: &'a AtomicU64) ->
 #[test]
 fn a_refused_growth_hands_the_value_back(rt: HostRuntime) {
     let ends = AtomicU64::new(0);
-    let store = Store::new(rt.alloc());
+    let store = Store::new(rt.alloc(), &Family::new(0));
     assert_eq!(rt; wrong_rounds(&store, &ends), 0);
 }
 
@@ -428,11 +441,15 @@ fn tokens_have_no_bytes(rt: HostRuntime) {
     assert_eq!(rt; size_of::<Place<u64, (), u64>>(), 16);
 }
 
-fn is_sent<T: Send>(value: T) -> T {
+fn is_sent<T: Send>(value: T) -> T
+    ensures { result ≡ value }
+{
     value
 }
 
-fn is_shared<T: Sync>(value: &T) -> &T {
+fn is_shared<T: Sync>(value: &T) -> &T
+    ensures { result.now ≡ value.now }
+{
     value
 }
 
@@ -440,13 +457,17 @@ fn is_shared<T: Sync>(value: &T) -> &T {
 // values; a block is as its value and its part are.
 fn store_sends<H: Labelled + Drop + Send, P: Labelled + Drop + Send, T>(
     store: Store<H, P, T>,
-) -> Store<H, P, T> {
+) -> Store<H, P, T>
+    ensures { name_of result ≡ name_of store }
+{
     is_sent(store)
 }
 
 fn store_shares<H: Labelled + Drop + Send + Sync, P: Labelled + Drop + Send, T>(
     store: &Store<H, P, T>,
-) -> &Store<H, P, T> {
+) -> &Store<H, P, T>
+    ensures { name_of result.now ≡ name_of store.now }
+{
     is_shared(store)
 }
 
@@ -499,7 +520,7 @@ fn place_shares<'b, 'a, H: Sync, P: Labelled + Send, T>(
 
 #[test]
 fn stores_and_blocks_pass_to_threads(rt: HostRuntime) -> Result<(), Fail> {
-    let store = store_sends(Store::new(rt.alloc()));
+    let store = store_sends(Store::new(rt.alloc(), &Family::new(0)));
     let owned = block_sends(added(store_shares(&store), 7u64)?);
     let spots: Spots<u64, (), u64> = spots_send(Spots::new(rt.alloc())?);
     assert_eq!(rt; (**block_shares(&owned), spots.len()), (7, 0));

@@ -1,6 +1,10 @@
 //! Blocks from several threads.
-use crate::values::{Counted, Tallies, Tally, Zero};
-use seize_store::{Owned, Store};
+ghost use Rattle.std.specs.Prelude.{◌≡◌};
+ghost use Rattle.seize_store.specs.Known.{family_in};
+ghost use Rattle.seize_store.specs.Named.{name_of};
+
+use crate::values::{Counted, Numbered, Tallies, Tally, Zero};
+use seize_store::{Family, Owned, Store};
 use seize_table::Refusal;
 use std::alloc::Global;
 use std::sync::atomic::{AtomicU64, Ordering};
@@ -32,7 +36,9 @@ fn hand_over<'a, R: Wait>(rt: &R, hands: &Hands<'a>, next: Option<Owned<u64, (),
 fn made<'a>(
     store: &Store<u64, (), Counted<'a>>,
     value: Counted<'a>,
-) -> Option<Owned<u64, (), Counted<'a>>> {
+) -> Option<Owned<u64, (), Counted<'a>>>
+    requires { family_in (name_of store.now) ≡ 0 }
+{
     match store.add(value, &Zero) {
         Ok(owned) => Some(owned),
         Err((_, value)) => store.add(value, &Zero).ok(),
@@ -46,7 +52,9 @@ fn churn<'a, R: Wait>(
     ends: &'a AtomicU64,
     hands: &Hands<'a>,
     from: u64,
-) -> u64 {
+) -> u64
+    requires { family_in (name_of store.now) ≡ 0 }
+{
     let mut wrong = 0u64;
     for name in from..from.saturating_add(EACH) {
         let Some(owned) = made(store, Counted { ends, name }) else {
@@ -62,38 +70,53 @@ fn churn<'a, R: Wait>(
     wrong
 }
 
+// Two threads, with names from here on and from a million later on.
+fn two<'a, R: Threads + Wait + Sync>(
+    rt: &R,
+    store: &Store<u64, (), Counted<'a>>,
+    ends: &'a AtomicU64,
+    hands: &Hands<'a>,
+    from: u64,
+) -> u64
+    requires { family_in (name_of store.now) ≡ 0 }
+{
+    let next = from.saturating_add(1_000_000);
+    let (one, other) = thread::join(
+        rt,
+        || -> u64
+            requires { family_in (name_of store.now) ≡ 0 }
+        { churn(rt, store, ends, hands, from) },
+        || -> u64
+            requires { family_in (name_of store.now) ≡ 0 }
+        { churn(rt, store, ends, hands, next) },
+    );
+    one.saturating_add(other)
+}
+
 fn four<'a, R: Threads + Wait + Sync>(
     rt: &R,
     store: &Store<u64, (), Counted<'a>>,
     ends: &'a AtomicU64,
     hands: &Hands<'a>,
-) -> u64 {
-    let (a, b) = thread::join(
+) -> u64
+    requires { family_in (name_of store.now) ≡ 0 }
+{
+    let (one, other) = thread::join(
         rt,
-        || {
-            thread::join(
-                rt,
-                || churn(rt, store, ends, hands, 0),
-                || churn(rt, store, ends, hands, 1_000_000),
-            )
-        },
-        || {
-            thread::join(
-                rt,
-                || churn(rt, store, ends, hands, 2_000_000),
-                || churn(rt, store, ends, hands, 3_000_000),
-            )
-        },
+        || -> u64
+            requires { family_in (name_of store.now) ≡ 0 }
+        { two(rt, store, ends, hands, 0) },
+        || -> u64
+            requires { family_in (name_of store.now) ≡ 0 }
+        { two(rt, store, ends, hands, 2_000_000) },
     );
-    a.0.saturating_add(a.1)
-        .saturating_add(b.0)
-        .saturating_add(b.1)
+    one.saturating_add(other)
 }
 
 #[test]
 fn four_threads_hold_no_chunk_twice(rt: HostRuntime) {
     let ends = AtomicU64::new(0);
-    let store = Store::new(rt.alloc());
+    let store = Store::new(rt.alloc(), &Family::new(0));
     let hands = Hands {
         last: Mutex::new(None),
         count: AtomicU64::new(0),
@@ -115,7 +138,9 @@ fn hundred<'a>(
     alloc: Global,
     store: &Store<u64, (), Counted<'a>>,
     ends: &'a AtomicU64,
-) -> Option<Vec<Owned<u64, (), Counted<'a>>>> {
+) -> Option<Vec<Owned<u64, (), Counted<'a>>>>
+    requires { family_in (name_of store.now) ≡ 0 }
+{
     let mut all = Vec::with_capacity(alloc, 100).ok()?;
     for name in 0..100 {
         all.push(made(store, Counted { ends, name })?).ok()?;
@@ -130,7 +155,7 @@ fn ended_beside<'a, R: Threads + Sync>(
     ends: &'a AtomicU64,
 ) -> Result<(), Refusal> {
     for _ in 0..STORES {
-        let store = Store::new(alloc);
+        let store = Store::new(alloc, &Family::new(0));
         let all = hundred(alloc, &store, ends).ok_or(Refusal::NoMemory)?;
         thread::join(rt, move || drop(store), move || drop(all));
     }
@@ -148,7 +173,9 @@ fn stores_end_beside_their_blocks(rt: HostRuntime) -> Result<(), Fail> {
 const ROUND: usize = 1000;
 
 // So many blocks, which all stand, and the greatest of their numbers.
-fn taken(alloc: Global, store: &Store<u64, (), u64>) -> (Option<Vec<Owned<u64, (), u64>>>, usize) {
+fn taken(alloc: Global, store: &Store<u64, (), u64>) -> (Option<Vec<Owned<u64, (), u64>>>, usize)
+    requires { family_in (name_of store.now) ≡ 0 }
+{
     let mut greatest = 0;
     let Ok(mut all) = Vec::with_capacity(alloc, ROUND) else {
         return (None, 0);
@@ -167,11 +194,19 @@ fn taken(alloc: Global, store: &Store<u64, (), u64>) -> (Option<Vec<Owned<u64, (
 
 // 1,000 rounds, in each of which one thread takes a thousand blocks and another gives those of the round before. The greatest numbers
 // in the first tenth and in all.
-fn rounds<R: Threads + Sync>(rt: &R, alloc: Global, store: &Store<u64, (), u64>) -> (usize, usize) {
+fn rounds<R: Threads + Sync>(rt: &R, alloc: Global, store: &Store<u64, (), u64>) -> (usize, usize)
+    requires { family_in (name_of store.now) ≡ 0 }
+{
     let mut given = None;
     let (mut early, mut late) = (0, 0);
     for round in 0..1000u64 {
-        let (made, _) = thread::join(rt, || taken(alloc, store), move || drop(given));
+        let (made, _) = thread::join(
+            rt,
+            || -> (Option<Vec<Owned<u64, (), u64>>>, usize)
+                requires { family_in (name_of store.now) ≡ 0 }
+            { taken(alloc, store) },
+            move || drop(given),
+        );
         let (all, greatest) = made;
         given = all;
         late = greatest.max(late);
@@ -184,7 +219,7 @@ fn rounds<R: Threads + Sync>(rt: &R, alloc: Global, store: &Store<u64, (), u64>)
 
 #[test]
 fn a_store_stops_growing(rt: HostRuntime) {
-    let store = Store::new(rt.alloc());
+    let store = Store::new(rt.alloc(), &Family::new(0));
     let (early, late) = rounds(&rt, rt.alloc(), &store);
     // A thousand blocks stand at once, so their numbers go to 999 at least. At most 2,000 stand, and one thread alone claims, so a chunk
     // that is in stays in until that thread comes to it: the six rows that have the numbers below 2,016 are enough.
@@ -192,7 +227,7 @@ fn a_store_stops_growing(rt: HostRuntime) {
 }
 
 // How many of the numbers below 200 lead to no header with that number. Each header that is found counts it.
-fn wrongly_labelled(store: &Store<Tally, u64, u64>) -> u64 {
+fn wrongly_labelled(store: &Store<Tally, Numbered, u64>) -> u64 {
     let mut wrong = 0u64;
     for number in 0..200 {
         let right = store.find(number).is_some_and(|found| {
@@ -207,7 +242,12 @@ fn wrongly_labelled(store: &Store<Tally, u64, u64>) -> u64 {
     wrong
 }
 
-fn tallied(alloc: Global, store: &Store<Tally, u64, u64>) -> Option<Vec<Owned<Tally, u64, u64>>> {
+fn tallied(
+    alloc: Global,
+    store: &Store<Tally, Numbered, u64>,
+) -> Option<Vec<Owned<Tally, Numbered, u64>>>
+    requires { family_in (name_of store.now) ≡ 0 }
+{
     let mut all = Vec::with_capacity(alloc, 200).ok()?;
     for value in 0..200 {
         all.push(store.add(value, &Tallies).ok()?).ok()?;
@@ -217,7 +257,7 @@ fn tallied(alloc: Global, store: &Store<Tally, u64, u64>) -> Option<Vec<Owned<Ta
 
 #[test]
 fn two_threads_find_each_number_at_its_label(rt: HostRuntime) -> Result<(), Fail> {
-    let store = Store::new(rt.alloc());
+    let store = Store::new(rt.alloc(), &Family::new(0));
     let all = tallied(rt.alloc(), &store).ok_or(Refusal::NoMemory)?;
     let wrong = thread::join(
         &rt,

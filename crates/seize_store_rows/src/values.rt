@@ -1,4 +1,6 @@
-//! Values that count their ends, headers, and what makes the parts of chunks.
+//! Values that count their ends, headers, and what makes the parts of chunks. All labels are of the family 0.
+ghost use Rattle.seize_table.specs.Pairs.{pair};
+
 use seize_store::{Labelled, Maker};
 use std::sync::atomic::{AtomicU64, Ordering};
 
@@ -9,7 +11,7 @@ pub(crate) struct Counted<'a> {
 }
 
 impl Labelled for Counted<'_> {
-    ghost label = { λ counted. counted.name };
+    ghost label = { λ counted. pair 0 counted.name };
 }
 
 impl Drop for Counted<'_> {
@@ -24,12 +26,14 @@ impl Drop for Counted<'_> {
 pub(crate) struct Zero;
 
 impl Maker<u64, ()> for Zero {
+    ghost family = { λ _. 0 };
+
     fn make(&self, _number: usize) -> (u64, ()) {
         (0, ())
     }
 }
 
-/// A header that knows its chunk's number, which is its label, and in which a test counts.
+/// A header that knows its chunk's number, by which it is labelled, and in which a test counts.
 #[derive(Drop)]
 pub(crate) struct Tally {
     pub(crate) number: usize,
@@ -37,17 +41,30 @@ pub(crate) struct Tally {
 }
 
 impl Labelled for Tally {
-    ghost label = { λ tally. tally.number };
+    ghost label = { λ tally. pair 0 tally.number };
 }
 
-/// Makes a tally of each number. The owner's part is the number too.
+/// An owner's part, or a header, that knows its chunk's number, by which it is labelled.
+#[derive(Drop)]
+pub(crate) struct Numbered {
+    pub(crate) number: usize,
+}
+
+impl Labelled for Numbered {
+    ghost label = { λ numbered. pair 0 numbered.number };
+}
+
+/// Makes a tally of each number. The owner's part knows the number too.
 #[derive(Drop)]
 pub(crate) struct Tallies;
 
-impl Maker<Tally, u64> for Tallies {
-    fn make(&self, number: usize) -> (Tally, u64) {
+impl Maker<Tally, Numbered> for Tallies {
+    ghost family = { λ _. 0 };
+
+    #[tactic(auto, using(seize_table::proofs::Pairs::left_pair))]
+    fn make(&self, number: usize) -> (Tally, Numbered) {
         let sum = AtomicU64::new(0);
-        (Tally { number, sum }, number as u64)
+        (Tally { number, sum }, Numbered { number })
     }
 }
 
@@ -60,6 +77,9 @@ pub(crate) struct Pairs<'a> {
 }
 
 impl<'a> Maker<Counted<'a>, Counted<'a>> for Pairs<'a> {
+    ghost family = { λ _. 0 };
+
+    #[tactic(auto, using(seize_table::proofs::Pairs::left_pair))]
     fn make(&self, _number: usize) -> (Counted<'a>, Counted<'a>) {
         let name = self.made.fetch_add(1, Ordering::SeqCst);
         let header = Counted {

@@ -18,7 +18,7 @@ mod opened;
 use crate::thread_id::{BUCKETS, MAX_INDEX, Thread};
 use crate::{Labelled, Refusal};
 pub use all_filled::AllFilled;
-use cells::{Cell, Item, Row};
+use cells::{Cell, Entry, Item, Row};
 pub use filled::{Filled, Loaded};
 pub use filled_at::FilledAt;
 pub use first::First;
@@ -162,6 +162,36 @@ impl<T: Labelled + Drop> ThreadLocal<T> {
                 Ok(Loaded { value, filled })
             }
             None => Err(Refusal::NoMemory),
+        }
+    }
+
+    /// Puts the value into the entry, if that isn't filled, and gives the token that shows it from then on.
+    ///
+    /// # Errors
+    ///
+    /// The value comes back where a growth was refused, or where the entry is filled already. Then the entry is as it was; a bucket that
+    /// was made stays.
+    pub fn put(&self, value: T, thread: Thread) -> Result<Filled<T>, T>
+        ensures shown { IfOk result (λ filled. Shows T.label (cells_of self.now) thread filled value) }
+        ensures back { IfErr result (λ back. back ≡ value) }
+    {
+        let mut row = self.buckets[thread.bucket].note();
+        let Ok(cell) = self.cell(thread, &mut row) else {
+            return Err(value);
+        };
+        let Ok(mut room) = Box::new(self.alloc, None) else {
+            return Err(value);
+        };
+        let (entry, meaning) = Entry::named(value);
+        Box::replace(&mut room, Some(entry));
+        let mut note = cell.note();
+        let Err(back) = cell.set_as(room, &mut note) else {
+            let item = Item { note, meaning };
+            return Ok(Filled { row, item });
+        };
+        match Box::into_inner(back) {
+            Some(entry) => Err(entry.back(&meaning)),
+            None => unreachable!(),
         }
     }
 

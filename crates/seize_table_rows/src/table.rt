@@ -151,6 +151,23 @@ fn tokens_show_one_value(rt: HostRuntime) -> Result<(), Fail> {
     Ok(())
 }
 
+// What is put into an entry stays there, and what comes after it comes back; where memory is refused the value comes back too.
+#[test]
+fn a_value_that_is_put_stays(rt: HostRuntime) -> Result<(), Fail> {
+    let table = ThreadLocal::<u64>::with_capacity(rt.alloc(), 0)?;
+    let thread = at(&rt, 40);
+    if let Err(back) = table.put(5, thread) {
+        assert_eq!(rt; back, 5);
+        assert!(rt; table.try_load(thread).is_none());
+        assert!(rt; table.put(5, thread).is_ok());
+    }
+    assert_eq!(rt; table.try_load(thread).map(|found| *found), Some(5));
+    assert_eq!(rt; table.put(6, thread).err(), Some(6));
+    assert_eq!(rt; table.try_load(thread).map(|found| *found), Some(5));
+    assert_eq!(rt; table.buckets(), 2);
+    Ok(())
+}
+
 #[test]
 fn tokens_have_no_bytes(rt: HostRuntime) {
     assert_eq!(rt; size_of::<Filled<u64>>(), 0);

@@ -21,13 +21,14 @@ use Rattle.seize_words.specs.Ledger.{Held, logs, halved, roster, rosters, rights
 use Rattle.seize_words.specs.Entry.{Entry, entry_coded}
 use Rattle.seize_words.specs.Book.{Kept, Sized, mine, kind_of, rules, passes, numbers, slots, heads, links, totals, kinds}
 use Rattle.seize_words.specs.Homes.{IsSound}
-use Rattle.seize_words.specs.Tokens.{Name, Gate, many, sole, IsSole, rows, start, inside, beside, called, uncalled, name_coded, gate_keeps, gate_gives, all_lead, rights_own, keys_own, pass_at, pass_holds}
+use Rattle.seize_words.specs.Tokens.{Name, Gate, many, sole, IsSole, rows, start, inside, beside, called, uncalled, name_coded, gate_keeps, gate_gives, all_lead, all_lie, rights_own, keys_own, pass_at, pass_holds}
 use Rattle.seize_words.specs.Begin.{BeganWith, unused, first_links, first_keys, book_owns}
 use Rattle.seize_words.proofs.Append.{grown, borns, has_grown, shut, sizes, grown_sizes}
 use Rattle.seize_words.specs.Chains.{told}
 use Rattle.seize_words.proofs.Chains.{chained_opening}
 use Rattle.seize_words.proofs.Goes.{kept_now}
-use Rattle.seize_words.proofs.Ways.{NoBlocks, free_own}
+use Rattle.seize_words.proofs.Tables.{none_lie}
+use Rattle.seize_words.proofs.Ways.{NeedNone, free_own}
 
 -- the keys of the beginning, by kind and number: of the first pass, of the numbers, of the total, of the first slot and its head, and of
 -- each link
@@ -114,7 +115,7 @@ module _ {M : Type 1} {𝓤 : Ura M} (𝓛 : Logic 𝓤) where
 
   infix 26 ◌⊢◌
   infixr 35 ◌∗◌
-  no_links : (m : Name) (l n : ℕ) → NoBlocks 𝓛 m (first_links l n)
+  no_links : (m : Name) (l n : ℕ) → NeedNone 𝓛 m (first_links l n)
   no_links m l zero = tt
   no_links m l (suc n) = (refl, no_links m (suc l) n)
 
@@ -128,9 +129,9 @@ module _ {M : Type 1} {𝓤 : Ura M} (𝓛 : Logic 𝓤) where
   fresh : emp 𝓤 ⊢ H.⇛ (ex 𝓤 (λ (δ : ℕ). ⟦ roster entry_coded δ 0 [] ⟧))
   fresh = via 𝓤 _ (entries_new (halved entry_coded) 𝓛 0 (λ _. (full_share, []))) (basic 𝓛 _)
 
-  module _ (n size : ℕ) (store : Option (List ℕ)) (Picked : Gate → Type 0) where
+  module _ (n size : ℕ) (store table : Option (List ℕ)) (Picked : Gate → Type 0) where
     abbrev pub Begun : ℕ → Name → Pr
-    Begun f m = guard 𝓤 (Picked m.gate × (m.family ≡ f) × BeganWith m n size store) (⟦ book_owns m [] ⟧ ∗ ⟦ pass_holds m 0 [] ⟧ ∗ ⟦ keys_own m (first_keys n) ⟧)
+    Begun f m = guard 𝓤 (Picked m.gate × (m.family ≡ f) × BeganWith m n size store table) (⟦ book_owns m [] ⟧ ∗ ⟦ pass_holds m 0 [] ⟧ ∗ ⟦ keys_own m (first_keys n) ⟧)
 
     pub begins : emp 𝓤 ⊢ upd 𝓤 (ex 𝓤 (Opened Picked)) → (f : ℕ) → ⟦ uncalled f ⟧ ⊢ H.⇛ (ex 𝓤 (Begun f))
     begins opened f = qed 𝓛 (‵ (uncalled f) ∷ []) ∵ updating ! $ fsplit ! $
@@ -162,6 +163,7 @@ module _ {M : Type 1} {𝓤 : Ura M} (𝓛 : Logic 𝓤) where
           gate = g;
           size = size;
           store = store;
+          table = table;
           slots = 0;
           links = empty n;
         } in let st : State = start n₀ in let bs : List (ℕ × ℕ) = firsts n in
@@ -169,7 +171,7 @@ module _ {M : Type 1} {𝓤 : Ura M} (𝓛 : Logic 𝓤) where
         move ! (5 ∷ []) $ use1 𝓛 (later (‵ (rosters entry_coded (rows n₀) (grown [] bs [])) ⊛ ‵ (rights entry_coded (rows n₀) (born bs []))))
         (via 𝓤 _ (borns entry_coded (rules st) (beside n₀) η (rows n₀) 𝓛 [] bs [] (omega arith, (omega arith, (omega arith, (omega arith, (omega arith, below_links 0 n))))) (refl, (refl, (refl, (refl, (refl, next_links 0 n sizes_before refl)))))) (basic 𝓛 _)) $ await ! tt $ split ! $
         -- [the rosters; the rights; the book's copy; the pass's; nothing was reached, twice; the list]
-        nothing ! $ rewrite ! 0 (λ (vs : List ℕ). ‵ (all_lead n₀ vs)) (sym (none_linked n)) refl $ move ! (3 ∷ 0 ∷ []) $ fjoin ! $
+        use0 𝓛 (‵ (all_lie n₀ 0)) (none_lie 𝓛 n₀) $ nothing ! $ rewrite ! 0 (λ (vs : List ℕ). ‵ (all_lead n₀ vs)) (sym (none_linked n)) refl $ fjoin ! $ move ! (3 ∷ 0 ∷ []) $ fjoin ! $
         nothing ! $ move ! (0 ∷ 1 ∷ []) $ fjoin ! $ move ! (1 ∷ 6 ∷ 0 ∷ []) $ use3 𝓛 (‵ (inside n₀)) (shut entry_coded (rules st) (beside n₀) η (rows n₀) 𝓛 (grown [] bs []) [] (holds_first n)) $
         use1 𝓛 (later (some (λ (j : ℕ). given (0 ≤ j) (‵ (fnamed j (inside n₀)))))) (named_past 𝓛 0 (inside n₀)) $ await ! tt $ pick ! (λ j. learn ! (λ _. let m : Name = record n₀ { number = j } in
         -- [the invariant; the rights; the pass's copy; nothing was reached, twice; what the family says, which is nothing yet]
@@ -183,7 +185,7 @@ module _ {M : Type 1} {𝓤 : Ura M} (𝓛 : Logic 𝓤) where
         move ! (4 ∷ 0 ∷ []) $ fjoin ! $ move ! (4 ∷ 0 ∷ []) $ fjoin ! $ move ! (1 ∷ 0 ∷ []) $ fjoin ! $ fpack ! (List Entry) (pass_at m 0 []) [] $
         rewrite ! 1 (λ (hs : List (Held Entry)). ‵ (rights_own m (unused numbers 0 ∷ unused totals 0 ∷ unused slots 0 ∷ unused heads 0 ∷ hs))) (born_links 0 n) refl $
         move ! (1 ∷ []) $ use1 𝓛 (‵ (keys_own m (first_keys n))) (free_own 𝓛 m (first_keys n) (refl, (refl, (refl, (refl, no_links m 0 n))))) $
-        now ! $ show ! (Begun f) m $ check ! (picked, refl, (refl, refl, refl, refl)) $ move ! (2 ∷ 1 ∷ 0 ∷ []) $ done !))))))))))))))
+        now ! $ show ! (Begun f) m $ check ! (picked, refl, (refl, refl, refl, refl, refl)) $ move ! (2 ∷ 1 ∷ 0 ∷ []) $ done !))))))))))))))
 
   -- a family that no book has
   pub new_family : emp 𝓤 ⊢ H.⇛ (ex 𝓤 (λ (f : ℕ). ⟦ uncalled f ⟧))

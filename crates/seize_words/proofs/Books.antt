@@ -3,7 +3,7 @@ use Rattle.std.proofs.Common.{◌≡◌, ℕ, ◌+◌, arith, pos, false, List, 
 use seplogic.Ra.Ura.{Ura}
 use base.Logic.{SProp, ent, sep, ex, guard, via, fst∗, snd∗}
 use base.Stored.{Gv, gnil, gnum, gcons}
-use base.Fml.{Fml, fres}
+use base.Fml.{Fml, ftrue, fres}
 use contract.Monad.{fact, conj_i}
 use types.Logic.{Logic, sem}
 use types.Growing.{at_least_dup}
@@ -65,6 +65,10 @@ module _ {M : Type 1} {𝓤 : Ura M} (𝓛 : Logic 𝓤) (n : Name) where
       fsplit ! $ drop ! $ fsplit ! $ move ! (1 ∷ []) $ drop ! $ move ! (2 ∷ []) $ fsplit ! $ drop ! $ fsplit ! $ move ! (1 ∷ []) $ drop ! $
       -- [what the one's family says; what the other's says; the other; the one]
       rewrite ! 0 (λ (f : ℕ). ‵ (fres f u)) same refl $ use2 𝓛 (raw (fact 𝓤 Same)) (called_once m.family u v) $ heard ! Same (λ e. check ! (name_coded.inj n m (ap code_in e)) $ move ! (1 ∷ 0 ∷ []) $ done !)
+
+  pub books_agree : (seen : List Entry) (m : Name) (past : List Entry) → n.family ≡ m.family → ⟦ book_owns n seen ⟧ ∗ ⟦ book_owns m past ⟧ ⊢ guard 𝓤 (n ≡ m) ⟦ ftrue ⟧
+  books_agree seen m past same = qed 𝓛 (‵ (book_owns n seen) ∷ ‵ (book_owns m past) ∷ []) ∵ fsplit ! $ move ! (2 ∷ []) $ fsplit ! $ move ! (2 ∷ 0 ∷ []) $
+      use2 𝓛 (given (n ≡ m) (‵ (knows n) ⊛ ‵ (knows m))) (one_book m same) $ learn ! (λ e. drop ! $ drop ! $ drop ! $ nothing ! $ check ! e $ done !)
 
   pub pass_agrees : (p : ℕ) (seen : List Entry) (m : Name) (past : List Entry) → m.family ≡ n.family → ⟦ pass_owns n p seen ⟧ ∗ ⟦ book_owns m past ⟧ ⊢ guard 𝓤 (m ≡ n) ⟦ pass_owns n p seen ⟧
   pass_agrees p seen m past same = qed 𝓛 ((‵ (knows n) ⊛ ‵ (pass_holds n p seen)) ∷ ‵ (book_owns m past) ∷ []) ∵ split ! $ move ! (2 ∷ []) $ fsplit ! $ move ! (2 ∷ 0 ∷ []) $

@@ -1,9 +1,11 @@
 -- What the label of a chunk says, which a pass has found by the number of a value. These facts are for callers.
-use Rattle.std.proofs.Common.{◌≡◌, ℕ, true, sym, ◌∙◌, ap, subst}
+use Rattle.std.proofs.Common.{◌≡◌, ℕ, ◌<◌, true, length, sym, ◌∙◌, ap, subst, arith}
+use Rattle.std.proofs.lemmas.List.Elements.{All-get_or}
+use denote.RawPtr.{Ptr, null_ptr}
 use Rattle.seize_machine.specs.Machine.State.{has}
-use Rattle.seize_store.specs.Known.{entry_of, label_in}
+use Rattle.seize_store.specs.Known.{entry_of, family_in, label_in}
 use Rattle.seize_store.specs.declared.known.Known.{Known}
-use Rattle.seize_table.specs.Pairs.{left_of, right_of}
+use Rattle.seize_table.specs.Pairs.{left_of, of_family, right_of}
 use Rattle.seize_table.specs.Place.{IsPlace}
 use Rattle.seize_table.proofs.Pairs.{left_pair, right_pair}
 use Rattle.seize_words.specs.Blocks.{block_of}
@@ -22,6 +24,12 @@ same_family n m k j same = sym (left_pair n.family k) ∙ (ap left_of same ∙ l
 
 pub same_home : (n m : Name) (k j : ℕ) → label_at n k ≡ label_at m j → k ≡ j
 same_home n m k j same = sym (right_pair n.family k) ∙ (ap right_of same ∙ right_pair m.family j)
+
+-- the labels of a store's chunks are of its family
+pub label_kin : (known : Known) (number : ℕ) → IsPlace number known.row (entry_of known.row number)
+    → left_of (label_in known.chunks (entry_of known.row number)) ≡ family_in known.store
+label_kin known number placed = let e : ℕ = entry_of known.row number in let within = placed.within in let long = known.made.1 in let less : e < length known.chunks = omega (arith, within, long) in
+    All-get_or (λ (chunk : Ptr × ℕ). of_family (family_in known.store) chunk.1) known.chunks e (null_ptr, 0) less known.made.2
 
 -- what a pass has seen named stays so
 pub named_seen : (pass pass' : Pass) (v : ℕ) → LooksOn pass pass' → has v (state_seen pass).named ≡ true → has v (state_seen pass').named ≡ true

@@ -2,7 +2,7 @@
 use Rattle.std.proofs.Common.{◌≡◌, ℕ, Bool, true, false, ◌&&◌, ◌==◌, List, [], ◌∷◌, ◌++◌, Option, Some, None, refl, sym, ◌∙◌, ap, subst, ◌⊎◌, inl, inr}
 use Rattle.std.specs.Prelude.{option_to_list}
 use Rattle.seize_machine.specs.Machine.State.{State, has, link_at}
-use Rattle.seize_machine.specs.Machine.Event.{Event, ExchangeLink}
+use Rattle.seize_machine.specs.Machine.Event.{Event, ExchangeLink, ReadLink}
 use Rattle.seize_machine.specs.Machine.Next.{is_stored, next}
 use Rattle.seize_machine.specs.declared.machine.event.Answer.{Answer}
 use Rattle.seize_machine.specs.declared.machine.event.Answer.TheVariants.{Link as Held_}
@@ -136,13 +136,24 @@ module _ (link : Link) (a : Activation) (pass pass' : Pass) (in_ : IsIn link a p
   pub stayed : trades v ≡ false → value_in keys'.held ≡ value_in keys.held
   stayed e = ap value_in (had false e) ∙ same_value keys.held pass'.seen
 
-  -- where nothing was stored, the value is as new as before
+  -- where nothing was stored, all is as it was
+  same_then : (exchange : Option ℕ → Exchange) → ((o : Option ℕ) → ev o ≡ ExchangeLink a.slot (number link) (exchange o)) → ((o : Option ℕ) → v ≡ link_word o → is_stored o (exchange o) ≡ false) → step.noted.later ≡ after (start pass.name) step.log
+  same_then exchange is misses =
+      let st : State = start pass.name in let now : State = after st step.log in let old : Option ℕ = link_at now (number link) in
+      let done : next pass.name.size now (event v step.log) ≡ Some (step.noted.later, step.noted.answer) = subst (λ (l : List Entry). next pass.name.size (after st l) (event v step.log) ≡ Some (step.noted.later, step.noted.answer)) step.is_log step.noted.does in
+      kept_state pass.name.size now a.slot (number link) (exchange old) (step.noted.later, step.noted.answer) (subst (λ (x : Event). Step pass.name.size now x (step.noted.later, step.noted.answer)) (is old) (step_of _ _ _ _ done)) (misses old (step.found.shows ∙ ap link_word held))
+
+  -- so the link holds what it held,
+  pub link_kept : (exchange : Option ℕ → Exchange) → ((o : Option ℕ) → ev o ≡ ExchangeLink a.slot (number link) (exchange o)) → ((o : Option ℕ) → v ≡ link_word o → is_stored o (exchange o) ≡ false) → link_at (after (start pass.name) pass'.seen) (number link) ≡ held_before taken
+  unfolding taken
+  link_kept exchange is misses = ap (λ (z : State). link_at z (number link)) (step.noted.leads ∙ same_then exchange is misses)
+
+  -- and the value is as new as before
   pub still_may : (exchange : Option ℕ → Exchange) → keys.name ≡ pass.name → IsNewIn (start pass.name) (value_in keys.held) keys.held → ((o : Option ℕ) → ev o ≡ ExchangeLink a.slot (number link) (exchange o)) → ((o : Option ℕ) → v ≡ link_word o → is_stored o (exchange o) ≡ false) → trades v ≡ false
       → IsNewIn (start keys'.name) (value_in keys'.held) keys'.held
   still_may exchange book new is misses e =
-      let st : State = start pass.name in let now : State = after st step.log in let old : Option ℕ = link_at now (number link) in
-      let done : next pass.name.size now (event v step.log) ≡ Some (step.noted.later, step.noted.answer) = subst (λ (l : List Entry). next pass.name.size (after st l) (event v step.log) ≡ Some (step.noted.later, step.noted.answer)) step.is_log step.noted.does in
-      let same : step.noted.later ≡ now = kept_state pass.name.size now a.slot (number link) (exchange old) (step.noted.later, step.noted.answer) (subst (λ (x : Event). Step pass.name.size now x (step.noted.later, step.noted.answer)) (is old) (step_of _ _ _ _ done)) (misses old (step.found.shows ∙ ap link_word held)) in
+      let st : State = start pass.name in let now : State = after st step.log in
+      let same : step.noted.later ≡ now = same_then exchange is misses in
       let kept = kept_right st step.since.1 keys.held step.log step.found.before.kept.1 in
       subst (λ (t : Name × List (Held Entry)). IsNewIn (start t.0) (value_in t.1) t.1) (λ j. (sym (told.1 ∙ book) j, sym (had false e) j))
       (new_later st (value_in keys.held) keys.held step.log pass'.seen step.found.before.legal new kept (step.noted.leads ∙ same))
@@ -157,3 +168,17 @@ module _ (link : Link) (a : Activation) (pass pass' : Pass) (in_ : IsIn link a p
       go : (trades v ≡ true) ⊎ (trades v ≡ false) → is_at_most_one keys'.held ≡ true
       go (inl e) = ap is_at_most_one (had true e) ∙ one_of (link_at (after (start pass.name) step.log) (number link)) step.since.1 pass'.seen its_key
       go (inr e) = ap is_at_most_one (had false e) ∙ one_later keys.held pass'.seen one
+
+-- a read leaves the link as it is
+pub read_later : (link : Link) (a : Activation) (pass pass' : Pass) (in_ : IsIn link a pass) (keys keys' : Keys) (v : ℕ)
+    → (told : Took (at_link pass.name (number link)) keys pass keys' pass' (a.life ∷ []) (λ v. v) v (entries pass 0 (λ v log. ReadLink a.slot (number link))) (λ v. false))
+    → link_at (after (start pass.name) pass'.seen) (number link) ≡ held_before (taken link a pass pass' in_ keys keys' (λ v. v) v (λ _. ReadLink a.slot (number link)) (λ v. false) told)
+unfolding taken
+read_later link a pass pass' in_ keys keys' v told =
+    let step = told.2 in let l : ℕ = number link in let now : State = after (start pass.name) step.log in
+    let done : next pass.name.size now (ReadLink a.slot l) ≡ Some (step.noted.later, step.noted.answer) =
+    subst (λ (log : List Entry). next pass.name.size (after (start pass.name) log) (ReadLink a.slot l) ≡ Some (step.noted.later, step.noted.answer)) step.is_log step.noted.does in
+    ap (λ (z : State). link_at z l) (step.noted.leads ∙ still (step.noted.later, step.noted.answer) (step_of _ _ _ _ done))
+  where
+    still : (d : State × Answer) → Step pass.name.size (after (start pass.name) told.2.log) (ReadLink a.slot (number link)) d → d.0 ≡ after (start pass.name) told.2.log
+    still _ (Step.read s l can) = refl

@@ -1,26 +1,30 @@
 -- The calls of links: what is asked of them is enough for a step, and what is known after one.
-use Rattle.std.proofs.Common.{◌≡◌, ◌≢◌, ℕ, zero, suc, ◌%◌, ◌^◌, ◌<◌, Bool, true, false, ◌==◌, if◌then◌else◌, List, [], ◌∷◌, length, Option, Some, None, refl, sym, ◌∙◌, ap, subst, ◌⊎◌, inl, inr, arith}
+use Rattle.std.proofs.Common.{◌≡◌, ◌≢◌, ℕ, zero, suc, ◌%◌, ◌^◌, ◌<◌, Bool, true, false, ◌==◌, if◌then◌else◌, List, [], ◌∷◌, ◌++◌, length, Option, Some, None, refl, sym, ◌∙◌, ap, subst, ◌⊎◌, inl, inr, arith}
 use mathlib.Core.List.{IsPrefix}
 use base.Growing.{prefix_trans}
 use Rattle.seize_machine.specs.Machine.State.{State, head_at, is_active, link_at}
 use Rattle.seize_machine.specs.Machine.Event.{ReadLink, ExchangeLink}
 use Rattle.seize_machine.specs.Machine.Next.{is_stored, same_link}
+use Rattle.seize_machine.specs.declared.machine.event.Exchange.{Exchange}
 use Rattle.seize_machine.specs.declared.machine.event.Exchange.TheVariants.{Compare, Swap}
-use Rattle.seize_machine.proofs.Facts.{and_true, eq_true, is_true, links_length, step_of}
+use Rattle.seize_machine.specs.declared.machine.event.Answer.{Answer}
+use Rattle.seize_machine.specs.declared.machine.event.Answer.TheVariants.{Link as Held_}
+use Rattle.seize_machine.proofs.Facts.{Step, and_true, eq_true, is_true, links_length, next_of, step_of}
 use Rattle.atomic_table.proofs.Lists as kit
 use Rattle.seize_words.specs.Atomic.{exchanged}
 use Rattle.seize_words.specs.Blocks.{link_word}
-use Rattle.seize_words.specs.Book.{IsLegalList, after, blocks, kinds}
-use Rattle.seize_words.specs.Entry.{Entry, Made, Used}
+use Rattle.seize_words.specs.Book.{Does, IsLegalList, after, blocks, kinds}
+use Rattle.seize_words.specs.Entry.{Deed, Entry, Made, Used}
 use Rattle.seize_words.specs.Homes.{home_of}
-use Rattle.seize_words.specs.Laws.{IsIn, ended, life}
+use Rattle.seize_words.specs.Laws.{IsIn, Reader, ended, life}
 use Rattle.seize_words.specs.Ledger.{Held, WithKinds}
 use Rattle.seize_words.specs.Links.{IsNewIn, IsWithin, at_link, compared, is_at_most_one, value_in, value_with}
 use Rattle.seize_words.specs.Stepping.{FoundAs, IsStep, MayStep}
 use Rattle.seize_words.specs.Tokens.{Name, start}
-use Rattle.seize_words.proofs.Lists.{equal, unequal}
+use Rattle.seize_words.proofs.Lists.{after_push, equal, unequal}
+use Rattle.seize_words.proofs.Loans.{found_now}
 use Rattle.seize_words.proofs.Activations.{still}
-use Rattle.seize_words.proofs.Links.{miss_step, read_step, same, store_step}
+use Rattle.seize_words.proofs.Links.{legal_link, miss_does, miss_step, read_step, same, store_step}
 use Rattle.seize_words.proofs.Lives.{legal_first}
 
 -- there are as many links as at the beginning
@@ -60,6 +64,19 @@ module _ (n : Name) (s a l : ℕ) (since seen : List Entry) (in_ : IsWithin n s 
 
   pub may_read_link : (p size : ℕ) → MayStep (at_link n l) p seen [] (a ∷ []) [] (λ v. v) (λ v log. Made (record { pass = p; size = size; event = ReadLink s l; life = 0 })) (λ v. false)
   may_read_link p size = (tt, (λ v t own log found. let w = within v p [] t log found in read_step n l v p size s seen [] (a ∷ []) t own log found w.0 w.1))
+
+  own_event : (s == s) ≡ true
+  own_event = grind arith
+
+  -- and finds what the link holds
+  pub read_finds : (p size : ℕ) (v : ℕ) (t : At) (log : List Entry) → FoundAs (at_link n l) v p seen [] (a ∷ []) t log → (w : ℕ)
+      → link_at (after st (log ++ Made (record { pass = p; size = size; event = ReadLink s l; life = 0 }) ∷ [])) l ≡ Some w
+      → Reader st (log ++ Made (record { pass = p; size = size; event = ReadLink s l; life = 0 }) ∷ []) w a
+  read_finds p size v t log found w is =
+      let e : Deed = record { pass = p; size = size; event = ReadLink s l; life = 0 } in let now : State = after st log in let d : State × Answer = (now, Held_ (link_at now l)) in let here = within v p [] t log found in
+      let does : Does st log (Made e) d = next_of size now (ReadLink s l) d (Step.read s l (legal_link now s l here.0 here.1)) in
+      let holds : link_at now l ≡ Some w = sym (ap (λ (z : State). link_at z l) (after_push st log (Made e) d found.before.legal does)) ∙ is in
+      subst (Reader st (log ++ Made e ∷ []) w) here.2 (found_now st log e d s w does own_event holds)
 
   all_blocks : (held : List (Held Entry)) → is_at_most_one held ≡ true → WithKinds kinds held
   all_blocks [] one = tt
@@ -115,3 +132,16 @@ module _ (n : Name) (s a l : ℕ) (since seen : List Entry) (in_ : IsWithin n s 
           (store_step n l v p size s seen held (a ∷ []) t own log found w.0 w.1 (value_in held) (Compare (compared seen_word old) (value_in held)) refl fresh new word (hit seen_word old (value_in held) (sym is ∙ same))))
           (λ differs. subst (λ (b : Bool). IsStep (at_link n l) p held [] v (Made (record { pass = p; size = size; event = ExchangeLink s l (Compare (compared seen_word old) (value_in held)); life = 0 })) b t own log) (sym (unequal v seen_word differs))
           (miss_step n l v p size s seen held (a ∷ []) t own log found w.0 w.1 (value_in held) (Compare (compared seen_word old) (value_in held)) refl fresh (missed seen_word old (value_in held) fits (λ x. differs (is ∙ x)))))
+
+  -- and where something else is there, finds that
+  pub compare_finds : (p size seen_word : ℕ) (held : List (Held Entry)) → seen_word < 2 ^ 64 → IsNewIn st (value_in held) held → (v : ℕ) (t : At) (log : List Entry) → FoundAs (at_link n l) v p seen held (a ∷ []) t log → (v == seen_word) ≡ false → (w : ℕ)
+      → link_at (after st (log ++ Made (record { pass = p; size = size; event = ExchangeLink s l (Compare (compared seen_word (link_at (after st log) l)) (value_in held)); life = 0 }) ∷ [])) l ≡ Some w
+      → Reader st (log ++ Made (record { pass = p; size = size; event = ExchangeLink s l (Compare (compared seen_word (link_at (after st log) l)) (value_in held)); life = 0 }) ∷ []) w a
+  compare_finds p size seen_word held fits fresh v t log found differs w is =
+      let now : State = after st log in let old : Option ℕ = link_at now l in let o : Option ℕ = value_in held in let exchange : Exchange = Compare (compared seen_word old) o in
+      let e : Deed = record { pass = p; size = size; event = ExchangeLink s l exchange; life = 0 } in let d : State × Answer = (now, Held_ old) in let here = within v p held t log found in
+      let shows : v ≡ link_word old = found.shows ∙ ap link_word (same n l v p seen held (a ∷ []) t log found) in
+      let not_seen : link_word old ≢ seen_word = λ x. absurd (let both : true ≡ false = sym (equal v seen_word (shows ∙ x)) ∙ differs in cc) in
+      let does : Does st log (Made e) d = miss_does n l v p size s seen held (a ∷ []) t log log found here.0 here.1 o exchange refl fresh (missed seen_word old o fits not_seen) in
+      let holds : old ≡ Some w = sym (ap (λ (z : State). link_at z l) (after_push st log (Made e) d found.before.legal does)) ∙ is in
+      subst (Reader st (log ++ Made e ∷ []) w) here.2 (found_now st log e d s w does own_event holds)

@@ -16,13 +16,13 @@ use Rattle.seize_words.specs.Chains.{front_block, served}
 use Rattle.seize_words.specs.Entry.{Deed, Entry, Made, Used}
 use Rattle.seize_words.specs.Headers.{Stores, Uses, using}
 use Rattle.seize_words.specs.Heads.{IsTrying}
-use Rattle.seize_words.specs.Homes.{IsSound, home_of}
+use Rattle.seize_words.specs.Homes.{home_of}
 use Rattle.seize_words.specs.Laws.{life, starts}
 use Rattle.seize_words.specs.LinkWords.{IsIn, Takes, number}
 use Rattle.seize_words.specs.Links.{IsWithin}
 use Rattle.seize_words.specs.Passes.{IsSame, LooksOn, events_by, events_in, mine_of}
 use Rattle.seize_words.specs.Slots.{IsOf, Moves, NotesAs, life_of, number_of, own_list, size_of, slot_of, start_of}
-use Rattle.seize_words.specs.Tokens.{IsSole, Name, Noted, start}
+use Rattle.seize_words.specs.Tokens.{Name, Noted, start}
 use Rattle.seize_words.specs.Totals.{slots_seen}
 use Rattle.seize_words.proofs.Fronts.{front_there}
 use Rattle.seize_words.proofs.Heads.{slots_grow}
@@ -31,6 +31,13 @@ pub use Rattle.seize_words.proofs.Lists.{after_used}
 -- the keys of values that were never named, put together, and what the key of one knows that was put
 pub use Rattle.seize_words.proofs.Further.{none_new, first_new, pushed_new, next_known}
 pub use Rattle.seize_words.proofs.Written.{plans_used}
+-- what a sight shows by a value's name is what was lent with the value
+pub use Rattle.seize_words.proofs.Contents.{same_content}
+pub use Rattle.seize_words.proofs.Hands.{hands_soon}
+-- a value that was named stays so
+pub use Rattle.seize_words.proofs.Sound.{named_later}
+-- looks, a slot's key, and the walk of its call, in what the key knows later
+pub use Rattle.seize_words.proofs.Traversals.{batch_next, hand_leaves, knows_noted, knows_still, looks_twice, same_key, walk_kept, word_stays}
 use Rattle.seize_words.proofs.Plans.{AllLess, blocks_stay, legal_prefix, plan_stays, plans_append, plans_long, saw_there, tried_there}
 use Rattle.seize_words.proofs.Stepped.{life_push}
 use Rattle.seize_words.specs.declared.activation.Activation.{Activation}
@@ -168,21 +175,13 @@ module _ (key key' : SlotKey) (pass pass' : Pass) (f v : ℕ) (uses : Uses key p
       ap (λ (n : Name). slice_index_or (plans (start n) (own_list key')) b no_plan) uses.seen_by.0
       ∙ sym (plan_stays (start_of key) (own_list key) (own_list key') b grows (front_there (start_of key) (own_list key) b v front))
 
--- two looks are one
-pub looks_twice : (a b c : Pass) → LooksOn a b → LooksOn b c → LooksOn a c
-looks_twice a b c one two = record {
-  same = (two.same.0 ∙ one.same.0, two.same.1 ∙ one.same.1);
-  none_made = two.none_made ∙ one.none_made;
-  grows = prefix_trans a.seen b.seen c.seen one.grows two.grows;
-  alone = λ s. two.alone (subst (λ (n : Name). IsSole n.gate) (sym one.same.0) s) ∙ one.alone s;
-  legal = subst (λ (n : Name). IsLegalList (start n) c.seen) one.same.0 two.legal;
-  sound = subst (λ (n : Name). IsSound (after (start n) c.seen)) one.same.0 two.sound;
-  distinct = one.distinct;
-}
-
 -- Slots are never taken away, so a pass that has seen more has seen no fewer of them.
 pub more_slots : (n : Name) (seen seen' : List Entry) → IsPrefix seen seen' → IsLegalList (start n) seen' → length (after (start n) seen).slots ≤ length (after (start n) seen').slots
 more_slots n = slots_grow (start n)
+
+pub more_seen : (pass pass' : Pass) → LooksOn pass pass' → slots_seen pass ≤ slots_seen pass'
+more_seen pass pass' looks =
+    subst (λ (n : Name). slots_seen pass ≤ length (after (start n) pass'.seen).slots) (sym looks.same.0) (more_slots pass.name pass.seen pass'.seen looks.grows looks.legal)
 
 -- A slot's call that marks, as its key knows, has to read no more heads than a pass of its book has seen slots that has seen what the key
 -- knows.

@@ -7,9 +7,11 @@ use denote.Triple.Clauses.{Ended, Clauses, Lasts, at_exit}
 use denote.Triple.Entry.{Res, alive}
 use denote.Triple.Walked.{Fit, has_of}
 use denote.Laws.{Is, Tells}
+use denote.Ref.{NamedLft}
 use mir.Val.{of_list}
 use Rattle.core.specs.contracts.marker.PhantomData as marker
 use Rattle.seize_words.specs.contracts.book.unopened.Unopened as unopened
+use Rattle.seize_words.specs.contracts.glimpse.Glimpse as glimpse
 
 abbrev pub token : Val
 token = vstruct (vcons (vstruct vnil) vnil)
@@ -22,6 +24,9 @@ token_made 𝓛 = makes_shadow 𝓛 (Token.own_val (record {}, tt) (token ∷ []
 
 abbrev pub no_bytes : {D : Type 0} → D → List Val
 no_bytes d = token ∷ []
+
+pub glimpse_tells : (κ : NamedLft) → Tells (glimpse.the_row κ) (Is (glimpse.the_row κ)) no_bytes
+glimpse_tells κ d vs is = is.0.1.0 ∙ (λ i. vstruct (of_list (is.0.1.1.0.1.0 i ++ [])) ∷ [])
 
 pub unopened_tells : Tells unopened.the_row (Is unopened.the_row) no_bytes
 unopened_tells d vs is = is.0.1.0 ∙ (λ i. vstruct (of_list (is.0.1.1.0.1.0 i ++ [])) ∷ [])

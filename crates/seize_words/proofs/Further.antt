@@ -232,6 +232,7 @@ module _ (n : Name) (p size : ℕ) (seen : List Entry) (a b : List (Held Entry))
       one = one_each size here (key_of a) goes.0 puts step apart all_vacant;
       leads = tt;
       labels = λ u named. ⊎_elim (λ was. inl was) (λ put. inr (inr (inr (is_label b u are put)))) (either here.named puts u named);
+      places = λ makes. absurd (cc);
     }
 
     -- Afterwards each is named and not loose, and all others of its block were reclaimed.

@@ -22,7 +22,7 @@ use Rattle.seize_words.specs.Private.{is_one, key_of, label_of, own_of}
 use Rattle.seize_words.specs.Tokens.{Name, start}
 use Rattle.seize_words.proofs.Chains.{unled}
 use Rattle.seize_words.proofs.Lists.{equal}
-use Rattle.seize_words.proofs.Private.{only, only_is, differ}
+use Rattle.seize_words.proofs.Private.{only, only_is, differ, no_place}
 use Rattle.seize_words.proofs.Sound.{no_labels, none_named}
 
 -- the event changes which numbers are in use and the record of slot s, and nothing else
@@ -67,6 +67,7 @@ may_turn n p seen a b e one one' zero_is pe turns ends starts goes =
           one = none_named e.size (after (start n) log) e.event does.0 (step_of _ _ _ _ does.1) (λ j. (turns.1 (after (start n) log) j).1);
           leads = unled (after (start n) log) (plans (start n) log) (told log) e.event (λ j. (turns.0 j).1);
           labels = no_labels (pass_key p mine ∷ (only slots a ++ only numbers b)) e.size (after (start n) log) e.event does.0 (step_of _ _ _ _ does.1) (λ j. (turns.1 (after (start n) log) j).1);
+          places = no_place (after (start n) log) (pass_key p mine ∷ (only slots a ++ only numbers b)) (Made e) does.2;
         }
 
 pub may_give : (n : Name) (p size : ℕ) (seen : List Entry) (a b : List (Held Entry)) → is_one slots a ≡ true → is_one numbers b ≡ true → key_of b ≡ 0

@@ -1,5 +1,5 @@
 -- The side condition of an event, by what it touches: a legal event changes nothing of a key that it does not touch, and makes its keys.
-use Rattle.std.proofs.Common.{◌≡◌, ℕ, zero, suc, ◌+◌, ◌<◌, ◌≤◌, pos, Bool, true, false, ◌==◌, if◌then◌else◌, List, [], ◌∷◌, ◌++◌, length, refl, sym, ◌∙◌, ap, subst, arith, append_assoc, append-nil}
+use Rattle.std.proofs.Common.{◌≡◌, ℕ, zero, suc, ◌+◌, ◌<◌, ◌≤◌, pos, Bool, true, false, ◌==◌, if◌then◌else◌, List, [], ◌∷◌, ◌++◌, length, refl, sym, ◌∙◌, ap, subst, ◌⊎◌, inl, inr, arith, append_assoc, append-nil}
 use mathlib.Core.List.{IsPrefix}
 use Rattle.seize_machine.specs.Machine.State.{State, slot_at, head_at, link_at, is_active, has, linked, are_distinct}
 use Rattle.seize_machine.specs.Machine.Event.{Event}
@@ -215,6 +215,18 @@ goes n distinct held seen ev Told can log known told_ =
       (λ r k own beside there kept. (prefix_push own log e kept.0, same_push n distinct log own e f.done (kind_of r) k legal sound.one f.leads f.legal (f.covers r k beside there) kept.1)),
       (λ many was there. makes st log e many (sizes n distinct held log e many legal f sound.one was there)),
     )
+
+-- there are as many slots after an entry as before, or one more where it makes one
+pub slots_after : (st : State) (log : List Entry) (e : Entry) (d : State × Answer) → IsLegalList st log → Does st log e d
+    → (length (after st (log ++ e ∷ [])).slots ≡ length (after st log).slots) ⊎ ((touches (after st log) e TheTotal 0 ≡ true) × (length (after st (log ++ e ∷ [])).slots ≡ suc (length (after st log).slots)))
+unfolding slots_by
+slots_after st log (Used u) d l h = inl (let same = (lengths st log (Used u) d l h).0 in omega (arith, same))
+slots_after st log (Made x) d l h = go (makes_slot (after st log) x.event) refl
+  where
+    go : (b : Bool) → makes_slot (after st log) x.event ≡ b
+        → (length (after st (log ++ Made x ∷ [])).slots ≡ length (after st log).slots) ⊎ ((makes_slot (after st log) x.event ≡ true) × (length (after st (log ++ Made x ∷ [])).slots ≡ suc (length (after st log).slots)))
+    go true is = let more = (lengths st log (Made x) d l h).0 in let one = added_by (after st log) x.event ∙ ap (λ (c : Bool). if c then 1 else 0) is in inr (is, omega (arith, more, one))
+    go false is = let more = (lengths st log (Made x) d l h).0 in let none = added_by (after st log) x.event ∙ ap (λ (c : Bool). if c then 1 else 0) is in inl (omega (arith, more, none))
 
 -- none of these keys is of a block's values
 abbrev pub AllFree : List (ℕ × ℕ) → Type 0

@@ -5,17 +5,17 @@ use Rattle.seize_machine.specs.Machine.State.{State, linked, are_distinct, openi
 use Rattle.seize_machine.specs.Machine.Next.{next}
 use Rattle.seize_machine.specs.Machine.History.{Moment, end_of, history, done_by, or_illegal, handed_value, Reclaimed, HasParted}
 use Rattle.seize_machine.specs.declared.machine.event.Answer.{Answer}
-use Rattle.seize_machine.proofs.Facts.{law_at_most_once, law_protection, some_is}
+use Rattle.seize_machine.proofs.Facts.{law_after, law_at_most_once, law_protection, some_is}
 use Rattle.seize_words.specs.Entry.{Entry, Made, Used, Deed, deeds, timed, events_of}
 use Rattle.seize_words.specs.Book.{moments, after, IsLegalList, Does}
-use Rattle.seize_words.specs.Laws.{NotHanded, AllParted}
+use Rattle.seize_words.specs.Laws.{AllLeft, AllParted, NotHanded, WasRetired}
 use Rattle.seize_words.proofs.Lists.{as_legal, legal_push}
 
 -- entry i of a list, as a moment
 abbrev pub moment : State → Deed → Moment
 moment st e = let done = done_by next st (timed e) in record { before = st; timed = timed e; answer = done.1; after = done.0 }
 
-moments_push : (st : State) (log : List Entry) (e : Deed) → moments st (log ++ Made e ∷ []) ≡ moments st log ++ moment (after st log) e ∷ []
+pub moments_push : (st : State) (log : List Entry) (e : Deed) → moments st (log ++ Made e ∷ []) ≡ moments st log ++ moment (after st log) e ∷ []
 moments_push st [] e = refl
 moments_push st (Made x ∷ log) e = ap (λ (ms : List Moment). moment st x ∷ ms) (moments_push (done_by next st (timed x)).0 log e)
 moments_push st (Used u ∷ log) e = moments_push st log e
@@ -49,7 +49,7 @@ get_inside [] y i x l h = absurd (omega arith)
 get_inside (z ∷ xs) y zero x l h = h
 get_inside (z ∷ xs) y (suc i) x l h = get_inside xs y i x (omega arith) h
 
-get_last : {X : Type 0} (xs : List X) (y : X) → slice_get (xs ++ y ∷ []) (length xs) ≡ Some y
+pub get_last : {X : Type 0} (xs : List X) (y : X) → slice_get (xs ++ y ∷ []) (length xs) ≡ Some y
 get_last [] y = refl
 get_last (z ∷ xs) y = get_last xs y
 
@@ -82,10 +82,24 @@ module _ (slots : ℕ) (links : List (Option ℕ)) (distinct : are_distinct (lin
       let below : c < length (moments st log) = slice_get_within (moments st log) c h.0 h.1 in
       let n : length (moments st log) ≡ length (deeds log) = moments_length st (deeds log) in absurd (omega arith)
 
+  -- what is said of the list by now, and of an event before the last, is said of the list before
+  inside : (i : ℕ) (m : Moment) → i < length (deeds log) → slice_get (moments st now) i ≡ Some m → slice_get (moments st log) i ≡ Some m
+  inside i m below h =
+      let n : length (moments st log) ≡ length (deeds log) = moments_length st (deeds log) in
+      get_inside (moments st log) _ i m (omega arith) (ap (λ (ms : List Moment). slice_get ms i) (sym (moments_push st log e)) ∙ h)
+
+  parted_inside : (s i : ℕ) → HasParted (moments st now) s i (length (deeds log)) → HasParted (moments st log) s i (length (deeds log))
+  parted_inside s i p = let m = p.3 in (p.0, p.1, p.2, (m.0, inside p.0 m.0 p.2 m.1, m.2))
+
+  -- v was retired before, and each slot that was active then parted since
+  pub retired_and_left : (r : WasRetired st log v) × AllLeft st log r.0
+  retired_and_left =
+      let a = law_after slots links (events_of now) _ _ distinct (as_legal st now all) v (length (deeds log)) last in let m = a.2 in (
+        (a.0, (m.0, inside a.0 m.0 a.1 m.1, m.2)),
+        (λ s active. parted_inside s a.0 (a.4 s (active.0, stays a.0 active.0 active.1, active.2))),
+      )
+
   -- each slot that found v parted since
   pub all_parted : AllParted st log v
   all_parted s i f =
-      let parted : HasParted (moments st now) s i (length (deeds log)) = (law_protection slots links (events_of now) _ _ distinct (as_legal st now all) s v i (length (deeds log)) (f.0, stays i f.0 f.1, f.2, f.3) last).1 in
-      let p : ℕ = parted.0 in let below : p < length (deeds log) = parted.2 in let n : length (moments st log) ≡ length (deeds log) = moments_length st (deeds log) in
-      let m = parted.3 in
-      (p, parted.1, below, (m.0, get_inside (moments st log) _ p m.0 (omega arith) (ap (λ (ms : List Moment). slice_get ms p) (sym (moments_push st log e)) ∙ m.1), m.2))
+      parted_inside s i (law_protection slots links (events_of now) _ _ distinct (as_legal st now all) s v i (length (deeds log)) (f.0, stays i f.0 f.1, f.2, f.3) last).1

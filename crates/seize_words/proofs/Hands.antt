@@ -9,12 +9,12 @@ use Rattle.seize_machine.proofs.Facts.{some_is}
 use Rattle.seize_words.specs.Entry.{Entry, Made, Deed}
 use Rattle.seize_words.specs.Book.{after, IsLegalList, Does}
 use Rattle.seize_words.specs.Adding.{private}
-use Rattle.seize_words.specs.Slots.{Notes, HandsOnce, hands_next, number_of, slot_of}
+use Rattle.seize_words.specs.Slots.{Notes, HandsOnce, HandsSoon, hands_next, number_of, slot_of}
 use Rattle.seize_words.specs.Tokens.{Name, start}
 use Rattle.seize_words.specs.declared.book.pass.Pass.{Pass}
 use Rattle.seize_words.specs.declared.book.slot_key.SlotKey.{SlotKey}
 use Rattle.seize_words.proofs.Further.{handed_to}
-use Rattle.seize_words.proofs.Handed.{not_handed, all_parted}
+use Rattle.seize_words.proofs.Handed.{all_parted, not_handed, retired_and_left}
 use Rattle.seize_words.proofs.Lists.{legal_front}
 use Rattle.seize_words.proofs.Lives.{all_over}
 
@@ -35,13 +35,29 @@ hands_once key key' pass pass' v puts name is notes =
     let does : Does (start n) log (Made e) d = ap (λ (m : Name). next m.size (after (start n) log) (Hand (number_of key) puts)) (sym name) ∙ moves.legal in
     let distinct : are_distinct (linked n.links) ≡ Rattle.std.proofs.Common.true = ap (λ (m : Name). are_distinct (linked m.links)) name ∙ noted.distinct in
     let hands = hands_it n.size (after (start n) log) (number_of key) v puts d (ap (λ slot. of_call handing_at slot.call) moves.was ∙ is) moves.legal in
-    let parted = all_parted n.slots n.links distinct log e d v front does hands in
+    let parted = all_parted n.slots n.links distinct log e d v front does hands in let left = retired_and_left n.slots n.links distinct log e d v front does hands in
     record {
       before = log;
       last = e;
       ends = noted.appended;
       hands = ap (λ o. handed_value (or_illegal (after (start n) log) o).1) does ∙ hands;
       not_handed = not_handed n.slots n.links distinct log e d v front does hands;
+      retired = left.0;
+      all_left = left.1;
       all_parted = parted;
       all_over = all_over (start n) log v front parted;
+    }
+
+-- Before it is handed all this is known already, for it could be handed now, with no further value.
+pub hands_soon : (n : Name) (log : List Entry) (s v : ℕ) → are_distinct (linked n.links) ≡ true → IsLegalList (start n) log → hands_next (slot_at (after (start n) log) s) ≡ Some v → HandsSoon (start n) log v
+hands_soon n log s v distinct legal is =
+    let st : State = start n in let now : State = after st log in let e : Deed = record { pass = 0; size = n.size; event = Hand s []; life = 0 } in let d : State × Answer = handed_to now s v [] in
+    let does : Does st log (Made e) d = ap (hand scheme now s []) is in let hands = hands_it n.size now s v [] d is does in
+    let parted = all_parted n.slots n.links distinct log e d v legal does hands in let left = retired_and_left n.slots n.links distinct log e d v legal does hands in
+    record {
+      not_handed = not_handed n.slots n.links distinct log e d v legal does hands;
+      retired = left.0;
+      all_left = left.1;
+      all_parted = parted;
+      all_over = all_over st log v legal parted;
     }

@@ -11,6 +11,7 @@ pub mod Goes
 pub mod Handed
 pub mod Lives
 pub mod Gates
+pub mod Tables
 pub mod Ways
 pub mod Passes
 pub mod Notes
@@ -54,4 +55,9 @@ pub mod Activations
 pub mod Meets
 pub mod Sent
 pub mod Chunked
+pub mod Reserved
 pub mod Traversals
+pub mod Loans
+pub mod Glimpses
+pub mod Lending
+pub mod Contents

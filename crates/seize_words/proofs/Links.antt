@@ -29,7 +29,7 @@ key_later (Some v) [] log is = is
 key_later (Some v) (x ∷ y ∷ vs) log is = is
 key_later (Some v) (x ∷ []) log is = is
 
-legal_link : (st : State) (s l : ℕ) → is_active (head_at st s) ≡ true → l < length st.links → can_link st s l ≡ true
+pub legal_link : (st : State) (s l : ℕ) → is_active (head_at st s) ≡ true → l < length st.links → can_link st s l ≡ true
 legal_link st s l on within = both (is_active (head_at st s)) (nat_lt l (length st.links)) on (grind arith)
   where
     both : (a b : Bool) → a ≡ true → b ≡ true → (a && b) ≡ true
@@ -129,7 +129,7 @@ module _ (n : Name) (l : ℕ) where
         let push : link_at (after st (log ++ reads ∷ [])) l ≡ link_at now l = ap (λ (z : State). link_at z l) (after_push st log reads d found.before.legal does) in
         let is : link_at (after st t.0) l ≡ link_at (after st (log ++ reads ∷ [])) l = same v p seen held alive t log found ∙ sym push in
         record {
-          fair = record { done = d; legal = does; covers = covers; names = λ many was there. (there.0, (λ k le. refl), (λ k le. refl), λ f le. refl); one = λ one. one; leads = tt; labels = λ u named. inl named };
+          fair = record { done = d; legal = does; covers = covers; names = λ many was there. (there.0, (λ k le. refl), (λ k le. refl), λ f le. refl); one = λ one. one; leads = tt; labels = λ u named. inl named; places = λ makes. absurd (cc) };
           its = refl;
           bears = refl;
           ends = λ a i. absurd i;
@@ -151,7 +151,7 @@ module _ (n : Name) (l : ℕ) where
 
     -- An exchange, with the keys of the value that it would store.
     module _ (o : Option ℕ) (exchange : Exchange) (for : new_link exchange ≡ o) (new : IsNewIn st o held) where
-      exchanges : Entry
+      abbrev pub exchanges : Entry
       exchanges = Made (record { pass = p; size = size; event = ExchangeLink s l exchange; life = 0 })
 
       abbrev now : State
@@ -203,14 +203,13 @@ module _ (n : Name) (l : ℕ) where
       -- it stores the value
       pub store_step : (w : ℕ) → w ≡ link_word o → is_stored (link_at now l) exchange ≡ true
           → IsStep (at_link n l) p held [] w (Made (record { pass = p; size = size; event = ExchangeLink s l exchange; life = 0 })) true t own log
-      unfolding exchanges
       store_step w word stored =
           let d : State × Answer = (swapped now l o, Held_ (link_at now l)) in
           let step : Step size now (ExchangeLink s l exchange) d = Step.exchanged s l exchange o (legal_link now s l on within) fresh (sym for, stored) in
           let does : Does st log exchanges d = next_of size now (ExchangeLink s l exchange) d step in
           let is : link_at (after st (log ++ exchanges ∷ [])) l ≡ o = ap (λ (z : State). link_at z l) (after_push st log exchanges d found.before.legal does) ∙ get_or-set_same now.links l o None within in
           record {
-            fair = record { done = d; legal = does; covers = covers_exchange; names = names_exchange; one = one_stored o new step; leads = tt; labels = labels_stored o new };
+            fair = record { done = d; legal = does; covers = covers_exchange; names = names_exchange; one = one_stored o new step; leads = tt; labels = labels_stored o new; places = λ makes. absurd (cc) };
             its = refl;
             bears = refl;
             ends = λ a i. absurd i;
@@ -218,16 +217,19 @@ module _ (n : Name) (l : ℕ) where
             stands = subst (λ (x : Option ℕ). IsKeyOf x (renewed held (log ++ exchanges ∷ []))) (sym is) (key_later o held (log ++ exchanges ∷ []) (is_key st o held new));
           }
 
-      -- it finds something else
+      -- one that finds something else is legal, and leaves all as it is
+      pub miss_does : is_stored (link_at now l) exchange ≡ false → Does st log exchanges (now, Held_ (link_at now l))
+      miss_does stored =
+          next_of size now (ExchangeLink s l exchange) (now, Held_ (link_at now l)) (Step.compared s l exchange (legal_link now s l on within) (ap (is_none_or_fresh now) for ∙ fresh, stored))
+
       pub miss_step : is_stored (link_at now l) exchange ≡ false
           → IsStep (at_link n l) p held [] v (Made (record { pass = p; size = size; event = ExchangeLink s l exchange; life = 0 })) false t own log
-      unfolding exchanges
       miss_step stored =
           let d : State × Answer = (now, Held_ (link_at now l)) in
-          let does : Does st log exchanges d = next_of size now (ExchangeLink s l exchange) d (Step.compared s l exchange (legal_link now s l on within) (ap (is_none_or_fresh now) for ∙ fresh, stored)) in
+          let does : Does st log exchanges d = miss_does stored in
           let is : link_at (after st t.0) l ≡ link_at (after st (log ++ exchanges ∷ [])) l = same v p seen held alive t log found ∙ sym (ap (λ (z : State). link_at z l) (after_push st log exchanges d found.before.legal does)) in
           record {
-            fair = record { done = d; legal = does; covers = covers_exchange; names = names_exchange; one = λ one. one; leads = tt; labels = λ u named. inl named };
+            fair = record { done = d; legal = does; covers = covers_exchange; names = names_exchange; one = λ one. one; leads = tt; labels = λ u named. inl named; places = λ makes. absurd (cc) };
             its = refl;
             bears = refl;
             ends = λ a i. absurd i;

@@ -1,5 +1,5 @@
 -- The holder of a pass, and of keys, looks at the list with no event. Assumes `Logic`.
-use Rattle.std.proofs.Common.{◌≡◌, ℕ, List, [], ◌∷◌, refl, sym, ◌∙◌, append-nil, Option, Some, true, arith}
+use Rattle.std.proofs.Common.{◌≡◌, ℕ, List, [], ◌∷◌, length, refl, sym, ◌∙◌, append-nil, Option, Some, true, arith}
 use mathlib.Core.List.{IsPrefix}
 use seplogic.Ra.Ura.{Ura}
 use base.Logic.{SProp, ent, sep, ex, guard, upd, upd_i}
@@ -12,7 +12,7 @@ use Rattle.seize_machine.specs.Machine.State.{State, has, linked, are_distinct}
 use Rattle.seize_words.specs.Ledger.{Held, WithKinds, Known, logs, reached, renewed}
 use Rattle.seize_words.specs.Entry.{Entry, entry_coded}
 use denote.RawPtr.{Ptr}
-use Rattle.seize_store.specs.Known.{IsWhole, known_row, leads_to}
+use Rattle.seize_store.specs.Known.{IsRowIn, known_row, leads_to}
 use Rattle.seize_words.specs.Blocks.{block_of}
 use Rattle.seize_words.specs.Homes.{home_of}
 use Rattle.seize_words.proofs.Sound.{named_later}
@@ -20,13 +20,15 @@ use Rattle.seize_words.specs.Book.{after, IsLegalList, mine, rules, kinds}
 use Rattle.seize_words.specs.Fair.{Before, pass_key}
 use Rattle.seize_words.specs.Laws.{ended, IsIn}
 use Rattle.seize_words.specs.Passes.{LooksOn}
-use Rattle.seize_words.specs.Tokens.{leads, label_at, leads_in, Name, rows, start, beside, inside, knows, all_lead, keys_own, rights_own, over, IsSole, gate_keeps, gate_gives, pass_at, pass_holds, pass_owns}
+use Rattle.seize_table.specs.Filled.{all_filled}
+use Rattle.seize_words.specs.Tokens.{leads, label_at, leads_in, Name, rows, start, beside, inside, knows, all_lead, all_lie, all_lie_in, slot_labels, found, keys_own, rights_own, over, IsSole, gate_keeps, gate_gives, pass_at, pass_holds, pass_owns}
 use Rattle.seize_words.proofs.Append.{Renewed, looks_beside, renews}
 use Rattle.seize_words.proofs.Gates.{agrees, gives_as}
 use Rattle.seize_words.proofs.Goes.{kept_now}
 use Rattle.seize_words.proofs.Notes.{distinct_links, knows_twice, opens}
 use Rattle.seize_words.proofs.Passes.{IsDistinct}
 use Rattle.seize_words.proofs.Lives.{ended_grows, over_one}
+use Rattle.seize_words.proofs.Tables.{all_lie_twice}
 use Rattle.seize_words.proofs.Ways.{AreIn, all_in, all_twice, one_leads, keys_apart, keys_whole, ways, ways_renewed}
 
 -- the pass has seen more, and nothing was made with it
@@ -102,7 +104,7 @@ module _ {M : Type 1} {𝓤 : Ura M} (𝓛 : Logic 𝓤) (n : Name) (p : ℕ) wh
     tells : (own log : List Entry) → Known (rules st) (pass_key p own ∷ held) seen log → ⟦ beside n log ⟧ ∗ ⟦ gives seen ⟧ ⊢ guard 𝓤 (alone log) (⟦ beside n log ⟧ ∗ ⟦ gives seen ⟧)
     tells own log known = qed 𝓛 (‵ (beside n log) ∷ ‵ (gives seen) ∷ []) ∵ fsplit ! $ move ! (1 ∷ []) $ fsplit ! $ move ! (0 ∷ 3 ∷ []) $
         use2 𝓛 (given (alone log) (‵ (gate_keeps n.gate log) ⊛ ‵ (gives seen))) (agrees 𝓛 n.gate log seen) $ learn ! (λ same. check ! same $ split ! $
-        -- [the book's copy; the pass's; where all lead; what has ended]
+        -- [the book's copy; the pass's; where all is found; what has ended]
         move ! (0 ∷ 2 ∷ []) $ fjoin ! $ move ! (2 ∷ 0 ∷ []) $ fjoin ! $ done !)
 
     before : (own log : List Entry) → mine st p own ≡ mine st p seen → Known (rules st) (pass_key p own ∷ held) seen log → alone log → Before n p seen held log
@@ -128,22 +130,32 @@ module _ {M : Type 1} {𝓤 : Ura M} (𝓛 : Logic 𝓤) (n : Name) (p : ℕ) wh
         -- [the pass; the keys; J]
         show ! Peeked log $ check ! b $ move ! (2 ∷ 0 ∷ 1 ∷ []) $ done !))))
 
-    -- The invariant is opened: what is brought tells more of the values that were named, and more is had afterwards.
+    -- The invariant is opened: what is brought tells more of what is found by the list, and more is had afterwards.
     module _ (Told : List Entry → Type 0) (X : Pr) (Y : List Entry → Pr) where
-      abbrev lead : List Entry → Fml
-      lead log = all_lead n (after st log).named
+      abbrev all : List Entry → Fml
+      all log = found n (after st log)
 
       abbrev pub Asks : Type 1
-      Asks = (log : List Entry) → IsPrefix seen log → IsLegalList st log → ⟦ lead log ⟧ ∗ X ⊢ guard 𝓤 (Told log) (⟦ lead log ⟧ ∗ Y log)
+      Asks = (log : List Entry) → IsPrefix seen log → IsLegalList st log → ⟦ all log ⟧ ∗ X ⊢ guard 𝓤 (Told log) (⟦ all log ⟧ ∗ Y log)
 
       tells_more : Asks → (own log : List Entry) → Known (rules st) (pass_key p own ∷ held) seen log → ⟦ beside n log ⟧ ∗ (⟦ gives seen ⟧ ∗ X) ⊢ guard 𝓤 (alone log × Told log) (⟦ beside n log ⟧ ∗ (⟦ gives seen ⟧ ∗ Y log))
       tells_more asks own log known = qed 𝓛 (‵ (beside n log) ∷ (‵ (gives seen) ⊛ raw X) ∷ []) ∵ fsplit ! $ move ! (1 ∷ []) $ fsplit ! $ move ! (3 ∷ []) $ split ! $
-          -- [the pass's copy; X; the book's copy; where all lead; what has ended]
-          move ! (3 ∷ 1 ∷ []) $ use2 𝓛 (given (Told log) (‵ (lead log) ⊛ raw (Y log))) (asks log known.1 known.0.0) $ learn ! (λ told. split ! $
-          -- [where all lead; Y; the pass's copy; the book's; what has ended]
+          -- [the pass's copy; X; the book's copy; where all is found; what has ended]
+          move ! (3 ∷ 1 ∷ []) $ use2 𝓛 (given (Told log) (‵ (all log) ⊛ raw (Y log))) (asks log known.1 known.0.0) $ learn ! (λ told. split ! $
+          -- [where all is found; Y; the pass's copy; the book's; what has ended]
           move ! (3 ∷ 2 ∷ []) $ use2 𝓛 (given (alone log) (‵ (gate_keeps n.gate log) ⊛ ‵ (gives seen))) (agrees 𝓛 n.gate log seen) $ learn ! (λ same. check ! (same, told) $ split ! $
-          -- [the book's copy; the pass's; where all lead; Y; what has ended]
+          -- [the book's copy; the pass's; where all is found; Y; what has ended]
           move ! (0 ∷ 2 ∷ []) $ fjoin ! $ move ! (3 ∷ 0 ∷ []) $ fjoin ! $ move ! (1 ∷ 2 ∷ []) $ join ! $ move ! (1 ∷ 0 ∷ []) $ done !))
+
+      -- where more is told of the values that were named alone
+      abbrev pub AsksValues : Type 1
+      AsksValues = (log : List Entry) → IsPrefix seen log → IsLegalList st log → ⟦ all_lead n (after st log).named ⟧ ∗ X ⊢ guard 𝓤 (Told log) (⟦ all_lead n (after st log).named ⟧ ∗ Y log)
+
+      pub of_values : AsksValues → Asks
+      of_values asks log grows legal = qed 𝓛 (‵ (all log) ∷ raw X ∷ []) ∵ fsplit ! $ move ! (0 ∷ 2 ∷ []) $
+          use2 𝓛 (given (Told log) (‵ (all_lead n (after st log).named) ⊛ raw (Y log))) (asks log grows legal) $ learn ! (λ told. check ! told $ split ! $
+          -- [where all lead; Y; where all lie]
+          move ! (0 ∷ 2 ∷ []) $ fjoin ! $ done !)
 
       abbrev pub Found : List Entry → Pr
       Found log = guard 𝓤 (Before n p seen held log × Told log) (⟦ pass_owns n p log ⟧ ∗ ⟦ keys (renewed held log) ⟧ ∗ Y log)
@@ -178,7 +190,7 @@ module _ {M : Type 1} {𝓤 : Ura M} (𝓛 : Logic 𝓤) (n : Name) (p : ℕ) wh
     looks_now within = qed 𝓛 ((‵ (knows n) ⊛ ‵ (pass_holds n p seen)) ∷ ‵ (keys held) ∷ []) ∵ updating ! $ split ! $
         use1 𝓛 (given (IsDistinct 𝓛 n) (‵ (knows n))) (distinct_links 𝓛 n) $ learn ! (λ distinct. fjoin ! $ nothing ! $ move ! (1 ∷ 2 ∷ 0 ∷ []) $
         use3 𝓛 (later (some (λ (log : List Entry). given (Before n p seen held log × Unit {0}) (‵ (pass_owns n p log) ⊛ ‵ (keys (renewed held log)) ⊛ ‵ ftrue))))
-        (looks_with (λ _. Unit {0}) ⟦ ftrue ⟧ (λ _. ⟦ ftrue ⟧) (λ log grows legal. qed 𝓛 (‵ (all_lead n (after st log).named) ∷ ‵ ftrue ∷ []) ∵ check ! tt $ done !) within) $
+        (looks_with (λ _. Unit {0}) ⟦ ftrue ⟧ (λ _. ⟦ ftrue ⟧) (λ log grows legal. qed 𝓛 (‵ (found n (after st log)) ∷ ‵ ftrue ∷ []) ∵ check ! tt $ done !) within) $
         await ! tt $ pick ! (λ log. learn ! (λ so. split3 ! $ now ! $ show ! Looked log $ check ! (so.0, distinct) $ keep ! (0 ∷ 1 ∷ []) $ done !)))
 
   -- each value that was named lies in the block that a row shows at its number, if its number is one of the row's
@@ -188,14 +200,14 @@ module _ {M : Type 1} {𝓤 : Ura M} (𝓛 : Logic 𝓤) (n : Name) (p : ℕ) wh
   abbrev pub FoundHomes : List Entry → ℕ → List (Ptr × ℕ) → List Entry → Pr
   FoundHomes seen row chunks log = guard 𝓤 (Before n p seen [] log × SeesHomes row chunks log × IsDistinct 𝓛 n) ⟦ pass_owns n p log ⟧
 
-  pub finds : (seen : List Entry) (store : List ℕ) (row : ℕ) (chunks : List (Ptr × ℕ)) → IsWhole row chunks → n.store ≡ Some store
+  pub finds : (seen : List Entry) (store : List ℕ) (row : ℕ) (chunks : List (Ptr × ℕ)) → IsRowIn store row chunks → n.store ≡ Some store
       → ⟦ pass_owns n p seen ⟧ ∗ ⟦ known_row store row chunks ⟧ ⊢ H.⇛ (ex 𝓤 (FoundHomes seen row chunks))
-  finds seen store row chunks whole is = qed 𝓛 ((‵ (knows n) ⊛ ‵ (pass_holds n p seen)) ∷ ‵ (known_row store row chunks) ∷ []) ∵ updating ! $ split ! $
+  finds seen store row chunks made is = qed 𝓛 ((‵ (knows n) ⊛ ‵ (pass_holds n p seen)) ∷ ‵ (known_row store row chunks) ∷ []) ∵ updating ! $ split ! $
       use1 𝓛 (given (IsDistinct 𝓛 n) (‵ (knows n))) (distinct_links 𝓛 n) $ learn ! (λ distinct. fjoin ! $ nothing ! $ move ! (1 ∷ 0 ∷ 2 ∷ []) $
       use3 𝓛 (later (some (λ (log : List Entry). given (Before n p seen [] log × SeesHomes row chunks log) (‵ (pass_owns n p log) ⊛ ‵ ftrue ⊛ ‵ ftrue))))
-      (looks_with seen [] (SeesHomes row chunks) ⟦ known_row store row chunks ⟧ (λ _. ⟦ ftrue ⟧)
-      (λ log grows legal. qed 𝓛 (‵ (all_lead n (after st log).named) ∷ ‵ (known_row store row chunks) ∷ []) ∵ use2 𝓛 (given (SeesHomes row chunks log) (‵ (all_lead n (after st log).named))) (all_in 𝓛 n store row chunks whole is (after st log).named) $
-      learn ! (λ so. check ! so $ nothing ! $ move ! (1 ∷ 0 ∷ []) $ done !)) tt) $
+      (looks_with seen [] (SeesHomes row chunks) ⟦ known_row store row chunks ⟧ (λ _. ⟦ ftrue ⟧) (of_values seen [] (SeesHomes row chunks) ⟦ known_row store row chunks ⟧ (λ _. ⟦ ftrue ⟧)
+      (λ log grows legal. qed 𝓛 (‵ (all_lead n (after st log).named) ∷ ‵ (known_row store row chunks) ∷ []) ∵ use2 𝓛 (given (SeesHomes row chunks log) (‵ (all_lead n (after st log).named))) (all_in 𝓛 n store row chunks made is (after st log).named) $
+      learn ! (λ so. check ! so $ nothing ! $ move ! (1 ∷ 0 ∷ []) $ done !))) tt) $
       await ! tt $ pick ! (λ log. learn ! (λ so. split3 ! $ now ! $ show ! (FoundHomes seen row chunks) log $ check ! (so.0, so.1, distinct) $ keep ! (0 ∷ []) $ done !)))
 
   -- where the number of a value leads that was named
@@ -206,7 +218,7 @@ module _ {M : Type 1} {𝓤 : Ura M} (𝓛 : Logic 𝓤) (n : Name) (p : ℕ) wh
   finds_row seen store v is named = let L : Fml = leads_to store (block_of v) (label_at n (home_of v)) in qed 𝓛 ((‵ (knows n) ⊛ ‵ (pass_holds n p seen)) ∷ []) ∵ updating ! $ split ! $
       use1 𝓛 (given (IsDistinct 𝓛 n) (‵ (knows n))) (distinct_links 𝓛 n) $ learn ! (λ distinct. fjoin ! $ nothing ! $ nothing ! $ move ! (2 ∷ 0 ∷ 1 ∷ []) $
       use3 𝓛 (later (some (λ (log : List Entry). given (Before n p seen [] log × Unit {0}) (‵ (pass_owns n p log) ⊛ ‵ ftrue ⊛ ‵ L))))
-      (looks_with seen [] (λ _. Unit {0}) ⟦ ftrue ⟧ (λ _. ⟦ L ⟧) leads_there tt) $
+      (looks_with seen [] (λ _. Unit {0}) ⟦ ftrue ⟧ (λ _. ⟦ L ⟧) (of_values seen [] (λ _. Unit {0}) ⟦ ftrue ⟧ (λ _. ⟦ L ⟧) leads_there) tt) $
       await ! tt $ pick ! (λ log. learn ! (λ so. split3 ! $ now ! $ show ! (FoundRow seen store v) log $ check ! (so.0, distinct) $ keep ! (0 ∷ 2 ∷ []) $ done !)))
     where
       leads_there : (log : List Entry) → IsPrefix seen log → IsLegalList st log → ⟦ all_lead n (after st log).named ⟧ ∗ ⟦ ftrue ⟧ ⊢ guard 𝓤 (Unit {0}) (⟦ all_lead n (after st log).named ⟧ ∗ ⟦ leads_to store (block_of v) (label_at n (home_of v)) ⟧)
@@ -214,6 +226,24 @@ module _ {M : Type 1} {𝓤 : Ura M} (𝓛 : Logic 𝓤) (n : Name) (p : ℕ) wh
           use1 𝓛 (‵ (all_lead n vs) ⊛ ‵ (all_lead n vs)) (all_twice 𝓛 n vs) $ split ! $
           use1 𝓛 (‵ (leads n v)) (one_leads 𝓛 n vs v (named_later st seen log v grows legal named)) $
           rewrite ! 0 (λ (s : Option (List ℕ)). ‵ (leads_in s (block_of v) (label_at n (home_of v)))) is refl $ check ! tt $ move ! (1 ∷ 0 ∷ []) $ done !
+
+  -- where the heads lie of all slots that there are
+  abbrev pub FoundSlots : List Entry → List ℕ → List Entry → Pr
+  FoundSlots seen table log = guard 𝓤 (Before n p seen [] log × IsDistinct 𝓛 n) (⟦ pass_owns n p log ⟧ ∗ ⟦ all_filled table (slot_labels n (length (after st log).slots)) ⟧)
+
+  pub finds_slots : (seen : List Entry) (table : List ℕ) → n.table ≡ Some table → ⟦ pass_owns n p seen ⟧ ⊢ H.⇛ (ex 𝓤 (FoundSlots seen table))
+  finds_slots seen table is = qed 𝓛 ((‵ (knows n) ⊛ ‵ (pass_holds n p seen)) ∷ []) ∵ updating ! $ split ! $
+      use1 𝓛 (given (IsDistinct 𝓛 n) (‵ (knows n))) (distinct_links 𝓛 n) $ learn ! (λ distinct. fjoin ! $ nothing ! $ nothing ! $ move ! (2 ∷ 0 ∷ 1 ∷ []) $
+      use3 𝓛 (later (some (λ (log : List Entry). given (Before n p seen [] log × Unit {0}) (‵ (pass_owns n p log) ⊛ ‵ ftrue ⊛ ‵ (all_filled table (slot_labels n (length (after st log).slots)))))))
+      (looks_with seen [] (λ _. Unit {0}) ⟦ ftrue ⟧ (λ log. ⟦ all_filled table (slot_labels n (length (after st log).slots)) ⟧) lie_there tt) $
+      await ! tt $ pick ! (λ log. learn ! (λ so. split3 ! $ now ! $ show ! (FoundSlots seen table) log $ check ! (so.0, distinct) $ keep ! (0 ∷ 2 ∷ []) $ done !)))
+    where
+      lie_there : (log : List Entry) → IsPrefix seen log → IsLegalList st log
+          → ⟦ found n (after st log) ⟧ ∗ ⟦ ftrue ⟧ ⊢ guard 𝓤 (Unit {0}) (⟦ found n (after st log) ⟧ ∗ ⟦ all_filled table (slot_labels n (length (after st log).slots)) ⟧)
+      lie_there log grows legal = let m : ℕ = length (after st log).slots in qed 𝓛 (‵ (found n (after st log)) ∷ ‵ ftrue ∷ []) ∵ keep ! (0 ∷ []) $ fsplit ! $ move ! (1 ∷ []) $
+          use1 𝓛 (‵ (all_lie n m) ⊛ ‵ (all_lie n m)) (all_lie_twice 𝓛 n m) $ split ! $ rewrite ! 0 (λ (t : Option (List ℕ)). ‵ (all_lie_in t (slot_labels n m))) is refl $
+          -- [what is known of the table; where all lie; where all lead]
+          check ! tt $ move ! (2 ∷ 1 ∷ []) $ fjoin ! $ done !
 
   -- a lifetime that the pass has seen ended is over
   pub is_over : (seen : List Entry) (a : ℕ) → IsIn (ended seen) a → ⟦ pass_owns n p seen ⟧ ⊢ H.⇛ (⟦ pass_owns n p seen ⟧ ∗ ⟦ fdead (a ∷ []) ⟧)

@@ -1,5 +1,5 @@
 -- The key of the numbers and that of the next slot are enough to make the slot, where all numbers are in use: by a step on the total.
-use Rattle.std.proofs.Common.{inl, ◌≡◌, ℕ, zero, suc, ◌+◌, ◌^◌, ◌<◌, true, false, List, [], ◌∷◌, ◌++◌, length, get_or, Bool, refl, sym, ◌∙◌, ap, subst, arith, not, nat_lt, ◌&&◌, if◌then◌else◌, Some, None}
+use Rattle.std.proofs.Common.{inl, inr, ◌≡◌, ℕ, zero, suc, ◌+◌, ◌^◌, ◌<◌, true, false, List, [], ◌∷◌, ◌++◌, length, get_or, Bool, refl, sym, ◌∙◌, ap, subst, arith, not, nat_lt, ◌&&◌, if◌then◌else◌, Some, None}
 use Rattle.std.proofs.lemmas.List.{length-map}
 use Rattle.std.proofs.Math.Nat.{mod-eq_of_lt}
 use Rattle.seize_machine.specs.Machine.State.{State, Slot, Head, Inactive, head_at, no_slot, slot_at}
@@ -111,7 +111,7 @@ module _ (n : Name) (a b : List (Held Entry)) where
   abbrev both : List (Held Entry)
   both = only numbers a ++ only slots b
 
-  -- where the key of the numbers knows that all are in use, and the slot's key is that of the next one
+  -- where the key of the numbers knows that all are in use, and the slot's key is that of the next one, and says where its head lies
   pub record MayMakeIt : Type 0 where
     pub one : is_one numbers a ≡ true
     pub zero_is : key_of a ≡ 0
@@ -119,6 +119,7 @@ module _ (n : Name) (a b : List (Held Entry)) where
     pub full : first_free old.slots ≡ s
     pub few : s < all_numbers
     pub its : key_of b ≡ s
+    pub placed : label_of b ≡ 1
 
   module _ (may : MayMakeIt) where
     joined : a ++ b ≡ both
@@ -169,6 +170,7 @@ module _ (n : Name) (a b : List (Held Entry)) where
               one = λ one. one;
               leads = tt;
               labels = λ v named. inl named;
+              places = λ makes. inr (inr (inr (inl (refl, may.its ∙ is.many, may.placed))));
             };
             its = refl;
             bears = bears_now log is;

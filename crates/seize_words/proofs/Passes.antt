@@ -1,6 +1,6 @@
 -- **The step of the book**: whoever has a pass, and the keys of all that an event touches, appends the event, whatever the list is by
 -- then. An event with no step of the code is an instance (`Notes`), and so is one inside an atomic step. Assumes `Logic`.
-use Rattle.std.proofs.Common.{◌≡◌, ℕ, true, ◌==◌, List, [], ◌∷◌, ◌++◌, inl, inr, ⊎_elim, refl, sym, ◌∙◌, ap, subst, append-nil, arith}
+use Rattle.std.proofs.Common.{◌≡◌, ℕ, true, ◌==◌, List, [], ◌∷◌, ◌++◌, length, inl, inr, ⊎_elim, refl, sym, ◌∙◌, ap, subst, append-nil, arith}
 use mathlib.Core.List.{IsPrefix}
 use seplogic.Ra.Ura.{Ura}
 use base.Logic.{SProp, ent, sep, ex, guard, upd, upd_i}
@@ -11,16 +11,16 @@ use denote.Steps.{nothing}
 use Rattle.seize_machine.specs.Machine.State.{State, has, linked, are_distinct}
 use Rattle.seize_words.specs.Ledger.{Held, reached, WithKinds, renewed, born, Known}
 use Rattle.seize_words.specs.Entry.{Entry, entry_coded, maker}
-use Rattle.seize_words.specs.Book.{after, blocks, mine, passes, rules, kinds}
-use Rattle.seize_words.specs.Fair.{Before, Fair, IsLabel, pass_key}
+use Rattle.seize_words.specs.Book.{after, blocks, mine, passes, rules, kinds, slots}
+use Rattle.seize_words.specs.Fair.{Before, Fair, HasPlace, IsLabel, pass_key}
 use Rattle.seize_words.specs.Laws.{ended}
-use Rattle.seize_words.specs.Tokens.{Name, rows, start, keys_own, rights_own, all_lead, over, beside, inside, IsSole, gate_keeps, gate_gives, pass_at, pass_holds, Noted}
+use Rattle.seize_words.specs.Tokens.{Name, rows, start, keys_own, rights_own, found, over, beside, inside, IsSole, gate_keeps, gate_gives, pass_at, pass_holds, Noted}
 use Rattle.seize_words.proofs.Append.{appends, Appended}
-use Rattle.seize_words.proofs.Goes.{chained_push, goes, kept_now, births_of, births_below, births_free}
+use Rattle.seize_words.proofs.Goes.{chained_push, goes, kept_now, births_of, births_below, births_free, slots_after}
 use Rattle.seize_words.proofs.Gates.{agrees, follows}
 use Rattle.seize_words.proofs.Lists.{after_push, legal_push, selected_in}
 use Rattle.seize_words.proofs.Sound.{sound_push}
-use Rattle.seize_words.proofs.Ways.{Among, all_more, keys_apart, keys_whole, ways, ways_born, ways_renewed, ways_twice}
+use Rattle.seize_words.proofs.Ways.{Among, MorePlaced, found_more, keys_apart, keys_whole, paths, ways, ways_born, ways_renewed, ways_tell}
 
 module _ {M : Type 1} {𝓤 : Ura M} (𝓛 : Logic 𝓤) (n : Name) where
   abbrev Pr : Type 2
@@ -129,28 +129,29 @@ module _ {M : Type 1} {𝓤 : Ura M} (𝓛 : Logic 𝓤) (n : Name) where
 
       tells_all : Tells p seen held Told X → (log : List Entry) → Known (rules st) all seen log → ⟦ beside n log ⟧ ∗ (⟦ gives seen ⟧ ∗ ⟦ its_ways ⟧ ∗ X) ⊢ guard 𝓤 (ToldAll log) (⟦ beside n log ⟧ ∗ (⟦ gives seen ⟧ ∗ ⟦ its_ways ⟧ ∗ X))
       tells_all tells log known = qed 𝓛 (‵ (beside n log) ∷ (‵ (gives seen) ⊛ ‵ its_ways ⊛ raw X) ∷ []) ∵ fsplit ! $ move ! (1 ∷ []) $ fsplit ! $ move ! (3 ∷ []) $ split3 ! $
-          -- [the pass's copy; the ways; X; the book's copy; where all lead; what has ended]
+          -- [the pass's copy; the ways; X; the book's copy; where all is found; what has ended]
           move ! (3 ∷ 0 ∷ []) $ use2 𝓛 (given (IsSole n.gate → log ≡ seen) (‵ (keeps log) ⊛ ‵ (gives seen))) (agrees 𝓛 n.gate log seen) $ learn ! (λ alone. split ! $
-          -- [the book's copy; the pass's; the ways; X; where all lead; what has ended]
+          -- [the book's copy; the pass's; the ways; X; where all is found; what has ended]
           move ! (5 ∷ 3 ∷ []) $ use2 𝓛 (given (Told log) (‵ (over (ended log)) ⊛ raw X)) (tells log (before log known alone)) $ learn ! (λ told. split ! $
-          -- [what has ended; X; the book's copy; the pass's; the ways; where all lead]
+          -- [what has ended; X; the book's copy; the pass's; the ways; where all is found]
           check ! (alone, told) $ move ! (2 ∷ 5 ∷ []) $ fjoin ! $ move ! (1 ∷ 0 ∷ []) $ fjoin ! $ move ! (3 ∷ 1 ∷ []) $ join ! $ move ! (2 ∷ 0 ∷ []) $ join ! $ move ! (1 ∷ []) $ done !))
 
-      -- each value that is named by then was named, or is one of these
+      -- each value that is named by then was named, or is one of these; and the head of a slot that is made lies where its key says
       abbrev Names : (List Entry → Type 0) → Type 0
-      Names So = (log : List Entry) → Before n p seen held log → So log → Among 𝓛 n (after st log).named held (after st (now log)).named
+      Names So = (log : List Entry) → Before n p seen held log → So log
+          → Among 𝓛 n (after st log).named held (after st (now log)).named × MorePlaced 𝓛 n (length (after st log).slots) held (length (after st (now log)).slots)
 
       trades_all : Names Told → Trades p seen held ev Told X Y → (log : List Entry) → Known (rules st) all seen log → ToldAll log → ⟦ beside n log ⟧ ∗ (⟦ gives seen ⟧ ∗ ⟦ its_ways ⟧ ∗ X) ⊢ upd 𝓤 (⟦ beside n (now log) ⟧ ∗ (⟦ gives (now log) ⟧ ∗ ⟦ its_ways ⟧ ∗ Y log))
       trades_all names trades log known told = let Z : Pr = ⟦ beside n (now log) ⟧ ∗ (⟦ gives (now log) ⟧ ∗ ⟦ its_ways ⟧ ∗ Y log) in
           qed 𝓛 (‵ (beside n log) ∷ (‵ (gives seen) ⊛ ‵ its_ways ⊛ raw X) ∷ []) ∵ fsplit ! $ move ! (1 ∷ []) $ fsplit ! $ move ! (3 ∷ []) $ split3 ! $
-          -- [the pass's copy; the ways; X; the book's copy; where all lead; what has ended]
-          move ! (1 ∷ []) $ use1 𝓛 (‵ its_ways ⊛ ‵ its_ways) (ways_twice 𝓛 n held) $ split ! $
-          move ! (5 ∷ 0 ∷ []) $ use2 𝓛 (‵ (all_lead n (after st (now log)).named)) (all_more 𝓛 n (after st log).named held (after st (now log)).named (names log (before log known told.0) told.1)) $
-          -- [where all lead then; the ways; the pass's copy; X; the book's copy; what has ended]
+          -- [the pass's copy; the ways; X; the book's copy; where all is found; what has ended]
+          move ! (1 ∷ []) $ use1 𝓛 (‵ (paths 𝓛 n held) ⊛ ‵ its_ways) (ways_tell 𝓛 n held) $ split ! $
+          move ! (5 ∷ 0 ∷ []) $ let new = names log (before log known told.0) told.1 in use2 𝓛 (‵ (found n (after st (now log)))) (found_more 𝓛 n (after st log) (after st (now log)) held new.0 new.1) $
+          -- [where all is found then; the ways; the pass's copy; X; the book's copy; what has ended]
           move ! (4 ∷ 2 ∷ []) $ use2 𝓛 (raw (upd 𝓤 (⟦ keeps (now log) ⟧ ∗ ⟦ gives (now log) ⟧))) (follows 𝓛 n.gate log seen (now log) (ev log ∷ [], refl) told.0) $ settle 𝓛 Z (‵ (keeps (now log)) ⊛ ‵ (gives (now log))) $ split ! $
-          -- [the book's copy; the pass's; where all lead then; the ways; X; what has ended]
+          -- [the book's copy; the pass's; where all is found then; the ways; X; what has ended]
           move ! (5 ∷ 4 ∷ []) $ use2 𝓛 (raw (upd 𝓤 (⟦ over (ended (now log)) ⟧ ∗ Y log))) (trades log (before log known told.0) told.1) $ settle 𝓛 Z (‵ (over (ended (now log))) ⊛ raw (Y log)) $ split ! $
-          -- [what has ended then; Y; the book's copy; the pass's; where all lead then; the ways]
+          -- [what has ended then; Y; the book's copy; the pass's; where all is found then; the ways]
           suffices ! _ (upd_i 𝓤 Z) $ move ! (2 ∷ 4 ∷ []) $ fjoin ! $ move ! (1 ∷ 0 ∷ []) $ fjoin ! $ move ! (3 ∷ 1 ∷ []) $ join ! $ move ! (2 ∷ 0 ∷ []) $ join ! $ move ! (1 ∷ []) $ done !
 
     pub by_pass : IsDistinct → WithKinds kinds held → MayMake p seen held ev Told → Tells p seen held Told X → Trades p seen held ev Told X Y
@@ -187,7 +188,13 @@ module _ {M : Type 1} {𝓤 : Ura M} (𝓛 : Logic 𝓤) (n : Name) where
         past_pass own v (inl is) = absurd (let e : passes ≡ blocks = is.0 in omega (arith, e))
         past_pass own v (inr is) = is
 
+        past_place : (own : List Entry) (s : ℕ) → HasPlace (pass_key p own ∷ held) s → HasPlace held s
+        past_place own s (inl is) = absurd (let e : passes ≡ slots = is.0 in omega (arith, e))
+        past_place own s (inr is) = is
+
         names : (own : List Entry) (past : IsPrefix own seen × (mine st p own ≡ mine st p seen)) → MayMake p seen held ev Told → Names own past Told
-        names own past may log b told v named =
-            let f = (may own log b told).0 in let e : after st (now own past log) ≡ f.done.0 = after_push st log (ev log) f.done b.legal f.legal in
-            ⊎_elim (λ was. inl was) (λ is. inr (past_pass own v is)) (f.labels v (subst (λ (z : State). has v z.named ≡ true) e named))
+        names own past may log b told =
+            let f = (may own log b told).0 in let e : after st (now own past log) ≡ f.done.0 = after_push st log (ev log) f.done b.legal f.legal in (
+              λ v named. ⊎_elim (λ was. inl was) (λ is. inr (past_pass own v is)) (f.labels v (subst (λ (z : State). has v z.named ≡ true) e named)),
+              ⊎_elim (λ same. inl same) (λ more. inr (more.1, past_place own (length (after st log).slots) (f.places more.0))) (slots_after st log (ev log) f.done b.legal f.legal),
+            )

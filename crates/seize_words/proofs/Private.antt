@@ -11,8 +11,8 @@ use Rattle.seize_words.specs.Ledger.{Held, AllKept, WithKinds, renewed, born}
 use Rattle.seize_words.specs.Blocks.{plans}
 use Rattle.seize_words.specs.Chains.{told}
 use Rattle.seize_words.specs.Entry.{Entry, Made, Deed}
-use Rattle.seize_words.specs.Book.{after, births, makes_slot, TheSlot, Kept, kinds, rules, slots}
-use Rattle.seize_words.specs.Fair.{Added, Before, Covers, Fair, EndsNone, StartsNone, MayAdd, pass_key}
+use Rattle.seize_words.specs.Book.{after, births, makes_slot, TheSlot, TheTotal, Kept, kinds, rules, slots, touches}
+use Rattle.seize_words.specs.Fair.{Added, Before, Covers, Fair, MakesPlaced, EndsNone, StartsNone, MayAdd, pass_key}
 use Rattle.seize_words.specs.Others.{MakesNone}
 use Rattle.seize_words.specs.Private.{IsOwn, IsOpen, is_one, key_of, label_of, own_of}
 use Rattle.seize_words.specs.Tokens.{Name, start}
@@ -66,6 +66,10 @@ pub makes_none : (st : State) (event : Event) → changes_used event ≡ false �
 makes_none st (Event.Take s) h = absurd (cc)
 makes_none st _ h = refl
 
+-- an entry that makes none needs no place
+pub no_place : (st : State) (held : List (Held Entry)) (e : Entry) → touches st e TheTotal 0 ≡ false → MakesPlaced st held e
+no_place st held e none makes = absurd (let x : true ≡ false = sym makes ∙ none in cc)
+
 covers : (st : State) (log : List Entry) (e : Deed) (p s : ℕ) (mine own : List Entry) → e.pass ≡ p → IsOwn s e.event
     → Covers st (pass_key p mine ∷ record { kind = slots; key = s; own = own; label = 0 } ∷ []) log (Made e)
 covers st log e p s mine own pe private zero k b there = differ e.pass k (λ i. b.0 (refl, i ∙ pe))
@@ -111,6 +115,7 @@ may_add n p seen held e one pe private open_ = subst (λ (hs : List (Held Entry)
           one = none_named e.size (after (start n) log) e.event d.0 (step_of _ _ _ _ d.1) (λ j. (private.3 (after (start n) log) j).1);
           leads = unled (after (start n) log) (plans (start n) log) (told log) e.event (λ j. (private.2 j).0);
           labels = no_labels (pass_key p mine ∷ only slots held) e.size (after (start n) log) e.event d.0 (step_of _ _ _ _ d.1) (λ j. (private.3 (after (start n) log) j).1);
+          places = no_place (after (start n) log) (pass_key p mine ∷ only slots held) (Made e) (makes_none (after (start n) log) e.event private.1);
         }
 
 -- A slot's key, and others after it.

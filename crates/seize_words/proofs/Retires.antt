@@ -76,6 +76,7 @@ may_retire n p size seen a b one one' home idle may =
           names = λ many was there. (there.0, (λ k le. refl), (λ k le. later (home_of v) k (many blocks) (subst (λ (z : ℕ). z < many blocks) home there.1.1.0) le), λ f le. refl);
           leads = tt;
           labels = λ u named. ⊎_elim (λ is. inr (inr (inr (inl (refl, sym is))))) (λ was. inl was) (added v st.named u named);
+          places = λ makes. absurd (cc);
           one = ⊎_elim (λ h. new_named size st (Begin s (Retire v)) d v step (added v st.named)
               (subst (IsVacant st) home (vacant_later (start n) (own_of b) log (key_of b) before.legal before.kept.1.0 (subst (IsVacant (after (start n) (own_of b))) (sym home) h.1))))
               (λ h. old_named size st (Begin s (Retire v)) d step (λ u is. ⊎_elim (λ e. subst (λ (w : ℕ). has w st.named ≡ true) (sym e) (sym value.0 ∙ h.0)) (λ i. i) (added v st.named u is))) may;

@@ -1,13 +1,20 @@
 -- What the tokens own may go to another thread.
-use Rattle.std.proofs.Common.{ℕ, suc, Bool, true, false, ◌==◌, List, [], ◌∷◌, Option, Some, None}
+use Rattle.std.proofs.Common.{ℕ, zero, suc, Bool, true, false, ◌==◌, List, [], ◌∷◌, length, Option, Some, None}
 use base.Growing.{latest, at_least}
+use base.Fml.{Lft}
 use base.Shift.{Keyless}
 use types.Keyed.{entry_keyless, entries_keyless}
+use Rattle.seize_table.specs.Filled.{all_from}
 use Rattle.seize_words.specs.Ledger.{Held, halved, roster, rosters, first, rest}
 use Rattle.seize_words.specs.Entry.{Entry, entry_coded}
 use Rattle.seize_words.specs.Book.{after, blocks}
+use Rattle.seize_content.specs.Stages.{lent}
+use Rattle.seize_content.proofs.Sends.{ticket_sent, lent_sent, sight_sent}
+use Rattle.seize_machine.specs.Machine.State.{State}
+use Rattle.seize_words.specs.Glimpses.{glimpse, sight_if}
 use Rattle.seize_words.specs.Laws.{ended}
-use Rattle.seize_words.specs.Tokens.{Name, rows, start, inside, over, Gate, many, sole, gate_keeps, gate_gives, leads_in, all_lead, way_if, rights_own, keys_own, pass_owns}
+use Rattle.seize_words.specs.Loans.{loan_if, loan_of, readers}
+use Rattle.seize_words.specs.Tokens.{Name, rows, start, inside, over, Gate, many, sole, gate_keeps, gate_gives, leads_in, all_lead, lies_in, all_lie_in, lies_if, is_placed, slot_labels, way_if, rights_own, keys_own, pass_owns}
 use Rattle.seize_words.specs.Begin.{book_owns}
 
 roster_keyless : (δ k : ℕ) (owns : List (List Entry)) → Keyless (roster entry_coded δ k owns)
@@ -40,13 +47,46 @@ leads_keyless : (n : Name) (vs : List ℕ) → Keyless (all_lead n vs)
 leads_keyless n [] = tt
 leads_keyless n (v ∷ vs) = (lead_keyless n.store _ _, leads_keyless n vs)
 
+readers_keyless : (st : State) (η v : ℕ) (ds : List (Lft × ℕ)) → Keyless (readers st η v ds)
+unfolding at_least
+readers_keyless st η v [] = tt
+readers_keyless st η v (d ∷ ds) = ((λ t. ((λ _. tt), tt)), readers_keyless st η v ds)
+
+loan_keyless : (k : ℕ) (st : State) (η v : ℕ) → Keyless (loan_if k st η v)
+loan_keyless zero st η v = tt
+loan_keyless (suc k) st η v = λ l. ((λ _. tt), (ticket_sent l.content (lent l.life l.code), (lent_sent l.content l.life l.code l.readers, readers_keyless st η v l.readers)))
+
 way_keyless : (b : Bool) (n : Name) (v : ℕ) → Keyless (way_if b n v)
-way_keyless true n v = lead_keyless n.store _ _
+way_keyless true n v = (lead_keyless n.store _ _, loan_keyless (loan_of v) (start n) n.log v)
 way_keyless false n v = tt
+
+lies_keyless : (table : Option (List ℕ)) (s label : ℕ) → Keyless (lies_in table s label)
+lies_keyless None s label = tt
+lies_keyless (Some table) s label = λ way. (tt, tt)
+
+filled_keyless : (table : List ℕ) (from : ℕ) (labels : List ℕ) → Keyless (all_from table from labels)
+filled_keyless table from [] = tt
+filled_keyless table from (label ∷ labels) = ((λ way. (tt, tt)), filled_keyless table (suc from) labels)
+
+all_lie_keyless : (table : Option (List ℕ)) (labels : List ℕ) → Keyless (all_lie_in table labels)
+all_lie_keyless None labels = tt
+all_lie_keyless (Some table) labels = filled_keyless table 0 labels
+
+lies_if_keyless : (b : Bool) (n : Name) (s : ℕ) → Keyless (lies_if b n s)
+lies_if_keyless true n s = lies_keyless n.table s _
+lies_if_keyless false n s = tt
 
 inside_keyless : (n : Name) → Keyless (inside n)
 unfolding latest
-inside_keyless n = λ s. (rosters_keyless (rows n) s.0, (tt, ((over_keyless (ended s.1), (keeps_keyless n.gate s.1, leads_keyless n (after (start n) s.1).named)), (λ _. tt))))
+inside_keyless n = λ s. (rosters_keyless (rows n) s.0, (tt, ((over_keyless (ended s.1), (keeps_keyless n.gate s.1, (leads_keyless n (after (start n) s.1).named, all_lie_keyless n.table (slot_labels n (length (after (start n) s.1).slots))))), (λ _. tt))))
+
+sight_keyless : (k : ℕ) (κ : Lft) (v : ℕ) → Keyless (sight_if k κ v)
+sight_keyless zero κ v = tt
+sight_keyless (suc k) κ v = λ t. ((λ _. tt), sight_sent κ t.0 t.1.0 t.1.1)
+
+pub glimpse_keyless : (κ : Lft) (o : Option ℕ) → Keyless (glimpse κ o)
+glimpse_keyless κ None = tt
+glimpse_keyless κ (Some v) = sight_keyless (loan_of v) κ v
 
 pub book_keyless : (n : Name) (seen : List Entry) → Keyless (book_owns n seen)
 unfolding at_least
@@ -58,7 +98,7 @@ pass_keyless n p seen = ((inside_keyless n, (tt, λ _. tt)), λ own. (entry_keyl
 
 pub keys_keyless : (n : Name) (held : List (Held Entry)) → Keyless (keys_own n held)
 keys_keyless n [] = tt
-keys_keyless n (h ∷ held) = ((entry_keyless (halved entry_coded) _ h.key _, way_keyless (h.kind == blocks) n h.label), keys_keyless n held)
+keys_keyless n (h ∷ held) = ((entry_keyless (halved entry_coded) _ h.key _, (way_keyless (h.kind == blocks) n h.label, lies_if_keyless (is_placed h) n h.key)), keys_keyless n held)
 
 pub rights_keyless : (n : Name) (held : List (Held Entry)) → Keyless (rights_own n held)
 rights_keyless n [] = tt

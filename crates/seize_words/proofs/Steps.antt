@@ -4,9 +4,9 @@ use Rattle.std.proofs.Common.{◌≡◌, ℕ, zero, suc, ◌<◌, Bool, true, fa
 use Rattle.std.specs.Prelude.{drop as past}
 use seplogic.Ra.Ura.{Ura}
 use base.Logic.{SProp, ent, sep, ex, guard, upd, upd_i}
-use base.Fml.{Lft, Share, Fml, ftrue, fsep, fex, flft, fbor}
+use base.Fml.{Lft, Share, Fml, ftrue, fsep, fex, flft, fbor, fnamed}
 use types.Logic.{Logic, sem}
-use types.Kit.{‵, raw, ◌⊛◌, some, given, ◌$◌, ◌∵◌, !, qed, by, move, keep, drop, split, split3, join, fsplit, fjoin, fpick, fpack, pick, learn, show, check, frame, each, assume, suffices, settle, done, rewrite, use1, use2, use3}
+use types.Kit.{‵, raw, ◌⊛◌, some, given, ◌$◌, ◌∵◌, !, qed, by, move, keep, drop, split, split3, group, join, fsplit, fjoin, fpick, fpack, pick, learn, show, check, frame, each, assume, suffices, settle, done, rewrite, use1, use2, use3}
 use denote.RawPtr.{block_ptr}
 use denote.Steps.{nothing}
 use Rattle.core.specs.Sync.RawAtomic.{word, asks, always}
@@ -132,14 +132,42 @@ module _ {M : Type 1} {𝓤 : Ura M} (𝓛 : Logic 𝓤) (site : Site) where
   bears held (b ∷ births) log = keys_joined 𝓛 n held (born (b ∷ births) log)
 
   module _ (births : List (ℕ × ℕ)) (p : ℕ) (seen : List Entry) (held : List (Held Entry)) (alive lives : List ℕ) (r : Share) (f : ℕ → ℕ) (entry : ℕ → List Entry → Entry) (trades : ℕ → Bool) where
+    abbrev pub log_then : ℕ → List Entry → List Entry
+    log_then v log = log ++ entry v log ∷ []
+
+    -- the list and the holder's keys after a step that found v
+    abbrev pub had_then : ℕ → At → List Entry → At
+    had_then v t log = (log_then v log, with_births (renewed (held_then (kind_of site.kind) (trades v) t.1 held) (log_then v log)) births (log_then v log))
+
+    -- and the keys that stand beside the word's own
+    abbrev pub left_then : ℕ → At → List Entry → List (Held Entry)
+    left_then v t log = renewed (beside_then (kind_of site.kind) (trades v) t.1 held) (log_then v log)
+
     -- what is had after a step that found v: the list is `t.0`, and the holder's keys are `t.1`
-    abbrev pub heard : ℕ → At → Fml
-    heard v t = fsep (fact (SteppedWith births site p seen t.0 held t.1 alive v (f v) entry trades)) (fsep (pass_holds n p t.0) (fsep (keys t.1) (living 𝓛 alive r)))
+    abbrev pub heard_with : (ℕ → At → Fml) → ℕ → At → Fml
+    heard_with out v t = fsep (fact (SteppedWith births site p seen t.0 held t.1 alive v (f v) entry trades)) (fsep (pass_holds n p t.0) (fsep (keys t.1) (out v t)))
+
+    abbrev pub after_with : (ℕ → At → Fml) → ℕ → Fml
+    after_with out v = fex At (heard_with out v)
+
+    -- what else is brought is traded in the step, for what may be had of the keys beside the word
+    abbrev pub Takes : Pr → (ℕ → At → Fml) → Type 1
+    Takes X out =
+        (v : ℕ) (t : At) (log : List Entry) → FoundAs site v p seen held alive t log → SteppedWith births site p seen (log_then v log) held (had_then v t log).1 alive v (f v) entry trades → Stands site (log_then v log) (left_then v t log)
+        → ⟦ pass_holds n p (log_then v log) ⟧ ∗ ⟦ keys (left_then v t log) ⟧ ∗ ⟦ living 𝓛 alive r ⟧ ∗ X ⊢ upd 𝓤 (⟦ pass_holds n p (log_then v log) ⟧ ∗ ⟦ keys (left_then v t log) ⟧ ∗ ⟦ out v (had_then v t log) ⟧)
+
+    abbrev tokens : ℕ → At → Fml
+    tokens v t = living 𝓛 alive r
 
     abbrev pub after_step : ℕ → Fml
-    after_step v = fex At (heard v)
+    after_step = after_with tokens
 
-    module _ (distinct : IsDistinct 𝓛 n) (may : MayStepWith births site p seen held alive lives f entry trades) (v : ℕ) (t : At) (so : Shows site v t.0 × Stands site t.0 t.1) where
+    -- nothing else is brought
+    takes_none : Takes ⟦ ftrue ⟧ tokens
+    takes_none v t log found stepped stands = let Z : Pr = ⟦ pass_holds n p (log_then v log) ⟧ ∗ ⟦ keys (left_then v t log) ⟧ ∗ ⟦ living 𝓛 alive r ⟧ in
+        qed 𝓛 (‵ (pass_holds n p (log_then v log)) ∷ ‵ (keys (left_then v t log)) ∷ ‵ (living 𝓛 alive r) ∷ ‵ ftrue ∷ []) ∵ suffices ! _ (upd_i 𝓤 Z) $ keep ! (0 ∷ 1 ∷ 2 ∷ []) $ done !
+
+    module _ (X : Pr) (out : ℕ → At → Fml) (takes : Takes X out) (distinct : IsDistinct 𝓛 n) (may : MayStepWith births site p seen held alive lives f entry trades) (v : ℕ) (t : At) (so : Shows site v t.0 × Stands site t.0 t.1) where
       abbrev all : List (Held Entry)
       all = in_step site held t
 
@@ -167,51 +195,61 @@ module _ {M : Type 1} {𝓤 : Ura M} (𝓛 : Logic 𝓤) (site : Site) where
           use2 𝓛 (‵ (over (ended (log ++ ev log ∷ [])))) (ends_those 𝓛 log (ev log) lives (step log log before none).ends) $ suffices ! _ (upd_i 𝓤 Z) $ done !
 
       abbrev now : List Entry → List Entry
-      now log = log ++ ev log ∷ []
+      now log = log_then v log
 
       abbrev had : List Entry → At
-      had log = (now log, with_births (renewed (held_then (kind_of site.kind) (trades v) t.1 held) (now log)) births (now log))
+      had log = had_then v t log
 
       stepped : (log : List Entry) → Made 𝓛 n p seen all ev told log → SteppedWith births site p seen (now log) held (had log).1 alive v (f v) entry trades
       stepped log made = record { log = log; noted = made.0; is_log = made.1; since = t; found = found log made.2 made.3; left = (step log log made.2 made.3).shows; keys = refl }
 
       -- with the word's memory at hand: the event is added, and the word stands for what the list says then
-      adds : (b o : ℕ) → ⟦ word b o (f v) ⟧ ∗ ⟦ J ⟧ ∗ ⟦ pass_holds n p seen ⟧ ∗ ⟦ keys all ⟧ ∗ (⟦ over lives ⟧ ∗ ⟦ living 𝓛 alive r ⟧) ⊢ upd 𝓤 (⟦ word_reading site b o ⟧ ∗ ⟦ J ⟧ ∗ ⟦ after_step v ⟧)
-      adds b o = let Z : Pr = ⟦ word_reading site b o ⟧ ∗ ⟦ J ⟧ ∗ ⟦ after_step v ⟧ in
-          qed 𝓛 (‵ (word b o (f v)) ∷ ‵ J ∷ ‵ (pass_holds n p seen) ∷ ‵ (keys all) ∷ (‵ (over lives) ⊛ ‵ (living 𝓛 alive r)) ∷ []) ∵ move ! (3 ∷ 4 ∷ []) $ join ! $ move ! (2 ∷ 3 ∷ 0 ∷ []) $
+      adds : (b o : ℕ) → ⟦ word b o (f v) ⟧ ∗ ⟦ J ⟧ ∗ ⟦ pass_holds n p seen ⟧ ∗ ⟦ keys all ⟧ ∗ (⟦ over lives ⟧ ∗ ⟦ living 𝓛 alive r ⟧) ∗ X ⊢ upd 𝓤 (⟦ word_reading site b o ⟧ ∗ ⟦ J ⟧ ∗ ⟦ after_with out v ⟧)
+      adds b o = let Z : Pr = ⟦ word_reading site b o ⟧ ∗ ⟦ J ⟧ ∗ ⟦ after_with out v ⟧ in
+          qed 𝓛 (‵ (word b o (f v)) ∷ ‵ J ∷ ‵ (pass_holds n p seen) ∷ ‵ (keys all) ∷ (‵ (over lives) ⊛ ‵ (living 𝓛 alive r)) ∷ raw X ∷ []) ∵ move ! (3 ∷ 4 ∷ []) $ join ! $ move ! (2 ∷ 3 ∷ 0 ∷ []) $
           use3 𝓛 (raw (upd 𝓤 (ex 𝓤 (λ log. guard 𝓤 (Made 𝓛 n p seen all ev told log) (⟦ J ⟧ ∗ ⟦ pass_holds n p (now log) ⟧ ∗ ⟦ keys_after 𝓛 n all ev log ⟧ ∗ ⟦ living 𝓛 alive r ⟧)))))
           (by_pass 𝓛 n p seen all ev told (⟦ over lives ⟧ ∗ ⟦ living 𝓛 alive r ⟧) (λ _. ⟦ living 𝓛 alive r ⟧) distinct within (λ own log before none. ((step own log before none).fair, (step own log before none).its)) tells ends) $
           settle 𝓛 Z (some (λ (log : List Entry). given (Made 𝓛 n p seen all ev told log) (‵ J ⊛ ‵ (pass_holds n p (now log)) ⊛ ‵ (keys_after 𝓛 n all ev log) ⊛ ‵ (living 𝓛 alive r)))) $
-          suffices ! _ (upd_i 𝓤 Z) $ pick ! (λ log. learn ! (λ made. let is = step log log made.2 made.3 in let log' : List Entry = now log in
+          pick ! (λ log. learn ! (λ made. let is = step log log made.2 made.3 in let log' : List Entry = now log in let left : List (Held Entry) = left_then v t log in
           split ! $ move ! (1 ∷ []) $ split3 ! $
-          -- [the pass; the keys; the tokens; J; the word]
+          -- [the pass; the keys; the tokens; J; the word; what else is brought]
           move ! (1 ∷ []) $ rewrite ! 0 (λ (bs : List (ℕ × ℕ)). ‵ (keys (renewed all log' ++ born bs log'))) is.bears refl $ use1 𝓛 (‵ (keys (renewed all log')) ⊛ ‵ (keys (born births log'))) (keys_parted 𝓛 n (renewed all log') (born births log')) $ split ! $
           fsplit ! $ move ! (1 ∷ []) $ let then_ : List (Held Entry) = renewed (held_then (kind_of site.kind) (trades v) t.1 held) log' in
-          use1 𝓛 (‵ (keys (renewed (beside_then (kind_of site.kind) (trades v) t.1 held) log')) ⊛ ‵ (keys then_)) (trade (kind_of site.kind) (trades v) t.1 held log') $ split ! $
-          -- [the keys beside the word; the holder's; the word's own; those that were made; the pass; the tokens; J; the word]
+          use1 𝓛 (‵ (keys left) ⊛ ‵ (keys then_)) (trade (kind_of site.kind) (trades v) t.1 held log') $ split ! $
+          -- [the keys beside the word; the holder's; the word's own; those that were made; the pass; the tokens; J; the word; what else is brought]
+          move ! (4 ∷ 0 ∷ 5 ∷ 8 ∷ []) $ group ! 4 $ use1 𝓛 (raw (upd 𝓤 (⟦ pass_holds n p log' ⟧ ∗ ⟦ keys left ⟧ ∗ ⟦ out v (had log) ⟧))) (takes v t log (found log made.2 made.3) (stepped log made) is.stands) $
+          settle 𝓛 Z (‵ (pass_holds n p log') ⊛ ‵ (keys left) ⊛ ‵ (out v (had log))) $ suffices ! _ (upd_i 𝓤 Z) $ split3 ! $ move ! (1 ∷ 3 ∷ 4 ∷ 5 ∷ 0 ∷ 2 ∷ []) $
+          -- [the keys beside the word; the holder's; the word's own; those that were made; the pass; what was taken; J; the word]
           move ! (1 ∷ 3 ∷ []) $ use2 𝓛 (‵ (keys (had log).1)) (bears then_ births log') $ move ! (1 ∷ 0 ∷ []) $
-          -- [the keys beside the word; the holder's; the word's own; the pass; the tokens; J; the word]
-          move ! (2 ∷ 0 ∷ []) $ fjoin ! $ nothing ! $ fpack ! (Shows site (f v) log' × Stands site log' (renewed (beside_then (kind_of site.kind) (trades v) t.1 held) log')) (λ _. ftrue) (is.shows, is.stands) $ move ! (0 ∷ 1 ∷ []) $ fjoin ! $
-          fpack ! At (word_knows site (f v)) (log', renewed (beside_then (kind_of site.kind) (trades v) t.1 held) log') $ move ! (5 ∷ 0 ∷ []) $ fjoin ! $ fpack ! ℕ (word_lies site b o) (f v) $ frame ! $
-          -- [the holder's keys; the pass; the tokens; J]
+          -- [the keys beside the word; the holder's; the word's own; the pass; what was taken; J; the word]
+          move ! (2 ∷ 0 ∷ []) $ fjoin ! $ nothing ! $ fpack ! (Shows site (f v) log' × Stands site log' left) (λ _. ftrue) (is.shows, is.stands) $ move ! (0 ∷ 1 ∷ []) $ fjoin ! $
+          fpack ! At (word_knows site (f v)) (log', left) $ move ! (5 ∷ 0 ∷ []) $ fjoin ! $ fpack ! ℕ (word_lies site b o) (f v) $ frame ! $
+          -- [the holder's keys; the pass; what was taken; J]
           move ! (3 ∷ []) $ frame ! $ move ! (0 ∷ 2 ∷ []) $ fjoin ! $ move ! (1 ∷ 0 ∷ []) $ fjoin ! $ nothing ! $ fpack ! (SteppedWith births site p seen log' held (had log).1 alive v (f v) entry trades) (λ _. ftrue) (stepped log made) $ move ! (0 ∷ 1 ∷ []) $ fjoin ! $
-          fpack ! At (heard v) (had log) $ keep ! (0 ∷ []) $ done !))
+          fpack ! At (heard_with out v) (had log) $ keep ! (0 ∷ []) $ done !))
 
     -- what a holder brings
     abbrev pub brings : Pr
     brings = ⟦ pass_holds n p seen ⟧ ∗ ⟦ keys held ⟧ ∗ (⟦ over lives ⟧ ∗ ⟦ living 𝓛 alive r ⟧)
 
-    pub steps : (b o i : ℕ) (κ : Lft) (q : Share) → ¬ (n.number ≡ i) → IsDistinct 𝓛 n → MayStepWith births site p seen held alive lives f entry trades
-        → A.named i (fbor κ (word_reading site b o)) ∗ A.named n.number J ∗ A.lft κ q ∗ brings ⊢ asks 𝓛 (block_ptr b o) f always (λ v. fsep (flft κ q) (after_step v))
-    steps b o i κ q apart distinct may = let I : Fml = word_reading site b o in let G : Pr = ex 𝓤 (LiesWith 𝓛 κ q I b o f always after_step J) in
-        borrowed_with 𝓛 κ q I b o f always after_step i n.number J apart brings (qed 𝓛 (‵ I ∷ ‵ J ∷ ‵ (pass_holds n p seen) ∷ ‵ (keys held) ∷ (‵ (over lives) ⊛ ‵ (living 𝓛 alive r)) ∷ []) ∵ suffices ! _ (upd_i 𝓤 G) $
-        fpick ! (λ v. fsplit ! $ move ! (1 ∷ []) $ fpick ! (λ t. fsplit ! $ fpick ! (λ so. drop ! $
-        -- [the word's keys; the word; J; the pass; the holder's keys; what is over]
-        fsplit ! $ move ! (1 ∷ 5 ∷ []) $ use2 𝓛 (‵ (keys (t.1 ++ held))) (keys_joined 𝓛 n t.1 held) $ move ! (1 ∷ 0 ∷ []) $ fjoin ! $
-        -- [all keys; the word; J; the pass; what is over]
-        move ! (1 ∷ []) $ show ! (LiesWith 𝓛 κ q I b o f always after_step J) v $ frame ! $ each ! (λ (_ : Unit {0}). AgainWith 𝓛 κ q I b o f always after_step J v) (λ _. assume ! (‵ (word b o (f v))) $
-        -- [the word; all keys; J; the pass; what is over]
-        move ! (0 ∷ 2 ∷ 3 ∷ 1 ∷ 4 ∷ []) $ by ! (adds distinct may v t so b o))))))
+    module _ (b o i : ℕ) (κ : Lft) (q : Share) (apart : ¬ (n.number ≡ i)) (distinct : IsDistinct 𝓛 n) (may : MayStepWith births site p seen held alive lives f entry trades) where
+      pub steps_with : (X : Pr) (out : ℕ → At → Fml) → Takes X out
+          → A.named i (fbor κ (word_reading site b o)) ∗ A.named n.number J ∗ A.lft κ q ∗ (⟦ pass_holds n p seen ⟧ ∗ ⟦ keys held ⟧ ∗ (⟦ over lives ⟧ ∗ ⟦ living 𝓛 alive r ⟧) ∗ X) ⊢ asks 𝓛 (block_ptr b o) f always (λ v. fsep (flft κ q) (after_with out v))
+      steps_with X out takes = let I : Fml = word_reading site b o in let after : ℕ → Fml = after_with out in let G : Pr = ex 𝓤 (LiesWith 𝓛 κ q I b o f always after J) in
+          borrowed_with 𝓛 κ q I b o f always after i n.number J apart (⟦ pass_holds n p seen ⟧ ∗ ⟦ keys held ⟧ ∗ (⟦ over lives ⟧ ∗ ⟦ living 𝓛 alive r ⟧) ∗ X)
+          (qed 𝓛 (‵ I ∷ ‵ J ∷ ‵ (pass_holds n p seen) ∷ ‵ (keys held) ∷ (‵ (over lives) ⊛ ‵ (living 𝓛 alive r)) ∷ raw X ∷ []) ∵ suffices ! _ (upd_i 𝓤 G) $
+          fpick ! (λ v. fsplit ! $ move ! (1 ∷ []) $ fpick ! (λ t. fsplit ! $ fpick ! (λ so. drop ! $
+          -- [the word's keys; the word; J; the pass; the holder's keys; what is over; what else is brought]
+          fsplit ! $ move ! (1 ∷ 5 ∷ []) $ use2 𝓛 (‵ (keys (t.1 ++ held))) (keys_joined 𝓛 n t.1 held) $ move ! (1 ∷ 0 ∷ []) $ fjoin ! $
+          -- [all keys; the word; J; the pass; what is over; what else is brought]
+          move ! (1 ∷ []) $ show ! (LiesWith 𝓛 κ q I b o f always after J) v $ frame ! $ each ! (λ (_ : Unit {0}). AgainWith 𝓛 κ q I b o f always after J v) (λ _. assume ! (‵ (word b o (f v))) $
+          -- [the word; all keys; J; the pass; what is over; what else is brought]
+          move ! (0 ∷ 2 ∷ 3 ∷ 1 ∷ 4 ∷ 5 ∷ []) $ by ! (adds X out takes distinct may v t so b o))))))
+
+      pub steps : A.named i (fbor κ (word_reading site b o)) ∗ A.named n.number J ∗ A.lft κ q ∗ brings ⊢ asks 𝓛 (block_ptr b o) f always (λ v. fsep (flft κ q) (after_step v))
+      steps = qed 𝓛 (‵ (fnamed i (fbor κ (word_reading site b o))) ∷ ‵ (fnamed n.number J) ∷ ‵ (flft κ q) ∷ (‵ (pass_holds n p seen) ⊛ ‵ (keys held) ⊛ (‵ (over lives) ⊛ ‵ (living 𝓛 alive r))) ∷ []) ∵ move ! (3 ∷ []) $ split3 ! $
+          -- [the pass; the keys; what is over; the word; the book; the token]
+          nothing ! $ move ! (4 ∷ 5 ∷ 6 ∷ 1 ∷ 2 ∷ 3 ∷ 0 ∷ []) $ by ! (steps_with ⟦ ftrue ⟧ tokens takes_none)
 
   -- a look at the word and the list, which leaves both as they are
   module _ (p : ℕ) (seen : List Entry) (held : List (Held Entry)) where

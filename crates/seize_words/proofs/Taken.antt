@@ -12,6 +12,7 @@ use Rattle.seize_words.specs.Passes.{IsSame}
 use Rattle.seize_words.specs.Private.{is_one, key_of, label_of, own_of}
 use Rattle.seize_words.specs.Stepping.{FoundAs, MayStepWith, SteppedWith}
 use Rattle.seize_words.specs.Tokens.{Name, Noted, start}
+use Rattle.seize_words.specs.Tables.{IsPlaced}
 use Rattle.seize_words.specs.Totals.{MayMake, made_of}
 use Rattle.seize_words.specs.Words.{IsTotal, Site}
 use Rattle.seize_words.specs.declared.book.keys.Keys.{Keys}
@@ -39,7 +40,7 @@ abbrev pub AreBoth : Keys → NumbersKey → SlotKey → Type 0
 AreBoth both numbers_ key = (both.name ≡ numbers_.keys.name) × (both.held ≡ numbers_.keys.held ++ key.keys.held)
 
 module _ (word : Site) (numbers_ : NumbersKey) (key : SlotKey) (pass : Pass) (both : Keys) (total : IsTotal word)
-    (book : (key.keys.name ≡ pass.name) × (numbers_.keys.name ≡ pass.name) × (word.name ≡ pass.name)) (may : MayMake numbers_ key)
+    (book : (key.keys.name ≡ pass.name) × (numbers_.keys.name ≡ pass.name) × (word.name ≡ pass.name)) (may : MayMake numbers_ key) (placed : IsPlaced key)
     (joined : AreBoth both numbers_ key) where
   abbrev n : Name
   n = numbers_.keys.name
@@ -57,7 +58,7 @@ module _ (word : Site) (numbers_ : NumbersKey) (key : SlotKey) (pass : Pass) (bo
   event v log = Made (takes pass.id pass.name.size s)
 
   its : MayMakeIt n a b
-  its = record { one = numbers_.one; zero_is = numbers_.zero; slot = key.one; full = may.0.0; few = may.0.1; its = may.1 }
+  its = record { one = numbers_.one; zero_is = numbers_.zero; slot = key.one; full = may.0.0; few = may.0.1; its = may.1; placed = placed }
 
   is_word : word ≡ at_total n
   is_word = ap (λ (t : Name × (ℕ × ℕ)). record { name = t.0; kind = t.1.0; number = t.1.1 }) (λ j. ((book.2 ∙ sym book.1) j, (total.0 j, total.1 j)))

@@ -1,13 +1,20 @@
 -- A step of a walk from block to block: the block with which the next batch waited, and the first block of that batch, are those of values
 -- that were named, so their headers are found by their numbers.
-use Rattle.std.proofs.Common.{◌≡◌, ℕ, zero, suc, ◌+◌, ◌-◌, ◌<◌, ◌≤◌, true, List, [], ◌∷◌, length, Option, Some, sym, refl, ◌∙◌, ap, subst, ◌⊎◌, inl, inr, arith}
+use Rattle.std.proofs.Common.{◌≡◌, ℕ, zero, suc, ◌+◌, ◌-◌, ◌<◌, ◌≤◌, true, List, [], ◌∷◌, ◌++◌, length, Option, Some, append-nil, sym, refl, ◌∙◌, ap, subst, ◌⊎◌, inl, inr, arith}
 use Rattle.std.proofs.Math.Bool.{Bool-set}
 use Rattle.std.proofs.lemmas.Bool.{cases_lt}
+use Rattle.std.proofs.lemmas.List.{get_or-set_same, get_or_past}
 use Rattle.std.specs.List.{Contains}
 use Rattle.std.specs.Prelude.{slice_index_or}
 use mathlib.Core.List.{IsPrefix}
 use base.Growing.{prefix_trans}
-use Rattle.seize_machine.specs.Machine.State.{State, Call, are_distinct, has, linked}
+use Rattle.seize_machine.specs.Machine.State.{State, Call, Place, Rest, Slot, are_distinct, has, linked, no_slot, slot_at}
+use Rattle.seize_machine.specs.Machine.Event.{Hand}
+use Rattle.seize_machine.specs.Machine.Next.{are_fresh, next, set_slot}
+use Rattle.seize_machine.specs.declared.machine.event.Answer.{Answer}
+use Rattle.seize_machine.specs.declared.machine.event.Answer.TheVariants.{Handed}
+use Rattle.seize_machine.proofs.Facts.{Stands, Step, next_of, some_is, step_of}
+use Rattle.seize_words.specs.Adding.{private}
 use Rattle.seize_machine.specs.Machine.Laws.{Walks, walk_of}
 use Rattle.seize_words.specs.Blocks.{Plan, block_for, block_of, front_of, no_plan, plans}
 use Rattle.seize_words.specs.Book.{IsLegalList, after, slots}
@@ -16,19 +23,18 @@ use Rattle.seize_words.specs.declared.book.keys.Keys.{Keys}
 use Rattle.seize_words.specs.Chains.{first_field, served}
 use Rattle.seize_words.specs.Chunks.{IsHeaderOf, header_home}
 use Rattle.seize_words.specs.Counts.{home}
-use Rattle.seize_words.specs.Entry.{Entry}
+use Rattle.seize_words.specs.Entry.{Deed, Entry, Made}
 use Rattle.seize_words.specs.Headers.{IsFrontBlock, Passes}
-use Rattle.seize_words.specs.Homes.{home_of}
+use Rattle.seize_words.specs.Homes.{IsSound, home_of}
 use Rattle.seize_words.specs.Homesteads.{HasNumber, state_seen}
 use Rattle.seize_words.specs.Passes.{LooksOn}
-use Rattle.seize_words.specs.Slots.{IsOf, IsStill, number_of, own_list, start_of}
-use Rattle.seize_words.specs.Tokens.{Name, start}
+use Rattle.seize_words.specs.Slots.{IsOf, IsStill, Notes, NotesAs, number_of, own_list, size_of, slot_of, start_of}
+use Rattle.seize_words.specs.Tokens.{IsSole, Name, start}
 use Rattle.seize_words.specs.Walks.{IsAtBatch, Knows, word_for}
 use Rattle.seize_words.specs.declared.book.pass.Pass.{Pass}
 use Rattle.seize_words.specs.declared.book.slot_key.SlotKey.{SlotKey}
 use Rattle.seize_words.specs.declared.chunk.Header.{Header}
 use Rattle.seize_words.proofs.Chunked.{named_seen}
-use Rattle.seize_words.proofs.Facts.{looks_twice}
 use Rattle.seize_words.proofs.Finds.{IsLiving, front_living, walked_living}
 use Rattle.seize_words.proofs.Plans.{block_stays, legal_prefix}
 use Rattle.seize_words.proofs.Serves.{marked_after, slots_in, walks_marked}
@@ -47,6 +53,18 @@ pub front_shown : (key key' : SlotKey) → IsStill key key' → (f front : ℕ) 
 front_shown key key' still f front shows word at its =
     subst (λ (k : SlotKey). (w : Passes first_field f k) → IsFrontBlock k w.batch front) (same_key key key' still) shows
     (record { batch = at.batch; walk = at.walk; queue = at.queue; walking = at.walking; its = its })
+
+-- two looks are one
+pub looks_twice : (a b c : Pass) → LooksOn a b → LooksOn b c → LooksOn a c
+looks_twice a b c one two = record {
+  same = (two.same.0 ∙ one.same.0, two.same.1 ∙ one.same.1);
+  none_made = two.none_made ∙ one.none_made;
+  grows = prefix_trans a.seen b.seen c.seen one.grows two.grows;
+  alone = λ s. two.alone (subst (λ (n : Name). IsSole n.gate) (sym one.same.0) s) ∙ one.alone s;
+  legal = subst (λ (n : Name). IsLegalList (start n) c.seen) one.same.0 two.legal;
+  sound = subst (λ (n : Name). IsSound (after (start n) c.seen)) one.same.0 two.sound;
+  distinct = one.distinct;
+}
 
 -- three looks are one
 pub looks_thrice : (a b c d : Pass) → LooksOn a b → LooksOn b c → LooksOn c d → LooksOn a d
@@ -154,3 +172,60 @@ word_stays key key' pass batch (b ∷ walk) queue book knows name slot grows wal
     let there = walked_there key pass book knows b (walks b (zero, omega arith, refl)) in
     ap (λ (k : ℕ). k + 2) (block_stays (start_of key) (own_list key) (own_list key') b (number_of key) grows there
     ∙ ap (λ (t : Name × ℕ). block_for (start t.0) (own_list key') b t.1) (λ j. (sym name j, sym slot j)))
+
+-- A walk goes on after events of the slot that leave it as it is: after values were handed that a batch of it gave up.
+
+-- what the key knows after an event, the pass has seen
+pub knows_noted : (key key' : SlotKey) (pass pass' : Pass) (e : Deed) → NotesAs key pass key' pass' e → Knows key' pass'
+knows_noted key key' pass pass' e notes =
+    let noted = notes.2.0 in
+    record {
+      seen = subst (λ (own : List Entry). IsPrefix own pass'.seen) (sym notes.1.2) ([], append-nil pass'.seen);
+      legal = subst (λ (n : Name). IsLegalList (start n) pass'.seen) (sym notes.0.0) noted.legal;
+      distinct = subst (λ (n : Name). are_distinct (linked n.links) ≡ true) (sym notes.0.0) noted.distinct;
+    }
+
+-- the word of the walk is the same
+pub walk_kept : (key key' : SlotKey) (pass pass' : Pass) (e : Deed) (given walk queue : List ℕ) → IsOf key pass → Knows key pass → NotesAs key pass key' pass' e
+    → (slot_of key).call ≡ Some (record { place = Rest given walk; queue = queue }) → word_for key walk ≡ word_for key' walk
+walk_kept key key' pass pass' e given walk queue book knows notes stands =
+    let noted = notes.2.0 in
+    let grows : IsPrefix (own_list key) (own_list key') =
+    subst (IsPrefix (own_list key)) (sym notes.1.2) (prefix_trans (own_list key) noted.before pass'.seen notes.2.1.knew (Made e ∷ [], sym noted.appended)) in
+    word_stays key key' pass 0 walk queue book knows notes.1.0 notes.1.1 grows (λ b there. subst (λ (o : Option Call). Contains (walk_of o) b) (sym stands) there)
+
+-- a slot with a call is one of those made
+there : (st : State) (s : ℕ) (place : Place) (queue : List ℕ) → Stands st s place queue → s < length st.slots
+there st s place queue stands = go (cases_lt s (length st.slots))
+  where
+    go : (s < length st.slots) ⊎ (length st.slots ≤ s) → s < length st.slots
+    go (inl within) = within
+    go (inr past) = absurd (let none : Option.None ≡ Some (record { place = place; queue = queue }) = sym (ap (λ (slot : Slot). slot.call) (get_or_past st.slots s no_slot past)) ∙ stands in cc)
+
+fresh_of : (size : ℕ) (st : State) (s : ℕ) (puts : List ℕ) (d : State × Answer) → Step size st (Hand s puts) d → are_fresh st.named puts ≡ true
+fresh_of size _ _ _ _ (Step.handed s v puts given walk queue stands fresh) = fresh
+
+-- a value that goes to its reclaimer leaves the walk, and those that its reclaimer puts join the queue
+pub hand_leaves : (key key' : SlotKey) (pass pass' : Pass) (puts given walk queue : List ℕ) (v : ℕ) → Notes key pass key' pass' (Hand (number_of key) puts)
+    → (slot_of key).call ≡ Some (record { place = Rest (v ∷ given) walk; queue = queue }) → (slot_of key').call ≡ Some (record { place = Rest given walk; queue = queue ++ puts })
+hand_leaves key key' pass pass' puts given walk queue v notes stands =
+    let s = number_of key in let noted = notes.2.0 in let moves = notes.2.1 in let st : State = after (start_of key) noted.before in
+    let here : Stands st s (Rest (v ∷ given) walk) queue = ap (λ (slot : Slot). slot.call) moves.was ∙ stands in
+    let fresh = fresh_of (size_of key) st s puts (noted.later, noted.answer) (step_of _ _ _ _ moves.legal) in
+    let slot : Slot = record (slot_at st s) { call = Some (record { place = Rest given walk; queue = queue ++ puts }) } in
+    let d : State × Answer = (record (set_slot st s slot) { gone = st.gone ++ v ∷ []; named = st.named ++ puts }, Handed v) in
+    let is : next (size_of key) st (Hand s puts) ≡ Some d = next_of (size_of key) st (Hand s puts) d (Step.handed s v puts given walk queue here fresh) in
+    ap (λ (z : Slot). z.call)
+    (moves.is ∙ ap (λ (x : State × Answer). slot_at x.0 s) (some_is _ _ (sym moves.legal ∙ is)) ∙ get_or-set_same st.slots s slot no_slot (there st s (Rest (v ∷ given) walk) queue here))
+
+-- so the slot's call comes to the next batch once no value is left to hand
+pub batch_next : (key key' : SlotKey) (pass pass' : Pass) (puts walk queue : List ℕ) (v batch word : ℕ) → IsOf key pass → Knows key pass → Notes key pass key' pass' (Hand (number_of key) puts)
+    → (slot_of key).call ≡ Some (record { place = Rest (v ∷ []) (batch ∷ walk); queue = queue }) → word ≡ word_for key (batch ∷ walk) → IsAtBatch key' word
+batch_next key key' pass pass' puts walk queue v batch word book knows notes stands leads =
+    record {
+      batch = batch;
+      walk = walk;
+      queue = queue ++ puts;
+      walking = hand_leaves key key' pass pass' puts [] (batch ∷ walk) queue v notes stands;
+      leads = leads ∙ walk_kept key key' pass pass' (private pass (Hand (number_of key) puts)) (v ∷ []) (batch ∷ walk) queue book knows notes stands;
+    }

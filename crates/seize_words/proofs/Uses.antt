@@ -79,6 +79,7 @@ module _ (n : Name) (f : ℕ) where
         one = λ one. one;
         leads = led;
         labels = λ v named. inl named;
+        places = λ makes. absurd (cc);
       };
       its = refl;
       bears = refl;

@@ -6,22 +6,29 @@
 --     Takes word keys pass keys' pass' alive f v entry trades     the step was taken and found v: see Stepped
 --     MayTakeIn, TakesIn            the same where the activation has not ended
 --     MayTakeWith, TakesWith        the same where the step makes keys
+--     FindsFor                      where a step on a link doesn't trade, who makes it finds what the link holds then, in this activation
+--     MaySeeIn, SeesIn              it takes a share of what is lent with that, in the same step
 --     MayLook word keys pass        they are of one book;  Looks word keys pass keys' pass' v     see LooksAt
 --     site_of keys, IsWordOf keys bits     which word the keys are of;  a word that holds this stands for what they know
-use Rattle.std.specs.Prelude.{◌≡◌, ℕ, ◌+◌, ◌-◌, ◌%◌, ◌^◌, Bool, List, [], ◌∷◌, drop}
+use Rattle.std.specs.Prelude.{◌≡◌, ℕ, ◌+◌, ◌-◌, ◌%◌, ◌^◌, Bool, false, List, [], ◌∷◌, ◌++◌, drop, Some}
 use lib.Dec.{eqb}
 use prog.Atomic.{either}
 use Rattle.seize_machine.specs.Machine.Event.{Event}
+use Rattle.seize_machine.specs.Machine.State.{link_at}
 use Rattle.seize_words.specs.Entry.{Entry, Made, Deed}
-use Rattle.seize_words.specs.Book.{kinds}
+use Rattle.seize_words.specs.Book.{after, kinds, links}
+use Rattle.seize_words.specs.Glimpses.{shown}
+use Rattle.seize_words.specs.Laws.{Reader}
 use Rattle.seize_words.specs.Ledger.{Held, WithKinds}
 use Rattle.seize_words.specs.Private.{key_of, own_of}
 use Rattle.seize_words.specs.Passes.{IsSame}
-use Rattle.seize_words.specs.Stepping.{Births, LooksAt, MayStepWith, SteppedWith}
+use Rattle.seize_words.specs.Stepping.{At, Births, FoundAs, LooksAt, MayStepWith, SteppedWith}
+use Rattle.seize_words.specs.Tokens.{start}
 use Rattle.seize_words.specs.Words.{Site, Shows, Stands, site_keys}
 use Rattle.seize_words.specs.declared.activation.Activation.{Activation}
 use Rattle.seize_words.specs.declared.book.keys.Keys.{Keys}
 use Rattle.seize_words.specs.declared.book.pass.Pass.{Pass}
+use Rattle.seize_words.specs.declared.glimpse.Glimpse.{Glimpse}
 
 abbrev pub exchanged : ℕ → ℕ → ℕ → ℕ
 exchanged seen new v = either (eqb v seen) new v
@@ -68,6 +75,23 @@ MayTakeIn word keys pass activation f entry trades = MayTake word keys pass (act
 
 abbrev pub TakesIn : Site → Keys → Pass → Keys → Pass → Activation → (ℕ → ℕ) → ℕ → Entries → (ℕ → Bool) → Type 0
 TakesIn word keys pass keys' pass' activation f v entry trades = Takes word keys pass keys' pass' (activation.life ∷ []) f v entry trades
+
+-- the same on a link, with a share of what is lent with what the link holds
+
+abbrev pub FindsFor : Site → Pass → List (Held Entry) → ℕ → Entries → (ℕ → Bool) → Type 0
+FindsFor word pass held life entry trades =
+    (v : ℕ) (t : At) (log : List Entry) → FoundAs word v pass.id pass.seen held (life ∷ []) t log → trades v ≡ false
+    → (w : ℕ) → link_at (after (start word.name) (log ++ entry v log ∷ [])) word.number ≡ Some w
+    → Reader (start word.name) (log ++ entry v log ∷ []) w life
+
+abbrev pub MaySeeIn : Site → Keys → Pass → Activation → (ℕ → ℕ) → Entries → (ℕ → Bool) → Type 0
+MaySeeIn word keys pass activation f entry trades =
+    (word.kind ≡ links) × MayTakeIn word keys pass activation f entry trades × FindsFor word pass keys.held activation.life entry trades
+
+abbrev pub SeesIn : Site → Keys → Pass → Keys → Pass → Activation → (ℕ → ℕ) → ℕ × Glimpse → Entries → (ℕ → Bool) → Type 0
+SeesIn word keys pass keys' pass' activation f found entry trades =
+    TakesIn word keys pass keys' pass' activation f found.0 entry trades
+    × (found.1.value ≡ shown (trades found.0) (link_at (after (start word.name) pass'.seen) word.number))
 
 -- a look, which adds nothing
 

@@ -1,7 +1,8 @@
 -- The words in which the contracts of bare keys speak: keys of blocks before it is said by which number words hold the block.
 --     state_in rights                what the rights know of the machine
 --     Numbers rights rights' number  the first key's label is a value of its block, with this number, that was never named, as it knows
---     IsWay rights known             there is one key, and the number of its value leads to its block in the store of their book
+--     IsWay rights known             there is one key, and the number of its value leads to its block in the store of their book; and
+--                                    nothing is lent with the value
 --     Places rights keys             the keys are these
 --     bare_book key, bare_home key   the book of a bare key, and the home that its values have;  bare_label key   the label of that
 --     Becomes key value number       it is the key of a value of this block now, with this number, as IsNextIn says; and it knows no more
@@ -10,7 +11,7 @@
 --     IsChunkOf book keys            they are the keys of a new block of the book
 use Rattle.std.specs.Prelude.{◌≡◌, ℕ, pos, true, false, List, [], ◌∷◌, Some}
 use Rattle.seize_machine.specs.Machine.State.{State, has}
-use Rattle.seize_store.specs.Known.{IsWhole, label_in}
+use Rattle.seize_store.specs.Known.{label_in}
 use Rattle.seize_store.specs.declared.known.Known.{Known}
 use Rattle.seize_table.specs.Place.{IsPlace}
 use Rattle.seize_words.specs.Blocks.{block_of}
@@ -22,6 +23,7 @@ use Rattle.seize_words.specs.Entry.{Entry}
 use Rattle.seize_words.specs.Homes.{count_in, home_of}
 use Rattle.seize_words.specs.Homesteads.{entry_in}
 use Rattle.seize_words.specs.Ledger.{Held}
+use Rattle.seize_words.specs.Loans.{CarriesNone, place_of}
 use Rattle.seize_words.specs.Others.{book_of, labelled, state_of, value_of}
 use Rattle.seize_words.specs.Private.{is_one, key_of, label_of, own_of}
 use Rattle.seize_words.specs.Tokens.{Name, label_at, start}
@@ -42,13 +44,19 @@ pub record Numbers (rights rights' : Rights) (number : ℕ) : Type 0 where
   pub home : home_of value ≡ key_of rights.held
   pub numbered : block_of value ≡ number
   pub unnamed : has value (state_in rights).named ≡ false
+  pub place : place_of value ≡ place_of (label_of rights.held)
+  pub free : CarriesNone value
 
 pub record IsWay (rights : Rights) (known : Known) : Type 0 where
   pub one : is_one blocks rights.held ≡ true
   pub store : rights.name.store ≡ Some known.store
-  pub whole : IsWhole known.row known.chunks
   pub placed : IsPlace (block_of (label_of rights.held)) known.row (entry_in known (label_of rights.held))
   pub home : label_in known.chunks (entry_in known (label_of rights.held)) ≡ label_at rights.name (home_of (label_of rights.held))
+  pub free : CarriesNone (label_of rights.held)
+
+-- there is one key, and nothing is lent with its value
+abbrev pub IsFree : Rights → Type 0
+IsFree rights = (is_one blocks rights.held ≡ true) × CarriesNone (label_of rights.held)
 
 abbrev pub Places : Rights → Keys → Type 0
 Places rights keys = (keys.name ≡ rights.name) × (keys.held ≡ rights.held)
@@ -67,6 +75,7 @@ pub record Becomes (key : BareKey) (value : ValueKey) (number : ℕ) : Type 0 wh
   pub home : home_of (value_of value) ≡ bare_home key
   pub state : state_of value.keys ≡ state_in key.rights
   pub next : IsNextIn value number
+  pub free : CarriesNone (value_of value)
 
 abbrev pub IsLaid : ValueKey → BareKey → Type 0
 IsLaid value key = (bare_book key ≡ book_of value) × (bare_home key ≡ home_of (value_of value))

@@ -1,6 +1,6 @@
 -- How a book begins.
---     BeganWith n links size store   its opening has no slot and so many links, which are empty; the batch size at each event is this;
---                              and this is the store where its blocks lie, if they lie in one
+--     BeganWith n links size store table     its opening has no slot and so many links, which are empty; the batch size at each event is
+--                              this; and these are the store where its blocks lie and the table where its heads do, if they lie in one
 --     first_keys many          with so many links, the keys that there are then but for passes: those of the numbers, of the total, of the
 --                              first slot and its head, and of each link
 --     book_owns n seen         what the token of a book owns that has seen this beginning of the list
@@ -11,8 +11,9 @@ use Rattle.seize_words.specs.Entry.{Entry, entry_coded}
 use Rattle.seize_words.specs.Book.{numbers, slots, heads, links, totals}
 use Rattle.seize_words.specs.Tokens.{Name, knows}
 
-abbrev pub BeganWith : Name → ℕ → ℕ → Option (List ℕ) → Type 0
-BeganWith n links size store = (n.slots ≡ 0) × (n.links ≡ replicate links None) × (n.size ≡ size) × (n.store ≡ store)
+abbrev pub BeganWith : Name → ℕ → ℕ → Option (List ℕ) → Option (List ℕ) → Type 0
+BeganWith n links size store table =
+    (n.slots ≡ 0) × (n.links ≡ replicate links None) × (n.size ≡ size) × (n.store ≡ store) × (n.table ≡ table)
 
 -- nothing was ever added by its holder
 abbrev pub unused : ℕ → ℕ → Held Entry

@@ -1,6 +1,6 @@
 -- The words in which the contracts of books speak.
---     Opens book keys links size store         a new book to which many may append, with so many links, which are empty; and its keys
---     OpensAlone book pass keys links size store     a new book to which this pass alone may append
+--     Opens book keys links size store table     a new book to which many may append, with so many links, which are empty; and its keys
+--     OpensAlone book pass keys links size store table     a new book to which this pass alone may append
 --     AreFirst keys, AreApart keys all         those that a book begins with;  the same, each by itself
 --     IsNew pass                               nothing was made with it
 --     IsNextIn value number                    it was never named, all values that lay in its block before were reclaimed, and this is the
@@ -31,9 +31,9 @@ use Rattle.seize_words.specs.declared.book.token.Book.{Book}
 use Rattle.seize_words.specs.declared.book.value_key.ValueKey.{ValueKey}
 
 -- the keys are all those of the book at its beginning, of which it has seen nothing more
-abbrev pub Begins : Book → Keys → ℕ → ℕ → Option (List ℕ) → Type 0
-Begins book keys links size store =
-    BeganWith book.name links size store × (book.seen ≡ []) × (keys.name ≡ book.name) × (keys.held ≡ first_keys links)
+abbrev pub Begins : Book → Keys → ℕ → ℕ → Option (List ℕ) → Option (List ℕ) → Type 0
+Begins book keys links size store table =
+    BeganWith book.name links size store table × (book.seen ≡ []) × (keys.name ≡ book.name) × (keys.held ≡ first_keys links)
 
 abbrev pub IsNew : Pass → Type 0
 IsNew pass = mine_of pass ≡ []
@@ -62,19 +62,19 @@ IsUnused keys book = (keys.name ≡ book.name) × (own_of keys.held ≡ [])
 
 -- It begins with so many links, which are empty, and has seen nothing more. These are its keys: those of the numbers, of the total, of the
 -- first slot and its head, and of all links.
-pub record HasKeys (book : Book) (keys : BookKeys) (many size : ℕ) (store : Option (List ℕ)) : Type 0 where
-  pub began : BeganWith book.name many size store × (book.seen ≡ [])
+pub record HasKeys (book : Book) (keys : BookKeys) (many size : ℕ) (store table : Option (List ℕ)) : Type 0 where
+  pub began : BeganWith book.name many size store table × (book.seen ≡ [])
   pub numbers : IsUnused keys.numbers.keys book
   pub total : IsUnused keys.total.keys book
   pub slot : IsUnused keys.next.slot.keys book × (key_of keys.next.slot.keys.held ≡ 0)
   pub head : IsUnused keys.next.head.keys book × (key_of keys.next.head.keys.held ≡ 0)
   pub links : (keys.links.keys.name ≡ book.name) × (keys.links.keys.held ≡ first_links 0 many)
 
-abbrev pub Opens : Book → BookKeys → ℕ → ℕ → Option (List ℕ) → Type 0
-Opens book keys links size store = IsMany book × HasKeys book keys links size store
+abbrev pub Opens : Book → BookKeys → ℕ → ℕ → Option (List ℕ) → Option (List ℕ) → Type 0
+Opens book keys links size store table = IsMany book × HasKeys book keys links size store table
 
-abbrev pub OpensAlone : Book → Pass → BookKeys → ℕ → ℕ → Option (List ℕ) → Type 0
-OpensAlone book pass keys links size store = IsAlone book pass × HasKeys book keys links size store
+abbrev pub OpensAlone : Book → Pass → BookKeys → ℕ → ℕ → Option (List ℕ) → Option (List ℕ) → Type 0
+OpensAlone book pass keys links size store table = IsAlone book pass × HasKeys book keys links size store table
 
 -- it was never named, all values that lay in its block before were reclaimed, and words hold the block by this number
 abbrev pub IsNextIn : ValueKey → ℕ → Type 0

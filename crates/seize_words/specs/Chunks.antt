@@ -2,14 +2,16 @@
 --     header_book header, header_home header     the book whose words the header has, and the home of the values in its block
 --     book_in blocks                    the book whose blocks these are
 --     OpensIn blocks keys links size    a new book, to which many may append, with so many links, which are empty, and its keys;  see Opens
+--     OpensAloneIn blocks pass keys links size     the same of a book to which this pass alone may append
 --     LiesIn key block                  the key is that of the values of this block
+--     IsBlockIn blocks value key block  it is one of these blocks and has the value, and the key is for this value, by the block's number
 --     IsHeaderOf header number pass     it is of the pass's book, and each value with this number that was ever named lies in its block
-use Rattle.std.specs.Prelude.{◌≡◌, ℕ, true}
+use Rattle.std.specs.Prelude.{◌≡◌, ℕ, ◌+◌, ◌<◌, ◌^◌, Some, None, true}
 use Rattle.seize_machine.specs.Machine.State.{has}
-use Rattle.seize_store.specs.Named.{bare_label}
+use Rattle.seize_store.specs.Named.{bare_label, bare_number, bare_store, bare_value}
 use Rattle.seize_store.specs.declared.bare.Bare.{Bare}
 use Rattle.seize_words.specs.Blocks.{block_of}
-use Rattle.seize_words.specs.Books.{Opens}
+use Rattle.seize_words.specs.Books.{IsNextIn, Opens, OpensAlone}
 use Rattle.seize_words.specs.Counts.{home}
 use Rattle.seize_words.specs.Homes.{home_of}
 use Rattle.seize_words.specs.Homesteads.{state_seen}
@@ -20,6 +22,7 @@ use Rattle.seize_words.specs.declared.book.book_keys.BookKeys.{BookKeys}
 use Rattle.seize_words.specs.declared.book.pass.Pass.{Pass}
 use Rattle.seize_words.specs.declared.book.value_key.ValueKey.{ValueKey}
 use Rattle.seize_words.specs.declared.chunk.Header.{Header}
+use Rattle.seize_words.specs.declared.chunk.Part.{Part}
 
 abbrev pub header_book : Header → Name
 header_book header = header.book.name
@@ -31,10 +34,22 @@ abbrev pub book_in : {T : Type 0} → Blocks T → Name
 book_in blocks = blocks.book.name
 
 abbrev pub OpensIn : {T : Type 0} → Blocks T → BookKeys → ℕ → ℕ → Type 0
-OpensIn blocks keys links size = Opens blocks.book keys links size blocks.book.name.store
+OpensIn blocks keys links size = Opens blocks.book keys links size blocks.book.name.store None
+
+abbrev pub OpensAloneIn : {T : Type 0} → Blocks T → Pass → BookKeys → ℕ → ℕ → Type 0
+OpensAloneIn blocks pass keys links size = OpensAlone blocks.book pass keys links size blocks.book.name.store None
 
 abbrev pub LiesIn : {H P T : Type 0} → ValueKey → Bare H P T → Type 0
 LiesIn key block = label_at (book_of key) (home_of (value_of key)) ≡ bare_label block
+
+pub record IsBlockIn {T : Type 0} (blocks : Blocks T) (value : T) (key : ValueKey) (block : Bare Header Part T) : Type 0 where
+  pub holds : bare_value block ≡ value
+  pub store : (book_in blocks).store ≡ Some (bare_store block)
+  pub book : book_of key ≡ book_in blocks
+  pub next : IsNextIn key (bare_number block)
+  pub lies : LiesIn key block
+  -- words hold the number beside 2
+  pub fits : bare_number block + 2 < 2 ^ 64
 
 abbrev pub IsHeaderOf : Header → ℕ → Pass → Type 0
 IsHeaderOf header number pass =

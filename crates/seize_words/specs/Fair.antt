@@ -3,16 +3,17 @@
 --     Fair st held log e         the entry is legal then; the keys that it touches are held, and it changes no block but theirs; and it
 --                                keeps what the list keeps beside being legal
 --     NamesLabels before held later  each value that it names is one with which a held key of a block is labelled
+--     MakesPlaced st held e      where it makes a slot, the slot's key is held, and is labelled 1: the slot's head lies in the table
 --     MayAdd n p seen held e     it is fair whatever the list is by then, and it neither ends nor begins an activation
 --     Added n p seen seen' held held' e     it was added: see Noted; the keys know of it, and its own keys were made
-use Rattle.std.specs.Prelude.{◌≡◌, ℕ, ◌<◌, ◌≤◌, true, false, ◌⊎◌, List, [], ◌∷◌, ◌++◌}
+use Rattle.std.specs.Prelude.{◌≡◌, ℕ, ◌<◌, ◌≤◌, true, false, ◌⊎◌, List, [], ◌∷◌, ◌++◌, length}
 use mathlib.Core.List.{IsPrefix}
 use Rattle.seize_machine.specs.Machine.State.{State, has}
 use Rattle.seize_machine.specs.Machine.Event.{Event}
 use Rattle.seize_machine.specs.declared.machine.event.Answer.{Answer}
 use Rattle.seize_words.specs.Ledger.{Held, Beside, IsThere, AllThere, AllKept, WithKinds, renewed, born}
 use Rattle.seize_words.specs.Entry.{Entry, Made, Deed, maker}
-use Rattle.seize_words.specs.Book.{after, IsLegalList, Does, mine, TheCount, TheBlock, TheField, kind_of, touches, Sized, rules, births, passes, counts, blocks, fields, kinds}
+use Rattle.seize_words.specs.Book.{after, IsLegalList, Does, mine, TheCount, TheBlock, TheField, TheTotal, kind_of, touches, Sized, rules, births, passes, slots, counts, blocks, fields, kinds}
 use Rattle.seize_words.specs.Blocks.{plans}
 use Rattle.seize_words.specs.Chains.{Chained, IsLed, told}
 use Rattle.seize_words.specs.Homes.{HasOne, IsSound}
@@ -51,6 +52,14 @@ abbrev pub NamesLabels : State → List (Held Entry) → State → Type 0
 NamesLabels before held later =
     (v : ℕ) → has v later.named ≡ true → (has v before.named ≡ true) ⊎ IsLabel held v
 
+-- the slot's key is there, and labelled 1
+abbrev pub HasPlace : List (Held Entry) → ℕ → Type 0
+HasPlace [] s = ⊥
+HasPlace (h ∷ held) s = ((h.kind ≡ slots) × (h.key ≡ s) × (h.label ≡ 1)) ⊎ HasPlace held s
+
+abbrev pub MakesPlaced : State → List (Held Entry) → Entry → Type 0
+MakesPlaced st held e = touches st e TheTotal 0 ≡ true → HasPlace held (length st.slots)
+
 pub record Fair (st : State) (held : List (Held Entry)) (log : List Entry) (e : Entry) : Type 0 where
   pub done : State × Answer
   pub legal : Does st log e done
@@ -60,6 +69,7 @@ pub record Fair (st : State) (held : List (Held Entry)) (log : List Entry) (e : 
   pub one : HasOne (after st log) → HasOne done.0
   pub leads : IsLed (after st log) (plans st log) (told log) e
   pub labels : NamesLabels (after st log) held done.0
+  pub places : MakesPlaced (after st log) held e
 
 -- it neither ends nor begins an activation
 abbrev pub EndsNone : Event → Type 0

@@ -1,6 +1,8 @@
 -- What the machine's laws say of the book where a value goes to its reclaimer, and lifetimes: each activation of a slot has one, and
 -- it is over when the slot leaves or refreshes.
 --     NotHanded st log v   no event of the list handed v to its reclaimer
+--     WasRetired st log v  an event of the list retired v;  AllLeft st log q    each slot that was active before event q has left or
+--                          refreshed since
 --     Reader st log v a    a is the lifetime of an activation in which a slot found v in a link
 --     ended log            the lifetimes of the activations that the list ended, in order
 --     AllOver st log v     of each activation in which a slot found v, the lifetime is among these; where a book's invariant stands,
@@ -9,7 +11,7 @@
 use Rattle.std.specs.Prelude.{◌≡◌, ℕ, ◌==◌, Bool, false, List, [], ◌∷◌, ◌++◌, take, length, if◌then◌else◌, ◌⊎◌}
 use Rattle.seize_machine.specs.Machine.State.{State}
 use Rattle.seize_machine.specs.Machine.Event.{Event, Enter, SwapOut}
-use Rattle.seize_machine.specs.Machine.History.{Found, Reclaimed, HasParted}
+use Rattle.seize_machine.specs.Machine.History.{Found, HasParted, IsActiveAt, Reclaimed, Retired}
 use Rattle.seize_words.specs.After.{moments}
 use Rattle.seize_words.specs.Entry.{Entry, Made, Used, Deed, deeds}
 
@@ -19,6 +21,13 @@ NotHanded st log v = (c : ℕ) → ¬ (Reclaimed (moments st log) v c)
 -- each slot that found v in a link has left or refreshed since
 abbrev pub AllParted : State → List Entry → ℕ → Type 0
 AllParted st log v = (s i : ℕ) → Found (moments st log) s v i → HasParted (moments st log) s i (length (deeds log))
+
+-- it appended v to a slot's batch
+abbrev pub WasRetired : State → List Entry → ℕ → Type 0
+WasRetired st log v = (q : ℕ) × Retired (moments st log) v q
+
+abbrev pub AllLeft : State → List Entry → ℕ → Type 0
+AllLeft st log q = (s : ℕ) → IsActiveAt (moments st log) s q → HasParted (moments st log) s q (length (deeds log))
 
 -- whether the event begins an activation of slot s; one that swaps a head out does where it refreshes, and else the lifetime is not used
 abbrev pub starts : ℕ → Event → Bool

@@ -5,6 +5,8 @@ pub mod Homesteads
 pub mod After
 pub mod Book
 pub mod Laws
+pub mod Loans
+pub mod Glimpses
 pub mod Tokens
 pub mod Begin
 pub mod Fair
@@ -13,6 +15,7 @@ pub mod Passes
 pub mod Adding
 pub mod Slots
 pub mod Others
+pub mod Lending
 pub mod Chains
 pub mod Counts
 pub mod Deposits
@@ -27,10 +30,12 @@ pub mod Headers
 pub mod Values
 pub mod Atomic
 pub mod Reservations
+pub mod Tables
 pub mod Totals
 pub mod Links
 pub mod Activations
 pub mod LinkWords
+pub mod Reserved
 pub mod Chunk
 pub mod Chunks
 pub mod Walks

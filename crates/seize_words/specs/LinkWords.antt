@@ -8,6 +8,7 @@
 --     HasNext left, IsNext left link left'     a link is left to make;  it was made
 --     Takes                       the event was made with the pass, during the activation;  IsDuring activation name list
 --     Reads, Swaps, CompareExchanges     what the event is, in which state it was made, and what is had afterwards
+--     Sees                        it is a read, and the glimpse is of what the link held
 use Rattle.std.specs.Prelude.{◌≡◌, ◌≢◌, ℕ, suc, List, [], Option, Some, None, true, is_some, drop}
 use Rattle.seize_machine.specs.Machine.State.{head_at, is_active, link_at, has}
 use Rattle.seize_machine.specs.Machine.Event.{Event, ReadLink, ExchangeLink}
@@ -28,6 +29,7 @@ use Rattle.seize_words.specs.declared.activation.Activation.{Activation}
 use Rattle.seize_words.specs.declared.book.link_keys.LinkKeys.{LinkKeys}
 use Rattle.seize_words.specs.declared.book.pass.Pass.{Pass}
 use Rattle.seize_words.specs.declared.book.value_key.ValueKey.{ValueKey}
+use Rattle.seize_words.specs.declared.glimpse.Glimpse.{Glimpse}
 use Rattle.seize_words.specs.declared.link.Link.{Link}
 use Rattle.seize_words.specs.declared.link.MaybeKey.{MaybeKey}
 
@@ -76,6 +78,9 @@ held_before {link} {a} {pass} t = link_at (after (start pass.name) t.before) (nu
 abbrev pub Reads : Link → Activation → Pass → Pass → ℕ → Type 0
 Reads link activation pass pass' v = Takes link activation pass pass' (λ _. ReadLink activation.slot (number link)) v
 
+abbrev pub Sees : Link → Activation → Pass → Pass → ℕ → Glimpse → Type 0
+Sees link activation pass pass' v glimpse = (t : Reads link activation pass pass' v) × (glimpse.value ≡ held_before t)
+
 -- the key knows all that the pass has seen
 abbrev pub KnowsAll : MaybeKey → Pass → Type 0
 KnowsAll key pass = key.keys.held ≡ renewed key.keys.held pass.seen
@@ -92,13 +97,14 @@ Swaps link activation key pass key' pass' v =
     (t : Takes link activation pass pass' (λ _. ExchangeLink activation.slot (number link) (Swap (holds key))) v)
     × (key'.keys.name ≡ key.keys.name) × (holds key' ≡ held_before t) × IsOut key' × KnowsAll key' pass'
 
--- and here where it was what was seen; else it is the same key, and its value may be named still
-abbrev pub CompareExchanges : Link → Activation → MaybeKey → Pass → ℕ → MaybeKey → Pass → ℕ → Type 0
-CompareExchanges link activation key pass seen key' pass' v =
+-- and here where it was what was seen; else it is the same key, its value may be named still, and the glimpse is of what the link held
+abbrev pub CompareExchanges : Link → Activation → MaybeKey → Pass → ℕ → MaybeKey → Pass → ℕ → Glimpse → Type 0
+CompareExchanges link activation key pass seen key' pass' v glimpse =
     (t : Takes link activation pass pass' (λ old. ExchangeLink activation.slot (number link) (Compare (compared seen old) (holds key))) v)
     × (key'.keys.name ≡ key.keys.name)
-    × (v ≡ seen → (holds key' ≡ held_before t) × IsOut key')
-    × (v ≢ seen → (holds key' ≡ holds key) × IsNewIn (start key'.keys.name) (holds key') key'.keys.held) × KnowsAll key' pass'
+    × (v ≡ seen → (holds key' ≡ held_before t) × IsOut key' × (glimpse.value ≡ None))
+    × (v ≢ seen → (holds key' ≡ holds key) × IsNewIn (start key'.keys.name) (holds key') key'.keys.held × (glimpse.value ≡ held_before t))
+    × KnowsAll key' pass'
 
 -- Links are made of the keys that their book begins with.
 

@@ -6,7 +6,7 @@
 --     IsSpent v st                      it was named, and it is not loose;  CannotRetire value   so it is, as its key knows
 --     IsLeast s st                      slot s is there, and its number is the least that is not in use and one of a table;
 --     MayTake numbers key               so it is for this slot, as the key of the numbers knows
---     IsOfBook keys pass                they are of one book
+--     IsOfBook keys pass                they are of one book;  IsValueOf value pass, AreNumbersOf numbers pass     so is this key
 --     state_of keys, value_of value     where the keys' list leads, and which value it is
 --     MakesNone n p seen held event     wherever the list is by then, the event makes no keys
 --     IsWith key other pass event       the slot's holder may add the event with the other keys
@@ -15,9 +15,12 @@
 --                                       its key knows
 --     HasGone value pass                the value was reclaimed, as the pass has seen
 --     labelled v held                   the first key has this label
---     Renames keys keys'                the first key's label is another value of its block, which was never named, as it knows
+--     Renames keys keys'                the first key's label is another value of its block, which was never named, as it knows; nothing
+--                                       is lent with it
 --     SameKind keys keys'               if there was one key of some kind, there is one of this kind
---     Follows keys pass' keys'          they are the same keys, and know all that the pass has seen
+--     Follows keys pass' keys'          they are the same keys, and know all that the pass has seen;  FollowsValue value pass' value',
+--                                       FollowsNumbers numbers pass' numbers'     so it is with this key
+--     IsVacated value                   all values that ever lay in its block were reclaimed, as its key knows
 use Rattle.std.specs.Prelude.{◌≡◌, ◌≢◌, ℕ, ◌<◌, Bool, true, false, List, [], ◌∷◌, ◌++◌, length, ◌⊎◌}
 use Rattle.seize_machine.specs.Machine.State.{State, has}
 use Rattle.seize_words.specs.Blocks.{block_of}
@@ -27,6 +30,7 @@ use Rattle.seize_machine.specs.Machine.Event.{Event}
 use Rattle.seize_machine.specs.Machine.Next.{first_free}
 use Rattle.seize_table.specs.Place.{all_numbers}
 use Rattle.seize_words.specs.Homes.{IsVacant, home_of}
+use Rattle.seize_words.specs.Loans.{CarriesNone, place_of}
 use Rattle.seize_words.specs.Ledger.{Held, renewed}
 use Rattle.seize_words.specs.Entry.{Entry, Made}
 use Rattle.seize_words.specs.Adding.{private}
@@ -64,6 +68,15 @@ CannotRetire value = IsSpent (value_of value) (state_of value.keys)
 
 abbrev pub IsOfBook : Keys → Pass → Type 0
 IsOfBook keys pass = keys.name ≡ pass.name
+
+abbrev pub IsValueOf : ValueKey → Pass → Type 0
+IsValueOf value pass = IsOfBook value.keys pass
+
+abbrev pub AreNumbersOf : NumbersKey → Pass → Type 0
+AreNumbersOf numbers pass = IsOfBook numbers.keys pass
+
+abbrev pub IsVacated : ValueKey → Type 0
+IsVacated value = IsVacant (state_of value.keys) (home_of (value_of value))
 
 abbrev pub IsLeast : ℕ → State → Type 0
 IsLeast s st = (s ≡ first_free st.slots) × (s < length st.slots) × (s < all_numbers)
@@ -107,9 +120,17 @@ pub record Renames (keys keys' : Keys) : Type 0 where
   pub home : home_of value ≡ home_of (label_of keys.held)
   pub numbered : block_of value ≡ block_of (label_of keys.held)
   pub unnamed : has value (state_of keys).named ≡ false
+  pub place : place_of value ≡ place_of (label_of keys.held)
+  pub free : CarriesNone value
 
 abbrev pub SameKind : Keys → Keys → Type 0
 SameKind keys keys' = (r : ℕ) → is_one r keys.held ≡ true → is_one r keys'.held ≡ true
 
 abbrev pub Follows : Keys → Pass → Keys → Type 0
 Follows keys pass' keys' = (keys'.name ≡ keys.name) × (keys'.held ≡ renewed keys.held pass'.seen)
+
+abbrev pub FollowsValue : ValueKey → Pass → ValueKey → Type 0
+FollowsValue value pass' value' = Follows value.keys pass' value'.keys
+
+abbrev pub FollowsNumbers : NumbersKey → Pass → NumbersKey → Type 0
+FollowsNumbers numbers pass' numbers' = Follows numbers.keys pass' numbers'.keys

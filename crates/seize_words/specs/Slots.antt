@@ -14,8 +14,10 @@
 --     Looks key pass key' pass'     the pass has looked at the list (LooksOn), and so has the key; the list goes on from what it knew, and
 --                          the slot is in it as the key said
 --     hands_next slot      the value that the slot's call is about to hand to its reclaimer
---     HandsOnce key pass' v    it was handed now, for the first time, all who found it have left or refreshed since, and
---                          the activations in which they found it are over
+--     HandsOnce key pass' v    it was handed now, for the first time; it was retired before, and each slot that was active then has left or
+--                          refreshed since; all who found it have left or refreshed since, and the activations in which they found it are
+--                          over
+--     HandsSoon st log v       all that of the list by now
 use Rattle.std.specs.Prelude.{◌≡◌, ℕ, Bool, List, [], ◌∷◌, ◌++◌, Option, Some}
 use mathlib.Core.List.{IsPrefix}
 use Rattle.seize_machine.specs.Machine.State.{State, Slot, slot_at, head_at, is_active}
@@ -27,7 +29,7 @@ use Rattle.seize_words.specs.Blocks.{plans}
 use Rattle.seize_words.specs.Chains.{told, written}
 use Rattle.seize_words.specs.Entry.{Entry, Made, Deed, timed}
 use Rattle.seize_words.specs.Book.{after}
-use Rattle.seize_words.specs.Laws.{NotHanded, AllParted, AllOver, life}
+use Rattle.seize_words.specs.Laws.{NotHanded, WasRetired, AllLeft, AllParted, AllOver, life}
 use Rattle.seize_words.specs.Tokens.{Noted, start}
 use Rattle.seize_words.specs.Private.{key_of, own_of}
 use Rattle.seize_words.specs.Passes.{IsSame, LooksOn}
@@ -104,13 +106,23 @@ pub record Looks (key : SlotKey) (pass : Pass) (key' : SlotKey) (pass' : Pass) :
 abbrev pub hands_next : Slot → Option ℕ
 hands_next slot = of_call handing_at slot.call
 
--- All that the pass has seen ends with an event that handed v. It was not handed before, each slot that found it in a link has left or
--- refreshed since, and the activations in which they found it are over.
+-- All that the pass has seen ends with an event that handed v. It was not handed before, but retired, and each slot that was active just
+-- before that event has left or refreshed since; so has each that found it in a link, and the activations in which they found it are over.
 pub record HandsOnce (key : SlotKey) (pass' : Pass) (v : ℕ) : Type 0 where
   pub before : List Entry
   pub last : Deed
   pub ends : pass'.seen ≡ before ++ Made last ∷ []
   pub hands : handed_value (done_by next (after (start_of key) before) (timed last)).1 ≡ Some v
   pub not_handed : NotHanded (start_of key) before v
+  pub retired : WasRetired (start_of key) before v
+  pub all_left : AllLeft (start_of key) before retired.0
   pub all_parted : AllParted (start_of key) before v
   pub all_over : AllOver (start_of key) before v
+
+-- The same of the list by now, where the slot's call is about to hand v.
+pub record HandsSoon (st : State) (log : List Entry) (v : ℕ) : Type 0 where
+  pub not_handed : NotHanded st log v
+  pub retired : WasRetired st log v
+  pub all_left : AllLeft st log retired.0
+  pub all_parted : AllParted st log v
+  pub all_over : AllOver st log v

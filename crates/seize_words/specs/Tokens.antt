@@ -8,9 +8,16 @@
 --     leads n v     the value's number leads to the label of its home, in the store where the book's blocks lie; and nothing where they lie
 --                   in none
 --     all_lead n vs     so do the numbers of all these values
---     rights_own    the rights to some keys, in a given order;  keys_own   and with each key of a block, where its value's number leads
+--     lies n s      the entry of slot s, in the table where the heads of the book lie, has the slot's label for good; and nothing where
+--                   they lie in none
+--     all_lie n m   so do those of the first m slots, in their order;  slot_labels n m   their labels
+--     found n st    both, of all that were ever named and of all slots that there are
+--     is_placed h   it is the key of a slot whose head lies in the table, as the label 1 says
+--     rights_own    the rights to some keys, in a given order;  keys_own   and with each key of a block, where its value's number leads,
+--                   and what is lent with the value; and with that of a slot whose head lies in the table, that it does
 --     Noted         one entry was appended with a pass
-use Rattle.std.specs.Prelude.{◌≡◌, ℕ, Bool, true, false, ◌==◌, List, [], ◌∷◌, ◌++◌, Option, slice_index_or}
+use Rattle.std.specs.Prelude.{◌≡◌, ℕ, Bool, true, false, ◌&&◌, ◌==◌, List, [], ◌∷◌, ◌++◌, length, map, Option, slice_index_or}
+use Rattle.std.specs.List.{range_with_len}
 use Rattle.std.specs.Coded.{Coded, code_by, coded_ℕ, coded×, coded_list, coded_option}
 use mathlib.Core.Path.{refl}
 use mathlib.Core.List.{IsPrefix}
@@ -21,14 +28,16 @@ use base.Fml.{Fml, ftrue, fsep, fex, fdead, fnamed, fobs, fauth, fres}
 use Rattle.seize_machine.specs.Machine.State.{State, opening, linked, are_distinct}
 use Rattle.seize_machine.specs.declared.machine.event.Answer.{Answer}
 use Rattle.seize_store.specs.Known.{leads_to}
+use Rattle.seize_table.specs.Filled.{all_filled, filled_at}
 use Rattle.seize_table.specs.Pairs.{pair}
 use Rattle.seize_words.specs.Ledger.{Held, fact, logs, right, rights, reached, contents}
 use Rattle.seize_words.specs.Entry.{Entry, entry_coded}
-use Rattle.seize_words.specs.Book.{IsLegalList, Does, after, mine, blocks, passes, rules}
+use Rattle.seize_words.specs.Book.{IsLegalList, Does, after, mine, blocks, passes, slots, rules}
 use Rattle.seize_words.specs.Blocks.{block_of, plans}
 use Rattle.seize_words.specs.Chains.{Chained, told}
 use Rattle.seize_words.specs.Homes.{IsSound, home_of}
 use Rattle.seize_words.specs.Laws.{ended}
+use Rattle.seize_words.specs.Loans.{loan}
 
 -- Who may append: whoever has a pass; or one pass alone, whose copy of the list has this name.
 pub data Gate : Type 0 where
@@ -73,6 +82,8 @@ pub record Name : Type 0 where
   pub size : ℕ
   -- the store where the blocks lie, if they lie in one: then their numbers are the store's
   pub store : Option (List ℕ)
+  -- the table where the heads of its slots lie, if they lie in one
+  pub table : Option (List ℕ)
   -- the opening
   pub slots : ℕ
   pub links : List (Option ℕ)
@@ -84,11 +95,14 @@ abbrev pub rows : Name → List ℕ
 rows n =
     n.pass_keys ∷ n.number_keys ∷ n.slot_keys ∷ n.head_keys ∷ n.link_keys ∷ n.count_keys ∷ n.block_keys ∷ n.field_keys ∷ n.total_keys ∷ []
 
+abbrev places_coded : Coded (Option (List ℕ))
+places_coded = coded_option (coded_list coded_ℕ)
+
 abbrev pub name_coded : Coded Name
 name_coded =
-    code_by (List ℕ × (Gate × (List (Option ℕ) × Option (List ℕ))))
-    (coded× (coded_list coded_ℕ) (coded× gate_coded (coded× (coded_list (coded_option coded_ℕ)) (coded_option (coded_list coded_ℕ)))))
-    (λ n. (n.number ∷ n.log ∷ n.family ∷ n.slots ∷ n.size ∷ rows n, (n.gate, (n.links, n.store))))
+    code_by (List ℕ × (Gate × (List (Option ℕ) × (Option (List ℕ) × Option (List ℕ)))))
+    (coded× (coded_list coded_ℕ) (coded× gate_coded (coded× (coded_list (coded_option coded_ℕ)) (coded× places_coded places_coded))))
+    (λ n. (n.number ∷ n.log ∷ n.family ∷ n.slots ∷ n.size ∷ rows n, (n.gate, (n.links, (n.store, n.table)))))
     (λ t. record {
       number = nth t.0 0;
       log = nth t.0 1;
@@ -106,7 +120,8 @@ name_coded =
       total_keys = nth t.0 13;
       gate = t.1.0;
       links = t.1.1.0;
-      store = t.1.1.1;
+      store = t.1.1.1.0;
+      table = t.1.1.1.1;
     })
     (λ _. refl)
 
@@ -148,10 +163,32 @@ abbrev pub all_lead : Name → List ℕ → Fml
 all_lead n [] = ftrue
 all_lead n (v ∷ vs) = fsep (leads n v) (all_lead n vs)
 
--- what the invariant holds beside the list and the keys: each activation that has ended is over; the gate; and where the numbers of all
--- values lead that were ever named
+-- an entry of a table has one label for good, since it is filled once
+
+abbrev pub lies_in : Option (List ℕ) → ℕ → ℕ → Fml
+lies_in Option.None s label = ftrue
+lies_in (Option.Some table) s label = filled_at table s label
+
+abbrev pub lies : Name → ℕ → Fml
+lies n s = lies_in n.table s (label_at n s)
+
+abbrev pub slot_labels : Name → ℕ → List ℕ
+slot_labels n m = map (label_at n) (range_with_len 0 m)
+
+abbrev pub all_lie_in : Option (List ℕ) → List ℕ → Fml
+all_lie_in Option.None labels = ftrue
+all_lie_in (Option.Some table) labels = all_filled table labels
+
+abbrev pub all_lie : Name → ℕ → Fml
+all_lie n m = all_lie_in n.table (slot_labels n m)
+
+abbrev pub found : Name → State → Fml
+found n st = fsep (all_lead n st.named) (all_lie n (length st.slots))
+
+-- what the invariant holds beside the list and the keys: each activation that has ended is over; the gate; and where all is found that was
+-- ever named or made
 abbrev pub beside : Name → List Entry → Fml
-beside n log = fsep (over (ended log)) (fsep (gate_keeps n.gate log) (all_lead n (after (start n) log).named))
+beside n log = fsep (over (ended log)) (fsep (gate_keeps n.gate log) (found n (after (start n) log)))
 
 abbrev pub inside : Name → Fml
 inside n = contents entry_coded (rules (start n)) (beside n) n.log (rows n)
@@ -179,13 +216,21 @@ pass_owns n p seen = fsep (knows n) (pass_holds n p seen)
 abbrev pub rights_own : Name → List (Held Entry) → Fml
 rights_own n held = rights entry_coded (rows n) held
 
--- with the key of a block's values goes where the number leads of the value that it is labelled with
+-- with the key of a block's values goes where the number leads of the value that it is labelled with, and what is lent with that
 abbrev pub way_if : Bool → Name → ℕ → Fml
-way_if true n v = leads n v
+way_if true n v = fsep (leads n v) (loan (start n) n.log v)
 way_if false n v = ftrue
 
+-- and with that of a slot that is labelled 1 goes that its head lies in the table
+abbrev pub is_placed : Held Entry → Bool
+is_placed h = (h.kind == slots) && (h.label == 1)
+
+abbrev pub lies_if : Bool → Name → ℕ → Fml
+lies_if true n s = lies n s
+lies_if false n s = ftrue
+
 abbrev pub way : Name → Held Entry → Fml
-way n h = way_if (h.kind == blocks) n h.label
+way n h = fsep (way_if (h.kind == blocks) n h.label) (lies_if (is_placed h) n h.key)
 
 abbrev pub one_key : Name → Held Entry → Fml
 one_key n h = fsep (key n h.kind h.key h.own) (way n h)

@@ -17,6 +17,7 @@ pub struct Activation {
     marker: PhantomData<()>,
     /// The book.
     pub ghost name: { Name } by { name_coded },
+    /// The slot that is active, by its number.
     pub ghost slot: { ℕ },
     /// Its lifetime.
     pub ghost life: { ℕ },

@@ -1,10 +1,12 @@
 //! Blocks in a store: from the number that a word shows to the words of its block. It stands on chunks and on the store.
-ghost use Rattle.std.specs.Prelude.{◌≡◌, Some};
+ghost use Rattle.std.specs.Prelude.{◌≡◌, IfErr, IfOk, Some};
+ghost use Rattle.seize_store.specs.Known.{family_in};
 ghost use Rattle.seize_store.specs.Named.{name_of};
 
-use crate::book::{Book, BookKeys, Numbers, Pass, SlotKey, Unopened, ValueKey, ValueKeys};
+use crate::book::{Book, BookKeys, Keeps, Pass, SlotKey, Unopened, ValueKey, ValueKeys};
 use crate::chunk::{Header, Part};
 use seize_store::{Bare, Store};
+use seize_table::Refusal;
 use std::alloc::Global;
 use std::marker::Brand;
 
@@ -15,14 +17,15 @@ pub struct Blocks<T> {
     /// The book.
     pub book: Book,
     ghost stands: { book.name.store ≡ Some (name_of store) },
+    ghost kin: { family_in (name_of store) ≡ book.name.family },
 }
 
 impl<T: Drop> Blocks<T> {
-    ghost use Rattle.seize_words.specs.Books.{Opens};
+    ghost use Rattle.seize_words.specs.Books.{Opens, OpensAlone};
     ghost use Rattle.seize_store.specs.Named.{bare_value};
-    ghost use Rattle.seize_words.specs.Chunks.{IsHeaderOf, LiesIn, OpensIn, book_in};
-    ghost use Rattle.seize_words.specs.Homes.{IsVacant, home_of};
-    ghost use Rattle.seize_words.specs.Others.{book_of, state_of, value_of};
+    ghost use Rattle.seize_table.specs.declared.refusal.Refusal.TheVariants.{NoMemory};
+    ghost use Rattle.seize_words.specs.Chunks.{IsBlockIn, IsHeaderOf, LiesIn, OpensAloneIn, OpensIn, book_in};
+    ghost use Rattle.seize_words.specs.Others.{IsVacated, book_of};
     ghost use Rattle.seize_words.specs.Homesteads.{HasNumber, state_seen};
     ghost use Rattle.seize_words.specs.Passes.{LooksOn};
     ghost use Rattle.seize_words.specs.Slots.{IsOf};
@@ -33,31 +36,79 @@ impl<T: Drop> Blocks<T> {
     pub fn new(alloc: Global, links: usize, size: usize) -> (Blocks<T>, BookKeys)
         ensures { OpensIn result.0 result.1 links size }
     {
-        let unopened = Unopened::new();
-        let store = Store::new(alloc);
+        let (unopened, family) = Unopened::new();
+        let store = Store::new(alloc, &family);
         let (book, keys) = Blocks::open::<Brand>(&store, unopened, links, size);
         (Blocks { store, book }, keys)
     }
 
+    /// The same of a book as one of `Book::open_alone`: its one pass is alone, so only who has it appends, and it has seen all there is.
+    pub fn new_alone(alloc: Global, links: usize, size: usize) -> (Blocks<T>, Pass, BookKeys)
+        ensures { OpensAloneIn result.0 result.1 result.2 links size }
+    {
+        let (unopened, family) = Unopened::new();
+        let store = Store::new(alloc, &family);
+        let (book, pass, keys) = Blocks::open_alone::<Brand>(&store, unopened, links, size);
+        (Blocks { store, book }, pass, keys)
+    }
+
     // A book whose blocks lie in this store.
-    fn open<N: Numbers>(
+    fn open<K: Keeps>(
         _store: &Store<Header, Part, T>,
         unopened: Unopened,
         links: usize,
         size: usize,
     ) -> (Book, BookKeys)
-        requires { N.store ≡ Some (name_of _store.now) }
-        ensures book { Opens result.0 result.1 links size (Some (name_of _store.now)) }
+        requires { K.store ≡ Some (name_of _store.now) }
+        ensures book { Opens result.0 result.1 links size (Some (name_of _store.now)) K.table }
         ensures family { result.0.name.family ≡ unopened.family }
     {
-        unopened.open::<N>(links, size)
+        unopened.open::<K>(links, size)
+    }
+
+    // The same, with its one pass.
+    fn open_alone<K: Keeps>(
+        _store: &Store<Header, Part, T>,
+        unopened: Unopened,
+        links: usize,
+        size: usize,
+    ) -> (Book, Pass, BookKeys)
+        requires { K.store ≡ Some (name_of _store.now) }
+        ensures book { OpensAlone result.0 result.1 result.2 links size (Some (name_of _store.now)) K.table }
+        ensures family { result.0.name.family ≡ unopened.family }
+    {
+        unopened.open_alone::<K>(links, size)
+    }
+
+    /// A block of the value, and the key for that value, by the number that the block has in the store. Where no chunk is in, it asks for
+    /// memory, as `Store::add` does; each chunk of a new row has a block of its own. The pass stays as it was.
+    ///
+    /// # Errors
+    ///
+    /// `NoMemory` where that growth was refused; the value comes back.
+    pub fn add(
+        &self,
+        value: T,
+        pass: &mut Pass,
+    ) -> Result<(ValueKey, Bare<Header, Part, T>), (Refusal, T)>
+        requires { book_in self.now ≡ pass.old.name }
+        ensures pass { pass.new ≡ pass.old }
+        ensures made { IfOk result (λ made. IsBlockIn self.now value made.0 made.1) }
+        ensures refused { IfErr result (λ refused. (refused.0 ≡ NoMemory) × (refused.1 ≡ value)) }
+    {
+        let (part, block) = self.store.add(value, &self.book)?.split();
+        let Part { key, book } = part;
+        let known = block.known();
+        pass.agree(&book);
+        let key = key.place(block.number() as u64, known);
+        Ok((key, block))
     }
 
     /// The value of a block whose values were all reclaimed. Its chunk is in again, with the block's key, by one swap; where the store is
     /// gone, the chunk's memory goes back.
     pub fn take_back(&self, key: ValueKey, block: Bare<Header, Part, T>) -> T
         requires book { book_of key ≡ book_in self.now }
-        requires vacant { IsVacant (state_of key.keys) (home_of (value_of key)) }
+        requires vacant { IsVacated key }
         requires lies { LiesIn key block }
         ensures { result ≡ bare_value block }
     {

@@ -47,6 +47,8 @@ impl Labelled for Part {
 
 /// Each chunk has a block of its own: the words of its header are new, and no value of the block was ever named.
 impl Maker<Header, Part> for Book {
+    ghost family = { λ book. book.name.family };
+
     fn make(&self, _number: usize) -> (Header, Part) {
         let ChunkKeys {
             value,

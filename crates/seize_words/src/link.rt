@@ -5,6 +5,7 @@ ghost use Rattle.seize_words.specs.Links.{IsLink, is_at_most_one};
 
 use crate::activation::Activation;
 use crate::book::{Keys, LinkKeys, Pass, ValueKey};
+use crate::glimpse::Glimpse;
 use crate::word::Word;
 use std::marker::Brand;
 
@@ -45,19 +46,19 @@ impl MaybeKey {
 }
 
 impl MaybeKey {
-    ghost use Rattle.seize_words.specs.LinkWords.{IsSomeKey};
+    ghost use Rattle.seize_words.specs.LinkWords.{IsKeyIn, IsSomeKey};
 
     /// The key of the value, where it is one.
     pub fn value(self) -> ValueKey
         requires { IsSomeKey self }
-        ensures { result.keys ≡ self.keys }
+        ensures { IsKeyIn result self }
     {
         ValueKey { keys: self.keys }
     }
 }
 
 impl Link {
-    ghost use Rattle.seize_words.specs.LinkWords.{CompareExchanges, HasNext, IsIn, IsNext, IsNewFor, Reads, Swaps};
+    ghost use Rattle.seize_words.specs.LinkWords.{CompareExchanges, HasNext, IsIn, IsNext, IsNewFor, Reads, Sees, Swaps};
 
     /// The first of the links that were not made yet. It is empty.
     pub fn next(left: &mut LinkKeys) -> Link
@@ -71,13 +72,22 @@ impl Link {
         Link { word }
     }
 
-    /// Reads the link: the event `ReadLink` of the activation's slot.
+    /// Reads the link: the event `ReadLink` of the activation's slot. It gives the link's word, and a glimpse of what the link holds, which
+    /// lasts as long as the activation is borrowed: what is lent with the value there can be seen for that long.
+    pub fn see<'g>(&self, activation: &'g Activation, pass: &mut Pass) -> (u64, Glimpse<'g>)
+        requires within { IsIn self.now activation.now pass.old }
+        ensures sees { Sees self.now activation.now pass.old pass.new result.0 result.1 }
+    {
+        let mut keys = Keys::empty(pass);
+        self.word.see_in::<Brand>(&mut keys, activation, pass)
+    }
+
+    /// The same, and the word alone.
     pub fn read(&self, activation: &Activation, pass: &mut Pass) -> u64
         requires within { IsIn self.now activation.now pass.old }
         ensures reads { Reads self.now activation.now pass.old pass.new result }
     {
-        let mut keys = Keys::empty(pass);
-        self.word.load_in::<Brand>(&mut keys, activation, pass)
+        self.see(activation, pass).0
     }
 
     /// Puts a value that was never named into the link, or none: the event `ExchangeLink` of the activation's slot. All values that lay in
@@ -97,19 +107,19 @@ impl Link {
             .swap_in::<Brand>(new, &mut value.keys, activation, pass)
     }
 
-    /// The same, but only if the link's word is what was seen. It gives the word of what the link held; the value's key comes back if that
-    /// was something else.
-    pub fn compare_exchange(
+    /// The same, but only if the link's word is what was seen. It gives the word of what the link held. If that was something else, the
+    /// value's key comes back, and the glimpse is of what the link holds, for as long as the activation is borrowed; else it is of nothing.
+    pub fn compare_exchange<'g>(
         &self,
         seen: u64,
         new: u64,
         value: &mut MaybeKey,
-        activation: &Activation,
+        activation: &'g Activation,
         pass: &mut Pass,
-    ) -> u64
+    ) -> (u64, Glimpse<'g>)
         requires within { IsIn self.now activation.now pass.old }
         requires new { IsNewFor self.now value.old new }
-        ensures exchanges { CompareExchanges self.now activation.now value.old pass.old seen value.new pass.new result }
+        ensures exchanges { CompareExchanges self.now activation.now value.old pass.old seen value.new pass.new result.0 result.1 }
     {
         self.word
             .exchange_in::<Brand>(seen, new, &mut value.keys, activation, pass)

@@ -17,6 +17,7 @@ pub struct Total {
 impl Total {
     ghost use Rattle.seize_words.specs.Slots.{IsOf};
     ghost use Rattle.seize_words.specs.Passes.{LooksOn};
+    ghost use Rattle.seize_words.specs.Tables.{IsPlaced};
     ghost use Rattle.seize_words.specs.Totals.{AreNext, IsOfBook, IsTotalOf, MakesSlot, MayMake, NumbersOf, slots_seen, total_known};
 
     /// The word of a book that has no slot yet.
@@ -41,11 +42,12 @@ impl Total {
     }
 
     /// Makes the slot that comes next: the event `Take` of a number that was never in use, where all numbers below it are in use. From
-    /// then on whoever loads the total knows that the slot is there, so its head has to be in its place before. It gives the keys of
-    /// the slot that comes after it.
+    /// then on whoever loads the total knows that the slot is there, so its head has to be in its place before, as the slot's key says. It
+    /// gives the keys of the slot that comes after it.
     pub fn add(&self, key: &mut SlotKey, numbers: &mut NumbersKey, pass: &mut Pass) -> SlotKeys
         requires book { IsOf key.old pass.old × NumbersOf numbers.old pass.old × IsOfBook self.now pass.old }
         requires next { MayMake numbers.old key.old }
+        requires place { IsPlaced key.old }
         ensures made { MakesSlot numbers.old key.old pass.old numbers.new key.new pass.new }
         ensures next { AreNext numbers.new pass.new result }
     {

@@ -9,8 +9,9 @@ ghost use Rattle.seize_words.specs.Words.{Site, site_coded, word_owns, word_shar
 
 use crate::activation::{Activation, Ended};
 use crate::book::{Keys, Pass};
+use crate::glimpse::Glimpse;
 use atomic_table::exchange;
-use std::marker::{Brand, Move, Owns};
+use std::marker::{Brand, Move, Owns, PhantomData};
 use std::sync::atomic::Ordering::SeqCst;
 use std::sync::atomic::raw;
 
@@ -51,7 +52,7 @@ impl Finds for Brand {
 }
 
 impl Word {
-    ghost use Rattle.seize_words.specs.Atomic.{IsWordOf, Looks, MayLook, MayTake, MayTakeIn, MayTakeWith, Takes, TakesIn, TakesWith, exchanged, minus, plus, site_of};
+    ghost use Rattle.seize_words.specs.Atomic.{IsWordOf, Looks, MayLook, MaySeeIn, MayTake, MayTakeIn, MayTakeWith, SeesIn, Takes, TakesIn, TakesWith, exchanged, minus, plus, site_of};
 
     /// A word that holds `bits` and has the keys of what it stands for.
     pub(crate) fn new(bits: u64, keys: &mut Keys) -> Word
@@ -77,17 +78,21 @@ impl Word {
         unsafe { raw::load::<Brand>(self as *const Self as *const u64, SeqCst) }
     }
 
-    /// Reads the word, where the activation has not ended.
-    pub(crate) fn load_in<P: Finds>(
+    /// Reads the word of a link, where the activation has not ended, and sees what is lent with what the link holds.
+    pub(crate) fn see_in<'g, P: Finds>(
         &self,
         keys: &mut Keys,
-        activation: &Activation,
+        activation: &'g Activation,
         pass: &mut Pass,
-    ) -> u64
-        requires { MayTakeIn self.now keys.old pass.old activation.now (λ v. v) P.entry P.trades }
-        ensures { TakesIn self.now keys.old pass.old keys.new pass.new activation.now (λ v. v) result P.entry P.trades }
+    ) -> (u64, Glimpse<'g>)
+        requires { MaySeeIn self.now keys.old pass.old activation.now (λ v. v) P.entry P.trades }
+        ensures { SeesIn self.now keys.old pass.old keys.new pass.new activation.now (λ v. v) result P.entry P.trades }
     {
-        unsafe { raw::load::<Brand>(self as *const Self as *const u64, SeqCst) }
+        let bits = unsafe { raw::load::<Brand>(self as *const Self as *const u64, SeqCst) };
+        let glimpse = Glimpse {
+            marker: PhantomData,
+        };
+        (bits, glimpse)
     }
 
     /// Stores `new` and gives what the word held, where the activation has not ended.
@@ -104,19 +109,24 @@ impl Word {
         unsafe { raw::swap::<Brand>(self as *const Self as *const u64, new, SeqCst) }
     }
 
-    /// Stores `new` where the word holds `seen`, and gives what it held, where the activation has not ended.
-    pub(crate) fn exchange_in<P: Finds>(
+    /// Stores `new` where the word of a link holds `seen`, and gives what it held, where the activation has not ended. Where it stores
+    /// nothing, it sees what is lent with what the link holds.
+    pub(crate) fn exchange_in<'g, P: Finds>(
         &self,
         seen: u64,
         new: u64,
         keys: &mut Keys,
-        activation: &Activation,
+        activation: &'g Activation,
         pass: &mut Pass,
-    ) -> u64
-        requires { MayTakeIn self.now keys.old pass.old activation.now (exchanged seen new) P.entry P.trades }
-        ensures { TakesIn self.now keys.old pass.old keys.new pass.new activation.now (exchanged seen new) result P.entry P.trades }
+    ) -> (u64, Glimpse<'g>)
+        requires { MaySeeIn self.now keys.old pass.old activation.now (exchanged seen new) P.entry P.trades }
+        ensures { SeesIn self.now keys.old pass.old keys.new pass.new activation.now (exchanged seen new) result P.entry P.trades }
     {
-        unsafe { exchange::<Brand>(self as *const Self as *const u64, seen, new) }
+        let bits = unsafe { exchange::<Brand>(self as *const Self as *const u64, seen, new) };
+        let glimpse = Glimpse {
+            marker: PhantomData,
+        };
+        (bits, glimpse)
     }
 
     /// Stores `new` and gives what the word held. It may end activations with these lifetimes.

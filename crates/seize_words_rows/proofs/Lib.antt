@@ -1,10 +1,17 @@
+pub mod BlockRuns
+pub mod BlockTries
+pub mod BlockWalks
 pub mod Both
 pub mod Insertions
+pub mod Flushers
 pub mod Flushes
 pub mod Leaves
+pub mod Passages
+pub mod Successors
 pub mod Marks
 pub mod Rows
 pub mod Stages
 pub mod Tries
 pub mod Runs
+pub mod Lent
 pub mod Puts

@@ -1,5 +1,5 @@
 -- What is known while a call marks, and what one more head read adds to it.
-use Rattle.std.proofs.Common.{◌≡◌, ◌≢◌, ℕ, ◌+◌, ◌<◌, ◌≤◌, Bool, true, false, if◌then◌else◌, nat_le, nat_lt, List, [], ◌∷◌, ◌++◌, length, map, Option, Some, refl, sym, ap, subst, ◌∙◌, append_assoc, append-nil, unwrap_or, slice_index_or, ◌⊎◌, inl, inr, arith}
+use Rattle.std.proofs.Common.{◌≡◌, ◌≢◌, ℕ, ◌+◌, ◌<◌, ◌≤◌, Bool, true, false, if◌then◌else◌, nat_le, nat_lt, List, [], ◌∷◌, ◌++◌, length, get_or, map, Option, Some, refl, sym, ap, subst, ◌∙◌, append_assoc, append-nil, unwrap_or, ◌⊎◌, inl, inr, arith}
 use Rattle.std.specs.List.{range_with_len}
 use Rattle.std.proofs.lemmas.List.{get_or-set_same, get_or_past, length_push, map-append}
 use Rattle.std.proofs.lemmas.List.FromFn.{map-range_with_len_more}
@@ -18,24 +18,26 @@ use Rattle.seize_words.specs.Entry.{Entry, Made}
 use Rattle.seize_words.specs.Heads.{reads_at}
 use Rattle.seize_words.specs.Passes.{IsSame, LooksOn, mine_of}
 use Rattle.seize_words.specs.Reservations.{MayRead, Shows, slot}
-use Rattle.seize_words.specs.Slots.{IsOf, Notes, number_of, own_list, size_of, slot_of, start_of}
+use Rattle.seize_words.specs.Slots.{IsOf, Notes, active_of, number_of, own_list, size_of, slot_of, start_of}
 use Rattle.seize_words.specs.Tokens.{Name, start}
 use Rattle.seize_words.specs.Totals.{slots_seen}
 use Rattle.seize_words.specs.declared.book.pass.Pass.{Pass}
 use Rattle.seize_words.specs.declared.book.slot_key.SlotKey.{SlotKey}
 use Rattle.seize_words.specs.declared.reservation.Head.{Head as Word}
 use Rattle.seize_words.proofs.Facts.{grew, more_slots, note_seen, seen_grows}
-use Rattle.seize_words_rows.specs.Marks.{AreHeadsOf, BeginsToMark, Ends, HasRead, entries_by}
+use Rattle.seize_words_rows.specs.Marks.{BeginsToMark, Ends, HasRead, entries_by}
 use Rattle.seize_words_rows.specs.declared.marking.Marked.{Marked}
 use Rattle.seize_words_rows.specs.declared.marking.Marked.TheVariants.{Ready, TooMany}
 
 -- so many heads were read, and so many slots marked
-pub record IsReading {key : SlotKey} (at : BeginsToMark key) (heads : List Word) (pass : Pass) (count marked : ℕ) (key' : SlotKey) (pass' : Pass) : Type 0 where
+pub record IsReading {key : SlotKey} (at : BeginsToMark key) (end : ℕ) (pass : Pass) (count marked : ℕ) (key' : SlotKey) (pass' : Pass) : Type 0 where
   pub same : IsSame pass pass'
   pub its : (key'.keys.name ≡ key.keys.name) × (number_of key' ≡ number_of key)
   pub knows : IsPrefix (own_list key') pass'.seen
-  pub there : length heads ≤ slots_seen pass'
+  pub there : end ≤ slots_seen pass'
   pub batch : (slot_of key').batch ≡ (slot_of key).batch
+  pub used : (slot_of key').used ≡ (slot_of key).used
+  pub active : active_of key' ≡ active_of key
   pub marks : List ℕ
   pub many : length marks ≡ marked
   pub few : marked ≤ length (slot_of key).batch
@@ -43,13 +45,15 @@ pub record IsReading {key : SlotKey} (at : BeginsToMark key) (heads : List Word)
   pub made : HasRead (number_of key) pass pass' count
 
 -- none was read
-abbrev pub none_read : (key : SlotKey) (at : BeginsToMark key) (heads : List Word) (pass : Pass) → IsPrefix (own_list key) pass.seen → length heads ≤ slots_seen pass → IsReading at heads pass 0 0 key pass
-none_read key at heads pass knows there = record {
+abbrev pub none_read : (key : SlotKey) (at : BeginsToMark key) (end : ℕ) (pass : Pass) → IsPrefix (own_list key) pass.seen → end ≤ slots_seen pass → IsReading at end pass 0 0 key pass
+none_read key at end pass knows there = record {
   same = (refl, refl);
   its = (refl, refl);
   knows = knows;
   there = there;
   batch = refl;
+  used = refl;
+  active = refl;
   marks = [];
   many = refl;
   few = omega arith;
@@ -75,11 +79,13 @@ goes active n batch call = record { place = on call.place; queue = call.queue }
 
 -- the machine reads a head for a call that marks
 after_read : (size : ℕ) (st : State) (s n : ℕ) (d : State × Answer) (next note : ℕ) (marks queue : List ℕ) → Step size st (ReadHead s n) d → Stands st s (Mark next note marks) queue
-    → Stands d.0 s (marked_place (is_active (head_at st n)) n note marks (slot_at st s).batch) queue × ((slot_at d.0 s).batch ≡ (slot_at st s).batch) × (head_at d.0 n ≡ head_at st n)
+    → Stands d.0 s (marked_place (is_active (head_at st n)) n note marks (slot_at st s).batch) queue × ((slot_at d.0 s).batch ≡ (slot_at st s).batch) × ((slot_at d.0 s).used ≡ (slot_at st s).used)
+    × (d.0.heads ≡ st.heads)
 after_read size st _ _ _ next note marks queue (Step.marked s n _ _ _ _ e r at) is =
     let same = get_or-set_same st.slots s _ no_slot (within st s _ is) in (
       ap (λ (z : Slot). z.call) same ∙ ap (λ (c : Call). Some (goes (is_active (head_at st n)) n (slot_at st s).batch c)) (some_is _ _ (sym e ∙ is)),
       ap (λ (z : Slot). z.batch) same,
+      ap (λ (z : Slot). z.used) same,
       refl,
     )
 after_read size st _ _ _ next note marks queue (Step.looked_at s b won m later others e) is =
@@ -95,13 +101,9 @@ word_some : (block : ℕ → ℕ) (h : Head) → word_of block h ≢ 0 → is_ac
 word_some block Inactive n = absurd (n refl)
 word_some block (Active waiting) n = refl
 
--- each of the heads is that of its slot
-pub head_in : (n : Name) (heads : List Word) (i : ℕ) (head : Word) → AreHeadsOf n heads → head ≡ slice_index_or heads i head → i < length heads → (head.word.name ≡ n) × (slot head ≡ i)
-head_in n heads i head are is less = subst (λ (h : Word). (h.word.name ≡ n) × (slot h ≡ i)) (sym is) (are i head less)
-
 -- The next head is read.
-module _ (key0 : SlotKey) (at : BeginsToMark key0) (heads : List Word) (pass0 : Pass) (i k : ℕ) (key : SlotKey) (pass : Pass) (r : IsReading at heads pass0 i k key pass) (head : Word)
-    (head_is : (head.word.name ≡ pass0.name) × (slot head ≡ i)) (less : i < length heads) (book : IsOf key0 pass0) where
+module _ (key0 : SlotKey) (at : BeginsToMark key0) (end : ℕ) (pass0 : Pass) (i k : ℕ) (key : SlotKey) (pass : Pass) (r : IsReading at end pass0 i k key pass) (head : Word)
+    (head_is : (head.word.name ≡ pass0.name) × (slot head ≡ i)) (less : i < end) (book : IsOf key0 pass0) where
   is_head : head.word.name ≡ pass.name
   is_head = head_is.0 ∙ sym r.same.0
 
@@ -125,7 +127,8 @@ module _ (key0 : SlotKey) (at : BeginsToMark key0) (heads : List Word) (pass0 : 
     batch = (slot_of key0).batch
 
     read : Stands noted.2.0.later (number_of key) (marked_place (is_active (head_at st (slot head))) (slot head) at.note r.marks (slot_at st (number_of key)).batch) at.queue
-        × ((slot_at noted.2.0.later (number_of key)).batch ≡ (slot_at st (number_of key)).batch) × (head_at noted.2.0.later (slot head) ≡ head_at st (slot head))
+        × ((slot_at noted.2.0.later (number_of key)).batch ≡ (slot_at st (number_of key)).batch) × ((slot_at noted.2.0.later (number_of key)).used ≡ (slot_at st (number_of key)).used)
+        × (noted.2.0.later.heads ≡ st.heads)
     read =
         let d : State × Answer = (noted.2.0.later, noted.2.0.answer) in
         after_read (size_of key) st (number_of key) (slot head) d i at.note r.marks at.queue (step_of (size_of key) st (ReadHead (number_of key) (slot head)) d noted.2.1.legal) (ap (λ (z : Slot). z.call) noted.2.1.was ∙ r.stands)
@@ -135,10 +138,16 @@ module _ (key0 : SlotKey) (at : BeginsToMark key0) (heads : List Word) (pass0 : 
     block b = block_for (start head.word.name) pass'.seen b (slot head)
 
     word : v ≡ word_of block (head_at st (slot head))
-    word = shows ∙ ap (word_of block) (ap (λ (n : Name). head_at (after (start n) pass'.seen) (slot head)) is_head ∙ ap (λ (now : State). head_at now (slot head)) noted.2.0.leads ∙ read.2)
+    word = shows ∙ ap (word_of block) (ap (λ (n : Name). head_at (after (start n) pass'.seen) (slot head)) is_head ∙ ap (λ (now : State). head_at now (slot head)) noted.2.0.leads ∙ ap (λ (hs : List Head). get_or hs (slot head) Inactive) read.3)
 
     pub same_batch : (slot_of key').batch ≡ batch
     same_batch = ap (λ (z : Slot). z.batch) noted.2.1.is ∙ read.1 ∙ ap (λ (z : Slot). z.batch) noted.2.1.was ∙ r.batch
+
+    pub same_used : (slot_of key').used ≡ (slot_of key0).used
+    same_used = ap (λ (z : Slot). z.used) noted.2.1.is ∙ read.2 ∙ ap (λ (z : Slot). z.used) noted.2.1.was ∙ r.used
+
+    pub same_active : active_of key' ≡ active_of key0
+    same_active = noted.2.1.is_now_active ∙ ap (λ (hs : List Head). is_active (get_or hs (number_of key) Inactive)) read.3 ∙ noted.2.1.was_active ∙ r.active
 
     goes_on : (active : Bool) → is_active (head_at st (slot head)) ≡ active → (slot_of key').call ≡ Some (record { place = marked_place active i at.note r.marks batch; queue = at.queue })
     goes_on active e =
@@ -156,10 +165,10 @@ module _ (key0 : SlotKey) (at : BeginsToMark key0) (heads : List Word) (pass0 : 
     pub knows : IsPrefix (own_list key') pass'.seen
     knows = ([], append-nil (own_list key') ∙ noted.1.2)
 
-    pub there : length heads ≤ slots_seen pass'
+    pub there : end ≤ slots_seen pass'
     there =
         let n = pass.name in
-        subst (λ (z : Name). length heads ≤ length (after (start z) pass'.seen).slots) (sym noted.0.0)
+        subst (λ (z : Name). end ≤ length (after (start z) pass'.seen).slots) (sym noted.0.0)
         (omega (arith, r.there, more_slots n pass.seen pass'.seen (seen_grows n pass.id pass.seen pass'.seen _ noted.2.0) noted.2.0.legal))
 
     pub made : HasRead (number_of key0) pass0 pass' (i + 1)
@@ -179,13 +188,15 @@ module _ (key0 : SlotKey) (at : BeginsToMark key0) (heads : List Word) (pass0 : 
             ∙ ap (λ (m : ℕ). Made (private pass0 (ReadHead (number_of key0) m))) head_is.1
 
     -- an inactive slot is passed over
-    pub passed_over : v ≡ 0 → IsReading at heads pass0 (i + 1) k key' pass'
+    pub passed_over : v ≡ 0 → IsReading at end pass0 (i + 1) k key' pass'
     passed_over none = record {
       same = same;
       its = same_key;
       knows = knows;
       there = there;
       batch = same_batch;
+      used = same_used;
+      active = same_active;
       marks = r.marks;
       many = r.many;
       few = r.few;
@@ -200,13 +211,15 @@ module _ (key0 : SlotKey) (at : BeginsToMark key0) (heads : List Word) (pass0 : 
     after_test short = Some (record { place = if short then Mark (i + 1) at.note (r.marks ++ i ∷ []) else Rest [] []; queue = at.queue })
 
     -- an active one is marked while there is a value for it
-    pub one_marked : v ≢ 0 → k ≢ length batch → IsReading at heads pass0 (i + 1) (k + 1) key' pass'
+    pub one_marked : v ≢ 0 → k ≢ length batch → IsReading at end pass0 (i + 1) (k + 1) key' pass'
     one_marked some room = record {
       same = same;
       its = same_key;
       knows = knows;
       there = there;
       batch = same_batch;
+      used = same_used;
+      active = same_active;
       marks = r.marks ++ i ∷ [];
       many = omega (arith, length_push r.marks i, r.many);
       few = short;
@@ -224,12 +237,14 @@ module _ (key0 : SlotKey) (at : BeginsToMark key0) (heads : List Word) (pass0 : 
         is_short a b l = grind arith
 
     -- and else the call gives up
-    pub stops : v ≢ 0 → k ≡ length batch → Ends at heads pass0 key' pass' TooMany
+    pub stops : v ≢ 0 → k ≡ length batch → Ends at pass0 key' pass' TooMany
     stops some full = record {
       count = i + 1;
-      within = omega (arith, less);
+      within = omega (arith, less, there);
       made = made;
       batch = same_batch;
+      used = same_used;
+      active = same_active;
       stands = goes_on true (is_on some) ∙ ap after_test (not_short (length r.marks) (length batch) (r.many ∙ full));
     }
       where
@@ -237,30 +252,33 @@ module _ (key0 : SlotKey) (at : BeginsToMark key0) (heads : List Word) (pass0 : 
         not_short a b e = grind arith
 
 -- All heads were read.
-pub all_read : {key0 : SlotKey} (at : BeginsToMark key0) (heads : List Word) (pass0 : Pass) (i k : ℕ) (key : SlotKey) (pass : Pass) → IsReading at heads pass0 i k key pass → i ≡ length heads → at.note ≤ length heads
-    → Ends at heads pass0 key pass Ready
-all_read at heads pass0 i k key pass r all le = record {
+pub all_read : {key0 : SlotKey} (at : BeginsToMark key0) (end : ℕ) (pass0 : Pass) (i k : ℕ) (key : SlotKey) (pass : Pass) → IsReading at end pass0 i k key pass → i ≡ end → at.note ≤ end
+    → Ends at pass0 key pass Ready
+all_read at end pass0 i k key pass r all le = record {
   count = i;
-  within = omega (arith, all);
+  within = let there = r.there in omega (arith, all, there);
   made = r.made;
   batch = r.batch;
+  used = r.used;
+  active = r.active;
   stands = (ap (λ (o : Option Call). unwrap_or (of_call can_detach_at o) false) r.stands ∙ is_le at.note i (omega (arith, all, le)), (r.marks, r.stands));
 }
   where
     is_le : (a b : ℕ) → a ≤ b → nat_le a b ≡ true
     is_le a b l = grind arith
 
--- The same is so of more heads, and from before a look on.
-pub ends_before : {key0 : SlotKey} (at : BeginsToMark key0) (heads some : List Word) (pass0 pass1 : Pass) (key : SlotKey) (pass : Pass) (ends : Marked) → length some ≤ length heads → LooksOn pass0 pass1
-    → Ends at some pass1 key pass ends → Ends at heads pass0 key pass ends
-ends_before {key0} at heads some pass0 pass1 key pass ends fewer looks e =
+-- The same is so from before a look on.
+pub ends_before : {key0 : SlotKey} (at : BeginsToMark key0) (pass0 pass1 : Pass) (key : SlotKey) (pass : Pass) (ends : Marked) → LooksOn pass0 pass1 → Ends at pass1 key pass ends → Ends at pass0 key pass ends
+ends_before {key0} at pass0 pass1 key pass ends looks e =
     let reads : ℕ → ℕ → List Entry = λ p size. map (λ m. Made (record { pass = p; size = size; event = ReadHead (number_of key0) m; life = 0 })) (range_with_len 0 e.count) in
     record {
       count = e.count;
-      within = omega (arith, e.within, fewer);
+      within = e.within;
       made = e.made ∙ ap (λ (log : List Entry). log ++ reads pass1.id pass1.name.size) (ap (map (λ (x : Entry × Answer). x.0)) looks.none_made)
           ∙ ap (λ (p : ℕ). entries_by pass0 ++ reads p pass1.name.size) looks.same.1 ∙ ap (λ (n : Name). entries_by pass0 ++ reads pass0.id n.size) looks.same.0;
       batch = e.batch;
+      used = e.used;
+      active = e.active;
       stands = e.stands;
     }
 

@@ -16,6 +16,7 @@ use Rattle.seize_words.specs.Counts.{Leaves, values_in}
 use Rattle.seize_words.specs.Entry.{Deed, Entry, Made, Use, Used}
 use Rattle.seize_words.specs.Headers.{Uses}
 use Rattle.seize_words.specs.Ledger.{Held, renewed}
+use Rattle.seize_words.specs.Named.{values_state}
 use Rattle.seize_words.specs.Others.{Follows, value_of}
 use Rattle.seize_words.specs.Passes.{IsSame, LooksOn}
 use Rattle.seize_words.specs.Private.{key_of, label_of, own_of}
@@ -36,17 +37,22 @@ use Rattle.seize_words_rows.specs.Making.{MakesOne, made_by}
 use Rattle.seize_words_rows.specs.declared.making.Maker.{Maker}
 use Rattle.seize_words_rows.specs.Stages.{Goes, IsAt, Knows, Leads, Sees, Stage, word_at}
 
+-- the event was legal there
+pub legal_at : (n : Name) (pass pass' : Pass) (e : Deed) (from : Stage) → (noted : Noted pass.name pass.id pass.seen pass'.seen (Made e)) → e.size ≡ pass.name.size → Sees n pass from → next from.size from.state e.event ≡ Some (noted.later, noted.answer)
+legal_at n pass pass' e from noted size sees =
+    let at : Sees pass.name pass from = subst (λ (m : Name). Sees m pass from) (sym sees.book) sees in
+    ap (λ (k : ℕ). next k from.state e.event) (sym (size ∙ at.leads.size))
+    ∙ ap (λ (now : State). next e.size now e.event) (sym at.leads.state)
+    ∙ ap (λ (log : List Entry). next e.size (after (start pass.name) log) e.event) (sym (noted.alone at.alone))
+    ∙ noted.does
+
 -- said of the pass's own book
 goes_on : (pass pass' : Pass) (e : Deed) (from to : Stage) (answer : Answer) → IsSame pass pass' → (noted : Noted pass.name pass.id pass.seen pass'.seen (Made e)) → e.size ≡ pass.name.size → Sees pass.name pass from → Goes from e.event to answer
     → Sees pass.name pass' to
 goes_on pass pass' e from to answer same noted size sees goes =
     let n = pass.name in let st = start n in
     let appended : pass'.seen ≡ pass.seen ++ Made e ∷ [] = noted.appended ∙ ap (λ (log : List Entry). log ++ Made e ∷ []) (noted.alone sees.alone) in
-    let does : next from.size from.state e.event ≡ Some (noted.later, noted.answer) =
-    ap (λ (k : ℕ). next k from.state e.event) (sym (size ∙ sees.leads.size))
-    ∙ ap (λ (now : State). next e.size now e.event) (sym sees.leads.state)
-    ∙ ap (λ (log : List Entry). next e.size (after st log) e.event) (sym (noted.alone sees.alone))
-    ∙ noted.does in
+    let does = legal_at pass.name pass pass' e from noted size sees in
     let same_end : (noted.later, noted.answer) ≡ (to.state, answer) = some_is _ _ (sym does ∙ goes.legal) in
     let planned : plans st pass'.seen ≡ to.plans =
     ap (plans st) appended ∙ planned_after st pass.seen e
@@ -134,7 +140,7 @@ word_is n log stage m leads =
     ap (λ (ps : List Plan). word_of (λ b. block_in (slice_index_or ps b no_plan) m) (head_at (after (start n) log) m)) leads.planned
     ∙ ap (λ (st : State). word_of (λ b. block_in (slice_index_or stage.plans b no_plan) m) (head_at st m)) leads.state
 
-shown : (n : Name) (head : Head) (pass : Pass) (m v : ℕ) (stage : Stage) → head.word.name ≡ n → slot head ≡ m → Sees n pass stage → Shows head pass.seen v → v ≡ word_at stage m
+pub shown : (n : Name) (head : Head) (pass : Pass) (m v : ℕ) (stage : Stage) → head.word.name ≡ n → slot head ≡ m → Sees n pass stage → Shows head pass.seen v → v ≡ word_at stage m
 shown n head pass m v stage book number sees shows =
     shows
     ∙ ap (λ (k : Name). head_word (start k) pass.seen (slot head)) book
@@ -210,6 +216,16 @@ pub keys_stay : (n : Name) (values values' : ValueKeys) (pass' : Pass) (zero : B
 keys_stay n values values' pass' zero is leaves book =
     let held : values'.keys.held ≡ renewed values.keys.held pass'.seen = leaves.1 ∙ ap (λ (b : Bool). renewed (if b then values.keys.held else []) pass'.seen) is in
     (ap label_of held ∙ same_labels values.keys.held pass'.seen, leaves.0 ∙ book, ap labels_of held ∙ same_all values.keys.held pass'.seen)
+
+-- and what they know
+pub state_known : (n : Name) (values values' : ValueKeys) (pass' : Pass) (zero : Bool) (v : ℕ) → zero ≡ true → Leaves values pass' values' zero → pass'.name ≡ n → values_of values ≡ v ∷ [] → values_state values' ≡ after (start n) pass'.seen
+state_known n values values' pass' zero v is leaves book one =
+    let held : values'.keys.held ≡ renewed values.keys.held pass'.seen = leaves.1 ∙ ap (λ (b : Bool). renewed (if b then values.keys.held else []) pass'.seen) is in
+    ap (λ (t : Name × List Entry). after (start t.0) t.1) (λ i. ((leaves.0 ∙ book) i, (ap own_of held ∙ own_renewed values.keys.held pass'.seen one) i))
+  where
+    own_renewed : (held : List (Held Entry)) (log : List Entry) → labels_of held ≡ v ∷ [] → own_of (renewed held log) ≡ log
+    own_renewed [] log e = absurd (cons≢nil (sym e))
+    own_renewed (h ∷ held) log e = refl
 
 -- a batch whose values are given up came to 0
 abbrev pub rests : List ℕ → List ℕ → List ℕ → Option Call

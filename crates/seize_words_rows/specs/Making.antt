@@ -1,5 +1,5 @@
 -- How slots are made, one after the other.
---     AreUnused total numbers next     the keys are those with which one book began
+--     AreUnused total numbers next     the keys are those with which one book began, whose heads lie in no table
 --     made_by maker, name_by maker     how many slots there are, as it knows;  its book
 --     TakesPart book maker             it is of the book, to which many may append, and whose blocks lie in no store
 --     HasOneMore maker maker'          one more slot was made, and where there is one more number, so can the slot after it
@@ -32,7 +32,7 @@ use Rattle.seize_words_rows.specs.declared.making.Maker.{Maker}
 
 abbrev pub AreUnused : TotalKey → NumbersKey → SlotKeys → Type 0
 AreUnused total numbers next =
-    (numbers_list numbers ≡ []) × ((numbers_book numbers).slots ≡ 0)
+    (numbers_list numbers ≡ []) × ((numbers_book numbers).slots ≡ 0) × ((numbers_book numbers).table ≡ None)
     × ((total_key_book total ≡ numbers_book numbers) × (total_list total ≡ []))
     × ((slot_book next.slot ≡ numbers_book numbers) × (number_of next.slot ≡ 0))
     × ((next_book next.head ≡ numbers_book numbers) × (next_list next.head ≡ []) × (next_head next.head ≡ 0))
@@ -45,6 +45,7 @@ name_by maker = numbers_book maker.numbers
 
 pub record CanMake (maker : Maker) : Type 0 where
   pub full : IsFull maker.numbers
+  pub nowhere : (name_by maker).table ≡ None
   pub total : total_book maker.total ≡ name_by maker
   pub slot : (slot_book maker.next.slot ≡ name_by maker) × (number_of maker.next.slot ≡ made_by maker)
   pub head : (next_book maker.next.head ≡ name_by maker) × (next_head maker.next.head ≡ made_by maker)

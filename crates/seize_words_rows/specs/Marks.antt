@@ -1,33 +1,23 @@
 -- How a call marks that has put the value with which its batch is full.
---     AreHeadsOf n heads     these are heads of book n, of the slots 0, 1, 2, ..
 --     BeginsToMark key       the slot's call is to read the first head
 --     HasRead s pass pass' count     all that was made with the pass is that slot s read so many heads, from the first on, in order
---     Ends at heads pass key' pass' ends     it read some of these heads, and the batch stays as it was. The batch may be detached; or the
---                            call has given up, and has only its queue to go on with
---     LacksHeads heads key pass key' pass'     there are more slots than heads, and nothing was made
---     MarksBy heads key pass key' pass' result     either of these
-use Rattle.std.specs.Prelude.{◌≡◌, ℕ, ◌<◌, ◌≤◌, List, [], ◌++◌, length, map, slice_index_or, Option, Some, None}
+--     Ends at pass key' pass' ends     it read the heads of some slots that there are; the batch stays as it was, and so does whether the
+--                            slot is in use and active. The batch may be detached; or the call has given up, and has only its queue to go
+--                            on with
+use Rattle.std.specs.Prelude.{◌≡◌, ℕ, ◌≤◌, List, [], ◌++◌, map, Some}
 use Rattle.std.specs.List.{range_with_len}
 use Rattle.seize_machine.specs.Machine.Event.{ReadHead}
 use Rattle.seize_machine.specs.Machine.State.{Mark, Rest}
 use Rattle.seize_words.specs.Adding.{private}
 use Rattle.seize_words.specs.Batches.{CanDetach}
 use Rattle.seize_words.specs.Entry.{Entry, Made}
-use Rattle.seize_words.specs.Named.{head_book}
-use Rattle.seize_words.specs.Passes.{MadeNone, mine_of}
-use Rattle.seize_words.specs.Reservations.{slot}
-use Rattle.seize_words.specs.Slots.{IsStill, number_of, slot_of}
-use Rattle.seize_words.specs.Tokens.{Name}
+use Rattle.seize_words.specs.Passes.{mine_of}
+use Rattle.seize_words.specs.Slots.{active_of, number_of, slot_of}
 use Rattle.seize_words.specs.Totals.{slots_seen}
 use Rattle.seize_words.specs.declared.book.pass.Pass.{Pass}
 use Rattle.seize_words.specs.declared.book.slot_key.SlotKey.{SlotKey}
-use Rattle.seize_words.specs.declared.reservation.Head.{Head}
 use Rattle.seize_words_rows.specs.declared.marking.Marked.{Marked}
 use Rattle.seize_words_rows.specs.declared.marking.Marked.TheVariants.{Ready, TooMany}
-
-abbrev pub AreHeadsOf : Name → List Head → Type 0
-AreHeadsOf n heads =
-    (i : ℕ) (d : Head) → i < length heads → (head_book (slice_index_or heads i d) ≡ n) × (slot (slice_index_or heads i d) ≡ i)
 
 pub record BeginsToMark (key : SlotKey) : Type 0 where
   pub note : ℕ
@@ -48,17 +38,11 @@ StandsAfter at count key' Ready =
     CanDetach key' × ((marks : List ℕ) × ((slot_of key').call ≡ Some (record { place = Mark count at.note marks; queue = at.queue })))
 StandsAfter at count key' TooMany = (slot_of key').call ≡ Some (record { place = Rest [] []; queue = at.queue })
 
-pub record Ends {key : SlotKey} (at : BeginsToMark key) (heads : List Head) (pass : Pass) (key' : SlotKey) (pass' : Pass) (ends : Marked)
-    : Type 0 where
+pub record Ends {key : SlotKey} (at : BeginsToMark key) (pass : Pass) (key' : SlotKey) (pass' : Pass) (ends : Marked) : Type 0 where
   pub count : ℕ
-  pub within : count ≤ length heads
+  pub within : count ≤ slots_seen pass'
   pub made : HasRead (number_of key) pass pass' count
   pub batch : (slot_of key').batch ≡ (slot_of key).batch
+  pub used : (slot_of key').used ≡ (slot_of key).used
+  pub active : active_of key' ≡ active_of key
   pub stands : StandsAfter at count key' ends
-
-abbrev pub LacksHeads : List Head → SlotKey → Pass → SlotKey → Pass → Type 0
-LacksHeads heads key pass key' pass' = (length heads < slots_seen pass') × IsStill key key' × MadeNone pass pass'
-
-abbrev pub MarksBy : List Head → SlotKey → Pass → SlotKey → Pass → Option Marked → Type 0
-MarksBy heads key pass key' pass' None = LacksHeads heads key pass key' pass'
-MarksBy heads key pass key' pass' (Some ends) = (at : BeginsToMark key) → Ends at heads pass key' pass' ends

@@ -9,7 +9,7 @@
 --     IsNewPut n further  and it was never named
 --     RunsOn words further pass now key s last     as StandsAt, of both values
 --     put_on .. both_gone v w     the stages, in order
-use Rattle.std.specs.Prelude.{◌≡◌, ℕ, pos, true, List, [], ◌∷◌, ◌++◌, Some}
+use Rattle.std.specs.Prelude.{◌≡◌, ℕ, pos, true, List, [], ◌∷◌, ◌++◌, Some, None}
 use Rattle.seize_machine.specs.Machine.State.{Add, Batch, Inactive, Mark, Place, Rest, Slot}
 use Rattle.seize_machine.specs.Machine.Event.{Hand, Put}
 use Rattle.seize_machine.specs.declared.machine.event.Answer.TheVariants.{Done, Handed}
@@ -18,8 +18,8 @@ use Rattle.seize_words.specs.Blocks.{Plan, block_of}
 use Rattle.seize_words.specs.Counts.{home}
 use Rattle.seize_words.specs.Entry.{Made}
 use Rattle.seize_words.specs.Homes.{home_of}
+use Rattle.seize_words.specs.Named.{count_book, first_value, slot_book}
 use Rattle.seize_words.specs.Passes.{mine_of}
-use Rattle.seize_words.specs.Private.{label_of}
 use Rattle.seize_words.specs.Slots.{number_of, slot_of}
 use Rattle.seize_words.specs.Tokens.{Name}
 use Rattle.seize_words.specs.Values.{AreNew, book_in, values_of}
@@ -41,7 +41,7 @@ pub record PutsFirst (key : SlotKey) (pass : Pass) (values : ValueKeys) (key' : 
   pub others : List ℕ
   pub values_are : values_of values ≡ first ∷ others
   pub keys : (book_in values' ≡ book_in values) × (values_of values' ≡ values_of values)
-  pub same : (key'.keys.name ≡ key.keys.name) × (number_of key' ≡ number_of key)
+  pub same : (slot_book key' ≡ slot_book key) × (number_of key' ≡ number_of key)
   pub batch : (slot_of key').batch ≡ (slot_of key).batch ++ first ∷ []
   pub place : Place
   pub queue : (slot_of key').call ≡ Some (record { place = place; queue = others })
@@ -52,11 +52,11 @@ pub record PutsFirst (key : SlotKey) (pass : Pass) (values : ValueKeys) (key' : 
       ∷ (Made (private pass (Put (number_of key))), Done) ∷ []
 
 abbrev pub put_in : Further → ℕ
-put_in further = label_of further.values.keys.held
+put_in further = first_value further.values
 
 abbrev pub IsPut : Name → Further → Type 0
 IsPut n further =
-    (further.count.word.name ≡ n) × (home further.count ≡ home_of (put_in further)) × (block_of (put_in further) ≡ 6)
+    (count_book further.count ≡ n) × (home further.count ≡ home_of (put_in further)) × (block_of (put_in further) ≡ 6)
     × (book_in further.values ≡ n) × (values_of further.values ≡ put_in further ∷ [])
 
 pub record IsNewPut (n : Name) (further : Further) : Type 0 where
@@ -76,7 +76,7 @@ after_handed retirer batches detached gone v w = record {
     slots = idle ∷ retirer ∷ [];
     heads = Inactive ∷ Inactive ∷ [];
     batches = record { values = []; count = pos 0 } ∷ batches;
-    links = [];
+    links = None ∷ [];
     loose = [];
     gone = v ∷ gone;
     named = v ∷ w ∷ [];

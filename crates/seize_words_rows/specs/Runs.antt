@@ -1,4 +1,4 @@
--- The stages of the worked run. Slot 0 reads, slot 1 retires value v alone.
+-- The stages of the worked run. Slot 0 reads, slot 1 retires value v alone. The book has one link, which stays empty here.
 --     book_in heads      the book of the heads;  AreHeads heads    they are of one book, and of slots 0 and 1
 --     value_in block     the value of the block
 --     IsLaid n block     its count and fields are of the book, and stand with it;  IsNewBlock n block     and its value was never named
@@ -77,7 +77,7 @@ calls batch place = record { used = true; batch = batch; call = Some (record { p
 abbrev pub before_detached : List Slot → List Head → List ℕ → Stage
 before_detached slots heads named = record {
   size = 1;
-  state = record { slots = slots; heads = heads; batches = []; links = []; loose = []; gone = []; named = named };
+  state = record { slots = slots; heads = heads; batches = []; links = None ∷ []; loose = []; gone = []; named = named };
   plans = [];
 }
 
@@ -118,7 +118,7 @@ after_detached reader retirer head batch gone v = record {
     slots = reader ∷ retirer ∷ [];
     heads = head ∷ Inactive ∷ [];
     batches = batch ∷ [];
-    links = [];
+    links = None ∷ [];
     loose = [];
     gone = gone;
     named = v ∷ [];

@@ -3,6 +3,8 @@
 --     LeadsTo block bs k   this is the number of the first one's block, where there is one
 --     IsAtBlock key next first     the slot's call is about to count down a batch of its walk, and these are the fields of the block with
 --                          which the batch was inserted
+--     HandsInWalk key word     the slot's call is to hand one value, and then to count down the next batch of its walk; the word leads to
+--                          what is left of the walk
 --     GoesOn at v w        v leads to the rest of the walk, and w is the number of the batch's first block
 use Rattle.std.specs.Prelude.{◌≡◌, ℕ, List, [], ◌∷◌, Option, Some, None}
 use Rattle.seize_machine.specs.Machine.State.{Rest}
@@ -32,3 +34,11 @@ pub record IsAtBlock (key : SlotKey) (next first : Field) : Type 0 where
 pub record GoesOn {key : SlotKey} {next first : Field} (at : IsAtBlock key next first) (v w : ℕ) : Type 0 where
   pub rest : v ≡ word_for key at.walk
   pub front : IsFrontBlock key at.batch w
+
+pub record HandsInWalk (key : SlotKey) (word : ℕ) : Type 0 where
+  pub value : ℕ
+  pub batch : ℕ
+  pub walk : List ℕ
+  pub queue : List ℕ
+  pub hands : (slot_of key).call ≡ Some (record { place = Rest (value ∷ []) (batch ∷ walk); queue = queue })
+  pub leads : word ≡ word_for key (batch ∷ walk)

@@ -72,7 +72,13 @@ impl Swapper {
         for block in first..first + EACH {
             let seen = link.read(&activation, &mut pass);
             let mut value = MaybeKey::some(book.block(block).value);
-            let old = link.compare_exchange(seen, block + 1, &mut value, &activation, &mut pass);
+            let (old, _) = link.compare_exchange(
+                seen,
+                block + 1,
+                &mut value,
+                &activation,
+                &mut pass,
+            );
             if old == seen {
                 left = left.wrapping_add(block + 1).wrapping_sub(old);
             }

@@ -64,7 +64,7 @@ fn begin() -> (SlotKey, SlotKey, Words, Further, Pass)
     ensures further { IsNewPut (book_of result.2) result.3 }
     ensures made { Knows (book_of result.2) result.0 0 one_made × Leads (book_of result.2) result.4 result.1 1 two_made }
 {
-    let (book, mut pass, keys) = Book::open_alone::<Brand>(0, 1);
+    let (book, mut pass, keys) = Book::open_alone::<Brand>(1, 1);
     let BookKeys {
         numbers,
         total,

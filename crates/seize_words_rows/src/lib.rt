@@ -1,16 +1,23 @@
 //! Callers of the book and its words: whole calls of a slot made of its private events, slots that enter and leave, swaps and reads of
-//! links, the end of an attempt, a step of a walk, and a worked run. They show that the contracts below, with the exported lemmas, suffice
+//! links, the end of an attempt, a step of a walk, and worked runs. They show that the contracts below, with the exported lemmas, suffice
 //! for a caller.
 #![tactic(auto)]
 
 pub mod attempts;
+pub mod block_run;
 pub mod calls;
 pub mod exchanges;
+pub mod flushing;
 pub mod further;
 pub mod leaving;
+pub mod lent_run;
+pub mod linked;
 pub mod making;
 pub mod marking;
+pub mod numbers;
+pub mod reads;
 pub mod row;
+pub mod second_value;
 #[cfg(test)]
 mod tests;
 pub mod walking;

@@ -57,6 +57,7 @@ impl Maker {
         } = self;
         let SlotKeys { mut slot, head } = next;
         let head = Head::new(head);
+        slot.anywhere();
         let next = total.add(&mut slot, &mut numbers, pass);
         let maker = Maker {
             total,

@@ -3,13 +3,13 @@
 ghost use Rattle.std.specs.Prelude.{◌≡◌, ◌≤◌, length};
 ghost use mathlib.Core.List.{IsPrefix};
 ghost use Rattle.seize_words.specs.Passes.{IsSame};
+ghost use Rattle.seize_words.specs.Reserved.{comes_to, ends_at, heads_book, slots_book};
 ghost use Rattle.seize_words.specs.Slots.{IsOf, number_of, own_list, slot_of};
-ghost use Rattle.seize_words.specs.Totals.{IsOfBook, slots_seen};
-ghost use Rattle.seize_words_rows.specs.Marks.{AreHeadsOf, BeginsToMark, Ends, MarksBy};
+ghost use Rattle.seize_words.specs.Totals.{slots_seen};
+ghost use Rattle.seize_words_rows.specs.Marks.{BeginsToMark, Ends};
 
 use seize_words::book::{Pass, SlotKey};
-use seize_words::reservation::Head;
-use seize_words::total::Total;
+use seize_words::slots::{Heads, Slots};
 
 /// What a call comes to that reads the heads.
 #[derive(Clone, Copy, PartialEq, Eq, Debug)]
@@ -20,42 +20,36 @@ pub enum Marked {
     TooMany,
 }
 
-/// Marks the active slots for the slot's batch, which has so many values, by the heads of the slots from 0 on. It gives nothing, and reads
-/// no head, where others have made slots of which the caller has no head.
-pub fn mark(
-    total: &Total,
-    heads: &[Head],
-    values: usize,
-    key: &mut SlotKey,
-    pass: &mut Pass,
-) -> Option<Marked>
-    requires book { IsOf key.old pass.old × IsOfBook total.now pass.old × AreHeadsOf pass.old.name heads.now }
+/// Marks the active slots for the slot's batch, which has so many values: reads the heads of the slots from 0 on, of as many as the total
+/// says that there are.
+pub fn mark(slots: &Slots, values: usize, key: &mut SlotKey, pass: &mut Pass) -> Marked
+    requires book { IsOf key.old pass.old × (slots_book slots.now ≡ pass.old.name) }
     requires knows { IsPrefix (own_list key.old) pass.old.seen }
     requires begins { BeginsToMark key.old }
     requires values { length (slot_of key.old).batch ≡ values }
     ensures book { IsOf key.new pass.new × IsSame pass.old pass.new × (number_of key.new ≡ number_of key.old) }
     ensures knows { IsPrefix (own_list key.new) pass.new.seen }
-    ensures marks { MarksBy heads.now key.old pass.old key.new pass.new result }
+    ensures marks { (at : BeginsToMark key.old) → Ends at pass.old key.new pass.new result }
 {
-    let slots = total.load(pass) as usize;
-    let heads = heads.get(..slots)?;
-    Some(read_each(heads, values, key, pass))
+    let (count, all) = slots.load(pass);
+    read_each(slots.heads(count, &all), values, key, pass)
 }
 
 // Reads these heads in turn, unless the call gives up.
-fn read_each(heads: &[Head], values: usize, key: &mut SlotKey, pass: &mut Pass) -> Marked
-    requires book { IsOf key.old pass.old × AreHeadsOf pass.old.name heads.now }
+fn read_each(heads: Heads<'_>, values: usize, key: &mut SlotKey, pass: &mut Pass) -> Marked
+    requires book { IsOf key.old pass.old × (heads_book heads ≡ pass.old.name) }
     requires knows { IsPrefix (own_list key.old) pass.old.seen }
-    requires there { length heads.now ≤ slots_seen pass.old }
+    requires first { comes_to heads ≡ 0 }
+    requires there { ends_at heads ≤ slots_seen pass.old }
     requires begins { BeginsToMark key.old }
-    requires all { (at : BeginsToMark key.old) → at.note ≤ length heads.now }
+    requires all { (at : BeginsToMark key.old) → at.note ≤ ends_at heads }
     requires values { length (slot_of key.old).batch ≡ values }
     ensures book { IsOf key.new pass.new × IsSame pass.old pass.new × (number_of key.new ≡ number_of key.old) }
     ensures knows { IsPrefix (own_list key.new) pass.new.seen }
-    ensures ends { (at : BeginsToMark key.old) → Ends at heads.now pass.old key.new pass.new result }
+    ensures ends { (at : BeginsToMark key.old) → Ends at pass.old key.new pass.new result }
 {
     let mut marked: usize = 0;
-    for head in heads.iter() {
+    for head in heads {
         if head.read(key, pass) == 0 {
             continue;
         }

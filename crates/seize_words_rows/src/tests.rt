@@ -1,28 +1,36 @@
 //! Books, passes and keys in hand, the worked run, and threads that step on words.
 ghost use Rattle.seize_words_rows.specs.Exchanges.{MayShare, MaySwap};
+ghost use Rattle.seize_words_rows.specs.Flushers.{MayFlush, MayGrow, grown};
 ghost use Rattle.seize_words_rows.specs.Visits.{MayVisit};
+ghost use Rattle.std.specs.Prelude.{◌≡◌};
 
-use crate::exchanges::{EACH, Swapper, read_many, share_many};
+use crate::exchanges::{EACH, Swapper, TURNS, read_many, share_many};
 use crate::leaving::{Visitor, leave_head};
 use crate::making::open;
+use crate::reads::read_with_each;
 use crate::row::{open_row, read_row, visit_many};
 use crate::walking::block_at;
-use crate::{further, worked_run};
+use crate::{block_run, flushing, further, linked, second_value, worked_run};
 use seize_words::activation::Activation;
 use seize_words::batch::Count;
 use seize_words::book::{
-    BlockKeys, Book, BookKeys, CountKey, FieldKey, HeadKey, Keys, LinkKeys, NumbersKey, Pass,
-    SlotKey, SlotKeys, TotalKey, ValueKey, ValueKeys,
+    BareKey, BlockKeys, Book, BookKeys, ChunkKeys, CountKey, FieldKey, HeadKey, LinkKeys,
+    NumbersKey, Pass, SlotKey, SlotKeys, TotalKey, Unopened, ValueKey, ValueKeys,
 };
+use seize_words::chunk::{Header, Part};
 use seize_words::header::Field;
 use seize_words::link::{Link, MaybeKey};
 use seize_words::reservation::Head;
+use seize_words::slots::Reservation;
 use seize_words::total::Total;
 use std::mem::size_of;
 use std::sync::Wait;
 use std::test::*;
 use std::thread;
 use std::thread::Threads;
+
+// How many slots a thread makes: the last of them lie in the table's third bucket.
+const MADE: u64 = 100;
 
 // Two passes meet, go to threads, come back and meet again.
 #[test]
@@ -39,15 +47,16 @@ fn passes_go_to_threads_and_meet(rt: HostRuntime) {
 
 #[test]
 fn tokens_have_no_bytes(rt: HostRuntime) {
-    assert_eq!(rt;
-        size_of::<Book>() + size_of::<Pass>() + size_of::<Keys>(),
-        0
-    );
+    assert_eq!(rt; size_of::<Book>() + size_of::<Pass>(), 0);
     assert_eq!(rt;
         size_of::<SlotKey>()
             + size_of::<ValueKey>()
             + size_of::<ValueKeys>()
+            + size_of::<BareKey>()
             + size_of::<BlockKeys>()
+            + size_of::<ChunkKeys>()
+            + size_of::<Part>()
+            + size_of::<Unopened>()
             + size_of::<CountKey>()
             + size_of::<FieldKey>()
             + size_of::<NumbersKey>()
@@ -62,7 +71,7 @@ fn tokens_have_no_bytes(rt: HostRuntime) {
     );
 }
 
-// A head, a link, a count, a field and the total are one word each.
+// A head, a link, a count, a field and the total are one word each. In the table a head has 64 bytes on each side.
 #[test]
 fn words_have_eight_bytes(rt: HostRuntime) {
     assert_eq!(rt; size_of::<Head>(), 8);
@@ -70,6 +79,13 @@ fn words_have_eight_bytes(rt: HostRuntime) {
     assert_eq!(rt; size_of::<Count>(), 8);
     assert_eq!(rt; size_of::<Field>(), 8);
     assert_eq!(rt; size_of::<Total>(), 8);
+    assert_eq!(rt; size_of::<Reservation>(), 64 + 8 + 64);
+}
+
+// A chunk's header is its block's three words.
+#[test]
+fn a_header_has_three_words(rt: HostRuntime) {
+    assert_eq!(rt; size_of::<Header>(), 24);
 }
 
 // Slots are made one after the other, and whoever loads the total knows how many there are.
@@ -90,12 +106,10 @@ fn the_total_tells_of_each_slot(rt: HostRuntime) {
 #[test]
 fn an_empty_link_is_read(rt: HostRuntime) {
     let (book, maker, mut links) = open(1);
-    let mut pass = book.pass();
     let link = Link::next(&mut links);
-    let (mut key, head, maker) = maker.make(&mut pass);
-    let activation = head.enter(&mut key, &mut pass);
-    assert_eq!(rt; link.read(&activation, &mut pass), 0);
-    drop((links, maker, key));
+    let (mut one, maker) = Swapper::enter(&book, maker, &link);
+    assert_eq!(rt; link.read(&one.activation, &mut one.pass), 0);
+    drop((links, maker, one));
 }
 
 // A slot leaves; its head's word says that it was active, and that nothing waited.
@@ -113,15 +127,29 @@ fn a_head_comes_out_with_nothing_waiting(rt: HostRuntime) {
 #[test]
 fn a_swapped_value_comes_out(rt: HostRuntime) {
     let (book, maker, mut links) = open(1);
-    let mut pass = book.pass();
     let link = Link::next(&mut links);
-    let (mut key, head, maker) = maker.make(&mut pass);
-    let activation = head.enter(&mut key, &mut pass);
+    let (mut one, maker) = Swapper::enter(&book, maker, &link);
     let mut value = MaybeKey::some(book.block(5).value);
-    assert_eq!(rt; link.swap(6, &mut value, &activation, &mut pass), 0);
-    let mut none = MaybeKey::none(&mut pass);
-    assert_eq!(rt; link.swap(0, &mut none, &activation, &mut pass), 6);
-    drop((links, maker, key, value, none));
+    assert_eq!(rt; link.swap(6, &mut value, &one.activation, &mut one.pass), 0);
+    let mut none = MaybeKey::none(&mut one.pass);
+    assert_eq!(rt; link.swap(0, &mut none, &one.activation, &mut one.pass), 6);
+    drop((links, maker, one, value, none));
+}
+
+// Two passes that have both seen the activation begin read the same word.
+#[test]
+fn a_link_is_read_with_two_passes(rt: HostRuntime) {
+    let (mut book, maker, mut links) = open(1);
+    let link = Link::next(&mut links);
+    let (mut one, maker) = Swapper::enter(&book, maker, &link);
+    book.learn(&mut one.pass);
+    share_many(&book, &link, &one.activation, 5, 1);
+    let mut two = book.pass();
+    assert_eq!(rt;
+        read_with_each(&link, &one.activation, &mut one.pass, &mut two),
+        (6, 6)
+    );
+    drop((links, maker, one, two));
 }
 
 // Two threads swap. It gives the sum of the words put in, less those that came out.
@@ -220,6 +248,52 @@ fn a_last_insertion_is_added(rt: HostRuntime) {
     let done = worked_run::insert_and_add(&mut words, &mut retirer, &mut pass);
     assert_eq!(rt; done, Some(false));
     drop((reader, retirer, words, activation));
+}
+
+// Two batches of values in blocks of a store wait for one slot. It leaves, and walks from block to block by the words in their headers;
+// the values come out as they went in, and the store finds the blocks again.
+#[test]
+fn blocks_of_two_batches_are_laid_back(rt: HostRuntime) {
+    let (mut reader, activation, mut retirer, run, mut pass) = block_run::begin(rt.alloc());
+    let Some((pair, one, other)) = block_run::take(&run.blocks, 70, 71, &mut pass) else {
+        panic!(rt; "no memory");
+    };
+    let front = pair.first.number() as u64;
+    let batch = block_run::retire(&run, None, pair, one, other, &mut retirer, &mut pass);
+    assert_eq!(rt;
+        block_run::mark(&run, None, &batch, &mut retirer, &mut pass),
+        (1, 0)
+    );
+    assert_eq!(rt;
+        block_run::detach(&run, None, &batch, &mut retirer, &mut pass),
+        1
+    );
+    assert_eq!(rt;
+        block_run::insert(&run, None, &batch, 1, &mut retirer, &mut pass),
+        1
+    );
+    let (first, zero) = block_run::add(&run, None, batch, &mut retirer, &mut pass);
+    assert!(rt; !zero);
+    let second = block_run::retire_both(&run, Some(&first), 72, 73, &mut retirer, &mut pass);
+    let Some(second) = second else {
+        panic!(rt; "no memory");
+    };
+    let last = second.first.number() as u64;
+    let word = block_run::leave(&run, &first, &second, &mut reader, activation, &mut pass);
+    assert_eq!(rt; word, last + 2);
+    let walked = block_run::walk_on(&run, Some(&first), second, word, &mut reader, &mut pass);
+    assert_eq!(rt; walked, (72, 73, front + 2));
+    let ended = block_run::walk_on(&run, None, first, walked.2, &mut reader, &mut pass);
+    assert_eq!(rt; ended, (70, 71, 1));
+    block_run::finish(&run, ended.2, &mut reader, &mut pass);
+    let Some((pair, one, other)) = block_run::take(&run.blocks, 74, 75, &mut pass) else {
+        panic!(rt; "no memory");
+    };
+    assert_eq!(rt; pair.first.number() as u64, front);
+    let block_run::Pair { first, second } = pair;
+    assert_eq!(rt; run.blocks.take_back(one, first), 74);
+    assert_eq!(rt; run.blocks.take_back(other, second), 75);
+    drop((reader, retirer, run));
 }
 
 // Each of the links of a row is read, with an activation that is shared and by a slot that enters and leaves.
@@ -324,6 +398,39 @@ fn a_further_value_is_retired_by_the_same_call(rt: HostRuntime) {
     drop((reader, retirer, words, put));
 }
 
+// A value goes through a link, and is retired while a slot is active, which refreshed before. It is gone, and then the block's second value
+// is retired too, and waits for no slot.
+#[test]
+fn two_values_of_one_block_are_retired(rt: HostRuntime) {
+    let (mut reader, mut retirer, linked, value, mut pass) = linked::begin();
+    let mut activation = worked_run::enter(&linked.heads, &mut reader, &mut pass);
+    assert_eq!(rt;
+        linked::refresh(&linked, &mut reader, &mut activation, &mut pass),
+        1
+    );
+    let (before, found, value) = linked::pass_through(&linked, value, &activation, &mut pass);
+    assert_eq!(rt; (before, found), (0, 6));
+    let mut words = linked::retire(linked, value, &mut retirer, &mut pass);
+    assert_eq!(rt; worked_run::mark(&words, &mut retirer, &mut pass), (1, 0));
+    assert_eq!(rt; worked_run::detach(&words, &mut retirer, &mut pass), 1);
+    worked_run::store(&words, &mut retirer, &mut pass);
+    assert_eq!(rt; worked_run::insert(&words, &mut retirer, &mut pass), 1);
+    assert_eq!(rt;
+        worked_run::leave(&words, &mut reader, activation, &mut pass),
+        7
+    );
+    assert_eq!(rt; worked_run::load(&words, &mut reader, &mut pass), (1, 5));
+    assert!(rt; !worked_run::count_down(&words, &mut reader, &mut pass));
+    assert!(rt; worked_run::count_up(&mut words, &mut retirer, &mut pass));
+    worked_run::hand(&words, &mut retirer, &mut pass);
+    second_value::next(&mut words, &mut pass);
+    second_value::retire(&mut words, &mut retirer, &mut pass);
+    assert_eq!(rt; second_value::mark(&words, &mut retirer, &mut pass), (0, 0));
+    assert!(rt; second_value::count_up(&mut words, &mut retirer, &mut pass));
+    second_value::hand(&words, &mut retirer, &mut pass);
+    drop((reader, retirer, words));
+}
+
 // Slots enter and leave side by side, each by steps on its own head, and nothing ever waits for one.
 #[test]
 fn two_slots_enter_and_leave(rt: HostRuntime) {
@@ -341,6 +448,31 @@ fn two_slots_enter_and_leave(rt: HostRuntime) {
     );
     assert_eq!(rt; turns, (20_000, 20_000));
     drop((links, maker));
+}
+
+// One thread makes slots, whose heads go into the table, while another flushes its batch again and again: each flush reads the heads of as
+// many slots as there are by then, and gives up. It goes on until it has seen all of them.
+#[test]
+fn slots_are_made_while_others_mark(rt: HostRuntime) {
+    let Some((slots, growth, flusher)) = flushing::begin(rt.alloc()) else {
+        panic!(rt; "no memory");
+    };
+    let shared = &slots;
+    let (made, saw) = thread::join(
+        &rt,
+        move || -> u64
+            requires { MayGrow shared.now growth × (grown growth ≡ 2) }
+        { growth.grow(shared, MADE) },
+        move || -> bool
+            requires { MayFlush shared.now flusher }
+        { flusher.flush_until(shared, MADE + 2, TURNS) },
+    );
+    assert_eq!(rt; (made, saw), (MADE, true));
+    let mut pass = slots.book.pass();
+    let (count, all) = slots.load(&mut pass);
+    assert_eq!(rt; count as u64, MADE + 2);
+    assert_eq!(rt; slots.heads(count, &all).count() as u64, MADE + 2);
+    assert_eq!(rt; slots.heads(count.min(1), &all).count(), 1);
 }
 
 fn four_visits<R: Threads + Wait + Sync>(

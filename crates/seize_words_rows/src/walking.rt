@@ -6,7 +6,8 @@ ghost use Rattle.seize_words.specs.Blocks.{list_word};
 ghost use Rattle.seize_words.specs.Headers.{IsOfBook};
 ghost use Rattle.seize_words.specs.Passes.{LooksOn};
 ghost use Rattle.seize_words.specs.Slots.{IsOf, IsStill};
-ghost use Rattle.seize_words_rows.specs.Walks.{GoesOn, IsAtBlock, LeadsTo};
+ghost use Rattle.seize_words.specs.Walks.{IsAtBatch, Knows};
+ghost use Rattle.seize_words_rows.specs.Walks.{GoesOn, HandsInWalk, IsAtBlock, LeadsTo};
 
 use seize_words::book::{Pass, SlotKey};
 use seize_words::header::Field;
@@ -28,4 +29,15 @@ pub fn look_on(next: &Field, first: &Field, key: &mut SlotKey, pass: &mut Pass) 
 {
     let rest = next.load(key, pass);
     (rest, first.load(key, pass))
+}
+
+/// Hands the last value that a batch gave up in the middle of a walk. This word leads to what is left of the walk, and it still does.
+pub fn hand_in_walk(_word: u64, key: &mut SlotKey, pass: &mut Pass)
+    requires book { IsOf key.old pass.old }
+    requires knows { Knows key.old pass.old }
+    requires hands { HandsInWalk key.old _word }
+    ensures knows { Knows key.new pass.new }
+    ensures at { IsAtBatch key.new _word }
+{
+    key.hand(pass);
 }

@@ -2,14 +2,15 @@
 //! by the reader and up to 0 by the other, which gives it up and hands its value to its reclaimer.
 //!
 //! It shows that what heads, fields and counts ask of their callers can be met: it has all that a retirement and a leave take, on words.
-//! Each function makes one or two of the events. The book is open to one pass alone, so its holder knows the whole list: how many slots
-//! there are when a value is put, which of them are active, and what waits in a list that comes out. So the contracts say which words are
-//! found.
+//! Each function makes one or two of the events. The book has one link, which holds nothing meanwhile. It is open to one pass alone, so its
+//! holder knows the whole list: how many slots there are when a value is put, which of them are active, and what waits in a list that
+//! comes out. So the contracts say which words are found.
 ghost use Rattle.std.specs.Prelude.{◌≡◌, true, false, None, Some};
+ghost use Rattle.seize_words.specs.Named.{values_state};
 ghost use Rattle.seize_words.specs.Slots.{written_of};
 ghost use Rattle.seize_words.specs.Reservations.{IsLastOf};
 ghost use Rattle.seize_words_rows.specs.Making.{CanMake, made_by, name_by};
-ghost use Rattle.seize_words_rows.specs.Runs.{AreHeads, IsLaid, IsNewBlock, StandsAt, book_in, book_of, value_in};
+ghost use Rattle.seize_words_rows.specs.Runs.{AreHeads, IsLaid, IsNewBlock, StandsAt, book_in, book_of, value_in, value_of};
 ghost use Rattle.seize_words_rows.specs.Runs.{entered, one_made, opened, put, two_made};
 ghost use Rattle.seize_words_rows.specs.Runs.{counted_up, inserted, left, looked, marked, over, reader_over};
 ghost use Rattle.seize_words_rows.specs.Stages.{Knows, Leads, Sees};
@@ -90,7 +91,7 @@ pub fn begin() -> (SlotKey, SlotKey, Words, Pass)
     ensures words { AreHeads result.2.heads × IsNewBlock (book_of result.2) result.2.block }
     ensures made { Knows (book_of result.2) result.0 0 one_made × Leads (book_of result.2) result.3 result.1 1 two_made }
 {
-    let (book, mut pass, keys) = Book::open_alone::<Brand>(0, 1);
+    let (book, mut pass, keys) = Book::open_alone::<Brand>(1, 1);
     let BookKeys {
         numbers,
         total,
@@ -226,11 +227,13 @@ pub fn count_down(words: &Words, reader: &mut SlotKey, pass: &mut Pass) -> bool
     zero
 }
 
-/// The other slot adds its one insertion. The count is 0 with that, and the batch is given up, with the key of its value.
+/// The other slot adds its one insertion. The count is 0 with that, and the batch is given up, with the key of its value, which knows so
+/// much of the list.
 pub fn count_up(words: &mut Words, retirer: &mut SlotKey, pass: &mut Pass) -> bool
     requires stands { StandsAt words.old pass.old reader_over retirer.old 1 inserted }
     ensures zero { result ≡ true }
     ensures book { book_of words.new ≡ book_of words.old }
+    ensures keys { values_state words.new.block.values ≡ (counted_up (value_of words.new)).state }
     ensures stands { StandsAt words.new pass.new counted_up retirer.new 1 counted_up }
 {
     words

@@ -4,8 +4,8 @@ ghost use Rattle.seize_store.specs.Known.{name_in};
 ghost use Rattle.seize_store.specs.Titled.{IsSeen, Shows};
 
 use super::Known;
+use crate::kin::NoteOf;
 use crate::row::{Row, Rows};
-use once_cell::race::Note;
 use seize_table::Labelled;
 use std::marker::PhantomData;
 
@@ -14,7 +14,7 @@ impl Known {
     pub(crate) fn of<H: Labelled + Drop, P: Labelled + Drop, T>(
         rows: &Rows<H, P, T>,
         index: usize,
-        note: &mut Note<Row<H, P, T>>,
+        note: &mut NoteOf<Row<H, P, T>>,
     ) -> Known
         requires { IsSeen rows.now index note.old }
         ensures { (note.new ≡ note.old) × Shows rows.now index note.old result }
@@ -27,7 +27,7 @@ impl Known {
     // A note of the row's cell knows the row then.
     pub(crate) fn tell<H: Labelled + Drop, P: Labelled + Drop, T>(
         &self,
-        note: &mut Note<Row<H, P, T>>,
+        note: &mut NoteOf<Row<H, P, T>>,
     )
         requires { note.old.cell ≡ name_in self.now.store self.now.row }
         ensures { (note.new.cell ≡ note.old.cell) × (note.new.known ≡ Some self.now.chunks) }

@@ -65,8 +65,7 @@ impl<H: Labelled + Drop, P: Labelled + Drop, T> Store<H, P, T> {
         ensures label { IfSome result (λ found. H.label (header_of found.0) ≡ label_by found.1 number) }
     {
         let place = Thread::new(number)?;
-        let mut note = self.rows.cells[place.bucket].note();
-        let row = self.rows.cells[place.bucket].get_as(&mut note)?;
+        let (row, mut note) = self.rows.found(place.bucket)?;
         if row.len() != Thread::bucket_capacity(place.bucket) {
             return None;
         }
@@ -120,9 +119,10 @@ impl<H: Labelled + Drop, P: Labelled + Drop, T> Store<H, P, T> {
         requires { (name_of self.now ≡ known.now.store) × (bucket ≡ known.now.row) × (bucket < 59) }
         ensures { result.now ≡ known.now.chunks }
     {
-        let mut note = self.rows.cells[bucket].note();
+        let cell = &self.rows.cells[bucket];
+        let mut note = cell.note();
         known.tell(&mut note);
-        let Some(row) = self.rows.cells[bucket].get_as(&mut note) else {
+        let (Some(row), _) = cell.found(note) else {
             unreachable!();
         };
         row
@@ -133,7 +133,7 @@ impl<H: Labelled + Drop, P: Labelled + Drop, T> Store<H, P, T> {
         requires { (store_by seen.old ≡ name_of self.now) × (row_by seen.old ≡ bucket) × (bucket < 59) }
         ensures { (seen.new ≡ seen.old) × (result.now ≡ chunks_by seen.old) }
     {
-        let Some(row) = self.rows.cells[bucket].get_as(&mut seen.note) else {
+        let (Some(row), _) = self.rows.cells[bucket].found(seen.note.again()) else {
             unreachable!();
         };
         row

@@ -13,7 +13,8 @@ use std::marker::{Model, PhantomData};
 
 /// What shows that so many first entries of one table are filled, and what their values are labelled with, for good. It takes no bytes.
 pub struct AllFilled {
-    marker: PhantomData<()>,
+    /// Nothing.
+    pub marker: PhantomData<()>,
     /// The table: the names of its buckets' cells.
     pub ghost table: { List ℕ } by { coded_list coded_ℕ },
     /// The labels of the first entries' values, from number 0 on.

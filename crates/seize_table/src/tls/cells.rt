@@ -35,6 +35,25 @@ impl<T: Labelled> Entry<T> {
         Entry { value, meaning }
     }
 
+    /// One of the value, and what shows that its name means that.
+    pub(super) fn named(value: T) -> (Entry<T>, Meaning<T>)
+        ensures { (result.0 ≡ (T.label value, result.1.name)) × (result.1.value ≡ value) }
+    {
+        let meaning = Meaning::of(&value);
+        let kept = meaning.again();
+        (Entry { value, meaning }, kept)
+    }
+
+    /// The value again, of which this shows that the entry's name means it.
+    pub(super) fn back(self, kept: &Meaning<T>) -> T
+        requires { self.1 ≡ kept.now.name }
+        ensures { result ≡ kept.now.value }
+    {
+        let Entry { value, meaning } = self;
+        meaning.agree(kept);
+        value
+    }
+
     /// The value, and what shows that the entry's name means it.
     pub(super) fn get(&self) -> (&T, Meaning<T>)
         ensures { ((T.label result.0.now, result.1.name) ≡ self.now) × (result.1.value ≡ result.0.now) }

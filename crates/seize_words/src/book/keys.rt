@@ -1,13 +1,17 @@
 //! Keys, one or several in a given order: the one generic step of the book. Each kind of key is a `Keys` with one key of that kind.
-ghost use Rattle.std.specs.Prelude.{◌≡◌, List, []};
+ghost use Rattle.std.specs.Prelude.{◌≡◌, List, [], None, true};
 ghost use base.Stored.{coded_list};
 ghost use Rattle.seize_machine.specs.Machine.Event.{Event, Return};
+ghost use Rattle.seize_words.specs.Book.{blocks, slots};
 ghost use Rattle.seize_words.specs.Entry.{Entry};
 ghost use Rattle.seize_words.specs.Ledger.{Held};
+ghost use Rattle.seize_words.specs.Private.{is_one};
 ghost use Rattle.seize_words.specs.Tokens.{Name, held_coded, keys_own, name_coded};
 
 use crate::book::pass::Pass;
 use crate::book::rights::Rights;
+use seize_content::{Pool, Ticket};
+use seize_table::tls::FilledAt;
 use std::marker::{Brand, Model, PhantomData};
 
 /// Some keys of one book, each with the list as it was when its holder last added an event.
@@ -33,7 +37,9 @@ impl Picks for Brand {
 impl Keys {
     ghost use Rattle.seize_words.specs.Adding.{Adds, Asks, Joins, Looks, MayLook, Parts};
     ghost use Rattle.seize_words.specs.Ledger.{AllApart};
+    ghost use Rattle.seize_words.specs.Lending.{Lends, MayLend, MayRedeem, Redeems};
     ghost use Rattle.seize_words.specs.Others.{Renames};
+    ghost use Rattle.seize_words.specs.Tables.{GetsPlace, LiesAt};
 
     /// Adds the event with the pass.
     pub(crate) fn note<P: Picks>(&mut self, pass: &mut Pass)
@@ -47,10 +53,46 @@ impl Keys {
         ensures { Looks self.old pass.old self.new pass.new }
     {}
 
-    /// The first key's label is another value of its block then, which was never named.
+    /// The label of a block's key is another value of the block then, which was never named.
     pub(crate) fn rename(&mut self)
+        requires { is_one blocks self.old.held ≡ true }
         ensures { Renames self.old self.new }
     {}
+
+    /// The head of the slot lies in the table of the book, as the token shows, and its key says so then.
+    pub(crate) fn place(&mut self, token: &FilledAt)
+        requires { LiesAt self.old token.now }
+        ensures { GetsPlace self.old self.new }
+    {}
+
+    /// The same where heads lie in no table.
+    pub(crate) fn anywhere(&mut self)
+        requires { (self.old.name.table ≡ None) × (is_one slots self.old.held ≡ true) }
+        ensures { GetsPlace self.old self.new }
+    {}
+
+    /// The content goes with the first key, whose label is another value of its block then, which was never named.
+    pub(crate) fn lend(&mut self, ticket: Ticket, pool: Pool)
+        requires { MayLend self.old ticket pool }
+        ensures { Lends self.old pool self.new }
+    {
+        let Ticket { marker: _ } = ticket;
+        let Pool { marker: _ } = pool;
+    }
+
+    /// What went with the first key comes back, whole. Its value was reclaimed, as the pass has seen, so nobody sees the content any more.
+    pub(crate) fn redeem(&mut self, pass: &mut Pass) -> (Ticket, Pool)
+        requires { MayRedeem self.old pass.old }
+        ensures { (pass.new ≡ pass.old) × Redeems self.old self.new result.0 result.1 }
+    {
+        let ticket = Ticket {
+            marker: PhantomData,
+        };
+        let pool = Pool {
+            marker: PhantomData,
+        };
+        (ticket, pool)
+    }
 
     /// No two of them are one: nobody has a right twice.
     pub(crate) fn apart(&mut self)

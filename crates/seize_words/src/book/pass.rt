@@ -2,12 +2,12 @@
 ghost use Rattle.std.specs.Prelude.{◌≡◌, ℕ, List, Some, is_some, true};
 ghost use base.Stored.{coded_list};
 ghost use Rattle.seize_words.specs.Entry.{Entry, entry_coded};
-ghost use Rattle.seize_store.specs.Known.{IsWhole};
 ghost use Rattle.seize_store.specs.Named.{IsRowOf};
 ghost use Rattle.seize_words.specs.Tokens.{Name, name_coded, pass_owns};
 
 use crate::book::token::Book;
 use seize_store::Known;
+use seize_table::tls::AllFilled;
 use std::marker::{Model, PhantomData};
 
 /// What its holder has seen of the list, and the right to add entries under its id.
@@ -28,6 +28,7 @@ impl Model for Pass {
 impl Pass {
     ghost use Rattle.seize_words.specs.Homesteads.{AreAt, HasNumber, state_seen};
     ghost use Rattle.seize_words.specs.Passes.{LooksOn, Meets};
+    ghost use Rattle.seize_words.specs.Tables.{AreSlotsOf};
 
     /// Two passes of one book tell each other what they have seen: afterwards both have seen the longer of their two beginnings. No event
     /// is made with either.
@@ -67,11 +68,21 @@ impl Pass {
         }
     }
 
+    /// Looks at the list, and adds nothing. It gives what shows the first entries of the table where the heads of the book lie, one for
+    /// each slot that there is, with the slot's label.
+    pub fn slots(&mut self) -> AllFilled
+        requires table { is_some self.old.name.table ≡ true }
+        ensures { LooksOn self.old self.new × AreSlotsOf self.new result }
+    {
+        AllFilled {
+            marker: PhantomData,
+        }
+    }
+
     /// Looks at the list, and adds nothing. Where the blocks of the book lie in the store of this row, each value that was ever named, and
     /// whose number is one of the row's, lies in the block with the label that the row has there.
     pub fn find(&mut self, known: &Known)
-        requires store { self.old.name.store ≡ Some known.now.store }
-        requires whole { IsWhole known.now.row known.now.chunks }
+        requires { self.old.name.store ≡ Some known.now.store }
         ensures { LooksOn self.old self.new × AreAt self.new.name known.now (state_seen self.new) }
     {}
 }

@@ -1,9 +1,11 @@
 //! The right to the key of a block by itself, without where the number of its value leads: what lies with a chunk of a store. It uses keys;
 //! `bare_key` wraps it for callers.
-ghost use Rattle.std.specs.Prelude.{◌≡◌, ◌<◌, ◌^◌, List, None};
+ghost use Rattle.std.specs.Prelude.{◌≡◌, ◌<◌, ◌^◌, List, None, true};
 ghost use base.Stored.{coded_list};
+ghost use Rattle.seize_words.specs.Book.{blocks};
 ghost use Rattle.seize_words.specs.Entry.{Entry};
 ghost use Rattle.seize_words.specs.Ledger.{Held};
+ghost use Rattle.seize_words.specs.Private.{is_one};
 ghost use Rattle.seize_words.specs.Tokens.{Name, held_coded, name_coded, rights_own};
 
 use crate::book::keys::Keys;
@@ -22,16 +24,16 @@ impl Model for Rights {
 }
 
 impl Rights {
-    ghost use Rattle.seize_words.specs.Bare.{IsWay, Numbers, Places};
+    ghost use Rattle.seize_words.specs.Bare.{IsFree, IsWay, Numbers, Places};
 
     /// The first key's label is a value of its block then, with this number, which was never named.
     pub(crate) fn number(&mut self, number: u64)
         ensures { Numbers self.old self.new number }
     {}
 
-    /// All of them, where blocks lie in no store.
+    /// The key of a block's values, where blocks lie in no store.
     pub(crate) fn anywhere(&mut self) -> Keys
-        requires { self.old.name.store ≡ None }
+        requires { (self.old.name.store ≡ None) × IsFree self.old }
         ensures { Places self.old result }
     {
         Keys {

@@ -1,5 +1,5 @@
 //! The key of a slot, and the events that its holder makes of the slot itself. It is `Keys` with one key; they are added with a pass.
-ghost use Rattle.std.specs.Prelude.{◌≡◌, [], true, false, IfSome, is_some};
+ghost use Rattle.std.specs.Prelude.{◌≡◌, [], true, false, IfSome, None, Some, is_some};
 ghost use Rattle.seize_machine.specs.Machine.State.{is_idle};
 ghost use Rattle.seize_machine.specs.Machine.Event.{Begin, Detach, Give, Hand, Put, Return, Take};
 ghost use Rattle.seize_machine.specs.declared.machine.event.Job.TheVariants.{Flush, Leave, Refresh, Retire};
@@ -11,6 +11,7 @@ use crate::book::numbers_key::NumbersKey;
 use crate::book::pass::Pass;
 use crate::book::value_key::ValueKey;
 use crate::book::value_keys::ValueKeys;
+use seize_table::tls::FilledAt;
 use std::marker::Brand;
 
 /// The right to the events of one slot, but for those on links, which whoever has a guard of the slot may make, and to its uses of fields.
@@ -25,9 +26,11 @@ pub struct SlotKey {
 impl SlotKey {
     ghost use Rattle.seize_words.specs.Batches.{CanDetach, Detaches};
     ghost use Rattle.seize_words.specs.Counts.{AreLast, AreOfBook};
-    ghost use Rattle.seize_words.specs.Others.{CannotRetire, Follows, IsLast, IsOfBook, IsWith, Knew, MayRetire, MayTake, SameKind, value_of};
+    ghost use Rattle.seize_words.specs.Others.{AreNumbersOf, CannotRetire, Follows, FollowsNumbers, FollowsValue, IsLast, IsOfBook, IsValueOf, IsWith, Knew, MayRetire, MayTake, SameKind, value_of};
     ghost use Rattle.seize_words.specs.Private.{IsOpen, IsPrivate};
     ghost use Rattle.seize_words.specs.Slots.{HandsOnce, Looks, Notes, IsOf, active_of, hands_next, number_of, size_of, slot_of};
+    ghost use Rattle.seize_words.specs.Tables.{IsLike, IsPlaced};
+    ghost use Rattle.seize_words.specs.Tokens.{label_at};
     ghost use Rattle.seize_words.specs.Values.{AreNew, AreSpent, Keep, values_of};
 
     // Any event that changes nothing but the slot's own record.
@@ -63,14 +66,33 @@ impl SlotKey {
         self.keys.look(pass);
     }
 
+    /// The slot's head lies in the table of its book, in the entry with the slot's number, as the token shows: what is there has the slot's
+    /// label. The key of a slot that comes next says so from then on, also when the slot is there.
+    pub fn place(&mut self, token: &FilledAt)
+        requires table { self.old.keys.name.table ≡ Some token.now.table }
+        requires entry { token.now.number ≡ number_of self.old }
+        requires head { token.now.label ≡ label_at self.old.keys.name (number_of self.old) }
+        ensures { IsLike self.old self.new × IsPlaced self.new }
+    {
+        self.keys.place(token);
+    }
+
+    /// The same where the heads of its book lie in no table.
+    pub fn anywhere(&mut self)
+        requires none { self.old.keys.name.table ≡ None }
+        ensures { IsLike self.old self.new × IsPlaced self.new }
+    {
+        self.keys.anywhere();
+    }
+
     /// The event `Begin` of the retirement of a value. Its key knows then that no call may begin to retire it, and that all others that lay
     /// in its block were reclaimed.
     pub fn begin_retire(&mut self, value: &mut ValueKey, pass: &mut Pass)
-        requires book { IsOf self.old pass.old × IsOfBook value.old.keys pass.old }
+        requires book { IsOf self.old pass.old × IsValueOf value.old pass.old }
         requires idle { is_idle (slot_of self.old) ≡ true }
         requires value { MayRetire value.old }
         ensures noted { Notes self.old pass.old self.new pass.new (Begin (number_of self.old) (Retire (value_of value.old))) }
-        ensures value { Follows value.old.keys pass.new value.new.keys }
+        ensures value { FollowsValue value.old pass.new value.new }
         ensures spent { CannotRetire value.new }
         ensures last { IsLast value.new }
     {
@@ -79,20 +101,20 @@ impl SlotKey {
 
     /// The event `Give`: the slot's number goes back.
     pub fn give(&mut self, numbers: &mut NumbersKey, pass: &mut Pass)
-        requires book { IsOf self.old pass.old × IsOfBook numbers.old.keys pass.old }
+        requires book { IsOf self.old pass.old × AreNumbersOf numbers.old pass.old }
         requires idle { (is_idle (slot_of self.old) ≡ true) × (active_of self.old ≡ false) }
         ensures noted { Notes self.old pass.old self.new pass.new (Give (number_of self.old)) }
-        ensures numbers { Follows numbers.old.keys pass.new numbers.new.keys }
+        ensures numbers { FollowsNumbers numbers.old pass.new numbers.new }
     {
         self.note_with::<Brand>(&mut numbers.keys, pass);
     }
 
     /// The event `Take` of a number that was in use before: the slot, which is there, is in use again.
     pub fn take_again(&mut self, numbers: &mut NumbersKey, pass: &mut Pass)
-        requires book { IsOf self.old pass.old × IsOfBook numbers.old.keys pass.old }
+        requires book { IsOf self.old pass.old × AreNumbersOf numbers.old pass.old }
         requires least { MayTake numbers.old self.old }
         ensures noted { Notes self.old pass.old self.new pass.new (Take (number_of self.old)) }
-        ensures numbers { Follows numbers.old.keys pass.new numbers.new.keys }
+        ensures numbers { FollowsNumbers numbers.old pass.new numbers.new }
     {
         self.note_with::<Brand>(&mut numbers.keys, pass);
     }
@@ -146,9 +168,10 @@ impl SlotKey {
     /// The event `Hand`: the value that the slot's call is about to hand to its reclaimer goes there, and its reclaimer puts these values,
     /// which were never named. All that lay in their blocks before were reclaimed.
     ///
-    /// The value goes there for the first time, and each slot that found it in a link has left or refreshed since, and the activations in
-    /// which they found it are over. The slot's call is to retire the further values then, in their order, after those that it had before.
-    /// So their keys know then that no call may begin to retire them, and that all others that lay in their blocks were reclaimed.
+    /// The value goes there for the first time, and was retired before. Each slot that was active then, and each that found it in a link,
+    /// has left or refreshed since, and the activations in which they found it are over. The slot's call is to retire the further values
+    /// then, in their order, after those that it had before. So their keys know then that no call may begin to retire them, and that all
+    /// others that lay in their blocks were reclaimed.
     pub fn hand_with(&mut self, further: &mut ValueKeys, pass: &mut Pass)
         requires book { IsOf self.old pass.old × AreOfBook further.old pass.old }
         requires next { is_some (hands_next (slot_of self.old)) ≡ true }
@@ -164,8 +187,8 @@ impl SlotKey {
 
     /// The event `Hand` of a value whose reclaimer puts none: the value that the slot's call is about to hand to its reclaimer goes there.
     ///
-    /// It goes there for the first time, and each slot that found it in a link has left or refreshed since, and the
-    /// activations in which they found it are over.
+    /// It goes there for the first time, and was retired before. Each slot that was active then, and each that found it in a link, has left
+    /// or refreshed since, and the activations in which they found it are over.
     pub fn hand(&mut self, pass: &mut Pass)
         requires book { IsOf self.old pass.old }
         requires next { is_some (hands_next (slot_of self.old)) ≡ true }

@@ -33,14 +33,18 @@ impl Model for Book {
     ghost also_shares = { λ b _ κ. said (book_owns b.name b.seen) κ };
 }
 
-/// Where the blocks of a book lie, of which words hold the numbers. A caller passes `Brand`, and its proof picks the store; where none is
-/// picked, they lie in none.
-pub trait Numbers {
+/// The store that keeps the blocks of a book, by whose numbers words hold them, and the table that keeps its heads. A caller passes
+/// `Brand`, and its proof picks the store and the table; where none is picked, none keeps them.
+pub trait Keeps {
     ghost store: { Option (List ℕ) };
+
+    ghost table: { Option (List ℕ) };
 }
 
-impl Numbers for Brand {
+impl Keeps for Brand {
     ghost store = { None };
+
+    ghost table = { None };
 }
 
 impl Book {
@@ -49,30 +53,30 @@ impl Book {
     ghost use Rattle.seize_words.specs.Bare.{IsChunkOf, IsNewChunk};
     ghost use Rattle.seize_words.specs.Chains.{first_field, next_field};
     ghost use Rattle.seize_words.specs.Homes.{home_of};
+    ghost use Rattle.seize_words.specs.Lending.{IsFreeKey};
     ghost use Rattle.seize_words.specs.Others.{value_of};
 
     /// A new book, of which any number of passes may be made, and its keys. It has no slot yet, and its links are empty. A slot attempts
-    /// its batch when that has `size` values, at least one.
-    pub fn open<N: Numbers>(links: usize, size: usize) -> (Book, BookKeys)
-        ensures { Opens result.0 result.1 links size N.store }
+    /// its batch when that has `size` values, at least one. `K` says which store keeps the blocks, and which table the heads: for `Brand`,
+    /// where the caller's proof picks none, the blocks have the numbers that [`Book::block`] is given.
+    pub fn open<K: Keeps>(links: usize, size: usize) -> (Book, BookKeys)
+        ensures { Opens result.0 result.1 links size K.store K.table }
     {
-        Unopened::new().open::<N>(links, size)
+        let (unopened, _) = Unopened::new();
+        unopened.open::<K>(links, size)
     }
 
     /// A new book as `open` makes one, but that its one pass is alone: only who has it appends, and it has seen all there is.
-    pub fn open_alone<N: Numbers>(links: usize, size: usize) -> (Book, Pass, BookKeys)
-        ensures { OpensAlone result.0 result.1 result.2 links size N.store }
+    pub fn open_alone<K: Keeps>(links: usize, size: usize) -> (Book, Pass, BookKeys)
+        ensures { OpensAlone result.0 result.1 result.2 links size K.store K.table }
     {
-        Unopened::new().open_alone::<N>(links, size)
+        let (unopened, _) = Unopened::new();
+        unopened.open_alone::<K>(links, size)
     }
 
     // A new book with all its keys, in the order of `first_keys`.
-    pub(crate) fn open_keys<N: Numbers>(
-        unopened: Unopened,
-        links: usize,
-        size: usize,
-    ) -> (Book, Keys)
-        ensures { IsMany result.0 × Begins result.0 result.1 links size N.store × (result.0.name.family ≡ unopened.family) }
+    pub(crate) fn open_keys<K: Keeps>(unopened: Unopened, links: usize, size: usize) -> (Book, Keys)
+        ensures { IsMany result.0 × Begins result.0 result.1 links size K.store K.table × (result.0.name.family ≡ unopened.family) }
     {
         let Unopened { marker: _ } = unopened;
         let book = Book {
@@ -84,12 +88,13 @@ impl Book {
         (book, keys)
     }
 
-    pub(crate) fn open_sole<N: Numbers>(
+    pub(crate) fn open_sole<K: Keeps>(
         unopened: Unopened,
         links: usize,
         size: usize,
     ) -> (Book, Pass, Keys)
-        ensures { IsAlone result.0 result.1 × Begins result.0 result.2 links size N.store × (result.0.name.family ≡ unopened.family) }
+        ensures { IsAlone result.0 result.1 × Begins result.0 result.2 links size K.store K.table
+            × (result.0.name.family ≡ unopened.family) }
     {
         let Unopened { marker: _ } = unopened;
         let book = Book {
@@ -112,6 +117,12 @@ impl Book {
             marker: PhantomData,
         }
     }
+
+    /// Two books of one family are one. It does nothing: its contract is the law.
+    pub fn agree(&self, other: &Book)
+        requires { self.now.name.family ≡ other.now.name.family }
+        ensures { self.now.name ≡ other.now.name }
+    {}
 
     /// A new pass, which has seen what the book has.
     pub fn pass(&self) -> Pass
@@ -138,6 +149,7 @@ impl Book {
         requires none { self.now.name.store ≡ None }
         requires fits { number + 2 < 2 ^ 64 }
         ensures value { IsFirstIn result.value number }
+        ensures free { IsFreeKey result.value }
         ensures count { IsCountAt result.count (home_of (value_of result.value)) }
         ensures next { IsFieldAt next_field result.next (home_of (value_of result.value)) }
         ensures first { IsFieldAt first_field result.first (home_of (value_of result.value)) }

@@ -4,7 +4,8 @@ ghost use Rattle.seize_words.specs.Tokens.{uncalled};
 
 use crate::book::book_keys::BookKeys;
 use crate::book::pass::Pass;
-use crate::book::token::{Book, Numbers};
+use crate::book::token::{Book, Keeps};
+use seize_store::Family;
 use std::marker::{Model, PhantomData};
 
 /// A book that has not begun. It has its family already, so that a store can be made of chunks that are labelled with it, and the book then
@@ -23,26 +24,32 @@ impl Model for Unopened {
 impl Unopened {
     ghost use Rattle.seize_words.specs.Books.{Opens, OpensAlone};
 
-    /// One of a new family.
-    pub fn new() -> Unopened {
-        Unopened {
+    /// One of a new family, and that family.
+    pub fn new() -> (Unopened, Family)
+        ensures { result.1.number ≡ result.0.family }
+    {
+        let unopened = Unopened {
             marker: PhantomData,
-        }
+        };
+        let family = Family {
+            marker: PhantomData,
+        };
+        (unopened, family)
     }
 
     /// The book begins, as one of `Book::open`.
-    pub fn open<N: Numbers>(self, links: usize, size: usize) -> (Book, BookKeys)
-        ensures { Opens result.0 result.1 links size N.store × (result.0.name.family ≡ self.family) }
+    pub fn open<K: Keeps>(self, links: usize, size: usize) -> (Book, BookKeys)
+        ensures { Opens result.0 result.1 links size K.store K.table × (result.0.name.family ≡ self.family) }
     {
-        let (book, keys) = Book::open_keys::<N>(self, links, size);
+        let (book, keys) = Book::open_keys::<K>(self, links, size);
         (book, BookKeys::apart(keys))
     }
 
     /// The book begins, as one of `Book::open_alone`.
-    pub fn open_alone<N: Numbers>(self, links: usize, size: usize) -> (Book, Pass, BookKeys)
-        ensures { OpensAlone result.0 result.1 result.2 links size N.store × (result.0.name.family ≡ self.family) }
+    pub fn open_alone<K: Keeps>(self, links: usize, size: usize) -> (Book, Pass, BookKeys)
+        ensures { OpensAlone result.0 result.1 result.2 links size K.store K.table × (result.0.name.family ≡ self.family) }
     {
-        let (book, pass, keys) = Book::open_sole::<N>(self, links, size);
+        let (book, pass, keys) = Book::open_sole::<K>(self, links, size);
         (book, pass, BookKeys::apart(keys))
     }
 }

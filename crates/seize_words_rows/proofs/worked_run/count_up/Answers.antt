@@ -16,7 +16,7 @@ use Rattle.seize_words_rows.specs.Runs.{AreHeads, AreWords, book_of, counted_up,
 use Rattle.seize_words_rows.specs.Stages.{Knows, Sees}
 use Rattle.seize_words_rows.specs.declared.worked_run.Words.{Words}
 use Rattle.seize_words_rows.proofs.Runs.{counts_up}
-use Rattle.seize_words_rows.proofs.Stages.{came_to_zero, front_is, keys_stay, record_is, steps, values_are}
+use Rattle.seize_words_rows.proofs.Stages.{came_to_zero, front_is, keys_stay, record_is, state_known, steps, values_are}
 use Rattle.seize_words_rows.proofs.worked_run.count_up.Goals as goal
 
 -- the slot's call is about to add to this count
@@ -38,6 +38,14 @@ add-requires-clause-adds c =
       adds words key stands.0 stands.2,
       stands.0.1.4.1 ∙ sym (values_are (book_of words) key 1 0 (inserted (value_of words)) stands.2),
     )
+
+pub returns-clause-keys : goal.returns-clause-keys
+returns-clause-keys c =
+    let words = c.args.words.now in let n = book_of words in let v = value_of words in let one = c.add in let laid = c.requires.stands.0.1 in
+    let after_ = steps n c.args.retirer.now one.new.key c.args.pass.now one.new.pass 1 0 (λ s. AddCount s) (reader_over v) (inserted v) (counted_up v) (Count (pos 0)) one.ensures.counts.0 c.requires.stands.1 c.requires.stands.2 (counts_up v) in
+    let zero = came_to_zero one.result _ [] v [] [] (sym (one.ensures.gives (adds words c.args.retirer.now c.requires.stands.0 c.requires.stands.2)) ∙ ap (λ (r : Slot). r.call) (record_is n one.new.key 1 (counted_up v) after_.1)) in
+    let stay = keys_stay n words.block.values one.new.values one.new.pass one.result zero one.ensures.keys after_.0.book in
+    state_known n words.block.values one.new.values one.new.pass one.result v zero one.ensures.keys after_.0.book laid.4.1 ∙ after_.0.leads.state ∙ ap (λ (k : ℕ). (counted_up k).state) (sym stay.0)
 
 pub returns-clause-stands : goal.returns-clause-stands
 returns-clause-stands c =

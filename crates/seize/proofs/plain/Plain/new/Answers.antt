@@ -10,12 +10,12 @@ map-replicate : {X Y : Type 0} (f : X → Y) (n : ℕ) (x : X) → map f (replic
 map-replicate f zero x = refl
 map-replicate f (suc n) x = ap (λ ys. f x ∷ ys) (map-replicate f n x)
 
-pub invariant_of-result : goal.invariant_of-result
-invariant_of-result g c =
-    let Own : Option (Owned g.row.T.Denot) → Type 0 = λ link. IfSome link (Belongs g.T.Weigh.owners (name_of c.new.result)) in (
-      rw (c.new-3.ensures, c.new-2.ensures.items) numbered-none,
+pub invariant_of-result-2 : goal.invariant_of-result-2
+invariant_of-result-2 g c =
+    let Own : Option (Owned g.row.T.Denot) → Type 0 = λ link. IfSome link (Belongs g.T.Weigh.owners (name_of c.new-2.result)) in (
+      rw (c.new-4.ensures, c.new-3.ensures.items) numbered-none,
       All-same Own c.in_ok-links.links.items (replicate c.args.links None) c.in_ok-links.ensures (All-replicate Own c.args.links None tt),
     )
 
 pub returns : goal.returns
-returns g c = rw (c.new-2.ensures.items, c.new-4.ensures.items, c.in_ok-links.ensures, map-replicate (option_map content) c.args.links None) refl
+returns g c = rw (c.new-3.ensures.items, c.new-5.ensures.items, c.in_ok-links.ensures, map-replicate (option_map content) c.args.links None) refl

@@ -1,22 +1,19 @@
 -- What is known of a row a note of the row's cell knows.
-use Rattle.seize_store.proofs.Kit.{vunit, of_opd, unhide, ◌≡◌, ℕ, List, [], ◌∷◌, ◌++◌, refl, sym, subst, w64, proved_at, leaves, Val, vint, vptr, SProp, ent, emp, id⊢, Lft, Share, Fml, ftrue, fsep, flft, sem, ‵, raw, ◌⊛◌, later, ◌$◌, ◌∵◌, !, qed, by, move, keep, drop, split, join, fsplit, fjoin, use0, use1, use2, await, rewrite, suffices, feq_i, no_more, and_then, returns, enter, alloc_all, pass_all, free_all, look_at, get, sets, agg, fact, fact_i, tables, yes, RattleType, owns, types_at, plain, RefOf, nothing, heard, Stays, stay_dropped, walk_of, Goes-dropped}
+use Rattle.seize_store.proofs.Kit.{vunit, of_opd, unhide, ◌≡◌, ℕ, List, [], ◌∷◌, ◌++◌, refl, sym, subst, proved_at, leaves, Val, vptr, SProp, ent, emp, id⊢, Lft, Share, Fml, ftrue, fsep, flft, sem, ‵, raw, ◌⊛◌, later, ◌$◌, ◌∵◌, !, qed, by, move, keep, drop, split, join, fsplit, fjoin, use0, use1, use2, await, rewrite, suffices, feq_i, returns, enter, alloc_all, pass_all, free_all, look_at, sets, fact, fact_i, tables, yes, RattleType, owns, types_at, plain, RefOf, nothing, heard, Stays, stay_dropped, walk_of, Goes-dropped}
 use mir.Syntax.{a_type, dcons, dnil}
 use mir.MapTy.{inst_fn}
 use prog.Wp.{WpFn}
 use denote.Param.{param, bounded}
-use denote.RawPtr.{Ptr}
 use base.Logic.{all, all_e, apply∗}
 use denote.Triple.Walked.{stay_ref, Goes-ref}
 use types.Run.{unit_lit}
-use Rattle.std.specs.declared.option.Option.{Option}
 use Rattle.std.specs.declared.option.Option.TheVariants.{Some}
 use Rattle.once_cell.specs.Once.{noted}
 use Rattle.once_cell.proofs.Notes as notes
-use Rattle.seize_store.specs.Titled.{Shows, names_of}
-use Rattle.seize_store.specs.Known.{name_in, known_row}
+use Rattle.seize_store.specs.Known.{AreKin, name_in}
+use Rattle.seize_store.specs.Kept.{of_kin}
 use Rattle.seize_store.specs.contracts.row.Row as row
-use Rattle.seize_store.specs.contracts.row.Rows as rows
-use Rattle.seize_store.proofs.Tokens.{Known, Data as Blank, token, known_made}
+use Rattle.seize_store.proofs.Tokens.{Known}
 use Rattle.seize_store.specs.contracts.known.Known.tell.{ended, clauses}
 use Rattle.seize_store.specs.contracts.known.Known.tell.Key.{name as #self}
 use Rattle.seize_store.proofs.known.Known.tell.Statement.{statement}
@@ -25,7 +22,7 @@ use Rattle.seize_store.proofs.known.Known.tell.Code as code
 pub tell_spec : {M : Type 1} → statement M
 tell_spec 𝓤 𝓛 𝓜 𝓡 wired Y W Z LY LW LZ g dg gp dp dx dq met mep glue gluep =
     let H = 𝓛.H in let 𝓣 = tables 𝓤 H 𝓜 𝓡 𝓡.env in let X : RattleType = param 0 Y in let U : RattleType = param 1 W in let R : RattleType = param 2 Z in let En = ended Y W Z g dg gp dp dx dq in let inst = bounded (a_type ∷ a_type ∷ a_type ∷ []) (Y, (W, (Z, tt))) (dcons dg (dcons dp (dcons dx (dcons dq dnil)))) in let fn = inst_fn inst code.function in
-    let Rw : RattleType = row.the_row X U R g gp in let N : RattleType = notes.Note 𝓛 Rw in let c = clauses Y W Z g dg gp dp dx dq 𝓛 𝓜.mem 𝓡.returns in
+    let Rw : RattleType = of_kin (row.the_row X U R g gp) (record { is_of = AreKin }) 0 in let N : RattleType = notes.Note 𝓛 Rw in let c = clauses Y W Z g dg gp dp dx dq 𝓛 𝓜.mem 𝓡.returns in
     let self = RefOf (0 ∷ []) tt (plain (λ _. Known)) (λ _. tt) in
     let hs : Stays En.signature.params En.kept = (stay_dropped self yes, (stay_ref (1 ∷ []) tt (plain (λ _. N)), tt)) in
     proved_at 𝓛 En hs c 𝓜 𝓡 (Goes-dropped 𝓛 5 self yes (λ κs x f. refl), (Goes-ref 𝓛 5 1 tt (plain (λ _. N)), tt)) (#self inst) fn (code.unfolded 𝓤 H 𝓜 𝓡 wired (Y, (W, (Z, tt))) dg dp dx dq) (λ z are.

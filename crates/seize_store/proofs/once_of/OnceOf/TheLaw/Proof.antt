@@ -1,16 +1,16 @@
 -- A `&` to a cell with a promise is a `&` to the box in it, at the type of its family's values. Assumes `Logic`.
-use Rattle.std.proofs.Common.{◌≡◌, ℕ, zero, ◌+◌, List, [], ◌∷◌, ◌++◌}
+use Rattle.std.proofs.Common.{ℕ, zero, ◌+◌, List, [], ◌∷◌, ◌++◌}
 use seplogic.Ra.Ura.{Ura}
 use mir.Val.{Val}
 use base.Fraction.{full_share}
 use base.Logic.{SProp, ent, sep, upd_i, id⊢}
-use base.Fml.{Lft, Share, Fml, ftrue, fsep, fseps, fex, fwand, fupd, fdead, fbor, flft, Incl-trans}
+use base.Fml.{Lft, Share, Fml, ftrue, fsep, fseps, fwand, fupd, fdead, fbor, flft, Incl-trans}
 use types.Logic.{Logic, sem, lfts}
-use types.Kit.{mean, ‵, raw, ◌⊛◌, some, given, later, learn, ◌$◌, ◌∵◌, !, qed, by, move, keep, drop, use0, use1, use2, split, fsplit, fsplit3, fjoin, fjoin3, fpick, fpack, pick, show, assume, suffices, await, updating, now, rewrite, frame, done}
+use types.Kit.{‵, raw, ◌⊛◌, later, ◌$◌, ◌∵◌, !, qed, by, move, keep, use1, use2, split, fsplit3, fjoin, fpick, fpack, assume, suffices, await, updating, now, done}
 use types.Tokens.{bor_open, obor_alter}
 use contract.BorrowLft.{meet_⊑_left, meet_⊑_right}
 use denote.RattleType.{RattleType}
-use denote.Memory.{part_of, part_at, cell_at, shared_of}
+use denote.Memory.{part_of, part_at, cell_at}
 use denote.RawPtr.{block_ptr}
 use denote.Steps.{nothing}
 use denote.Param.Laws.{Laws}

@@ -1,21 +1,17 @@
 -- `end` gives the box to a function for any family, at the cell's own.
-use Rattle.seize_store.proofs.Kit.{◌≡◌, ℕ, ◌+◌, List, [], ◌∷◌, ◌++◌, refl, sym, subst, proved_at, leaves, fm, named, Val, vptr, vunit, SProp, ent, emp, id⊢, Lft, Share, Fml, ftrue, fsep, flft, ‵, raw, ◌⊛◌, some, later, ◌$◌, ◌∵◌, !, qed, by, move, keep, drop, split, split3, join, fsplit, fjoin, pick, use0, use1, use2, await, rewrite, feq_i, suffices, stop, fld, addr, of_opd, no_more, and_then, returns, enter, alloc_all, pass_all, free_all, look_at, get, through, get_in, sub, whole, unit, only, feq_l, fpick, ap, unit_lit, sets, lands_as, fact, fact_i, tables, yes, no, RattleType, owns, types_at, plain, RefOf, nothing, heard, Stays, stay_dropped, walk_of, Goes-dropped}
+use Rattle.seize_store.proofs.Kit.{ℕ, List, [], ◌∷◌, ◌++◌, refl, sym, subst, proved_at, leaves, fm, Val, vunit, SProp, ent, emp, id⊢, Lft, Share, ftrue, flft, ‵, raw, ◌⊛◌, some, later, ◌$◌, ◌∵◌, !, qed, by, move, keep, drop, split, split3, join, fsplit, fjoin, pick, use0, use1, await, feq_i, suffices, stop, fld, of_opd, no_more, and_then, returns, enter, alloc_all, pass_all, free_all, look_at, get, get_in, sub, whole, unit, only, feq_l, fpick, ap, unit_lit, sets, lands_as, fact, fact_i, tables, no, RattleType, owns, types_at, plain, nothing, heard, Stays, stay_dropped, walk_of, Goes-dropped}
 use mir.Syntax.{a_type, dcons, dnil}
 use mir.MapTy.{inst_fn}
 use base.Fraction.{full_share}
 use prog.Wp.{WpFn}
 use contract.BorrowLft.{◌⊑◌, ⊑_static}
-use denote.Param.{param, layout, bounded}
+use denote.Param.{param, bounded}
 use denote.Param.Laws.{param_laws}
 use denote.Laws.{Typed}
 use denote.Triple.Call.{calls_at}
 use denote.Triple.Clauses.{Lasts, lasts}
 use denote.Triple.Spec.{triple_of}
-use Rattle.core.proofs.alloc.Calls.{Goes-blank}
-use Rattle.core.proofs.cell.Inside.{one}
 use Rattle.std.proofs.raw_atomic.Calls.{marker, marker_laws, dict}
-use Rattle.std.specs.declared.option.Option.TheVariants.{None}
-use Rattle.once_cell.specs.Once.{cell_name}
 use Rattle.seize_store.specs.contracts.kin.ended as callee
 use Rattle.seize_store.proofs.kin.ended.Met.{met}
 use Rattle.seize_store.proofs.Once.{row_laws, single, sole_out}

@@ -13,7 +13,7 @@ row-row-requires g c = let r = c.args.seen.now.known.row in let n = c.args.numbe
 pub chunk-requires : goal.chunk-requires
 chunk-requires g c = let seen = c.args.seen.now in let r = seen.known.row in let n = c.args.number in let at = c.in-Some.place in
     let same = (one_place n r (entry_of r n) at.bucket at.entry c.requires.row c.in-Some.ensures.place).0 in
-    let full : length seen.known.chunks ≡ 2 ^ (at.bucket + 5) = seen.full ∙ ap (λ (k : ℕ). 2 ^ (k + 5)) same in
+    let full : length seen.known.chunks ≡ 2 ^ (at.bucket + 5) = seen.known.made.1 ∙ ap (λ (k : ℕ). 2 ^ (k + 5)) same in
     let within = c.in-Some.ensures.place.within in
     let inside : at.entry < length seen.known.chunks = omega arith in
     subst (λ (ps : List (Ptr × ℕ)). at.entry < length ps) (sym c.row-row.ensures.1) inside

@@ -6,18 +6,18 @@ use Rattle.seize_store.proofs.store.Store.place.Goals as goal
 
 pub known_row-row-requires : goal.known_row-row-requires
 known_row-row-requires g c = let r = c.args.known.now.row in let n = c.args.number in let at = c.in-Some.place in
-    (lit< tt, (sym c.requires.store, sym (one_place n r (entry_of r n) at.bucket at.entry c.requires.row.0 c.in-Some.ensures.place).0, at.in_table))
+    (lit< tt, (sym c.requires.store, sym (one_place n r (entry_of r n) at.bucket at.entry c.requires.row c.in-Some.ensures.place).0, at.in_table))
 
 pub chunk-requires : goal.chunk-requires
 chunk-requires g c = let known = c.args.known.now in let r = known.row in let n = c.args.number in let at = c.in-Some.place in
-    let same = (one_place n r (entry_of r n) at.bucket at.entry c.requires.row.0 c.in-Some.ensures.place).0 in
-    let full : length known.chunks ≡ 2 ^ (at.bucket + 5) = c.requires.row.1.1 ∙ ap (λ (k : ℕ). 2 ^ (k + 5)) same in
+    let same = (one_place n r (entry_of r n) at.bucket at.entry c.requires.row c.in-Some.ensures.place).0 in
+    let full : length known.chunks ≡ 2 ^ (at.bucket + 5) = known.made.1 ∙ ap (λ (k : ℕ). 2 ^ (k + 5)) same in
     let within = c.in-Some.ensures.place.within in
     let inside : at.entry < length known.chunks = omega arith in
     subst (λ (ps : List (Ptr × ℕ)). at.entry < length ps) (sym c.known_row-row.ensures) inside
 
 pub returns : goal.returns
 returns g c = let r = c.args.known.now.row in let n = c.args.number in let at = c.in-Some.place in let ps = c.args.known.now.chunks in
-    let same = (one_place n r (entry_of r n) at.bucket at.entry c.requires.row.0 c.in-Some.ensures.place).1 in
+    let same = (one_place n r (entry_of r n) at.bucket at.entry c.requires.row c.in-Some.ensures.place).1 in
     let one = c.chunk.ensures ∙ (ap (λ (qs : List (Ptr × ℕ)). chunk_in qs at.entry) c.known_row-row.ensures ∙ ap (λ (e : ℕ). chunk_in ps e) (sym same)) in
     record { place = ap (λ (x : Ptr × ℕ). x.0) one; label = ap (λ (x : Ptr × ℕ). x.1) one }

@@ -9,8 +9,7 @@ use Rattle.seize_words.specs.Adding.{private}
 use Rattle.seize_words.specs.Entry.{Made}
 use Rattle.seize_words.specs.Slots.{number_of, own_list}
 use Rattle.seize_words.specs.declared.book.slot_key.SlotKey.{SlotKey}
-use Rattle.seize_words.proofs.Traversals.{at_field, at_header, at_number, front_home, front_number, front_shown, knows_still, looks_thrice, rest_walks, same_key, word_stays}
-use Rattle.seize_words.proofs.Facts.{looks_twice}
+use Rattle.seize_words.proofs.Traversals.{at_field, at_header, at_number, front_home, front_number, front_shown, knows_still, looks_thrice, looks_twice, rest_walks, same_key, word_stays}
 use Rattle.seize_words.proofs.blocks.Blocks.count_down.Goals as goal
 
 pub header-header-requires : goal.header-header-requires

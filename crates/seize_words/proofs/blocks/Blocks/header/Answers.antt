@@ -15,7 +15,7 @@ label header = label_at header.book.name (home header.count)
 pub agree-requires : goal.agree-requires
 agree-requires g c =
     let pass = c.args.pass.now in let seen = c.seek-known.new.self in let header = c.header-header.result.now in let v = c.requires.named.0 in
-    let found = found_label c.seek-known.result seen (label header) c.args.number c.seek-known.ensures.homes c.seek-known.ensures.row.1.0
+    let found = found_label c.seek-known.result seen (label header) c.args.number c.seek-known.ensures.homes c.seek-known.ensures.row.1
     (ap label c.header-header.ensures ∙ c.place-place.ensures.label) v (named_seen pass seen v c.seek-known.ensures.looks c.requires.named.1) c.requires.named.2 in
     same_family header.book.name seen.name (home header.count) (home_of v) found
 
@@ -25,6 +25,6 @@ returns-clause-header g c =
       c.agree.ensures.1,
       λ v named is. let named' = subst (λ (p : Pass). has v (state_seen p).named ≡ true) c.agree.ensures.0 named in
           sym (same_home header.book.name seen.name (home header.count) (home_of v)
-          (found_label c.seek-known.result seen (label header) c.args.number c.seek-known.ensures.homes c.seek-known.ensures.row.1.0
+          (found_label c.seek-known.result seen (label header) c.args.number c.seek-known.ensures.homes c.seek-known.ensures.row.1
           (ap label c.header-header.ensures ∙ c.place-place.ensures.label) v named' is)),
     )

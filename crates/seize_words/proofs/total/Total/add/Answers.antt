@@ -19,13 +19,13 @@ pub add-requires : goal.add-requires
 add-requires c =
     let total = c.args.self.now in let key = c.args.key.now in let number = c.args.numbers.now in let pass = c.args.pass.now in let both = c.join.new.self in let same = c.none-head.ensures.0 ∙ c.none-next.ensures.0 in
     let book = c.requires.book in let joined : AreBoth both number key = (c.join.ensures.0 ∙ ap (λ (k : Keys). k.name) same, c.join.ensures.2 ∙ ap (λ (k : Keys). k.held ++ key.keys.held) same) in
-    (book.2, joined.0 ∙ book.1, may_take total.word number key pass both total.total book c.requires.next joined)
+    (book.2, joined.0 ∙ book.1, may_take total.word number key pass both total.total book c.requires.next c.requires.place joined)
 
 pub returns-clause-made : goal.returns-clause-made
 returns-clause-made c =
     let total = c.args.self.now in let key = c.args.key.now in let number = c.args.numbers.now in let pass = c.args.pass.now in let both = c.join.new.self in let same = c.none-head.ensures.0 ∙ c.none-next.ensures.0 in
     let book = c.requires.book in let joined : AreBoth both number key = (c.join.ensures.0 ∙ ap (λ (k : Keys). k.name) same, c.join.ensures.2 ∙ ap (λ (k : Keys). k.held ++ key.keys.held) same) in
-    let n = number.keys.name in let seen = c.add.new.pass.seen in let t = told total.word number key pass both total.total book c.requires.next joined c.add.new.keys c.add.new.pass c.add.result c.add.ensures in
+    let n = number.keys.name in let seen = c.add.new.pass.seen in let t = told total.word number key pass both total.total book c.requires.next c.requires.place joined c.add.new.keys c.add.new.pass c.add.result c.add.ensures in
     let first = c.part.ensures.2 ∙ ap (take 1) t.held in let rest = c.part.ensures.3 ∙ ap (drop 1) t.held in
     let its = c.part-2.ensures.2 ∙ ap (take 1) rest in let others = c.part-2.ensures.3 ∙ ap (drop 1) rest in
     let name = c.part-2.ensures.0 ∙ c.part.ensures.1 ∙ t.name in let own = ap own_of its in let is = ap key_of its ∙ c.requires.next.1 in
@@ -47,7 +47,7 @@ pub returns-clause-next : goal.returns-clause-next
 returns-clause-next c =
     let total = c.args.self.now in let key = c.args.key.now in let number = c.args.numbers.now in let pass = c.args.pass.now in let both = c.join.new.self in let same = c.none-head.ensures.0 ∙ c.none-next.ensures.0 in
     let book = c.requires.book in let joined : AreBoth both number key = (c.join.ensures.0 ∙ ap (λ (k : Keys). k.name) same, c.join.ensures.2 ∙ ap (λ (k : Keys). k.held ++ key.keys.held) same) in
-    let n = number.keys.name in let seen = c.add.new.pass.seen in let t = told total.word number key pass both total.total book c.requires.next joined c.add.new.keys c.add.new.pass c.add.result c.add.ensures in
+    let n = number.keys.name in let seen = c.add.new.pass.seen in let t = told total.word number key pass both total.total book c.requires.next c.requires.place joined c.add.new.keys c.add.new.pass c.add.result c.add.ensures in
     let first = c.part.ensures.2 ∙ ap (take 1) t.held in let rest = c.part.ensures.3 ∙ ap (drop 1) t.held in
     let its = c.part-2.ensures.2 ∙ ap (take 1) rest in let others = c.part-2.ensures.3 ∙ ap (drop 1) rest in
     let slot = c.part-3.ensures.2 ∙ ap (take 1) others in let head = c.part-3.ensures.3 ∙ ap (drop 1) others in

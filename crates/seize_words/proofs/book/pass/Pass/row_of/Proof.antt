@@ -42,7 +42,7 @@ row_of_spec 𝓤 𝓛 𝓜 𝓡 wired =
     let store = the_store b.name.store asked.0 in let v : ℕ = asked.1.0 in let L : Fml = leads_to store.0 (block_of v) (label_at b.name (home_of v)) in
     use1 𝓛 (later (some (λ (log : List Entry). given (Before b.name b.id b.seen [] log × IsDistinct 𝓛 b.name) (‵ (pass_owns b.name b.id log) ⊛ ‵ L)))) (finds_row 𝓛 b.name b.id b.seen store.0 v store.1 asked.1.1) $ await ! tt $ pick ! (λ log. learn ! (λ so. split ! $
     -- [what the pass owns; where the number leads; the pass; its cell, in four entries]
-    move ! (1 ∷ []) $ fpick ! (λ way. let b' : Pass.the_row.Denot = record b { seen = log } in let r : Known.the_row.Denot = record { marker = record {}; store = store.0; row = way.row; chunks = way.chunks } in
+    move ! (1 ∷ []) $ fpick ! (λ way. let b' : Pass.the_row.Denot = record b { seen = log } in let r : Known.the_row.Denot = record { marker = record {}; store = store.0; row = way.row; chunks = way.chunks; made = way.made } in
     move ! (2 ∷ 1 ∷ []) $ fjoin ! $ move ! (2 ∷ 0 ∷ 3 ∷ 4 ∷ 5 ∷ []) $ closes ! tt Pass.the_row b' vs pb po $
     -- [the pass, in two; its token; what is known of the row]
     sets ! (agg ! (no_more !)) refl (tt, tt) $ sets ! (agg ! (and_then ! (get ! refl) (no_more !))) refl (tt, (tt, tt)) $
@@ -52,4 +52,4 @@ row_of_spec 𝓤 𝓛 𝓜 𝓡 wired =
     -- [the tokens; the result; the pass, in two]
     nothing ! $ nothing ! $ fjoin ! $ feq_i ! (List Val) (vptr pb po ∷ []) (vptr pb po ∷ []) refl $ move ! (0 ∷ 4 ∷ 5 ∷ []) $ fjoin3 ! $ fjoin ! $
     returns ! (look_at ! 0 refl) $ free_all ! refl $ keep ! (1 ∷ 0 ∷ 2 ∷ []) $
-    by ! (ends 𝓛 ended hs c y token r (b', (tt, tt)) (tt, (tt, tt)) (fact_i 𝓤 _ (emp 𝓤) (looked b.name b.id b.seen log so.0 so.1, sym store.1, subst (IsRowOf r) asked.1.2 (way.placed, way.whole)))))))))))
+    by ! (ends 𝓛 ended hs c y token r (b', (tt, tt)) (tt, (tt, tt)) (fact_i 𝓤 _ (emp 𝓤) (looked b.name b.id b.seen log so.0 so.1, sym store.1, subst (IsRowOf r) asked.1.2 way.placed))))))))))

@@ -28,7 +28,7 @@ place_spec 𝓤 𝓛 𝓜 𝓡 wired =
     enter ! 𝓣.C 𝓣.Λ fn (vptr pb po ∷ vptr kb ko ∷ []) Post $ alloc_all ! (λ l. pass_all ! refl ((tt, tt), ((tt, tt), tt)) $
     opens ! tt Rights.the_row pb po (λ vs. move ! (1 ∷ []) $ fsplit ! $ move ! (1 ∷ []) $
     -- [what it owns; it; its cell, in four entries; the other's token; what the token says]
-    move ! (0 ∷ 7 ∷ []) $ use2 𝓛 (‵ (keys_own b.name b.held)) (placed 𝓛 b.name k.store k.row k.chunks b.held asked.one asked.store asked.whole asked.placed asked.home) $
+    move ! (0 ∷ 7 ∷ []) $ use2 𝓛 (‵ (keys_own b.name b.held)) (placed 𝓛 b.name k.store k.row k.chunks b.held asked.one asked.store k.made asked.placed asked.home asked.free) $
     let r : Keys.the_row.Denot = record { marker = record {}; name = b.name; held = b.held } in let b' : Rights.the_row.Denot = record b { held = [] } in
     nothing ! $ move ! (2 ∷ 0 ∷ []) $ fjoin ! $ move ! (2 ∷ 0 ∷ 3 ∷ 4 ∷ 5 ∷ []) $ closes ! tt Rights.the_row b' vs pb po $
     -- [it, in two; its token; what the result owns; the other's token]

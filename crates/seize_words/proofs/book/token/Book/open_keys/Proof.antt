@@ -22,7 +22,7 @@ use Rattle.seize_words.proofs.book.token.Book.open_keys.Code as code
 pub open_keys_spec : {M : Type 1} → statement M
 open_keys_spec 𝓤 𝓛 𝓜 𝓡 wired P LP g d _ =
     let H = 𝓛.H in let 𝓣 = tables 𝓤 H 𝓜 𝓡 𝓡.env in let En = ended P g d in let c = clauses P g d 𝓛 𝓜.mem 𝓡.returns in
-    let inst = bounded (a_type ∷ []) (P, tt) (dcons d dnil) in let fn = inst_fn inst code.function in let store : Option (List ℕ) = g.store in
+    let inst = bounded (a_type ∷ []) (P, tt) (dcons d dnil) in let fn = inst_fn inst code.function in let store : Option (List ℕ) = g.store in let table : Option (List ℕ) = g.table in
     let hs : Stays En.signature.params En.kept = (stay_dropped (plain (λ _. Unopened.the_row)) yes, (stay_dropped (plain (λ _. usize)) yes, (stay_dropped (plain (λ _. usize)) yes, tt))) in let goes = Goes-dropped 𝓛 1 (plain (λ _. usize)) yes (λ κs x f. refl) in
     proved 𝓛 En hs c 𝓜 𝓡 (Goes-dropped 𝓛 1 (plain (λ _. Unopened.the_row)) yes (λ κs x f. refl), (goes, (goes, tt))) (#self inst) fn (code.unfolded 𝓤 H 𝓜 𝓡 wired (P, tt) d)
     (λ κs. (no_bytes, (uint_vals w64, (uint_vals w64, tt)))) (λ κs. (unopened_tells, (uint_Tells w64, (uint_Tells w64, tt)))) (λ κs qs bounds a gh are.
@@ -33,8 +33,8 @@ open_keys_spec 𝓤 𝓛 𝓜 𝓡 wired P LP g d _ =
     -- [its marker; what it owns; the numbers; the tokens; what was asked]
     keep ! (1 ∷ 3 ∷ []) $
     enter ! 𝓣.C 𝓣.Λ fn (token ∷ vint w64 links ∷ vint w64 size ∷ []) Post $ alloc_all ! (λ l. pass_all ! refl ((tt, (tt, tt)), ((tt, record { fits = are.1.0.1 }), ((tt, record { fits = are.1.1.0.1 }), tt))) $
-    use1 𝓛 (later (some (λ (m : Name). given ((m.gate ≡ many) × (m.family ≡ family) × BeganWith m links size store) (‵ (book_owns m []) ⊛ ‵ (pass_holds m 0 []) ⊛ ‵ (keys_own m (first_keys links))))))
-    (begins 𝓛 links size store (λ (g : Gate). g ≡ many) (many_opens 𝓛) family) $ await ! tt $ pick ! (λ m. learn ! (λ so. split3 ! $
+    use1 𝓛 (later (some (λ (m : Name). given ((m.gate ≡ many) × (m.family ≡ family) × BeganWith m links size store table) (‵ (book_owns m []) ⊛ ‵ (pass_holds m 0 []) ⊛ ‵ (keys_own m (first_keys links))))))
+    (begins 𝓛 links size store table (λ (g : Gate). g ≡ many) (many_opens 𝓛) family) $ await ! tt $ pick ! (λ m. learn ! (λ so. split3 ! $
     -- [what the book owns; a pass, which is let go; what the keys own]
     let b : Book.the_row.Denot = record { marker = record {}; name = m; seen = [] } in let k : Keys.the_row.Denot = record { marker = record {}; name = m; held = first_keys links } in
     use0 𝓛 (‵ (Token.own_val (record {}, tt) (token ∷ []))) (token_made 𝓛) $ fjoin ! $

@@ -1,7 +1,0 @@
-use Rattle.std.specs.Prelude.{false, []}
-use Rattle.seize_machine.specs.Machine.Event.{ReadLink}
-use Rattle.seize_words.specs.Atomic.{entries}
-use Rattle.seize_words.proofs.link.Link.read.Given as goal
-
-abbrev pub ghosts-load_in : goal.ghosts-load_in
-ghosts-load_in a = record { entry = entries a.pass.now 0 (λ v log. ReadLink a.activation.now.slot a.self.now.number); trades = λ v. false; births = [] }

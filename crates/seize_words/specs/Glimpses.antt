@@ -1,0 +1,58 @@
+-- What a reader of a link finds: a sight of what is lent with the value there. Before its step it makes an escrow, which is lent for the
+-- time of its activation; in the step it takes its share of the loan, and the loan has the right to the escrow then.
+--     shown trades o         what is seen of what the link holds then: nothing where the step traded, since the holder has the key
+--     empty γ                the escrow is empty
+--     taken γ o              the share that was taken, for the escrow γ, of what is lent with the value o; or the escrow is still empty
+--     glimpse κ o            a sight of it, which lasts as long as κ
+--     IsLentWith o           there is a value, and a content is lent with it
+--     SightFor o s           the sight is of that content
+use Rattle.std.specs.Prelude.{ℕ, zero, suc, Bool, true, false, Option, Some, None}
+use base.Fml.{Lft, Share, Fml, ftrue, fsep, fex}
+use base.Stored.{Gv}
+use Rattle.seize_content.specs.Contents.{sight_owns}
+use Rattle.seize_content.specs.Readers.{found, ready}
+use Rattle.seize_content.specs.Stages.{Name as Content}
+use Rattle.seize_content.specs.declared.loan.Sight.{Sight}
+use Rattle.seize_words.specs.Ledger.{fact}
+use Rattle.seize_words.specs.Loans.{Carries, CarriesNone, loan_of}
+
+abbrev pub shown : Bool → Option ℕ → Option ℕ
+shown true o = None
+shown false o = o
+
+-- of which content, under which lifetime, of which code, and which share of that lifetime's token
+pub record Piece : Type 0 where
+  pub content : Content
+  pub life : ℕ
+  pub code : Gv
+  pub share : Share
+
+abbrev pub taken_of : ℕ → ℕ → Piece → Fml
+taken_of γ v t = fsep (fact (Carries v t.content t.code)) (found t.content t.life t.code γ t.share)
+
+abbrev pub taken_if : ℕ → ℕ → ℕ → Fml
+taken_if zero γ v = ready γ
+taken_if (suc k) γ v = fex Piece (taken_of γ v)
+
+abbrev pub taken : ℕ → Option ℕ → Fml
+taken γ None = ready γ
+taken γ (Some v) = taken_if (loan_of v) γ v
+
+abbrev pub sight_of : Lft → ℕ → Content × (ℕ × Gv) → Fml
+sight_of κ v t = fsep (fact (Carries v t.0 t.1.1)) (sight_owns κ t.0 t.1.0 t.1.1)
+
+abbrev pub sight_if : ℕ → Lft → ℕ → Fml
+sight_if zero κ v = ftrue
+sight_if (suc k) κ v = fex (Content × (ℕ × Gv)) (sight_of κ v)
+
+abbrev pub glimpse : Lft → Option ℕ → Fml
+glimpse κ None = ftrue
+glimpse κ (Some v) = sight_if (loan_of v) κ v
+
+abbrev pub IsLentWith : Option ℕ → Type 0
+IsLentWith None = ⊥
+IsLentWith (Some v) = ¬ (CarriesNone v)
+
+abbrev pub SightFor : Option ℕ → Sight → Type 0
+SightFor None s = ⊥
+SightFor (Some v) s = Carries v s.name s.value

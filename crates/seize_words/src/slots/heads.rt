@@ -1,0 +1,37 @@
+//! The walk over the heads of the first slots. It stands on the walk of the table.
+ghost use Rattle.std.specs.Prelude.{◌≡◌, ◌≤◌, length};
+ghost use Rattle.seize_table.specs.Walk.{end_of, labels_of};
+ghost use Rattle.seize_words.specs.Tokens.{slot_labels};
+
+use crate::book::Book;
+use crate::reservation::Head;
+use crate::slots::Reservation;
+use seize_table::tls::First;
+
+/// The heads of the first slots of a book, by number. It takes no memory. For each bucket of the table it looks up the bucket once; then
+/// a head is one load.
+#[derive(Drop)]
+pub struct Heads<'a> {
+    pub(super) walk: First<'a, Reservation>,
+    pub(super) book: &'a Book,
+    ghost labels: { labels_of walk ≡ slot_labels book.now.name (length (labels_of walk)) },
+    ghost within: { end_of walk ≤ length (labels_of walk) },
+}
+
+impl<'a> Iterator for Heads<'a> {
+    ghost use Rattle.std.specs.Iterator.{at_most};
+    ghost use Rattle.std.specs.Prelude.{◌-◌};
+    ghost use Rattle.seize_words.specs.Reserved.{GoesOn, comes_to, ends_at};
+
+    type Item = &'a Head;
+
+    ghost next_gives = { GoesOn };
+
+    ghost remaining = { λ heads. at_most (ends_at heads - comes_to heads) };
+
+    fn next(&mut self) -> Option<&'a Head> {
+        let reservation = self.walk.next()?;
+        self.book.agree(&reservation.book);
+        Some(reservation.head())
+    }
+}

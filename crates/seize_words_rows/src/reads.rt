@@ -1,0 +1,26 @@
+//! A link is read with two passes, as a thread may that has both. Each read is an event that is made with its own pass.
+ghost use Rattle.seize_machine.specs.Machine.Event.{ReadLink};
+ghost use Rattle.seize_words.specs.LinkWords.{IsIn, Reads, number};
+ghost use Rattle.seize_words_rows.specs.Calls.{HasMadeOne};
+
+use seize_words::activation::Activation;
+use seize_words::book::Pass;
+use seize_words::link::Link;
+
+/// Reads the link with the one pass, and then with the other. It gives the words that it found, in this order.
+pub fn read_with_each(
+    link: &Link,
+    activation: &Activation,
+    one: &mut Pass,
+    two: &mut Pass,
+) -> (u64, u64)
+    requires within { IsIn link.now activation.now one.old × IsIn link.now activation.now two.old }
+    ensures one { HasMadeOne one.old one.new (ReadLink activation.now.slot (number link.now)) }
+    ensures two { HasMadeOne two.old two.new (ReadLink activation.now.slot (number link.now)) }
+    ensures first { Reads link.now activation.now one.old one.new result.0 }
+    ensures second { Reads link.now activation.now two.old two.new result.1 }
+{
+    let first = link.read(activation, one);
+    let second = link.read(activation, two);
+    (first, second)
+}
