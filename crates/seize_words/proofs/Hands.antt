@@ -1,5 +1,5 @@
 -- A value that goes to its reclaimer: what the laws say of it.
-use Rattle.std.proofs.Common.{◌≡◌, ℕ, Bool, true, false, if◌then◌else◌, List, [], ◌∷◌, ◌++◌, Option, Some, None, sym, ap, ◌∙◌, subst, refl}
+use Rattle.std.proofs.Common.{◌≡◌, ℕ, Bool, true, false, if◌then◌else◌, List, [], ◌∷◌, ◌++◌, Option, Some, None, IfSome, sym, ap, ◌∙◌, subst, refl}
 use Rattle.seize_machine.specs.Machine.State.{State, slot_at, linked, are_distinct}
 use Rattle.seize_machine.specs.Machine.Event.{Hand}
 use Rattle.seize_machine.specs.Machine.Next.{are_fresh, next, scheme, hand, of_call, handing_at}
@@ -61,3 +61,8 @@ hands_soon n log s v distinct legal is =
       all_parted = parted;
       all_over = all_over st log v legal parted;
     }
+
+-- what is so of a value, if there is one
+pub if_some : {P : ℕ → Type 0} (o : Option ℕ) → ((v : ℕ) → o ≡ Some v → P v) → IfSome o P
+if_some Option.None h = tt
+if_some (Some v) h = h v refl

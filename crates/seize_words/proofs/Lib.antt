@@ -49,6 +49,8 @@ pub mod Walked
 pub mod Makes
 pub mod Taken
 pub mod Links
+pub mod LinkRows
+pub mod Joined
 pub mod Exchanges
 pub mod Exchanged
 pub mod Activations

@@ -35,8 +35,10 @@ pub mod Totals
 pub mod Links
 pub mod Activations
 pub mod LinkWords
+pub mod LinkRows
 pub mod Reserved
 pub mod Chunk
 pub mod Chunks
 pub mod Walks
 pub mod Named
+pub mod Joined

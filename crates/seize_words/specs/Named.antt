@@ -2,11 +2,12 @@
 --     head_book head, link_book link, field_book field, count_book count, total_book total     the book of a word
 --     slot_book key, next_book key, numbers_book key, total_key_book key, links_book keys      the book of a key: of a slot, of the head of
 --                                      a slot that is not there yet, of the numbers, of the total, and of links
+--     links_name links, count_in links     the book whose links a row has, and how many there are
 --     next_head key                    the slot whose head it is the key of
 --     next_list key, numbers_list key, total_list key     the list when the holder of the key last added to it
 --     AreLinks keys first count        they are the keys of so many links, from this one on, to which nothing was added yet
 --     first_value keys, values_state keys     the first of the values whose keys they are;  where the list leads, as the first key knows
-use Rattle.std.specs.Prelude.{◌≡◌, ℕ, List}
+use Rattle.std.specs.Prelude.{◌≡◌, ℕ, List, length}
 use Rattle.seize_machine.specs.Machine.State.{State}
 use Rattle.seize_words.specs.Begin.{first_links}
 use Rattle.seize_words.specs.Entry.{Entry}
@@ -22,6 +23,7 @@ use Rattle.seize_words.specs.declared.book.total_key.TotalKey.{TotalKey}
 use Rattle.seize_words.specs.declared.book.value_keys.ValueKeys.{ValueKeys}
 use Rattle.seize_words.specs.declared.header.Field.{Field}
 use Rattle.seize_words.specs.declared.link.Link.{Link}
+use Rattle.seize_words.specs.declared.link.row.Links.{Links}
 use Rattle.seize_words.specs.declared.reservation.Head.{Head}
 use Rattle.seize_words.specs.declared.total.Total.{Total}
 
@@ -54,6 +56,12 @@ total_key_book key = key.keys.name
 
 abbrev pub links_book : LinkKeys → Name
 links_book keys = keys.keys.name
+
+abbrev pub links_name : Links → Name
+links_name links = links.book.name
+
+abbrev pub count_in : Links → ℕ
+count_in links = length (links_name links).links
 
 abbrev pub next_head : HeadKey → ℕ
 next_head key = key_of key.keys.held

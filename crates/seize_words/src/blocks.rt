@@ -32,6 +32,15 @@ impl<T: Drop> Blocks<T> {
     ghost use Rattle.seize_words.specs.Values.{IsEmpty};
     ghost use Rattle.seize_words.specs.Walks.{CountsDown, IsAtBatch, Knows};
 
+    /// Those of a book whose blocks lie in this store.
+    pub(crate) fn of(store: Store<Header, Part, T>, book: Book) -> Blocks<T>
+        requires lies { book.name.store ≡ Some (name_of store) }
+        requires kin { family_in (name_of store) ≡ book.name.family }
+        ensures { result.book ≡ book }
+    {
+        Blocks { store, book }
+    }
+
     /// A new book, as one of `Book::open`, with its keys; and a store with no rows for its blocks. It takes no memory.
     pub fn new(alloc: Global, links: usize, size: usize) -> (Blocks<T>, BookKeys)
         ensures { OpensIn result.0 result.1 links size }

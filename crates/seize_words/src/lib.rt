@@ -17,3 +17,4 @@ pub mod reservation;
 pub mod slots;
 pub mod total;
 mod word;
+pub mod words;

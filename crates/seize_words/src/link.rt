@@ -3,10 +3,13 @@
 ghost use Rattle.std.specs.Prelude.{◌≡◌, true};
 ghost use Rattle.seize_words.specs.Links.{IsLink, is_at_most_one};
 
+mod row;
+
 use crate::activation::Activation;
 use crate::book::{Keys, LinkKeys, Pass, ValueKey};
 use crate::glimpse::Glimpse;
 use crate::word::Word;
+pub use row::Links;
 use std::marker::Brand;
 
 /// One link, which threads share.

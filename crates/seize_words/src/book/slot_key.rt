@@ -28,7 +28,7 @@ impl SlotKey {
     ghost use Rattle.seize_words.specs.Counts.{AreLast, AreOfBook};
     ghost use Rattle.seize_words.specs.Others.{AreNumbersOf, CannotRetire, Follows, FollowsNumbers, FollowsValue, IsLast, IsOfBook, IsValueOf, IsWith, Knew, MayRetire, MayTake, SameKind, value_of};
     ghost use Rattle.seize_words.specs.Private.{IsOpen, IsPrivate};
-    ghost use Rattle.seize_words.specs.Slots.{HandsOnce, Looks, Notes, IsOf, active_of, hands_next, number_of, size_of, slot_of};
+    ghost use Rattle.seize_words.specs.Slots.{HandsOnce, HandsSoon, Looks, Notes, IsOf, active_of, hands_next, number_of, size_of, slot_of, start_of};
     ghost use Rattle.seize_words.specs.Tables.{IsLike, IsPlaced};
     ghost use Rattle.seize_words.specs.Tokens.{label_at};
     ghost use Rattle.seize_words.specs.Values.{AreNew, AreSpent, Keep, values_of};
@@ -197,6 +197,17 @@ impl SlotKey {
     {
         let mut none = ValueKeys::new(pass);
         self.hand_with(&mut none, pass);
+    }
+
+    /// Looks at the list with no event, where the slot's call is about to hand a value to its reclaimer. What `hand` says of the value then
+    /// holds already: it was not handed before, and nobody sees it any more. So its reclaimer may have it before that names further ones.
+    pub fn about_to_hand(&mut self, pass: &mut Pass)
+        requires book { IsOf self.old pass.old }
+        requires next { is_some (hands_next (slot_of self.old)) ≡ true }
+        ensures looked { Looks self.old pass.old self.new pass.new }
+        ensures soon { IfSome (hands_next (slot_of self.old)) (HandsSoon (start_of self.old) pass.new.seen) }
+    {
+        self.look(pass);
     }
 
     /// The event `Return`: the slot's call is over.

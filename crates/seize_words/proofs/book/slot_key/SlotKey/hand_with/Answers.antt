@@ -1,4 +1,4 @@
-use Rattle.std.proofs.Common.{◌≡◌, ℕ, Option, Some, IfSome, refl, sym, ◌∙◌, ap, subst}
+use Rattle.std.proofs.Common.{◌≡◌, ℕ, sym, ◌∙◌, ap, subst}
 use Rattle.seize_machine.specs.Machine.Event.{Hand}
 use Rattle.seize_words.specs.Ledger.{renewed}
 use Rattle.seize_words.specs.Others.{IsWith, Knew}
@@ -6,7 +6,7 @@ use Rattle.seize_words.specs.Slots.{Notes, hands_next, number_of, slot_of}
 use Rattle.seize_words.specs.Words.{are_of_blocks, labels_of}
 use Rattle.seize_words.specs.declared.book.keys.Keys.{Keys}
 use Rattle.seize_words.proofs.Further.{known_then, may_hand_with}
-use Rattle.seize_words.proofs.Hands.{hands_once}
+use Rattle.seize_words.proofs.Hands.{hands_once, if_some}
 use Rattle.seize_words.proofs.Values.{blocks_later, labels_later}
 use Rattle.seize_words.proofs.book.slot_key.SlotKey.hand_with.Goals as goal
 
@@ -25,10 +25,6 @@ pub returns-clause-noted : goal.returns-clause-noted
 returns-clause-noted c =
     let key = c.args.self.now in
     subst (λ (ks : Keys). Notes key c.args.pass.now c.note_with.new.self c.note_with.new.pass (Hand (number_of key) (labels_of ks.held))) c.apart.ensures.0 c.note_with.ensures.noted
-
-if_some : {P : ℕ → Type 0} (o : Option ℕ) → ((v : ℕ) → o ≡ Some v → P v) → IfSome o P
-if_some Option.None h = tt
-if_some (Some v) h = h v refl
 
 pub returns-clause-once : goal.returns-clause-once
 returns-clause-once c =

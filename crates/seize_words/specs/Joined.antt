@@ -1,0 +1,83 @@
+-- The words in which the contracts speak of all words of one book.
+--     words_book words               the book whose words they are
+--     OpensWords words numbers next links size     a new book with no slot yet, to which many may append, with so many links, which are
+--                                    empty; and what its slots are made with
+--     OpensWordsAlone words pass numbers next links size     the same of a book to which this pass alone may append
+--     IsHolder key pass slot         the key is that of this slot, which is there, as the pass has seen
+--     MayReadAt key pass slot        the slot's call reads this slot's head next, and that is there, as the pass has seen
+--     IsInAt activation pass link    the activation has begun, as the pass has seen, and the link is one of the book's: see IsIn
+--     TriesAtSlot key slot seen block     the slot's call is about to insert its batch at this slot: see TriesAt
+--     IsNewTo n key new              the key is that of a value that may go into a link of book n, or none, and this is its word: see
+--                                    IsNewFor
+--     IsStoreOf store book           the blocks of the book lie in the store, and are of one family
+--     OnHead n slot P, OnLink n link P     P is so of the head of this slot of book n, and of this link
+use Rattle.std.specs.Prelude.{◌≡◌, ℕ, ◌+◌, ◌<◌, ◌^◌, [], Some, true}
+use Rattle.seize_store.specs.Known.{family_in}
+use Rattle.seize_store.specs.Named.{name_of}
+use Rattle.seize_store.specs.declared.store.Store.{Store}
+use Rattle.seize_table.specs.declared.labelled.Labelled.{Ghosts}
+use Rattle.seize_words.specs.Begin.{BeganWith}
+use Rattle.seize_words.specs.Blocks.{link_word}
+use Rattle.seize_words.specs.Books.{IsAlone, IsMany}
+use Rattle.seize_words.specs.Headers.{HasWritten}
+use Rattle.seize_words.specs.Heads.{IsTrying, reads}
+use Rattle.seize_words.specs.LinkRows.{IsLinkAt}
+use Rattle.seize_words.specs.LinkWords.{holds}
+use Rattle.seize_words.specs.Links.{IsNewIn, IsWithin}
+use Rattle.seize_words.specs.Reservations.{slot}
+use Rattle.seize_words.specs.Reserved.{HasNext}
+use Rattle.seize_words.specs.Slots.{IsOf, number_of, own_list, slot_of, start_of}
+use Rattle.seize_words.specs.Tokens.{Name, start}
+use Rattle.seize_words.specs.Totals.{made_of, slots_seen}
+use Rattle.seize_words.specs.declared.activation.Activation.{Activation}
+use Rattle.seize_words.specs.declared.book.numbers_key.NumbersKey.{NumbersKey}
+use Rattle.seize_words.specs.declared.book.pass.Pass.{Pass}
+use Rattle.seize_words.specs.declared.book.slot_key.SlotKey.{SlotKey}
+use Rattle.seize_words.specs.declared.book.token.Book.{Book}
+use Rattle.seize_words.specs.declared.link.Link.{Link}
+use Rattle.seize_words.specs.declared.link.MaybeKey.{MaybeKey}
+use Rattle.seize_words.specs.declared.reservation.Head.{Head}
+use Rattle.seize_words.specs.declared.slots.next.NextSlot.{NextSlot}
+use Rattle.seize_words.specs.declared.words.Words.{Words}
+
+abbrev pub words_book : {T : Type 0} → Words T → Name
+words_book words = words.blocks.book.name
+
+-- the book has just begun, with as many links and this batch size, and the keys are those of its first slot
+pub record HasBegun (book : Book) (numbers : NumbersKey) (next : NextSlot) (many size : ℕ) : Type 0 where
+  pub began : BeganWith book.name many size book.name.store book.name.table × (book.seen ≡ [])
+  pub numbers_are : (numbers.keys.name ≡ book.name) × (made_of numbers ≡ 0)
+  pub next_is : HasNext numbers next
+
+abbrev pub OpensWords : {T : Type 0} → Words T → NumbersKey → NextSlot → ℕ → ℕ → Type 0
+OpensWords words numbers next many size = IsMany words.blocks.book × HasBegun words.blocks.book numbers next many size
+
+abbrev pub OpensWordsAlone : {T : Type 0} → Words T → Pass → NumbersKey → NextSlot → ℕ → ℕ → Type 0
+OpensWordsAlone words pass numbers next many size =
+    IsAlone words.blocks.book pass × HasBegun words.blocks.book numbers next many size
+
+abbrev pub IsHolder : SlotKey → Pass → ℕ → Type 0
+IsHolder key pass s = IsOf key pass × (number_of key ≡ s) × (s < slots_seen pass)
+
+abbrev pub MayReadAt : SlotKey → Pass → ℕ → Type 0
+MayReadAt key pass s = IsOf key pass × (reads (slot_of key) s ≡ true) × (s < slots_seen pass)
+
+abbrev pub IsInAt : Activation → Pass → ℕ → Type 0
+IsInAt activation pass l =
+    (activation.name ≡ pass.name) × IsWithin pass.name activation.slot activation.life activation.since pass.seen l
+
+abbrev pub OnHead : Name → ℕ → (Head → Type 0) → Type 0
+OnHead n s P = (head : Head) × ((head.word.name ≡ n) × (slot head ≡ s)) × P head
+
+abbrev pub OnLink : Name → ℕ → (Link → Type 0) → Type 0
+OnLink n l P = (link : Link) × IsLinkAt n l link × P link
+
+abbrev pub TriesAtSlot : SlotKey → ℕ → ℕ → ℕ → Type 0
+TriesAtSlot key s seen block =
+    (t : IsTrying (start_of key) (number_of key) (own_list key) s seen block) × HasWritten key seen t.batch × (block + 2 < 2 ^ 64)
+
+abbrev pub IsNewTo : Name → MaybeKey → ℕ → Type 0
+IsNewTo n key new = (key.keys.name ≡ n) × IsNewIn (start n) (holds key) key.keys.held × (new ≡ link_word (holds key))
+
+abbrev pub IsStoreOf : {H P T : Type 0} {g : Ghosts H} → Store H P T g → Book → Type 0
+IsStoreOf store book = (book.name.store ≡ Some (name_of store)) × (family_in (name_of store) ≡ book.name.family)

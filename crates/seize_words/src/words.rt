@@ -1,0 +1,307 @@
+//! Words: all that threads change of one book. The links lie in a row, the heads of the slots in a table, and the counts and fields of the
+//! blocks in a store. Each call makes one event by one atomic step, through `&self`. It joins `link`, `slots` and `blocks`.
+ghost use Rattle.std.specs.Prelude.{◌≡◌};
+ghost use Rattle.seize_words.specs.Chunks.{book_in};
+ghost use Rattle.seize_words.specs.Named.{links_name};
+ghost use Rattle.seize_words.specs.Reserved.{slots_book};
+
+use crate::activation::Activation;
+use crate::blocks::Blocks;
+use crate::book::{Book, BookKeys, Keeps, NumbersKey, Pass, SlotKey, Unopened};
+use crate::chunk::{Header, Part};
+use crate::glimpse::Glimpse;
+use crate::link::{Links, MaybeKey};
+use crate::slots::{NextSlot, Reservation, Slots};
+use seize_store::Store;
+use seize_table::Refusal;
+use seize_table::tls::ThreadLocal;
+use std::alloc::Global;
+use std::marker::Brand;
+
+/// The words of one book, whose blocks have values of type `T`. Threads share them by `&`.
+#[derive(Drop)]
+pub struct Words<T> {
+    /// The links, by their numbers.
+    pub links: Links,
+    /// The slots that there are, with their heads, by their numbers.
+    pub slots: Slots,
+    /// The blocks, with their counts and fields, by their numbers.
+    pub blocks: Blocks<T>,
+    ghost linked: { links_name links ≡ book_in blocks },
+    ghost slotted: { slots_book slots ≡ book_in blocks },
+}
+
+impl<T: Drop> Words<T> {
+    ghost use Rattle.std.specs.Prelude.{ℕ, ◌<◌, ◌⊎◌, IfErr, IfOk, Some, false, true};
+    ghost use Rattle.seize_machine.specs.Machine.Event.{Enter, Insert, ReadHead, SwapOut};
+    ghost use Rattle.seize_machine.specs.Machine.State.{is_idle};
+    ghost use Rattle.seize_store.specs.Named.{name_of as store_name};
+    ghost use Rattle.seize_table.specs.Named.{name_of};
+    ghost use Rattle.seize_table.specs.declared.refusal.Refusal.TheVariants.{NoMemory, NoNumbers};
+    ghost use Rattle.seize_words.specs.Books.{HasKeys, Opens, OpensAlone};
+    ghost use Rattle.seize_words.specs.Heads.{found_end};
+    ghost use Rattle.seize_words.specs.Joined.{IsHolder, IsInAt, IsNewTo, IsStoreOf, MayReadAt, OnHead, OnLink, OpensWords, OpensWordsAlone, TriesAtSlot, words_book};
+    ghost use Rattle.seize_words.specs.LinkWords.{CompareExchanges, Sees, Swaps};
+    ghost use Rattle.seize_words.specs.Reservations.{FoundBefore, IsActivationOf, IsLastOf, IsOut, Shows, WalksOn, beginning};
+    ghost use Rattle.seize_words.specs.Reserved.{HasNext, IsSame, MakesNext};
+    ghost use Rattle.seize_words.specs.Slots.{IsOf, Notes, NotesAs, active_of, number_of, slot_of};
+    ghost use Rattle.seize_words.specs.Totals.{NumbersOf, slots_seen};
+
+    /// The words of a new book, to which many may append, with so many links, which are empty, and no slot; and what its slots are made
+    /// with. A slot attempts its batch when that has `size` values, at least one. The table of heads has the buckets of the numbers from 0
+    /// to `capacity`. It asks for their memory and for that of the links; the store of blocks has no rows yet.
+    ///
+    /// # Errors
+    ///
+    /// `NoNumbers` where `capacity` is above the greatest number, and `NoMemory` where a growth was refused.
+    pub fn new(
+        alloc: Global,
+        capacity: usize,
+        links: usize,
+        size: usize,
+    ) -> Result<(Words<T>, NumbersKey, NextSlot), Refusal>
+        ensures made { IfOk result (λ opened. OpensWords opened.0 opened.1 opened.2 links size) }
+        ensures refused { IfErr result (λ e. (e ≡ NoNumbers) ⊎ (e ≡ NoMemory)) }
+    {
+        let table = ThreadLocal::with_capacity(alloc, capacity)?;
+        let (unopened, family) = Unopened::new();
+        let store = Store::new(alloc, &family);
+        let (book, keys) = Words::open::<Brand>(&store, &table, unopened, links, size);
+        Words::of(alloc, store, table, book, keys, links)
+    }
+
+    /// The same of a book to which one pass alone appends: it has seen all there is.
+    ///
+    /// # Errors
+    ///
+    /// As `new`.
+    pub fn new_alone(
+        alloc: Global,
+        capacity: usize,
+        links: usize,
+        size: usize,
+    ) -> Result<(Words<T>, Pass, NumbersKey, NextSlot), Refusal>
+        ensures made { IfOk result (λ opened. OpensWordsAlone opened.0 opened.1 opened.2 opened.3 links size) }
+        ensures refused { IfErr result (λ e. (e ≡ NoNumbers) ⊎ (e ≡ NoMemory)) }
+    {
+        let table = ThreadLocal::with_capacity(alloc, capacity)?;
+        let (unopened, family) = Unopened::new();
+        let store = Store::new(alloc, &family);
+        let (book, pass, keys) = Words::open_alone::<Brand>(&store, &table, unopened, links, size);
+        let (words, numbers, next) = Words::of(alloc, store, table, book, keys, links)?;
+        Ok((words, pass, numbers, next))
+    }
+
+    // A book whose blocks lie in this store, and whose heads lie in this table.
+    fn open<K: Keeps>(
+        _store: &Store<Header, Part, T>,
+        _table: &ThreadLocal<Reservation>,
+        unopened: Unopened,
+        links: usize,
+        size: usize,
+    ) -> (Book, BookKeys)
+        requires { (K.store ≡ Some (store_name _store.now)) × (K.table ≡ Some (name_of _table.now)) }
+        ensures book { Opens result.0 result.1 links size (Some (store_name _store.now)) (Some (name_of _table.now)) }
+        ensures family { result.0.name.family ≡ unopened.family }
+    {
+        unopened.open::<K>(links, size)
+    }
+
+    // The same, with its one pass.
+    fn open_alone<K: Keeps>(
+        _store: &Store<Header, Part, T>,
+        _table: &ThreadLocal<Reservation>,
+        unopened: Unopened,
+        links: usize,
+        size: usize,
+    ) -> (Book, Pass, BookKeys)
+        requires { (K.store ≡ Some (store_name _store.now)) × (K.table ≡ Some (name_of _table.now)) }
+        ensures book { OpensAlone result.0 result.1 result.2 links size (Some (store_name _store.now)) (Some (name_of _table.now)) }
+        ensures family { result.0.name.family ≡ unopened.family }
+    {
+        unopened.open_alone::<K>(links, size)
+    }
+
+    // The words of a book that has just begun, whose blocks lie in this store, and whose heads lie in this table; and what its slots are
+    // made with.
+    fn of(
+        alloc: Global,
+        store: Store<Header, Part, T>,
+        table: ThreadLocal<Reservation>,
+        book: Book,
+        keys: BookKeys,
+        links: usize,
+    ) -> Result<(Words<T>, NumbersKey, NextSlot), Refusal>
+        requires lie { IsStoreOf store book × (book.name.table ≡ Some (name_of table)) }
+        requires keys { (size : ℕ) × HasKeys book keys links size book.name.store book.name.table }
+        ensures made { IfOk result (λ made. (made.0.blocks.book ≡ book) × (made.1 ≡ keys.numbers) × HasNext made.1 made.2) }
+        ensures refused { IfErr result (λ e. e ≡ NoMemory) }
+    {
+        let BookKeys {
+            numbers,
+            total,
+            next,
+            links: left,
+        } = keys;
+        let links = Links::new(alloc, links, left, book.again())?;
+        let next = NextSlot::new(next, 0, &book);
+        let slots = Slots::of(table, total, book.again());
+        let words = Words {
+            links,
+            slots,
+            blocks: Blocks::of(store, book),
+        };
+        Ok((words, numbers, next))
+    }
+
+    /// Makes the slot that comes next, as `Slots::make` does: the event `Take` of a number that was never in use.
+    ///
+    /// # Errors
+    ///
+    /// `NoMemory` where the growth of the table was refused. Then nothing was changed, and the slot that comes next is given back.
+    pub fn make_slot(
+        &self,
+        next: NextSlot,
+        numbers: &mut NumbersKey,
+        pass: &mut Pass,
+    ) -> Result<(SlotKey, NextSlot), (Refusal, NextSlot)>
+        requires book { (words_book self.now ≡ pass.old.name) × NumbersOf numbers.old pass.old }
+        requires next { HasNext numbers.old next }
+        ensures made { IfOk result (λ made. MakesNext numbers.old next pass.old numbers.new made.0 made.1 pass.new) }
+        ensures refused { IfErr result (λ e. (e.0 ≡ NoMemory) × IsSame next e.1) }
+        ensures unchanged { IfErr result (λ e. (numbers.new ≡ numbers.old) × (pass.new ≡ pass.old)) }
+    {
+        self.slots.make(next, numbers, pass)
+    }
+
+    /// The slot becomes active: the event `Enter`, which begins the activation. See `Head::enter`.
+    pub fn enter_head(&self, slot: usize, key: &mut SlotKey, pass: &mut Pass) -> Activation
+        requires book { words_book self.now ≡ pass.old.name }
+        requires holder { IsHolder key.old pass.old slot }
+        requires outside { (is_idle (slot_of key.old) ≡ true) × (active_of key.old ≡ false) }
+        ensures noted { NotesAs key.old pass.old key.new pass.new (beginning pass.old result.life (Enter slot)) }
+        ensures activation { IsActivationOf key.new result }
+    {
+        self.slots.head(slot, pass).enter(key, pass)
+    }
+
+    /// Reads a slot's head: the event `ReadHead`. See `Head::read`.
+    pub fn read_head(&self, slot: usize, key: &mut SlotKey, pass: &mut Pass) -> u64
+        requires book { words_book self.now ≡ pass.old.name }
+        requires reads { MayReadAt key.old pass.old slot }
+        ensures noted { Notes key.old pass.old key.new pass.new (ReadHead (number_of key.old) slot) }
+        ensures shows { OnHead (words_book self.now) slot (λ head. Shows head pass.new.seen result) }
+    {
+        self.slots.head(slot, pass).read(key, pass)
+    }
+
+    /// Inserts the slot's batch at a slot's head, with this block, if the head's word is still what was seen: the event `Insert`. It gives
+    /// the word that it found. See `Head::insert`.
+    pub fn insert(
+        &self,
+        slot: usize,
+        seen: u64,
+        block: u64,
+        key: &mut SlotKey,
+        pass: &mut Pass,
+    ) -> u64
+        requires book { (words_book self.now ≡ pass.old.name) × IsOf key.old pass.old × (slot < slots_seen pass.old) }
+        requires tries { TriesAtSlot key.old slot seen block }
+        ensures noted { Notes key.old pass.old key.new pass.new (Insert (number_of key.old) slot (found_end seen result)) }
+        ensures found { OnHead (words_book self.now) slot (λ head. FoundBefore head pass.new result) }
+    {
+        self.slots.head(slot, pass).insert(seen, block, key, pass)
+    }
+
+    /// The slot leaves: the event `SwapOut` of a leave, which ends the activation. It gives the word of the head that comes out. See
+    /// `Head::leave`.
+    pub fn swap_out(
+        &self,
+        slot: usize,
+        activation: Activation,
+        key: &mut SlotKey,
+        pass: &mut Pass,
+    ) -> u64
+        requires book { words_book self.now ≡ pass.old.name }
+        requires holder { IsHolder key.old pass.old slot }
+        requires leaving { IsOut key.old false × IsLastOf key.old activation }
+        ensures noted { Notes key.old pass.old key.new pass.new (SwapOut slot) }
+        ensures found { OnHead (words_book self.now) slot (λ head. FoundBefore head pass.new result) }
+        ensures walks { (out : IsOut key.old false) → OnHead (words_book self.now) slot (λ head. WalksOn head key.new result out.0) }
+    {
+        self.slots.head(slot, pass).leave(activation, key, pass)
+    }
+
+    /// The slot refreshes: the event `SwapOut` of a refresh, which ends the activation and begins another one. It gives the word of the
+    /// head that comes out. See `Head::refresh`.
+    pub fn refresh_head(
+        &self,
+        slot: usize,
+        activation: &mut Activation,
+        key: &mut SlotKey,
+        pass: &mut Pass,
+    ) -> u64
+        requires book { words_book self.now ≡ pass.old.name }
+        requires holder { IsHolder key.old pass.old slot }
+        requires refreshing { IsOut key.old true × IsLastOf key.old activation.old }
+        ensures noted { NotesAs key.old pass.old key.new pass.new (beginning pass.old activation.new.life (SwapOut slot)) }
+        ensures activation { IsActivationOf key.new activation.new }
+        ensures found { OnHead (words_book self.now) slot (λ head. FoundBefore head pass.new result) }
+        ensures walks { (out : IsOut key.old true) → OnHead (words_book self.now) slot (λ head. WalksOn head key.new result out.0) }
+    {
+        self.slots.head(slot, pass).refresh(activation, key, pass)
+    }
+
+    /// Reads a link: the event `ReadLink`. It gives the link's word and a glimpse of what the link holds. See `Link::see`.
+    pub fn read_link<'g>(
+        &self,
+        link: usize,
+        activation: &'g Activation,
+        pass: &mut Pass,
+    ) -> (u64, Glimpse<'g>)
+        requires book { words_book self.now ≡ pass.old.name }
+        requires within { IsInAt activation.now pass.old link }
+        ensures sees { OnLink (words_book self.now) link (λ link. Sees link activation.now pass.old pass.new result.0 result.1) }
+    {
+        self.links.get(link).see(activation, pass)
+    }
+
+    /// Exchanges what a link holds for a value that was never named, or for none, in any case: the event `ExchangeLink`. See `Link::swap`.
+    pub fn swap_link(
+        &self,
+        link: usize,
+        new: u64,
+        value: &mut MaybeKey,
+        activation: &Activation,
+        pass: &mut Pass,
+    ) -> u64
+        requires book { words_book self.now ≡ pass.old.name }
+        requires within { IsInAt activation.now pass.old link }
+        requires new { IsNewTo (words_book self.now) value.old new }
+        ensures swaps { OnLink (words_book self.now) link (λ link.
+            Swaps link activation.now value.old pass.old value.new pass.new result) }
+    {
+        self.links.get(link).swap(new, value, activation, pass)
+    }
+
+    /// The same, but only if the link's word is what was seen. See `Link::compare_exchange`.
+    pub fn exchange_link<'g>(
+        &self,
+        link: usize,
+        seen: u64,
+        new: u64,
+        value: &mut MaybeKey,
+        activation: &'g Activation,
+        pass: &mut Pass,
+    ) -> (u64, Glimpse<'g>)
+        requires book { words_book self.now ≡ pass.old.name }
+        requires within { IsInAt activation.now pass.old link }
+        requires new { IsNewTo (words_book self.now) value.old new }
+        ensures exchanges { OnLink (words_book self.now) link (λ link.
+            CompareExchanges link activation.now value.old pass.old seen value.new pass.new result.0 result.1) }
+    {
+        self.links
+            .get(link)
+            .compare_exchange(seen, new, value, activation, pass)
+    }
+}
