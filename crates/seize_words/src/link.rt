@@ -4,9 +4,9 @@ ghost use Rattle.std.specs.Prelude.{◌≡◌, true};
 ghost use Rattle.seize_words.specs.Links.{IsLink, is_at_most_one};
 
 use crate::activation::Activation;
-use crate::book::{Keys, LinkKeys, Pass, ValueKey};
 use crate::glimpse::Glimpse;
 use crate::word::Word;
+use seize_book::book::{Keys, LinkKeys, Pass, ValueKey};
 use std::marker::Brand;
 
 /// One link, which threads share.
