@@ -15,11 +15,11 @@ use Rattle.seize_machine.specs.Machine.History.{done_by, is_swap_out}
 use Rattle.seize_machine.specs.declared.machine.event.Answer.{Answer}
 use Rattle.seize_machine.specs.Machine.Next.{next}
 use Rattle.seize_machine.proofs.Facts.{step_of, is_true, and_true}
-use Rattle.seize_words.specs.Book.{after, IsLegalList}
-use Rattle.seize_words.specs.Entry.{Entry, Made, Used, deeds, timed}
-use Rattle.seize_words.specs.Laws.{life_from, life, lives_after, ended_by, ended_from, ended, none_alive, IsIn}
-use Rattle.seize_words.specs.Tokens.{over}
-use Rattle.seize_words.proofs.Lives.{legal_first, active_on, in_right, is_ended}
+use Rattle.seize_book.specs.Book.{after, IsLegalList}
+use Rattle.seize_book.specs.Entry.{Entry, Made, Used, deeds, timed}
+use Rattle.seize_book.specs.Laws.{life_from, life, lives_after, ended_by, ended_from, ended, none_alive, IsIn}
+use Rattle.seize_book.specs.Tokens.{over}
+use Rattle.seize_book.proofs.Lives.{legal_first, active_on, in_right, is_ended}
 
 -- an active slot is active still, in the same activation, or that ended
 

@@ -8,14 +8,14 @@ use Rattle.seize_store.specs.declared.known.Known.{Known}
 use Rattle.seize_table.specs.Pairs.{left_of, of_family, right_of}
 use Rattle.seize_table.specs.Place.{IsPlace}
 use Rattle.seize_table.proofs.Pairs.{left_pair, right_pair}
-use Rattle.seize_words.specs.Blocks.{block_of}
-use Rattle.seize_words.specs.Book.{after}
-use Rattle.seize_words.specs.Homes.{home_of}
-use Rattle.seize_words.specs.Homesteads.{AreAt, state_seen}
-use Rattle.seize_words.specs.Passes.{LooksOn}
-use Rattle.seize_words.specs.Tokens.{Name, label_at, start}
-use Rattle.seize_words.specs.declared.book.pass.Pass.{Pass}
-use Rattle.seize_words.proofs.Sound.{named_later}
+use Rattle.seize_book.specs.Blocks.{block_of}
+use Rattle.seize_book.specs.Book.{after}
+use Rattle.seize_book.specs.Homes.{home_of}
+use Rattle.seize_book.specs.Homesteads.{AreAt, state_seen}
+use Rattle.seize_book.specs.Passes.{LooksOn}
+use Rattle.seize_book.specs.Tokens.{Name, label_at, start}
+use Rattle.seize_book.specs.declared.book.pass.Pass.{Pass}
+use Rattle.seize_book.proofs.Sound.{named_later}
 
 -- labels that are equal say one family and one home
 

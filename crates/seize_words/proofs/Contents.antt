@@ -1,11 +1,10 @@
 -- The name of a value says one content and one code: what a sight shows by a value's name is what was lent with the value.
 use Rattle.std.proofs.Common.{◌≡◌, ℕ, suc, refl, sym, ◌∙◌, ap, arith}
 use base.Stored.{Gv, gnil, gnum, gcons}
-use Rattle.seize_content.specs.Stages.{name_coded}
-use Rattle.seize_content.specs.Stages.{Name as Content}
+use Rattle.seize_content.specs.Stages.{name_coded, Name as Content}
 use Rattle.seize_table.specs.Pairs.{left_of, pair, right_of}
 use Rattle.seize_table.proofs.Pairs.{left_pair, right_pair}
-use Rattle.seize_words.specs.Loans.{Carries, number_of}
+use Rattle.seize_book.specs.Loans.{Carries, number_of}
 
 kinds : (a b c d : ℕ) → pair a b ≡ pair c d → a ≡ c
 kinds a b c d e = sym (left_pair a b) ∙ (ap left_of e ∙ left_pair c d)

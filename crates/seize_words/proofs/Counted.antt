@@ -9,33 +9,33 @@ use Rattle.seize_machine.specs.Machine.History.{IsReached}
 use Rattle.seize_machine.specs.Machine.Next.{is_zero, next}
 use Rattle.seize_machine.specs.declared.machine.event.Answer.{Answer}
 use Rattle.seize_machine.proofs.Facts.{Stands, batched_named, is_true, some_is}
-use Rattle.seize_words.specs.Adding.{private}
+use Rattle.seize_book.specs.Adding.{private}
 use Rattle.seize_words.specs.Atomic.{deed, entries, minus, plus}
-use Rattle.seize_words.specs.Blocks.{Plan, count_word, front_of, no_plan, plans}
-use Rattle.seize_words.specs.Book.{IsLegalList, TheSlot, Kept, after, counts, kind_of, rules, slots}
+use Rattle.seize_book.specs.Blocks.{Plan, count_word, front_of, no_plan, plans}
+use Rattle.seize_book.specs.Book.{IsLegalList, TheSlot, Kept, after, counts, kind_of, rules, slots}
 use Rattle.seize_words.specs.Counts.{Counts, GivesUp, IsAdding, IsWalking, values_in}
-use Rattle.seize_words.specs.Deposits.{deposit}
-use Rattle.seize_words.specs.Entry.{Deed, Entry}
-use Rattle.seize_words.specs.Homes.{count_in}
-use Rattle.seize_words.specs.Ledger.{AllKept, Held, renewed}
-use Rattle.seize_words.specs.Others.{IsLastIn}
-use Rattle.seize_words.specs.Passes.{IsSame}
-use Rattle.seize_words.specs.Private.{is_one, key_of, own_of}
-use Rattle.seize_words.specs.Slots.{IsAfter, IsOf, Moves, number_of, own_list}
+use Rattle.seize_book.specs.Deposits.{deposit}
+use Rattle.seize_book.specs.Entry.{Deed, Entry}
+use Rattle.seize_book.specs.Homes.{count_in}
+use Rattle.seize_book.specs.Ledger.{AllKept, Held, renewed}
+use Rattle.seize_book.specs.Others.{IsLastIn}
+use Rattle.seize_book.specs.Passes.{IsSame}
+use Rattle.seize_book.specs.Private.{is_one, key_of, own_of, AreKeysOf, are_of_blocks, labels_of}
+use Rattle.seize_book.specs.Slots.{IsAfter, IsOf, Moves, number_of, own_list}
 use Rattle.seize_words.specs.Stepping.{MayStep, Stepped, held_then}
-use Rattle.seize_words.specs.Tokens.{Name, start}
-use Rattle.seize_words.specs.Words.{AreKeysOf, Site, are_of_blocks, labels_of}
-use Rattle.seize_words.specs.declared.book.pass.Pass.{Pass}
-use Rattle.seize_words.specs.declared.book.slot_key.SlotKey.{SlotKey}
+use Rattle.seize_book.specs.Tokens.{Name, start}
+use Rattle.seize_words.specs.Words.{Site}
+use Rattle.seize_book.specs.declared.book.pass.Pass.{Pass}
+use Rattle.seize_book.specs.declared.book.slot_key.SlotKey.{SlotKey}
 use Rattle.seize_words.proofs.Counting.{Counting, adding, at_count, come, deposited, kept_past, same, subtracting}
-use Rattle.seize_words.proofs.Counts.{count_alone, count_subtracted, word_zero}
-use Rattle.seize_words.proofs.Deposits.{deposit_added, deposit_subtracted}
-use Rattle.seize_words.proofs.Fronts.{held_values}
-use Rattle.seize_words.proofs.Lists.{after_push, equal, reached_after, unequal}
-use Rattle.seize_words.proofs.Moves.{moves}
-use Rattle.seize_words.proofs.Plans.{plan_stays}
-use Rattle.seize_words.proofs.Private.{after_one, only, only_is}
-use Rattle.seize_words.proofs.Values.{keys_later, labels_later, none_of}
+use Rattle.seize_book.proofs.Counts.{count_alone, count_subtracted, word_zero}
+use Rattle.seize_book.proofs.Deposits.{deposit_added, deposit_subtracted}
+use Rattle.seize_book.proofs.Fronts.{held_values}
+use Rattle.seize_book.proofs.Lists.{after_push, equal, reached_after, unequal}
+use Rattle.seize_book.proofs.Moves.{moves}
+use Rattle.seize_book.proofs.Plans.{plan_stays}
+use Rattle.seize_book.proofs.Private.{after_one, only, only_is}
+use Rattle.seize_book.proofs.Values.{keys_later, labels_later, none_of}
 
 -- a count's word, named by the pass's book
 pub is_at_count : (word : Site) (n : Name) → word.name ≡ n → word.kind ≡ counts → word ≡ at_count n word.number

@@ -13,28 +13,28 @@ use Rattle.seize_machine.specs.declared.machine.event.Answer.{Answer}
 use Rattle.seize_machine.specs.declared.machine.event.Answer.TheVariants.{Count as Counted}
 use Rattle.seize_machine.proofs.Facts.{Step, Stands, eq_true, next_of, reached_next, step_of}
 use Rattle.seize_words.specs.Atomic.{minus, plus}
-use Rattle.seize_words.specs.Blocks.{IsNear, Plan, count_word, front_of, no_plan, plans}
-use Rattle.seize_words.specs.Book.{Kept, TheSlot, Does, IsLegalList, after, births, counts, rules, slots}
+use Rattle.seize_book.specs.Blocks.{IsNear, Plan, count_word, front_of, no_plan, plans}
+use Rattle.seize_book.specs.Book.{Kept, TheSlot, Does, IsLegalList, after, births, counts, rules, slots}
 use Rattle.seize_words.specs.Counts.{IsAdding, IsWalking}
-use Rattle.seize_words.specs.Chains.{told}
-use Rattle.seize_words.specs.Deposits.{deposit}
-use Rattle.seize_words.specs.Entry.{Entry, Made, Deed, timed}
-use Rattle.seize_words.specs.Fair.{Covers, NamesHeld, pass_key}
-use Rattle.seize_words.specs.Homes.{IsSound, changes_count, changes_home, count_in, home_of, is_batch_in, is_home, is_in}
-use Rattle.seize_words.specs.Ledger.{Held, AllKept, Beside, Rules, renewed}
-use Rattle.seize_words.specs.Private.{is_one, key_of, label_of, own_of}
+use Rattle.seize_book.specs.Chains.{told}
+use Rattle.seize_book.specs.Deposits.{deposit}
+use Rattle.seize_book.specs.Entry.{Entry, Made, Deed, timed}
+use Rattle.seize_book.specs.Fair.{Covers, NamesHeld, pass_key}
+use Rattle.seize_book.specs.Homes.{IsSound, changes_count, changes_home, count_in, home_of, is_batch_in, is_home, is_in}
+use Rattle.seize_book.specs.Ledger.{Held, AllKept, Beside, Rules, renewed}
+use Rattle.seize_book.specs.Private.{is_one, key_of, label_of, own_of, AreKeysOf, are_of_blocks, labels_of}
 use Rattle.seize_words.specs.Stepping.{EndsAmong, FoundAs, IsStep, MayStep, in_step}
-use Rattle.seize_words.specs.Tokens.{Name, start}
-use Rattle.seize_words.specs.Words.{AreKeysOf, Site, are_of_blocks, labels_of}
-use Rattle.seize_words.proofs.Chains.{unled}
-use Rattle.seize_words.proofs.Counts.{batch_near, count_added, count_alone, count_near, count_subtracted, in_range, word_added, word_subtracted, word_zero}
-use Rattle.seize_words.proofs.Deposits.{deposit_added, deposit_subtracted}
-use Rattle.seize_words.proofs.Fronts.{added_held, front_grows, front_there, held_front, held_values, walked_held}
-use Rattle.seize_words.proofs.Lists.{after_push, reached_after}
-use Rattle.seize_words.proofs.Plans.{plan_stays}
-use Rattle.seize_words.proofs.Private.{differ, only_is, makes_none, no_place}
-use Rattle.seize_words.proofs.Sound.{no_labels, none_named, sound_push}
-use Rattle.seize_words.proofs.Values.{blocks_within, keys_later, none_of}
+use Rattle.seize_book.specs.Tokens.{Name, start}
+use Rattle.seize_words.specs.Words.{Site}
+use Rattle.seize_book.proofs.Chains.{unled}
+use Rattle.seize_book.proofs.Counts.{batch_near, count_added, count_alone, count_near, count_subtracted, in_range, word_added, word_subtracted, word_zero}
+use Rattle.seize_book.proofs.Deposits.{deposit_added, deposit_subtracted}
+use Rattle.seize_book.proofs.Fronts.{added_held, front_grows, front_there, held_front, held_values, walked_held}
+use Rattle.seize_book.proofs.Lists.{after_push, reached_after}
+use Rattle.seize_book.proofs.Plans.{plan_stays}
+use Rattle.seize_book.proofs.Private.{differ, only_is, makes_none, no_place}
+use Rattle.seize_book.proofs.Sound.{no_labels, none_named, sound_push}
+use Rattle.seize_book.proofs.Values.{blocks_within, keys_later, none_of}
 
 abbrev pub at_count : Name → ℕ → Site
 at_count n k = record { name = n; kind = counts; number = k }

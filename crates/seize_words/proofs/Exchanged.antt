@@ -9,26 +9,26 @@ use Rattle.seize_machine.specs.declared.machine.event.Answer.TheVariants.{Link a
 use Rattle.seize_machine.specs.declared.machine.event.Exchange.{Exchange}
 use Rattle.seize_machine.proofs.Facts.{Step, is_true, linked_named, named_grows, not_true, step_of, swapped}
 use Rattle.seize_words.specs.Atomic.{Takes as Took, entries}
-use Rattle.seize_words.specs.Blocks.{link_word}
-use Rattle.seize_words.specs.Book.{kind_of, IsLegalList, after, blocks, links, rules}
-use Rattle.seize_words.specs.Entry.{Entry}
-use Rattle.seize_words.specs.Homes.{IsVacant, home_of}
-use Rattle.seize_words.specs.Ledger.{AllKept, Held, renewed}
+use Rattle.seize_book.specs.Blocks.{link_word}
+use Rattle.seize_book.specs.Book.{kind_of, IsLegalList, after, blocks, links, rules}
+use Rattle.seize_book.specs.Entry.{Entry}
+use Rattle.seize_book.specs.Homes.{IsVacant, home_of}
+use Rattle.seize_book.specs.Ledger.{AllKept, Held, renewed}
 use Rattle.seize_words.specs.LinkWords.{IsIn, Takes, held_before, number}
 use Rattle.seize_words.specs.Links.{IsNewIn, at_link, is_at_most_one, value_in}
-use Rattle.seize_words.specs.Others.{state_of}
-use Rattle.seize_words.specs.Private.{own_of}
+use Rattle.seize_book.specs.Others.{state_of}
+use Rattle.seize_book.specs.Private.{own_of}
 use Rattle.seize_words.specs.Stepping.{Stepped, held_then}
-use Rattle.seize_words.specs.Tokens.{Name, start}
+use Rattle.seize_book.specs.Tokens.{Name, start}
 use Rattle.seize_words.specs.Words.{IsKeyOf, Site}
 use Rattle.seize_words.specs.declared.activation.Activation.{Activation}
-use Rattle.seize_words.specs.declared.book.keys.Keys.{Keys}
-use Rattle.seize_words.specs.declared.book.pass.Pass.{Pass}
+use Rattle.seize_book.specs.declared.book.keys.Keys.{Keys}
+use Rattle.seize_book.specs.declared.book.pass.Pass.{Pass}
 use Rattle.seize_words.specs.declared.link.Link.{Link}
 use Rattle.seize_words.proofs.Exchanges.{within}
 use Rattle.seize_words.proofs.Links.{kept_right, key_later, same, still_new, still_vacant}
-use Rattle.seize_words.proofs.Lists.{equal, reached_after}
-use Rattle.seize_words.proofs.Sound.{has_last}
+use Rattle.seize_book.proofs.Lists.{equal, reached_after}
+use Rattle.seize_book.proofs.Sound.{has_last}
 
 -- the word of a link, named by the pass's book
 pub is_at : (word : Site) (n : Name) → word.name ≡ n → word.kind ≡ links → word ≡ at_link n word.number

@@ -12,20 +12,20 @@ use Rattle.seize_machine.specs.declared.machine.event.Answer.TheVariants.{Link a
 use Rattle.seize_machine.proofs.Facts.{Step, and_true, eq_true, is_true, links_length, next_of, step_of}
 use Rattle.atomic_table.proofs.Lists as kit
 use Rattle.seize_words.specs.Atomic.{exchanged}
-use Rattle.seize_words.specs.Blocks.{link_word}
-use Rattle.seize_words.specs.Book.{Does, IsLegalList, after, blocks, kinds}
-use Rattle.seize_words.specs.Entry.{Deed, Entry, Made, Used}
-use Rattle.seize_words.specs.Homes.{home_of}
-use Rattle.seize_words.specs.Laws.{IsIn, Reader, ended, life}
-use Rattle.seize_words.specs.Ledger.{Held, WithKinds}
+use Rattle.seize_book.specs.Blocks.{link_word}
+use Rattle.seize_book.specs.Book.{Does, IsLegalList, after, blocks, kinds}
+use Rattle.seize_book.specs.Entry.{Deed, Entry, Made, Used}
+use Rattle.seize_book.specs.Homes.{home_of}
+use Rattle.seize_book.specs.Laws.{IsIn, Reader, ended, life}
+use Rattle.seize_book.specs.Ledger.{Held, WithKinds}
 use Rattle.seize_words.specs.Links.{IsNewIn, IsWithin, at_link, compared, is_at_most_one, value_in, value_with}
 use Rattle.seize_words.specs.Stepping.{FoundAs, IsStep, MayStep}
-use Rattle.seize_words.specs.Tokens.{Name, start}
-use Rattle.seize_words.proofs.Lists.{after_push, equal, unequal}
-use Rattle.seize_words.proofs.Loans.{found_now}
+use Rattle.seize_book.specs.Tokens.{Name, start}
+use Rattle.seize_book.proofs.Lists.{after_push, equal, unequal}
+use Rattle.seize_book.proofs.Loans.{found_now}
 use Rattle.seize_words.proofs.Activations.{still}
 use Rattle.seize_words.proofs.Links.{legal_link, miss_does, miss_step, read_step, same, store_step}
-use Rattle.seize_words.proofs.Lives.{legal_first}
+use Rattle.seize_book.proofs.Lives.{legal_first}
 
 -- there are as many links as at the beginning
 links_stay : (st : State) (log : List Entry) → IsLegalList st log → length (after st log).links ≡ length st.links

@@ -9,40 +9,40 @@ use Rattle.seize_machine.specs.Machine.History.{IsReached, first_of}
 use Rattle.seize_machine.specs.Machine.Next.{next}
 use Rattle.seize_machine.specs.declared.machine.event.Answer.{Answer}
 use Rattle.seize_machine.proofs.Facts.{note_within, some_is}
-use Rattle.seize_words.specs.Adding.{private}
-use Rattle.seize_words.specs.Blocks.{Plan, block_for, block_in, block_of, front_of, list_word, no_plan, planned_by, plans, serving}
-use Rattle.seize_words.specs.Book.{IsLegalList, after, mine}
-use Rattle.seize_words.specs.Chains.{front_block, served}
-use Rattle.seize_words.specs.Entry.{Deed, Entry, Made, Used}
+use Rattle.seize_book.specs.Adding.{private}
+use Rattle.seize_book.specs.Blocks.{Plan, block_for, block_in, block_of, front_of, list_word, no_plan, planned_by, plans, serving}
+use Rattle.seize_book.specs.Book.{IsLegalList, after, mine}
+use Rattle.seize_book.specs.Chains.{front_block, served}
+use Rattle.seize_book.specs.Entry.{Deed, Entry, Made, Used}
 use Rattle.seize_words.specs.Headers.{Stores, Uses, using}
 use Rattle.seize_words.specs.Heads.{IsTrying}
-use Rattle.seize_words.specs.Homes.{home_of}
-use Rattle.seize_words.specs.Laws.{life, starts}
+use Rattle.seize_book.specs.Homes.{home_of}
+use Rattle.seize_book.specs.Laws.{life, starts}
 use Rattle.seize_words.specs.LinkWords.{IsIn, Takes, number}
 use Rattle.seize_words.specs.Links.{IsWithin}
-use Rattle.seize_words.specs.Passes.{IsSame, LooksOn, events_by, events_in, mine_of}
-use Rattle.seize_words.specs.Slots.{IsOf, Moves, NotesAs, life_of, number_of, own_list, size_of, slot_of, start_of}
-use Rattle.seize_words.specs.Tokens.{Name, Noted, start}
+use Rattle.seize_book.specs.Passes.{IsSame, LooksOn, events_by, events_in, mine_of}
+use Rattle.seize_book.specs.Slots.{IsOf, Moves, NotesAs, life_of, number_of, own_list, size_of, slot_of, start_of}
+use Rattle.seize_book.specs.Tokens.{Name, Noted, start}
 use Rattle.seize_words.specs.Totals.{slots_seen}
-use Rattle.seize_words.proofs.Fronts.{front_there}
+use Rattle.seize_book.proofs.Fronts.{front_there}
 use Rattle.seize_words.proofs.Heads.{slots_grow}
-use Rattle.seize_words.proofs.Lists.{reached_after}
-pub use Rattle.seize_words.proofs.Lists.{after_used}
+use Rattle.seize_book.proofs.Lists.{reached_after}
+pub use Rattle.seize_book.proofs.Lists.{after_used}
 -- the keys of values that were never named, put together, and what the key of one knows that was put
-pub use Rattle.seize_words.proofs.Further.{none_new, first_new, pushed_new, next_known}
-pub use Rattle.seize_words.proofs.Written.{plans_used}
+pub use Rattle.seize_book.proofs.Further.{none_new, first_new, pushed_new, next_known}
+pub use Rattle.seize_book.proofs.Written.{plans_used}
 -- what a sight shows by a value's name is what was lent with the value
 pub use Rattle.seize_words.proofs.Contents.{same_content}
-pub use Rattle.seize_words.proofs.Hands.{hands_soon}
+pub use Rattle.seize_book.proofs.Hands.{hands_soon}
 -- a value that was named stays so
-pub use Rattle.seize_words.proofs.Sound.{named_later}
+pub use Rattle.seize_book.proofs.Sound.{named_later}
 -- looks, a slot's key, and the walk of its call, in what the key knows later
 pub use Rattle.seize_words.proofs.Traversals.{batch_next, hand_leaves, knows_noted, knows_still, looks_twice, same_key, walk_kept, word_stays}
-use Rattle.seize_words.proofs.Plans.{AllLess, blocks_stay, legal_prefix, plan_stays, plans_append, plans_long, saw_there, tried_there}
+use Rattle.seize_book.proofs.Plans.{AllLess, blocks_stay, legal_prefix, plan_stays, plans_append, plans_long, saw_there, tried_there}
 use Rattle.seize_words.proofs.Stepped.{life_push}
 use Rattle.seize_words.specs.declared.activation.Activation.{Activation}
-use Rattle.seize_words.specs.declared.book.pass.Pass.{Pass}
-use Rattle.seize_words.specs.declared.book.slot_key.SlotKey.{SlotKey}
+use Rattle.seize_book.specs.declared.book.pass.Pass.{Pass}
+use Rattle.seize_book.specs.declared.book.slot_key.SlotKey.{SlotKey}
 use Rattle.seize_words.specs.declared.link.Link.{Link}
 
 -- what was made with a pass has grown by the event and its answer

@@ -10,22 +10,22 @@ use Rattle.seize_machine.proofs.Facts.{batched_named}
 use Rattle.seize_store.specs.Known.{entry_of, label_in}
 use Rattle.seize_store.specs.declared.known.Known.{Known}
 use Rattle.seize_table.specs.Place.{IsPlace}
-use Rattle.seize_words.specs.Blocks.{Plan, block_for, block_of, front_of, no_plan, plans}
+use Rattle.seize_book.specs.Blocks.{Plan, block_for, block_of, front_of, no_plan, plans}
 use Rattle.std.specs.Prelude.{slice_index_or, unwrap_or}
-use Rattle.seize_words.specs.Book.{IsLegalList, after}
-use Rattle.seize_words.specs.Chains.{served}
-use Rattle.seize_words.specs.Entry.{Entry}
-use Rattle.seize_words.specs.Homes.{home_of}
-use Rattle.seize_words.specs.Homesteads.{AreAt, state_seen}
-use Rattle.seize_words.specs.Slots.{IsOf, number_of, own_list, slot_of, start_of}
-use Rattle.seize_words.specs.Tokens.{Name, label_at, start}
-use Rattle.seize_words.specs.declared.book.pass.Pass.{Pass}
-use Rattle.seize_words.specs.declared.book.slot_key.SlotKey.{SlotKey}
-use Rattle.seize_words.proofs.Fronts.{held_values}
-use Rattle.seize_words.proofs.Lists.{reached_after}
-use Rattle.seize_words.proofs.Plans.{legal_prefix}
-use Rattle.seize_words.proofs.Serves.{marked_after, serving_in, slots_in, walks_marked}
-use Rattle.seize_words.proofs.Sound.{named_later}
+use Rattle.seize_book.specs.Book.{IsLegalList, after}
+use Rattle.seize_book.specs.Chains.{served}
+use Rattle.seize_book.specs.Entry.{Entry}
+use Rattle.seize_book.specs.Homes.{home_of}
+use Rattle.seize_book.specs.Homesteads.{AreAt, state_seen}
+use Rattle.seize_book.specs.Slots.{IsOf, number_of, own_list, slot_of, start_of}
+use Rattle.seize_book.specs.Tokens.{Name, label_at, start}
+use Rattle.seize_book.specs.declared.book.pass.Pass.{Pass}
+use Rattle.seize_book.specs.declared.book.slot_key.SlotKey.{SlotKey}
+use Rattle.seize_book.proofs.Fronts.{held_values}
+use Rattle.seize_book.proofs.Lists.{reached_after}
+use Rattle.seize_book.proofs.Plans.{legal_prefix}
+use Rattle.seize_book.proofs.Serves.{marked_after, serving_in, slots_in, walks_marked}
+use Rattle.seize_book.proofs.Sound.{named_later}
 
 -- it was named, and not reclaimed
 abbrev pub IsLiving : ℕ → State → Type 0

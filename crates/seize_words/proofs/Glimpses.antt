@@ -13,17 +13,18 @@ use Rattle.seize_content.specs.Stages.{Name as Content}
 use Rattle.seize_content.proofs.Readers.{left_empty, settled}
 use Rattle.seize_machine.specs.Machine.State.{link_at}
 use Rattle.seize_words.specs.Atomic.{FindsFor}
-use Rattle.seize_words.specs.Book.{after, kind_of, links}
-use Rattle.seize_words.specs.Entry.{Entry, entry_coded}
+use Rattle.seize_book.specs.Book.{after, kind_of, links}
+use Rattle.seize_book.specs.Entry.{Entry, entry_coded}
 use Rattle.seize_words.specs.Glimpses.{glimpse, shown, sight_if, sight_of, taken, taken_if}
-use Rattle.seize_words.specs.Ledger.{Held, reached}
-use Rattle.seize_words.specs.Loans.{Carries, loan_of}
+use Rattle.seize_book.specs.Ledger.{Held, reached}
+use Rattle.seize_book.specs.Loans.{Carries, loan_of}
 use Rattle.seize_words.specs.Stepping.{At, FoundAs}
-use Rattle.seize_words.specs.Tokens.{Name, keys_own, pass_holds, start}
+use Rattle.seize_book.specs.Tokens.{Name, keys_own, pass_holds, start}
 use Rattle.seize_words.specs.Words.{IsKeyOf, Site, Stands, StandsOf}
-use Rattle.seize_words.specs.declared.book.pass.Pass.{Pass}
-use Rattle.seize_words.proofs.Lives.{living}
-use Rattle.seize_words.proofs.Loans.{keys_read, pass_shows}
+use Rattle.seize_book.specs.declared.book.pass.Pass.{Pass}
+use Rattle.seize_book.proofs.Lives.{living}
+use Rattle.seize_words.proofs.Sights.{keys_read}
+use Rattle.seize_book.proofs.Loans.{pass_shows}
 use Rattle.seize_words.proofs.Steps.{Takes, had_then, left_then}
 
 module _ {M : Type 1} {𝓤 : Ura M} (𝓛 : Logic 𝓤) where

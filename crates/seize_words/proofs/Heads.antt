@@ -16,24 +16,24 @@ use Rattle.seize_machine.specs.declared.machine.event.Try.{Try as Insertion}
 use Rattle.seize_machine.specs.declared.machine.event.Try.TheVariants.{Won, Lost}
 use Rattle.seize_machine.proofs.Facts.{Step, Stands, and_true, eq_true, go_on, head_frame, heads_length, is_true, next_of, slots_length, some_is, step_of}
 use Rattle.seize_words.specs.Atomic.{exchanged}
-use Rattle.seize_words.specs.Blocks.{Plan, block_for, block_of, head_word, list_word, plans, word_of}
-use Rattle.seize_words.specs.Chains.{Leads, LeadsOn, first_field, front_block, next_field, served, told, written, written_at}
-use Rattle.seize_words.specs.Book.{Kept, TheSlot, Does, IsLegalList, after, births, heads, rules, slots}
-use Rattle.seize_words.specs.Entry.{Entry, Made, Used, Deed, timed}
-use Rattle.seize_words.specs.Fair.{Covers, pass_key}
+use Rattle.seize_book.specs.Blocks.{Plan, block_for, block_of, head_word, list_word, plans, word_of}
+use Rattle.seize_book.specs.Chains.{Leads, LeadsOn, first_field, front_block, next_field, served, told, written, written_at}
+use Rattle.seize_book.specs.Book.{Kept, TheSlot, Does, IsLegalList, after, births, heads, rules, slots}
+use Rattle.seize_book.specs.Entry.{Entry, Made, Used, Deed, timed}
+use Rattle.seize_book.specs.Fair.{Covers, pass_key}
 use Rattle.seize_words.specs.Heads.{IsTrying, found_end, reads, reads_at}
-use Rattle.seize_words.specs.Homes.{changes_count, changes_home, home_of}
-use Rattle.seize_words.specs.Laws.{IsIn, life}
-use Rattle.seize_words.specs.Ledger.{Held, AllKept}
-use Rattle.seize_words.specs.Private.{is_one, key_of, label_of, own_of}
+use Rattle.seize_book.specs.Homes.{changes_count, changes_home, home_of}
+use Rattle.seize_book.specs.Laws.{IsIn, life}
+use Rattle.seize_book.specs.Ledger.{Held, AllKept}
+use Rattle.seize_book.specs.Private.{is_one, key_of, label_of, own_of}
 use Rattle.seize_words.specs.Stepping.{EndsAmong, FoundAs, IsStep, MayStep, in_step}
-use Rattle.seize_words.specs.Tokens.{Name, start}
+use Rattle.seize_book.specs.Tokens.{Name, start}
 use Rattle.seize_words.specs.Words.{Site}
-use Rattle.seize_words.proofs.Lives.{legal_first, life_kept}
-use Rattle.seize_words.proofs.Lists.{equal, unequal, after_push, legal_push, reached_after}
-use Rattle.seize_words.proofs.Plans.{AllLess, block_stays, blocks_stay, head_stays, legal_prefix, plan_stays, plans_long, saw_there, tried_there}
-use Rattle.seize_words.proofs.Private.{differ, only_is, makes_none, no_place}
-use Rattle.seize_words.proofs.Sound.{no_labels, none_named}
+use Rattle.seize_book.proofs.Lives.{legal_first, life_kept}
+use Rattle.seize_book.proofs.Lists.{equal, unequal, after_push, legal_push, reached_after}
+use Rattle.seize_book.proofs.Plans.{AllLess, block_stays, blocks_stay, head_stays, legal_prefix, plan_stays, plans_long, saw_there, tried_there}
+use Rattle.seize_book.proofs.Private.{differ, only_is, makes_none, no_place}
+use Rattle.seize_book.proofs.Sound.{no_labels, none_named}
 
 abbrev pub at_head : Name → ℕ → Site
 at_head n m = record { name = n; kind = heads; number = m }

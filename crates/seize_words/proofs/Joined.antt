@@ -2,19 +2,19 @@
 use Rattle.std.proofs.Common.{◌≡◌, ℕ, ◌<◌, List, [], ◌∷◌, ◌++◌, length, Some, sym, ◌∙◌, ap, subst, refl, true}
 use Rattle.seize_machine.specs.Machine.Event.{Event}
 use Rattle.seize_machine.specs.Machine.State.{are_distinct, linked}
-use Rattle.seize_words.specs.Blocks.{link_word, plans}
-use Rattle.seize_words.specs.Book.{Does, IsLegalList, after, mine}
-use Rattle.seize_words.specs.Chains.{Chained, told}
-use Rattle.seize_words.specs.Entry.{Deed, Entry, Made}
-use Rattle.seize_words.specs.Homes.{IsSound}
+use Rattle.seize_book.specs.Blocks.{link_word, plans}
+use Rattle.seize_book.specs.Book.{Does, IsLegalList, after, mine}
+use Rattle.seize_book.specs.Chains.{Chained, told}
+use Rattle.seize_book.specs.Entry.{Deed, Entry, Made}
+use Rattle.seize_book.specs.Homes.{IsSound}
 use Rattle.seize_words.specs.Joined.{TriesAtSlot}
-use Rattle.seize_words.specs.Passes.{LooksOn}
+use Rattle.seize_book.specs.Passes.{LooksOn}
 use Rattle.seize_words.specs.Reservations.{TriesAt, beginning, slot}
-use Rattle.seize_words.specs.Slots.{NotesAs, number_of, own_list, start_of}
-use Rattle.seize_words.specs.Tokens.{IsSole, Name, Noted, start}
+use Rattle.seize_book.specs.Slots.{NotesAs, number_of, own_list, start_of}
+use Rattle.seize_book.specs.Tokens.{IsSole, Name, Noted, start}
 use Rattle.seize_words.specs.Totals.{slots_seen}
-use Rattle.seize_words.specs.declared.book.pass.Pass.{Pass}
-use Rattle.seize_words.specs.declared.book.slot_key.SlotKey.{SlotKey}
+use Rattle.seize_book.specs.declared.book.pass.Pass.{Pass}
+use Rattle.seize_book.specs.declared.book.slot_key.SlotKey.{SlotKey}
 use Rattle.seize_words.specs.declared.reservation.Head.{Head}
 use Rattle.seize_words.proofs.Reserved.{still_seen}
 use base.Growing.{prefix_trans}

@@ -8,19 +8,19 @@ use Rattle.seize_machine.specs.declared.machine.event.Answer.{Answer}
 use Rattle.seize_machine.specs.declared.machine.event.Answer.TheVariants.{Link as Held_}
 use Rattle.seize_machine.specs.declared.machine.event.Exchange.{Exchange}
 use Rattle.seize_machine.proofs.Facts.{Step, eq_true, next_of, swapped}
-use Rattle.seize_words.specs.Blocks.{link_word}
-use Rattle.seize_words.specs.Book.{IsLegalList, Kept, TheBlock, after, blocks, rules, Does, kind_of}
-use Rattle.seize_words.specs.Entry.{Entry, Made}
-use Rattle.seize_words.specs.Fair.{Covers, IsLabel, NamesHeld, NamesLabels, pass_key}
-use Rattle.seize_words.specs.Ledger.{Held, AllKept, AllThere, Beside, renewed}
-use Rattle.seize_words.specs.Homes.{HasOne, IsVacant, home_of, is_home}
+use Rattle.seize_book.specs.Blocks.{link_word}
+use Rattle.seize_book.specs.Book.{IsLegalList, Kept, TheBlock, after, blocks, rules, Does, kind_of}
+use Rattle.seize_book.specs.Entry.{Entry, Made}
+use Rattle.seize_book.specs.Fair.{Covers, IsLabel, NamesHeld, NamesLabels, pass_key}
+use Rattle.seize_book.specs.Ledger.{Held, AllKept, AllThere, Beside, renewed}
+use Rattle.seize_book.specs.Homes.{HasOne, IsVacant, home_of, is_home}
 use Rattle.seize_words.specs.Links.{at_link, IsNewIn}
 use Rattle.seize_words.specs.Stepping.{FoundAs, IsStep, in_step}
-use Rattle.seize_words.specs.Tokens.{Name, start}
+use Rattle.seize_book.specs.Tokens.{Name, start}
 use Rattle.seize_words.specs.Words.{IsKeyOf}
-use Rattle.seize_words.proofs.Lists.{after_push}
-use Rattle.seize_words.proofs.Private.{differ}
-use Rattle.seize_words.proofs.Sound.{new_named, old_named, pushed, vacant_later}
+use Rattle.seize_book.proofs.Lists.{after_push}
+use Rattle.seize_book.proofs.Private.{differ}
+use Rattle.seize_book.proofs.Sound.{new_named, old_named, pushed, vacant_later}
 
 -- the keys of what a link holds, later
 pub key_later : (o : Option ℕ) (vs : List (Held Entry)) (log : List Entry) → IsKeyOf o vs → IsKeyOf o (renewed vs log)

@@ -5,23 +5,23 @@ use Rattle.std.specs.Prelude.{slice_index_or}
 use Rattle.seize_machine.specs.Machine.Laws.{IsHeld, walk_of}
 use Rattle.seize_machine.specs.Machine.History.{first_of}
 use Rattle.seize_machine.proofs.Facts.{Stands, held_full}
-use Rattle.seize_words.specs.Blocks.{front_of, no_plan, Plan, block_for, block_of, list_word, plans}
-use Rattle.seize_words.specs.Book.{IsLegalList, Kept, TheSlot, after, rules}
-use Rattle.seize_words.specs.Chains.{IsChain, first_field, next_field, served, told}
-use Rattle.seize_words.specs.Entry.{Entry}
+use Rattle.seize_book.specs.Blocks.{front_of, no_plan, Plan, block_for, block_of, list_word, plans}
+use Rattle.seize_book.specs.Book.{IsLegalList, Kept, TheSlot, after, rules}
+use Rattle.seize_book.specs.Chains.{IsChain, first_field, next_field, served, told}
+use Rattle.seize_book.specs.Entry.{Entry}
 use Rattle.seize_words.specs.Headers.{IsFrontBlock, IsPassing}
-use Rattle.seize_words.specs.Homes.{home_of}
-use Rattle.seize_words.specs.Ledger.{AllKept, Held}
-use Rattle.seize_words.specs.Slots.{IsOf, number_of, own_list, start_of}
+use Rattle.seize_book.specs.Homes.{home_of}
+use Rattle.seize_book.specs.Ledger.{AllKept, Held}
+use Rattle.seize_book.specs.Slots.{IsOf, number_of, own_list, start_of}
 use Rattle.seize_words.specs.Stepping.{LooksAt}
-use Rattle.seize_words.specs.Tokens.{Name, start}
-use Rattle.seize_words.specs.declared.book.pass.Pass.{Pass}
-use Rattle.seize_words.specs.declared.book.slot_key.SlotKey.{SlotKey}
-use Rattle.seize_words.proofs.Lists.{reached_after}
-use Rattle.seize_words.proofs.Chains.{walking_there}
-use Rattle.seize_words.proofs.Plans.{AllLess, blocks_stay, plan_stays, plans_long}
-use Rattle.seize_words.proofs.Fronts.{held_values, walked_held}
-use Rattle.seize_words.proofs.Private.{one_kept}
+use Rattle.seize_book.specs.Tokens.{Name, start}
+use Rattle.seize_book.specs.declared.book.pass.Pass.{Pass}
+use Rattle.seize_book.specs.declared.book.slot_key.SlotKey.{SlotKey}
+use Rattle.seize_book.proofs.Lists.{reached_after}
+use Rattle.seize_book.proofs.Chains.{walking_there}
+use Rattle.seize_book.proofs.Plans.{AllLess, blocks_stay, plan_stays, plans_long}
+use Rattle.seize_book.proofs.Fronts.{held_values, walked_held}
+use Rattle.seize_book.proofs.Private.{one_kept}
 use Rattle.seize_words.proofs.Uses.{at_field, own_legal, served_stays, shown}
 
 module _ (f : ℕ) (key : SlotKey) (pass pass' : Pass) (v : ℕ) (looks : LooksAt (at_field pass.name f) pass.id pass.seen pass'.seen key.keys.held v) (book : IsOf key pass) where

@@ -12,17 +12,17 @@ use Rattle.seize_machine.specs.declared.machine.event.Answer.TheVariants.{Done}
 use Rattle.seize_machine.proofs.Facts.{heads_length, some_is}
 use Rattle.seize_table.specs.Place.{all_numbers}
 use Rattle.seize_words.specs.Atomic.{plus}
-use Rattle.seize_words.specs.Ledger.{Held, AllKept, renewed, born}
-use Rattle.seize_words.specs.Entry.{Entry, Made, Deed}
-use Rattle.seize_words.specs.Book.{IsLegalList, after, births, slots, heads, numbers, totals, of_next_slot, of_slot, rules}
-use Rattle.seize_words.specs.Fair.{Covers, pass_key}
-use Rattle.seize_words.specs.Private.{is_one, key_of, label_of, own_of}
+use Rattle.seize_book.specs.Ledger.{Held, AllKept, renewed, born}
+use Rattle.seize_book.specs.Entry.{Entry, Made, Deed}
+use Rattle.seize_book.specs.Book.{IsLegalList, after, births, slots, heads, numbers, totals, of_next_slot, of_slot, rules}
+use Rattle.seize_book.specs.Fair.{Covers, pass_key}
+use Rattle.seize_book.specs.Private.{is_one, key_of, label_of, own_of}
 use Rattle.seize_words.specs.Stepping.{FoundAs, IsStepWith, MayStepWith, in_step}
-use Rattle.seize_words.specs.Tokens.{Name, start}
+use Rattle.seize_book.specs.Tokens.{Name, start}
 use Rattle.seize_words.specs.Words.{Site}
-use Rattle.seize_words.proofs.Lists.{after_push, equal}
-use Rattle.seize_words.proofs.Gives.{free_by, free_of, the_only}
-use Rattle.seize_words.proofs.Private.{only, only_is, differ}
+use Rattle.seize_book.proofs.Lists.{after_push, equal}
+use Rattle.seize_book.proofs.Gives.{free_by, free_of, the_only}
+use Rattle.seize_book.proofs.Private.{only, only_is, differ}
 
 abbrev pub at_total : Name → Site
 at_total n = record { name = n; kind = totals; number = 0 }

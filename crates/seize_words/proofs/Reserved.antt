@@ -2,16 +2,16 @@
 use Rattle.std.proofs.Common.{◌≡◌, ℕ, ◌<◌, ◌≤◌, List, length, get_or, sym, ◌∙◌, ap, subst, arith}
 use Rattle.crossbeam_utils.specs.Padded.{padded_value}
 use Rattle.seize_table.specs.Place.{all_numbers}
-use Rattle.seize_words.specs.Book.{after}
-use Rattle.seize_words.specs.Passes.{LooksOn}
+use Rattle.seize_book.specs.Book.{after}
+use Rattle.seize_book.specs.Passes.{LooksOn}
 use Rattle.seize_words.specs.Reservations.{slot}
-use Rattle.seize_words.specs.Tokens.{Name, label_at, slot_labels, start}
+use Rattle.seize_book.specs.Tokens.{Name, label_at, slot_labels, start}
 use Rattle.seize_words.specs.Totals.{slots_seen}
-use Rattle.seize_words.specs.declared.book.pass.Pass.{Pass}
+use Rattle.seize_book.specs.declared.book.pass.Pass.{Pass}
 use Rattle.seize_words.specs.declared.slots.Reservation.{Reservation}
 use Rattle.seize_words.proofs.Chunked.{same_family, same_home}
 use Rattle.seize_words.proofs.Facts.{more_seen}
-use Rattle.seize_words.proofs.Tables.{label_of_slot, labels_long}
+use Rattle.seize_book.proofs.Tables.{label_of_slot, labels_long}
 
 -- slots are never taken away, and there are no more than numbers
 pub still_seen : (pass pass' : Pass) (s : ℕ) → LooksOn pass pass' → s < slots_seen pass → s < slots_seen pass'

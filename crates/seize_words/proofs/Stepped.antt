@@ -2,25 +2,25 @@
 use Rattle.std.proofs.Common.{if◌then◌else◌, arith, ◌≡◌, ℕ, Bool, true, false, List, [], ◌∷◌, ◌++◌, sym, refl, ap, ◌∙◌, subst}
 use Rattle.seize_machine.specs.Machine.State.{Head, Inactive, Active, head_at, is_active}
 use Rattle.seize_words.specs.Atomic.{Events, Takes, deed, entries}
-use Rattle.seize_words.specs.Blocks.{block_for, head_word, word_of}
-use Rattle.seize_words.specs.Book.{IsLegalList, after, heads, rules, slots}
-use Rattle.seize_words.specs.Entry.{Entry, Made, Deed, deeds}
-use Rattle.seize_words.specs.Ledger.{Held, AllKept, renewed}
-use Rattle.seize_words.specs.Laws.{life, life_from, starts}
+use Rattle.seize_book.specs.Blocks.{block_for, head_word, word_of}
+use Rattle.seize_book.specs.Book.{IsLegalList, after, heads, rules, slots}
+use Rattle.seize_book.specs.Entry.{Entry, Made, Deed, deeds}
+use Rattle.seize_book.specs.Ledger.{Held, AllKept, renewed}
+use Rattle.seize_book.specs.Laws.{life, life_from, starts}
 use Rattle.seize_words.specs.Reservations.{IsActivationOf}
-use Rattle.seize_words.specs.Private.{is_one, key_of, own_of}
-use Rattle.seize_words.specs.Slots.{IsAfter, IsOf, Moves, NotesAs}
+use Rattle.seize_book.specs.Private.{is_one, key_of, own_of}
+use Rattle.seize_book.specs.Slots.{IsAfter, IsOf, Moves, NotesAs}
 use Rattle.seize_words.specs.Stepping.{Stepped}
-use Rattle.seize_words.specs.Tokens.{Name, start}
+use Rattle.seize_book.specs.Tokens.{Name, start}
 use Rattle.seize_words.specs.Words.{Site}
 use Rattle.seize_words.specs.declared.activation.Activation.{Activation}
-use Rattle.seize_words.specs.declared.book.keys.Keys.{Keys}
-use Rattle.seize_words.specs.declared.book.pass.Pass.{Pass}
-use Rattle.seize_words.specs.declared.book.slot_key.SlotKey.{SlotKey}
+use Rattle.seize_book.specs.declared.book.keys.Keys.{Keys}
+use Rattle.seize_book.specs.declared.book.pass.Pass.{Pass}
+use Rattle.seize_book.specs.declared.book.slot_key.SlotKey.{SlotKey}
 use Rattle.seize_words.proofs.Heads.{at_head, found_word}
-use Rattle.seize_words.proofs.Lists.{deeds_append}
-use Rattle.seize_words.proofs.Moves.{moves}
-use Rattle.seize_words.proofs.Private.{after_one, one_kept, same_kind}
+use Rattle.seize_book.proofs.Lists.{deeds_append}
+use Rattle.seize_book.proofs.Moves.{moves}
+use Rattle.seize_book.proofs.Private.{after_one, one_kept, same_kind}
 
 -- a head's word, named by the pass's book
 pub is_at_head : (word : Site) (n : Name) → word.name ≡ n → word.kind ≡ heads → word ≡ at_head n word.number

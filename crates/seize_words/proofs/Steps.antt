@@ -13,21 +13,21 @@ use Rattle.core.specs.Sync.RawAtomic.{word, asks, always}
 use Rattle.core.proofs.raw_atomic.Asked.{borrowed_with, LiesWith, AgainWith}
 use Rattle.seize_machine.specs.Machine.State.{State, link_at}
 use Rattle.seize_machine.proofs.Facts.{eq_true}
-use Rattle.seize_words.specs.Ledger.{fact, Held, WithKinds, renewed, born}
-use Rattle.seize_words.specs.Entry.{Entry}
-use Rattle.seize_words.specs.Book.{Kind, ThePass, TheNumbers, TheSlot, TheHead, TheLink, TheCount, TheBlock, TheField, TheTotal, Nothing, after, kinds, kind_of, blocks}
-use Rattle.seize_words.specs.Laws.{ended}
-use Rattle.seize_words.specs.Fair.{Before}
-use Rattle.seize_words.specs.Private.{is_one}
+use Rattle.seize_book.specs.Ledger.{fact, Held, WithKinds, renewed, born}
+use Rattle.seize_book.specs.Entry.{Entry}
+use Rattle.seize_book.specs.Book.{Kind, ThePass, TheNumbers, TheSlot, TheHead, TheLink, TheCount, TheBlock, TheField, TheTotal, Nothing, after, kinds, kind_of, blocks}
+use Rattle.seize_book.specs.Laws.{ended}
+use Rattle.seize_book.specs.Fair.{Before}
+use Rattle.seize_book.specs.Private.{is_one}
 use Rattle.seize_words.specs.Stepping.{in_step, FoundAs, NoneEnded, beside_then, held_then, staying, with_births, IsStepWith, LooksAt, MayStepWith, SteppedWith}
-use Rattle.seize_words.specs.Tokens.{Name, start, inside, knows, keys_own, over, pass_holds, pass_owns}
+use Rattle.seize_book.specs.Tokens.{Name, start, inside, knows, keys_own, over, pass_holds, pass_owns}
 use Rattle.seize_words.specs.Words.{Site, Shows, ShowsOf, Stands, StandsOf, IsKeyOf, word_knows, word_lies, word_reading}
-use Rattle.seize_words.proofs.Values.{blocks_within}
-use Rattle.seize_words.proofs.Lives.{ends_those, living, none_over}
-use Rattle.seize_words.proofs.Looks.{peeks}
-use Rattle.seize_words.proofs.Notes.{knows_twice}
-use Rattle.seize_words.proofs.Ways.{keys_joined, keys_parted, first_parted}
-use Rattle.seize_words.proofs.Passes.{IsDistinct, by_pass, keys_after, Made}
+use Rattle.seize_book.proofs.Values.{blocks_within}
+use Rattle.seize_book.proofs.Lives.{ends_those, living, none_over}
+use Rattle.seize_book.proofs.Looks.{peeks}
+use Rattle.seize_book.proofs.Notes.{knows_twice}
+use Rattle.seize_book.proofs.Ways.{keys_joined, keys_parted, first_parted}
+use Rattle.seize_book.proofs.Passes.{IsDistinct, by_pass, keys_after, Made}
 
 -- what a word stands for is one of the kinds
 kind_within : (st : State) (r k v : ℕ) (log : List Entry) → ShowsOf st (kind_of r) k v log → r < kinds

@@ -4,22 +4,22 @@ use Rattle.seize_machine.specs.Machine.State.{State, Inactive, head_at, slot_at}
 use Rattle.seize_machine.specs.Machine.Event.{Take}
 use Rattle.seize_machine.specs.Machine.Next.{first_free}
 use Rattle.seize_words.specs.Atomic.{TakesWith, entries, plus}
-use Rattle.seize_words.specs.Book.{after, heads, numbers, of_slot, slots}
-use Rattle.seize_words.specs.Entry.{Entry, Made}
-use Rattle.seize_words.specs.Ledger.{Held}
-use Rattle.seize_words.specs.Others.{state_of}
-use Rattle.seize_words.specs.Passes.{IsSame}
-use Rattle.seize_words.specs.Private.{is_one, key_of, label_of, own_of}
+use Rattle.seize_book.specs.Book.{after, heads, numbers, of_slot, slots}
+use Rattle.seize_book.specs.Entry.{Entry, Made}
+use Rattle.seize_book.specs.Ledger.{Held}
+use Rattle.seize_book.specs.Others.{state_of}
+use Rattle.seize_book.specs.Passes.{IsSame}
+use Rattle.seize_book.specs.Private.{is_one, key_of, label_of, own_of}
 use Rattle.seize_words.specs.Stepping.{FoundAs, MayStepWith, SteppedWith}
-use Rattle.seize_words.specs.Tokens.{Name, Noted, start}
-use Rattle.seize_words.specs.Tables.{IsPlaced}
+use Rattle.seize_book.specs.Tokens.{Name, Noted, start}
+use Rattle.seize_book.specs.Tables.{IsPlaced}
 use Rattle.seize_words.specs.Totals.{MayMake, made_of}
 use Rattle.seize_words.specs.Words.{IsTotal, Site}
-use Rattle.seize_words.specs.declared.book.keys.Keys.{Keys}
-use Rattle.seize_words.specs.declared.book.numbers_key.NumbersKey.{NumbersKey}
-use Rattle.seize_words.specs.declared.book.pass.Pass.{Pass}
-use Rattle.seize_words.specs.declared.book.slot_key.SlotKey.{SlotKey}
-use Rattle.seize_words.proofs.Lists.{reached_after}
+use Rattle.seize_book.specs.declared.book.keys.Keys.{Keys}
+use Rattle.seize_book.specs.declared.book.numbers_key.NumbersKey.{NumbersKey}
+use Rattle.seize_book.specs.declared.book.pass.Pass.{Pass}
+use Rattle.seize_book.specs.declared.book.slot_key.SlotKey.{SlotKey}
+use Rattle.seize_book.proofs.Lists.{reached_after}
 use Rattle.seize_words.proofs.Makes.{MayMakeIt, all_keys, at_total, may_make, new_full, new_head, new_slot, next_head, takes}
 
 own_first : (a b : List (Held Entry)) → is_one numbers a ≡ true → own_of (a ++ b) ≡ own_of a

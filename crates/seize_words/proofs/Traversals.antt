@@ -14,31 +14,31 @@ use Rattle.seize_machine.specs.Machine.Next.{are_fresh, next, set_slot}
 use Rattle.seize_machine.specs.declared.machine.event.Answer.{Answer}
 use Rattle.seize_machine.specs.declared.machine.event.Answer.TheVariants.{Handed}
 use Rattle.seize_machine.proofs.Facts.{Stands, Step, next_of, some_is, step_of}
-use Rattle.seize_words.specs.Adding.{private}
+use Rattle.seize_book.specs.Adding.{private}
 use Rattle.seize_machine.specs.Machine.Laws.{Walks, walk_of}
-use Rattle.seize_words.specs.Blocks.{Plan, block_for, block_of, front_of, no_plan, plans}
-use Rattle.seize_words.specs.Book.{IsLegalList, after, slots}
-use Rattle.seize_words.specs.Private.{is_one}
-use Rattle.seize_words.specs.declared.book.keys.Keys.{Keys}
-use Rattle.seize_words.specs.Chains.{first_field, served}
+use Rattle.seize_book.specs.Blocks.{Plan, block_for, block_of, front_of, no_plan, plans}
+use Rattle.seize_book.specs.Book.{IsLegalList, after, slots}
+use Rattle.seize_book.specs.Private.{is_one}
+use Rattle.seize_book.specs.declared.book.keys.Keys.{Keys}
+use Rattle.seize_book.specs.Chains.{first_field, served}
 use Rattle.seize_words.specs.Chunks.{IsHeaderOf, header_home}
 use Rattle.seize_words.specs.Counts.{home}
-use Rattle.seize_words.specs.Entry.{Deed, Entry, Made}
+use Rattle.seize_book.specs.Entry.{Deed, Entry, Made}
 use Rattle.seize_words.specs.Headers.{IsFrontBlock, Passes}
-use Rattle.seize_words.specs.Homes.{IsSound, home_of}
-use Rattle.seize_words.specs.Homesteads.{HasNumber, state_seen}
-use Rattle.seize_words.specs.Passes.{LooksOn}
-use Rattle.seize_words.specs.Slots.{IsOf, IsStill, Notes, NotesAs, number_of, own_list, size_of, slot_of, start_of}
-use Rattle.seize_words.specs.Tokens.{IsSole, Name, start}
+use Rattle.seize_book.specs.Homes.{IsSound, home_of}
+use Rattle.seize_book.specs.Homesteads.{HasNumber, state_seen}
+use Rattle.seize_book.specs.Passes.{LooksOn}
+use Rattle.seize_book.specs.Slots.{IsOf, IsStill, Notes, NotesAs, number_of, own_list, size_of, slot_of, start_of}
+use Rattle.seize_book.specs.Tokens.{IsSole, Name, start}
 use Rattle.seize_words.specs.Walks.{IsAtBatch, Knows, word_for}
-use Rattle.seize_words.specs.declared.book.pass.Pass.{Pass}
-use Rattle.seize_words.specs.declared.book.slot_key.SlotKey.{SlotKey}
+use Rattle.seize_book.specs.declared.book.pass.Pass.{Pass}
+use Rattle.seize_book.specs.declared.book.slot_key.SlotKey.{SlotKey}
 use Rattle.seize_words.specs.declared.chunk.Header.{Header}
 use Rattle.seize_words.proofs.Chunked.{named_seen}
 use Rattle.seize_words.proofs.Finds.{IsLiving, front_living, walked_living}
-use Rattle.seize_words.proofs.Plans.{block_stays, legal_prefix}
-use Rattle.seize_words.proofs.Serves.{marked_after, slots_in, walks_marked}
-use Rattle.seize_words.proofs.Sound.{named_later}
+use Rattle.seize_book.proofs.Plans.{block_stays, legal_prefix}
+use Rattle.seize_book.proofs.Serves.{marked_after, slots_in, walks_marked}
+use Rattle.seize_book.proofs.Sound.{named_later}
 
 -- a slot's key is its keys
 pub same_key : (key key' : SlotKey) → IsStill key key' → key' ≡ key

@@ -6,28 +6,28 @@ use Rattle.seize_machine.specs.Machine.Next.{of_call}
 use Rattle.seize_machine.specs.declared.machine.event.Answer.TheVariants.{Done}
 use Rattle.seize_machine.proofs.Facts.{Stands}
 use Rattle.seize_words.specs.Atomic.{Takes}
-use Rattle.seize_words.specs.Blocks.{Plan, plans, serving}
-use Rattle.seize_words.specs.Book.{IsLegalList, Kept, TheSlot, after, fields, rules, slots}
-use Rattle.seize_words.specs.Chains.{IsLed, IsWriting, first_field, next_field, served, told, written, written_at}
-use Rattle.seize_words.specs.Entry.{Entry, Used, Deed, Use}
-use Rattle.seize_words.specs.Fair.{Covers, pass_key}
+use Rattle.seize_book.specs.Blocks.{Plan, plans, serving}
+use Rattle.seize_book.specs.Book.{IsLegalList, Kept, TheSlot, after, fields, rules, slots}
+use Rattle.seize_book.specs.Chains.{IsLed, IsWriting, first_field, next_field, served, told, written, written_at}
+use Rattle.seize_book.specs.Entry.{Entry, Used, Deed, Use}
+use Rattle.seize_book.specs.Fair.{Covers, pass_key}
 use Rattle.seize_words.specs.Headers.{IsStoring, Uses, first_of as first_in, next_of as next_in}
-use Rattle.seize_words.specs.Homes.{home_of}
-use Rattle.seize_words.specs.Laws.{life, life_from}
-use Rattle.seize_words.specs.Ledger.{AllKept, Held}
-use Rattle.seize_words.specs.Private.{is_one, key_of, label_of, own_of}
-use Rattle.seize_words.specs.Slots.{IsAfter, IsOf, number_of, own_list, start_of, written_of}
+use Rattle.seize_book.specs.Homes.{home_of}
+use Rattle.seize_book.specs.Laws.{life, life_from}
+use Rattle.seize_book.specs.Ledger.{AllKept, Held}
+use Rattle.seize_book.specs.Private.{is_one, key_of, label_of, own_of}
+use Rattle.seize_book.specs.Slots.{IsAfter, IsOf, number_of, own_list, start_of, written_of}
 use Rattle.seize_words.specs.Stepping.{FoundAs, IsStep, MayStep, Stepped, in_step}
-use Rattle.seize_words.specs.Tokens.{Name, start}
+use Rattle.seize_book.specs.Tokens.{Name, start}
 use Rattle.seize_words.specs.Words.{Site}
-use Rattle.seize_words.specs.declared.book.pass.Pass.{Pass}
-use Rattle.seize_words.specs.declared.book.slot_key.SlotKey.{SlotKey}
-use Rattle.seize_words.proofs.Lists.{after_used, deeds_used, reached_after}
-use Rattle.seize_words.proofs.Lives.{life_kept}
-use Rattle.seize_words.proofs.Chains.{fields_apart}
-use Rattle.seize_words.proofs.Plans.{legal_prefix, plan_stays, plans_long, tried_there}
-use Rattle.seize_words.proofs.Private.{after_one, differ, one_kept, only_is}
-use Rattle.seize_words.proofs.Written.{plans_used, told_other, told_push}
+use Rattle.seize_book.specs.declared.book.pass.Pass.{Pass}
+use Rattle.seize_book.specs.declared.book.slot_key.SlotKey.{SlotKey}
+use Rattle.seize_book.proofs.Lists.{after_used, deeds_used, reached_after}
+use Rattle.seize_book.proofs.Lives.{life_kept}
+use Rattle.seize_book.proofs.Chains.{fields_apart}
+use Rattle.seize_book.proofs.Plans.{legal_prefix, plan_stays, plans_long, tried_there}
+use Rattle.seize_book.proofs.Private.{after_one, differ, one_kept, only_is}
+use Rattle.seize_book.proofs.Written.{plans_used, told_other, told_push}
 
 abbrev pub at_field : Name → ℕ → Site
 at_field n f = record { name = n; kind = fields; number = f }

@@ -10,19 +10,19 @@ use Rattle.seize_machine.specs.declared.machine.event.Answer.{Answer}
 use Rattle.seize_machine.specs.declared.machine.event.Answer.TheVariants.{Done}
 use Rattle.seize_machine.proofs.Facts.{Stands, Step, go_on, next_of, out_active, some_is}
 use Rattle.seize_words.specs.Atomic.{Takes, entries}
-use Rattle.seize_words.specs.Blocks.{block_for, list_word, word_of}
-use Rattle.seize_words.specs.Book.{Kept, TheSlot, after, heads, rules}
-use Rattle.seize_words.specs.Entry.{Entry}
-use Rattle.seize_words.specs.Ledger.{AllKept, Held}
-use Rattle.seize_words.specs.Slots.{IsOf, number_of, own_list, slot_of, start_of}
-use Rattle.seize_words.specs.Tokens.{Name, start}
-use Rattle.seize_words.specs.declared.book.pass.Pass.{Pass}
-use Rattle.seize_words.specs.declared.book.slot_key.SlotKey.{SlotKey}
+use Rattle.seize_book.specs.Blocks.{block_for, list_word, word_of}
+use Rattle.seize_book.specs.Book.{Kept, TheSlot, after, heads, rules}
+use Rattle.seize_book.specs.Entry.{Entry}
+use Rattle.seize_book.specs.Ledger.{AllKept, Held}
+use Rattle.seize_book.specs.Slots.{IsOf, number_of, own_list, slot_of, start_of}
+use Rattle.seize_book.specs.Tokens.{Name, start}
+use Rattle.seize_book.specs.declared.book.pass.Pass.{Pass}
+use Rattle.seize_book.specs.declared.book.slot_key.SlotKey.{SlotKey}
 use Rattle.seize_words.proofs.Counting.{in_slots}
 use Rattle.seize_words.proofs.Heads.{at_head, found_word}
-use Rattle.seize_words.proofs.Lists.{reached_after}
-use Rattle.seize_words.proofs.Plans.{AllLess, blocks_stay, plans_long, waiting_there}
-use Rattle.seize_words.proofs.Private.{one_kept}
+use Rattle.seize_book.proofs.Lists.{reached_after}
+use Rattle.seize_book.proofs.Plans.{AllLess, blocks_stay, plans_long, waiting_there}
+use Rattle.seize_book.proofs.Private.{one_kept}
 use Rattle.seize_words.proofs.Stepped.{moved}
 
 shows_list : (block : ℕ → ℕ) (h : Head) → is_active h ≡ true → word_of block h ≡ list_word block (waiting_at h)

@@ -3,9 +3,9 @@
 --     Begun a keys a'          it has begun with what the keys know
 --     Renewed a a' lives next  its lifetime is over, and it is another one of the same slot, with the next
 use Rattle.std.specs.Prelude.{◌≡◌, ℕ, List, [], ◌∷◌}
-use Rattle.seize_words.specs.Private.{key_of, own_of}
+use Rattle.seize_book.specs.Private.{key_of, own_of}
 use Rattle.seize_words.specs.declared.activation.Activation.{Activation}
-use Rattle.seize_words.specs.declared.book.keys.Keys.{Keys}
+use Rattle.seize_book.specs.declared.book.keys.Keys.{Keys}
 
 abbrev pub IsNewOf : Keys → Activation → Type 0
 IsNewOf keys a = (a.name ≡ keys.name) × (a.slot ≡ key_of keys.held)

@@ -15,19 +15,19 @@ use lib.Dec.{eqb}
 use prog.Atomic.{either}
 use Rattle.seize_machine.specs.Machine.Event.{Event}
 use Rattle.seize_machine.specs.Machine.State.{link_at}
-use Rattle.seize_words.specs.Entry.{Entry, Made, Deed}
-use Rattle.seize_words.specs.Book.{after, kinds, links}
+use Rattle.seize_book.specs.Entry.{Entry, Made, Deed}
+use Rattle.seize_book.specs.Book.{after, kinds, links}
 use Rattle.seize_words.specs.Glimpses.{shown}
-use Rattle.seize_words.specs.Laws.{Reader}
-use Rattle.seize_words.specs.Ledger.{Held, WithKinds}
-use Rattle.seize_words.specs.Private.{key_of, own_of}
-use Rattle.seize_words.specs.Passes.{IsSame}
+use Rattle.seize_book.specs.Laws.{Reader}
+use Rattle.seize_book.specs.Ledger.{Held, WithKinds}
+use Rattle.seize_book.specs.Private.{key_of, own_of}
+use Rattle.seize_book.specs.Passes.{IsSame}
 use Rattle.seize_words.specs.Stepping.{At, Births, FoundAs, LooksAt, MayStepWith, SteppedWith}
-use Rattle.seize_words.specs.Tokens.{start}
+use Rattle.seize_book.specs.Tokens.{start}
 use Rattle.seize_words.specs.Words.{Site, Shows, Stands, site_keys}
 use Rattle.seize_words.specs.declared.activation.Activation.{Activation}
-use Rattle.seize_words.specs.declared.book.keys.Keys.{Keys}
-use Rattle.seize_words.specs.declared.book.pass.Pass.{Pass}
+use Rattle.seize_book.specs.declared.book.keys.Keys.{Keys}
+use Rattle.seize_book.specs.declared.book.pass.Pass.{Pass}
 use Rattle.seize_words.specs.declared.glimpse.Glimpse.{Glimpse}
 
 abbrev pub exchanged : ℕ → ℕ → ℕ → ℕ

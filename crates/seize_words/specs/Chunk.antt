@@ -3,12 +3,12 @@
 --     HasField which book count field  the field is of the book too, and is this one of the block whose count that is
 --     HasKey book key                  the key of a block is of the book
 use Rattle.std.specs.Prelude.{◌≡◌, ℕ}
-use Rattle.seize_words.specs.Bare.{bare_book}
+use Rattle.seize_book.specs.Bare.{bare_book}
 use Rattle.seize_words.specs.Counts.{home}
 use Rattle.seize_words.specs.Headers.{number}
 use Rattle.seize_words.specs.declared.batch.Count.{Count}
-use Rattle.seize_words.specs.declared.book.bare_key.BareKey.{BareKey}
-use Rattle.seize_words.specs.declared.book.token.Book.{Book}
+use Rattle.seize_book.specs.declared.book.bare_key.BareKey.{BareKey}
+use Rattle.seize_book.specs.declared.book.token.Book.{Book}
 use Rattle.seize_words.specs.declared.header.Field.{Field}
 
 abbrev pub HasCount : Book → Count → Type 0

@@ -10,17 +10,17 @@ use Rattle.std.specs.Prelude.{◌≡◌, ℕ, ◌+◌, ◌<◌, ◌^◌, Some, N
 use Rattle.seize_machine.specs.Machine.State.{has}
 use Rattle.seize_store.specs.Named.{bare_label, bare_number, bare_store, bare_value}
 use Rattle.seize_store.specs.declared.bare.Bare.{Bare}
-use Rattle.seize_words.specs.Blocks.{block_of}
-use Rattle.seize_words.specs.Books.{IsNextIn, Opens, OpensAlone}
+use Rattle.seize_book.specs.Blocks.{block_of}
+use Rattle.seize_book.specs.Books.{IsNextIn, Opens, OpensAlone}
 use Rattle.seize_words.specs.Counts.{home}
-use Rattle.seize_words.specs.Homes.{home_of}
-use Rattle.seize_words.specs.Homesteads.{state_seen}
-use Rattle.seize_words.specs.Others.{book_of, value_of}
-use Rattle.seize_words.specs.Tokens.{Name, label_at}
+use Rattle.seize_book.specs.Homes.{home_of}
+use Rattle.seize_book.specs.Homesteads.{state_seen}
+use Rattle.seize_book.specs.Others.{book_of, value_of}
+use Rattle.seize_book.specs.Tokens.{Name, label_at}
 use Rattle.seize_words.specs.declared.blocks.Blocks.{Blocks}
-use Rattle.seize_words.specs.declared.book.book_keys.BookKeys.{BookKeys}
-use Rattle.seize_words.specs.declared.book.pass.Pass.{Pass}
-use Rattle.seize_words.specs.declared.book.value_key.ValueKey.{ValueKey}
+use Rattle.seize_book.specs.declared.book.book_keys.BookKeys.{BookKeys}
+use Rattle.seize_book.specs.declared.book.pass.Pass.{Pass}
+use Rattle.seize_book.specs.declared.book.value_key.ValueKey.{ValueKey}
 use Rattle.seize_words.specs.declared.chunk.Header.{Header}
 use Rattle.seize_words.specs.declared.chunk.Part.{Part}
 

@@ -1,51 +1,34 @@
 -- The words in which the contracts of counts speak. A batch's count stands with the block in which its first value lies.
---     home_in key, count_known key      the block whose count it is the key of, and the count, as the key knows;  deposit_known key    the
---                                       values whose keys stand beside it
 --     home count                        the block whose count it is;  IsOfBook count pass     it is of the pass's book
 --     IsCountOf count key               it is the key's
 --     IsAdding, AddsTo key count won    the slot's call is about to add so many insertions won to the count of a batch, which is this one
 --     IsWalking, Walks key count        the slot's call is about to count down the next batch of its walk, whose count is this one
 --     Counts key pass key' pass' event zero     the event was noted, its answer is a count, and this says whether it is 0;
 --                                               it lies between minus and plus the number of numbers
---     AreOfBook values pass                     the keys are of the pass's book
 --     values_in key b                           the values with which batch b was detached, as the slot's key knows
 --     AddsWith key count won values             the slot's call adds to this count, and the keys are those of the batch's values
---     AreLast values pass'                      all others that lay in the blocks of these values were reclaimed
 --     Leaves values pass' values' zero          the keys stay where the count came to 0, and else they stand with the count
 --     Takes key b pass' values' zero            the keys of the batch's values come out where the count came to 0
 --     GivesUp key key' b walk queue zero        the slot's call goes on with this walk and queue; the values with which the batch was
 --                                               detached are given up to it if the count came to 0, and else none are
 use Rattle.std.specs.Prelude.{◌≡◌, ℕ, ℤ, Bool, if◌then◌else◌, List, [], ◌∷◌, Some, slice_index_or}
-use Rattle.std.specs.List.{Contains}
 use Rattle.seize_machine.specs.Machine.State.{State, Add, Rest, slot_at}
 use Rattle.seize_machine.specs.Machine.Event.{Event}
 use Rattle.seize_machine.specs.Machine.Next.{is_zero}
 use Rattle.seize_machine.specs.declared.machine.event.Answer.TheVariants.{Count as Counted}
-use Rattle.seize_words.specs.Blocks.{IsNear, front_of, no_plan, plans}
-use Rattle.seize_words.specs.Book.{after}
-use Rattle.seize_words.specs.Entry.{Entry}
-use Rattle.seize_words.specs.Deposits.{deposit}
-use Rattle.seize_words.specs.Homes.{count_in, home_of}
-use Rattle.seize_words.specs.Ledger.{renewed}
-use Rattle.seize_words.specs.Others.{IsLastIn, state_of}
-use Rattle.seize_words.specs.Private.{key_of}
-use Rattle.seize_words.specs.Slots.{Notes, number_of, own_list, slot_of, start_of}
-use Rattle.seize_words.specs.Tokens.{start}
-use Rattle.seize_words.specs.Values.{book_in, values_of}
+use Rattle.seize_book.specs.Blocks.{IsNear, front_of, no_plan, plans}
+use Rattle.seize_book.specs.Book.{after}
+use Rattle.seize_book.specs.Books.{home_in}
+use Rattle.seize_book.specs.Entry.{Entry}
+use Rattle.seize_book.specs.Homes.{home_of}
+use Rattle.seize_book.specs.Ledger.{renewed}
+use Rattle.seize_book.specs.Slots.{Notes, number_of, own_list, slot_of, start_of}
+use Rattle.seize_book.specs.Values.{AreLast, book_in, values_of}
 use Rattle.seize_words.specs.declared.batch.Count.{Count}
-use Rattle.seize_words.specs.declared.book.count_key.CountKey.{CountKey}
-use Rattle.seize_words.specs.declared.book.pass.Pass.{Pass}
-use Rattle.seize_words.specs.declared.book.slot_key.SlotKey.{SlotKey}
-use Rattle.seize_words.specs.declared.book.value_keys.ValueKeys.{ValueKeys}
-
-abbrev pub home_in : CountKey → ℕ
-home_in key = key_of key.keys.held
-
-abbrev pub count_known : CountKey → ℤ
-count_known key = count_in (state_of key.keys) (home_in key)
-
-abbrev pub deposit_known : CountKey → List ℕ
-deposit_known key = deposit (state_of key.keys) (home_in key)
+use Rattle.seize_book.specs.declared.book.count_key.CountKey.{CountKey}
+use Rattle.seize_book.specs.declared.book.pass.Pass.{Pass}
+use Rattle.seize_book.specs.declared.book.slot_key.SlotKey.{SlotKey}
+use Rattle.seize_book.specs.declared.book.value_keys.ValueKeys.{ValueKeys}
 
 abbrev pub home : Count → ℕ
 home count = count.word.number
@@ -82,19 +65,12 @@ Walks key count = IsWalking (start_of key) (number_of key) (own_list key) (home 
 
 -- Keys of the batch's values.
 
-abbrev pub AreOfBook : ValueKeys → Pass → Type 0
-AreOfBook values pass = book_in values ≡ pass.name
-
 -- the values with which a batch was detached, as the slot's key knows
 abbrev pub values_in : SlotKey → ℕ → List ℕ
 values_in key b = (slice_index_or (plans (start_of key) (own_list key)) b no_plan).values
 
 abbrev pub AddsWith : SlotKey → Count → ℕ → ValueKeys → Type 0
 AddsWith key count won values = (a : AddsTo key count won) × (values_of values ≡ values_in key a.batch)
-
--- all others that lay in the blocks of these values were reclaimed, as the pass has seen
-abbrev pub AreLast : ValueKeys → Pass → Type 0
-AreLast values pass' = (v : ℕ) → Contains (values_of values) v → IsLastIn v (after (start pass'.name) pass'.seen)
 
 -- they are the same keys, and know all that the pass has seen, where the count came to 0; and else they stand with the count
 abbrev pub Leaves : ValueKeys → Pass → ValueKeys → Bool → Type 0

@@ -13,8 +13,8 @@ use Rattle.seize_content.specs.Contents.{sight_owns}
 use Rattle.seize_content.specs.Readers.{found, ready}
 use Rattle.seize_content.specs.Stages.{Name as Content}
 use Rattle.seize_content.specs.declared.loan.Sight.{Sight}
-use Rattle.seize_words.specs.Ledger.{fact}
-use Rattle.seize_words.specs.Loans.{Carries, CarriesNone, loan_of}
+use Rattle.seize_book.specs.Ledger.{fact}
+use Rattle.seize_book.specs.Loans.{Carries, CarriesNone, loan_of}
 
 abbrev pub shown : Bool → Option ℕ → Option ℕ
 shown true o = None

@@ -1,6 +1,5 @@
 -- The words in which the contracts of headers speak. A block's header has two fields beside its count: the next block of a slot's list, and
 -- the first block of the batch.
---     told_known key                    what was last stored in the field, as its key knows
 --     number field, IsFieldOf field key, IsOfBook field pass     which field it is;  it is the key's;  it is of the pass's book
 --     next_of key, first_of key         what was last stored in the next and in the first field of the block with which the slot's call is
 --                                       about to insert its batch (`written_of`)
@@ -17,22 +16,19 @@
 use Rattle.std.specs.Prelude.{◌≡◌, ℕ, List, [], ◌∷◌, Some, unwrap_or, ◌⊎◌}
 use mathlib.Core.List.{IsPrefix}
 use Rattle.seize_machine.specs.Machine.State.{State, Rest, Try, slot_at}
-use Rattle.seize_words.specs.Blocks.{block_for, block_of, front_of, list_word, plans}
-use Rattle.seize_words.specs.Book.{after}
-use Rattle.seize_words.specs.Chains.{first_field, front_block, next_field, served, told}
-use Rattle.seize_words.specs.Entry.{Entry, Used}
-use Rattle.seize_words.specs.Homes.{home_of}
-use Rattle.seize_words.specs.Passes.{IsSame}
-use Rattle.seize_words.specs.Private.{key_of, own_of}
-use Rattle.seize_words.specs.Slots.{IsAfter, active_of, life_of, number_of, own_list, slot_of, start_of, written_of}
-use Rattle.seize_words.specs.Tokens.{Noted}
-use Rattle.seize_words.specs.declared.book.field_key.FieldKey.{FieldKey}
-use Rattle.seize_words.specs.declared.book.pass.Pass.{Pass}
-use Rattle.seize_words.specs.declared.book.slot_key.SlotKey.{SlotKey}
+use Rattle.seize_book.specs.Blocks.{block_for, block_of, front_of, list_word, plans}
+use Rattle.seize_book.specs.Book.{after}
+use Rattle.seize_book.specs.Chains.{first_field, front_block, next_field, served, told}
+use Rattle.seize_book.specs.Entry.{Entry, Used}
+use Rattle.seize_book.specs.Homes.{home_of}
+use Rattle.seize_book.specs.Passes.{IsSame}
+use Rattle.seize_book.specs.Private.{key_of}
+use Rattle.seize_book.specs.Slots.{IsAfter, active_of, life_of, number_of, own_list, slot_of, start_of, written_of}
+use Rattle.seize_book.specs.Tokens.{Noted}
+use Rattle.seize_book.specs.declared.book.field_key.FieldKey.{FieldKey}
+use Rattle.seize_book.specs.declared.book.pass.Pass.{Pass}
+use Rattle.seize_book.specs.declared.book.slot_key.SlotKey.{SlotKey}
 use Rattle.seize_words.specs.declared.header.Field.{Field}
-
-abbrev pub told_known : FieldKey → ℕ
-told_known key = told (own_of key.keys.held) (key_of key.keys.held)
 
 abbrev pub number : Field → ℕ
 number field = field.word.number

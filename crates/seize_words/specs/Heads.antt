@@ -9,10 +9,10 @@ use Rattle.seize_machine.specs.Machine.State.{State, Slot, Place, Mark, Look, Tr
 use Rattle.seize_machine.specs.Machine.Next.{of_call, in_turn}
 use Rattle.seize_machine.specs.declared.machine.event.Try.{Try as Insertion}
 use Rattle.seize_machine.specs.declared.machine.event.Try.TheVariants.{Won, Lost}
-use Rattle.seize_words.specs.Blocks.{block_for, list_word}
-use Rattle.seize_words.specs.Book.{after, heads}
-use Rattle.seize_words.specs.Entry.{Entry}
-use Rattle.seize_words.specs.Tokens.{start}
+use Rattle.seize_book.specs.Blocks.{block_for, list_word}
+use Rattle.seize_book.specs.Book.{after, heads}
+use Rattle.seize_book.specs.Entry.{Entry}
+use Rattle.seize_book.specs.Tokens.{start}
 use Rattle.seize_words.specs.Words.{Site}
 
 abbrev pub IsHead : Site → Type 0

@@ -16,9 +16,9 @@ use Rattle.seize_store.specs.Known.{family_in}
 use Rattle.seize_store.specs.Named.{name_of}
 use Rattle.seize_store.specs.declared.store.Store.{Store}
 use Rattle.seize_table.specs.declared.labelled.Labelled.{Ghosts}
-use Rattle.seize_words.specs.Begin.{BeganWith}
-use Rattle.seize_words.specs.Blocks.{link_word}
-use Rattle.seize_words.specs.Books.{IsAlone, IsMany}
+use Rattle.seize_book.specs.Begin.{BeganWith}
+use Rattle.seize_book.specs.Blocks.{link_word}
+use Rattle.seize_book.specs.Books.{IsAlone, IsMany}
 use Rattle.seize_words.specs.Headers.{HasWritten}
 use Rattle.seize_words.specs.Heads.{IsTrying, reads}
 use Rattle.seize_words.specs.LinkRows.{IsLinkAt}
@@ -26,14 +26,14 @@ use Rattle.seize_words.specs.LinkWords.{holds}
 use Rattle.seize_words.specs.Links.{IsNewIn, IsWithin}
 use Rattle.seize_words.specs.Reservations.{slot}
 use Rattle.seize_words.specs.Reserved.{HasNext}
-use Rattle.seize_words.specs.Slots.{IsOf, number_of, own_list, slot_of, start_of}
-use Rattle.seize_words.specs.Tokens.{Name, start}
+use Rattle.seize_book.specs.Slots.{IsOf, number_of, own_list, slot_of, start_of}
+use Rattle.seize_book.specs.Tokens.{Name, start}
 use Rattle.seize_words.specs.Totals.{made_of, slots_seen}
 use Rattle.seize_words.specs.declared.activation.Activation.{Activation}
-use Rattle.seize_words.specs.declared.book.numbers_key.NumbersKey.{NumbersKey}
-use Rattle.seize_words.specs.declared.book.pass.Pass.{Pass}
-use Rattle.seize_words.specs.declared.book.slot_key.SlotKey.{SlotKey}
-use Rattle.seize_words.specs.declared.book.token.Book.{Book}
+use Rattle.seize_book.specs.declared.book.numbers_key.NumbersKey.{NumbersKey}
+use Rattle.seize_book.specs.declared.book.pass.Pass.{Pass}
+use Rattle.seize_book.specs.declared.book.slot_key.SlotKey.{SlotKey}
+use Rattle.seize_book.specs.declared.book.token.Book.{Book}
 use Rattle.seize_words.specs.declared.link.Link.{Link}
 use Rattle.seize_words.specs.declared.link.MaybeKey.{MaybeKey}
 use Rattle.seize_words.specs.declared.reservation.Head.{Head}

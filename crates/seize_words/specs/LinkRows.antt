@@ -3,10 +3,10 @@
 --     AreInRow n row            these are all links of the book, in their order
 --     AreAllOf left n many      these are the keys of all links of book n, so many, which are empty at its beginning
 use Rattle.std.specs.Prelude.{◌≡◌, ℕ, ◌<◌, List, length, replicate, None, slice_index_or}
-use Rattle.seize_words.specs.Begin.{first_links}
+use Rattle.seize_book.specs.Begin.{first_links}
 use Rattle.seize_words.specs.LinkWords.{number}
-use Rattle.seize_words.specs.Tokens.{Name}
-use Rattle.seize_words.specs.declared.book.link_keys.LinkKeys.{LinkKeys}
+use Rattle.seize_book.specs.Tokens.{Name}
+use Rattle.seize_book.specs.declared.book.link_keys.LinkKeys.{LinkKeys}
 use Rattle.seize_words.specs.declared.link.Link.{Link}
 
 abbrev pub IsLinkAt : Name → ℕ → Link → Type 0

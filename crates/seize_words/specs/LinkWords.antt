@@ -13,22 +13,22 @@ use Rattle.std.specs.Prelude.{◌≡◌, ◌≢◌, ℕ, suc, List, [], Option, 
 use Rattle.seize_machine.specs.Machine.State.{head_at, is_active, link_at, has}
 use Rattle.seize_machine.specs.Machine.Event.{Event, ReadLink, ExchangeLink}
 use Rattle.seize_machine.specs.declared.machine.event.Exchange.TheVariants.{Swap, Compare}
-use Rattle.seize_words.specs.Adding.{private}
-use Rattle.seize_words.specs.Begin.{first_links}
-use Rattle.seize_words.specs.Blocks.{link_word}
-use Rattle.seize_words.specs.Book.{after}
-use Rattle.seize_words.specs.Entry.{Entry, Made}
-use Rattle.seize_words.specs.Laws.{life}
-use Rattle.seize_words.specs.Ledger.{renewed}
+use Rattle.seize_book.specs.Adding.{private}
+use Rattle.seize_book.specs.Begin.{first_links}
+use Rattle.seize_book.specs.Blocks.{link_word}
+use Rattle.seize_book.specs.Book.{after}
+use Rattle.seize_book.specs.Entry.{Entry, Made}
+use Rattle.seize_book.specs.Laws.{life}
+use Rattle.seize_book.specs.Ledger.{renewed}
 use Rattle.seize_words.specs.Links.{IsNewIn, IsWithin, compared, value_in}
-use Rattle.seize_words.specs.Others.{state_of}
-use Rattle.seize_words.specs.Passes.{IsSame}
-use Rattle.seize_words.specs.Private.{key_of}
-use Rattle.seize_words.specs.Tokens.{Name, Noted, start}
+use Rattle.seize_book.specs.Others.{state_of}
+use Rattle.seize_book.specs.Passes.{IsSame}
+use Rattle.seize_book.specs.Private.{key_of}
+use Rattle.seize_book.specs.Tokens.{Name, Noted, start}
 use Rattle.seize_words.specs.declared.activation.Activation.{Activation}
-use Rattle.seize_words.specs.declared.book.link_keys.LinkKeys.{LinkKeys}
-use Rattle.seize_words.specs.declared.book.pass.Pass.{Pass}
-use Rattle.seize_words.specs.declared.book.value_key.ValueKey.{ValueKey}
+use Rattle.seize_book.specs.declared.book.link_keys.LinkKeys.{LinkKeys}
+use Rattle.seize_book.specs.declared.book.pass.Pass.{Pass}
+use Rattle.seize_book.specs.declared.book.value_key.ValueKey.{ValueKey}
 use Rattle.seize_words.specs.declared.glimpse.Glimpse.{Glimpse}
 use Rattle.seize_words.specs.declared.link.Link.{Link}
 use Rattle.seize_words.specs.declared.link.MaybeKey.{MaybeKey}

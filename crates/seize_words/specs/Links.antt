@@ -7,16 +7,16 @@
 --     value_in held, is_at_most_one held     the value that a key is labelled with, if there is one;  there is no other key
 --     compared seen old  what an exchange compares that asks for this word, where the link holds this
 use Rattle.std.specs.Prelude.{◌≡◌, ℕ, zero, suc, ◌<◌, ◌==◌, Bool, true, false, ◌&&◌, if◌then◌else◌, List, [], ◌∷◌, length, Option, Some, None}
-use Rattle.seize_words.specs.Blocks.{link_word}
+use Rattle.seize_book.specs.Blocks.{link_word}
 use mathlib.Core.List.{IsPrefix}
 use Rattle.seize_machine.specs.Machine.State.{State, head_at, is_active, has}
-use Rattle.seize_words.specs.Book.{after, blocks, links}
-use Rattle.seize_words.specs.Entry.{Entry}
-use Rattle.seize_words.specs.Homes.{IsVacant, home_of}
-use Rattle.seize_words.specs.Laws.{life}
-use Rattle.seize_words.specs.Ledger.{Held}
-use Rattle.seize_words.specs.Private.{own_of}
-use Rattle.seize_words.specs.Tokens.{Name, start}
+use Rattle.seize_book.specs.Book.{after, blocks, links}
+use Rattle.seize_book.specs.Entry.{Entry}
+use Rattle.seize_book.specs.Homes.{IsVacant, home_of}
+use Rattle.seize_book.specs.Laws.{life}
+use Rattle.seize_book.specs.Ledger.{Held}
+use Rattle.seize_book.specs.Private.{own_of}
+use Rattle.seize_book.specs.Tokens.{Name, start}
 use Rattle.seize_words.specs.Words.{Site, IsKeyOf}
 
 abbrev pub at_link : Name → ℕ → Site

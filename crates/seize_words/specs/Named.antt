@@ -9,18 +9,18 @@
 --     first_value keys, values_state keys     the first of the values whose keys they are;  where the list leads, as the first key knows
 use Rattle.std.specs.Prelude.{◌≡◌, ℕ, List, length}
 use Rattle.seize_machine.specs.Machine.State.{State}
-use Rattle.seize_words.specs.Begin.{first_links}
-use Rattle.seize_words.specs.Entry.{Entry}
-use Rattle.seize_words.specs.Others.{state_of}
-use Rattle.seize_words.specs.Private.{key_of, label_of, own_of}
-use Rattle.seize_words.specs.Tokens.{Name}
+use Rattle.seize_book.specs.Begin.{first_links}
+use Rattle.seize_book.specs.Entry.{Entry}
+use Rattle.seize_book.specs.Others.{state_of}
+use Rattle.seize_book.specs.Private.{key_of, label_of, own_of}
+use Rattle.seize_book.specs.Tokens.{Name}
 use Rattle.seize_words.specs.declared.batch.Count.{Count}
-use Rattle.seize_words.specs.declared.book.head_key.HeadKey.{HeadKey}
-use Rattle.seize_words.specs.declared.book.link_keys.LinkKeys.{LinkKeys}
-use Rattle.seize_words.specs.declared.book.numbers_key.NumbersKey.{NumbersKey}
-use Rattle.seize_words.specs.declared.book.slot_key.SlotKey.{SlotKey}
-use Rattle.seize_words.specs.declared.book.total_key.TotalKey.{TotalKey}
-use Rattle.seize_words.specs.declared.book.value_keys.ValueKeys.{ValueKeys}
+use Rattle.seize_book.specs.declared.book.head_key.HeadKey.{HeadKey}
+use Rattle.seize_book.specs.declared.book.link_keys.LinkKeys.{LinkKeys}
+use Rattle.seize_book.specs.declared.book.numbers_key.NumbersKey.{NumbersKey}
+use Rattle.seize_book.specs.declared.book.slot_key.SlotKey.{SlotKey}
+use Rattle.seize_book.specs.declared.book.total_key.TotalKey.{TotalKey}
+use Rattle.seize_book.specs.declared.book.value_keys.ValueKeys.{ValueKeys}
 use Rattle.seize_words.specs.declared.header.Field.{Field}
 use Rattle.seize_words.specs.declared.link.Link.{Link}
 use Rattle.seize_words.specs.declared.link.row.Links.{Links}

@@ -13,20 +13,20 @@
 use Rattle.std.specs.Prelude.{◌≡◌, ℕ, ◌+◌, ◌<◌, ◌^◌, Bool, true, List, [], ◌∷◌, ◌++◌, Some}
 use Rattle.seize_machine.specs.Machine.Event.{Event}
 use Rattle.seize_machine.specs.Machine.State.{Head as MachineHead, Out, Rest, head_at, is_active}
-use Rattle.seize_words.specs.Blocks.{block_for, head_word, list_word}
-use Rattle.seize_words.specs.Book.{after}
-use Rattle.seize_words.specs.Entry.{Entry, Deed}
+use Rattle.seize_book.specs.Blocks.{block_for, head_word, list_word}
+use Rattle.seize_book.specs.Book.{after}
+use Rattle.seize_book.specs.Entry.{Entry, Deed}
 use Rattle.seize_words.specs.Headers.{HasWritten}
 use Rattle.seize_words.specs.Heads.{IsMade, IsTrying, reads}
-use Rattle.seize_words.specs.Laws.{life}
-use Rattle.seize_words.specs.Others.{state_of}
-use Rattle.seize_words.specs.Private.{key_of}
-use Rattle.seize_words.specs.Slots.{life_of, number_of, own_list, slot_of, start_of}
-use Rattle.seize_words.specs.Tokens.{start}
+use Rattle.seize_book.specs.Laws.{life}
+use Rattle.seize_book.specs.Others.{state_of}
+use Rattle.seize_book.specs.Private.{key_of}
+use Rattle.seize_book.specs.Slots.{life_of, number_of, own_list, slot_of, start_of}
+use Rattle.seize_book.specs.Tokens.{start}
 use Rattle.seize_words.specs.declared.activation.Activation.{Activation}
-use Rattle.seize_words.specs.declared.book.head_key.HeadKey.{HeadKey}
-use Rattle.seize_words.specs.declared.book.pass.Pass.{Pass}
-use Rattle.seize_words.specs.declared.book.slot_key.SlotKey.{SlotKey}
+use Rattle.seize_book.specs.declared.book.head_key.HeadKey.{HeadKey}
+use Rattle.seize_book.specs.declared.book.pass.Pass.{Pass}
+use Rattle.seize_book.specs.declared.book.slot_key.SlotKey.{SlotKey}
 use Rattle.seize_words.specs.declared.reservation.Head.{Head}
 
 abbrev pub slot : Head → ℕ

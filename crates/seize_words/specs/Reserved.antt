@@ -18,18 +18,18 @@ use Rattle.crossbeam_utils.specs.Padded.{padded_value}
 use denote.Bor.{Bor}
 use Rattle.seize_table.specs.Walk.{end_of, walked}
 use Rattle.seize_table.specs.declared.tls.all_filled.AllFilled.{AllFilled}
-use Rattle.seize_words.specs.Begin.{BeganWith, first_links}
-use Rattle.seize_words.specs.Books.{IsMany}
+use Rattle.seize_book.specs.Begin.{BeganWith, first_links}
+use Rattle.seize_book.specs.Books.{IsMany}
 use Rattle.seize_words.specs.Named.{head_book}
-use Rattle.seize_words.specs.Passes.{LooksOn}
+use Rattle.seize_book.specs.Passes.{LooksOn}
 use Rattle.seize_words.specs.Reservations.{slot}
-use Rattle.seize_words.specs.Slots.{number_of}
-use Rattle.seize_words.specs.Tokens.{Name, slot_labels}
+use Rattle.seize_book.specs.Slots.{number_of}
+use Rattle.seize_book.specs.Tokens.{Name, slot_labels}
 use Rattle.seize_words.specs.Totals.{IsFull, MakesSlot, made_of, slots_seen}
-use Rattle.seize_words.specs.declared.book.link_keys.LinkKeys.{LinkKeys}
-use Rattle.seize_words.specs.declared.book.numbers_key.NumbersKey.{NumbersKey}
-use Rattle.seize_words.specs.declared.book.pass.Pass.{Pass}
-use Rattle.seize_words.specs.declared.book.slot_key.SlotKey.{SlotKey}
+use Rattle.seize_book.specs.declared.book.link_keys.LinkKeys.{LinkKeys}
+use Rattle.seize_book.specs.declared.book.numbers_key.NumbersKey.{NumbersKey}
+use Rattle.seize_book.specs.declared.book.pass.Pass.{Pass}
+use Rattle.seize_book.specs.declared.book.slot_key.SlotKey.{SlotKey}
 use Rattle.seize_words.specs.declared.reservation.Head.{Head}
 use Rattle.seize_words.specs.declared.slots.Reservation.{Reservation}
 use Rattle.seize_words.specs.declared.slots.Slots.{Slots}

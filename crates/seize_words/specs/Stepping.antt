@@ -10,12 +10,12 @@
 --     LooksAt site p seen seen' held v     the word was read, which held v, and nothing was added to the list, which is seen' now
 use Rattle.std.specs.Prelude.{◌≡◌, ℕ, take, drop, Bool, true, if◌then◌else◌, List, [], ◌∷◌, ◌++◌}
 use Rattle.seize_machine.specs.Machine.State.{linked, are_distinct}
-use Rattle.seize_words.specs.Ledger.{Held, WithKinds, born, renewed}
-use Rattle.seize_words.specs.Entry.{Entry, maker}
-use Rattle.seize_words.specs.Book.{Kind, TheCount, after, births_by, kind_of, kinds}
-use Rattle.seize_words.specs.Laws.{IsIn, ended, ended_in, life}
-use Rattle.seize_words.specs.Tokens.{start, Noted}
-use Rattle.seize_words.specs.Fair.{Before, Fair, pass_key}
+use Rattle.seize_book.specs.Ledger.{Held, WithKinds, born, renewed}
+use Rattle.seize_book.specs.Entry.{Entry, maker}
+use Rattle.seize_book.specs.Book.{Kind, TheCount, after, births_by, kind_of, kinds}
+use Rattle.seize_book.specs.Laws.{IsIn, ended, ended_in, life}
+use Rattle.seize_book.specs.Tokens.{start, Noted}
+use Rattle.seize_book.specs.Fair.{Before, Fair, pass_key}
 use Rattle.seize_words.specs.Words.{Site, Shows, Stands, site_keys}
 
 abbrev pub Keys : Type 0

@@ -11,20 +11,20 @@ use Rattle.seize_table.specs.Place.{all_numbers}
 use Rattle.seize_machine.specs.Machine.Event.{Take}
 use Rattle.seize_machine.specs.Machine.Next.{first_free}
 use Rattle.seize_machine.specs.Machine.State.{Inactive}
-use Rattle.seize_words.specs.Adding.{private}
-use Rattle.seize_words.specs.Book.{after}
-use Rattle.seize_words.specs.Entry.{Made}
-use Rattle.seize_words.specs.Others.{Follows, state_of}
-use Rattle.seize_words.specs.Passes.{IsSame}
-use Rattle.seize_words.specs.Private.{key_of, own_of}
+use Rattle.seize_book.specs.Adding.{private}
+use Rattle.seize_book.specs.Book.{after}
+use Rattle.seize_book.specs.Entry.{Made}
+use Rattle.seize_book.specs.Others.{Follows, state_of}
+use Rattle.seize_book.specs.Passes.{IsSame}
+use Rattle.seize_book.specs.Private.{key_of, own_of}
 use Rattle.seize_words.specs.Reservations.{head_known}
-use Rattle.seize_words.specs.Slots.{IsAfter, active_of, number_of, own_list, slot_of}
-use Rattle.seize_words.specs.Tokens.{Noted, start}
-use Rattle.seize_words.specs.declared.book.numbers_key.NumbersKey.{NumbersKey}
-use Rattle.seize_words.specs.declared.book.pass.Pass.{Pass}
-use Rattle.seize_words.specs.declared.book.slot_key.SlotKey.{SlotKey}
-use Rattle.seize_words.specs.declared.book.slot_keys.SlotKeys.{SlotKeys}
-use Rattle.seize_words.specs.declared.book.total_key.TotalKey.{TotalKey}
+use Rattle.seize_book.specs.Slots.{IsAfter, active_of, number_of, own_list, slot_of}
+use Rattle.seize_book.specs.Tokens.{Noted, start}
+use Rattle.seize_book.specs.declared.book.numbers_key.NumbersKey.{NumbersKey}
+use Rattle.seize_book.specs.declared.book.pass.Pass.{Pass}
+use Rattle.seize_book.specs.declared.book.slot_key.SlotKey.{SlotKey}
+use Rattle.seize_book.specs.declared.book.slot_keys.SlotKeys.{SlotKeys}
+use Rattle.seize_book.specs.declared.book.total_key.TotalKey.{TotalKey}
 use Rattle.seize_words.specs.declared.total.Total.{Total}
 
 abbrev pub total_known : TotalKey → ℕ

@@ -8,15 +8,15 @@ use Rattle.std.specs.Prelude.{◌≡◌, ℕ, Bool, true, List, [], ◌∷◌, S
 use mathlib.Core.List.{IsPrefix}
 use Rattle.seize_machine.specs.Machine.State.{Rest, are_distinct, linked}
 use Rattle.seize_machine.specs.Machine.Event.{SubCount}
-use Rattle.seize_words.specs.Blocks.{block_for, list_word}
-use Rattle.seize_words.specs.Book.{IsLegalList}
+use Rattle.seize_book.specs.Blocks.{block_for, list_word}
+use Rattle.seize_book.specs.Book.{IsLegalList}
 use Rattle.seize_words.specs.Counts.{Counts, GivesUp, Takes}
-use Rattle.seize_words.specs.Passes.{LooksOn}
-use Rattle.seize_words.specs.Slots.{number_of, own_list, slot_of, start_of}
-use Rattle.seize_words.specs.Tokens.{start}
-use Rattle.seize_words.specs.declared.book.pass.Pass.{Pass}
-use Rattle.seize_words.specs.declared.book.slot_key.SlotKey.{SlotKey}
-use Rattle.seize_words.specs.declared.book.value_keys.ValueKeys.{ValueKeys}
+use Rattle.seize_book.specs.Passes.{LooksOn}
+use Rattle.seize_book.specs.Slots.{number_of, own_list, slot_of, start_of}
+use Rattle.seize_book.specs.Tokens.{start}
+use Rattle.seize_book.specs.declared.book.pass.Pass.{Pass}
+use Rattle.seize_book.specs.declared.book.slot_key.SlotKey.{SlotKey}
+use Rattle.seize_book.specs.declared.book.value_keys.ValueKeys.{ValueKeys}
 
 abbrev pub word_for : SlotKey → List ℕ → ℕ
 word_for key bs = list_word (λ b. block_for (start_of key) (own_list key) b (number_of key)) bs

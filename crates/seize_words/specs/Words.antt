@@ -2,14 +2,13 @@
 -- it. The word's key stands beside it, in the word's own invariant, so whoever takes an atomic step on the word may add the entry that
 -- changes these in that very step, and nobody else may.
 --     Site                   which word it is: its book, and the kind and number of what it stands for
---     IsField site           it is that of a field;  IsTotal site    it is the one that says how many slots there are
+--     IsField site, IsCount site     it is that of a field, of a count;  IsTotal site    it is the one that says how many slots there are
 --     Shows site v log       the value v is what the list says
 --     Stands site log vs     these are the other keys that stand beside it: of a link that of the block of the value in it, of a count
 --                            those of the blocks of the batch's values, once its call has added to it
 --     site_keys site since vs     its keys, its own first, which knows the list as it was at the last step on the word
 --     word_owns site v       what stands beside the memory of a word with this value;  word_shares    what a `&` to it is
-use Rattle.std.specs.Prelude.{◌≡◌, ℕ, ◌==◌, Bool, true, ◌&&◌, map, List, [], ◌∷◌, length, Option, Some, None}
-use Rattle.std.specs.List.{list_all}
+use Rattle.std.specs.Prelude.{◌≡◌, ℕ, true, List, [], ◌∷◌, length, Option, Some, None}
 use Rattle.std.specs.Coded.{Coded, code_by, coded_ℕ, coded×}
 use mathlib.Core.Path.{refl}
 use base.Before.{before}
@@ -17,15 +16,15 @@ use base.Fml.{Lft, Fml, ffalse, fsep, fex, fbor, fnamed}
 use denote.RawPtr.{Ptr, block_ptr, null_ptr}
 use Rattle.core.specs.Sync.RawAtomic.{word}
 use Rattle.seize_machine.specs.Machine.State.{State, link_at}
-use Rattle.seize_words.specs.Ledger.{Held, fact}
-use Rattle.seize_words.specs.Entry.{Entry}
-use Rattle.seize_words.specs.Book.{Kind, TheHead, TheLink, TheCount, TheField, TheTotal, kind_of, after, blocks, fields, totals}
-use Rattle.seize_words.specs.Blocks.{count_word, head_word, link_word}
-use Rattle.seize_words.specs.Chains.{told}
-use Rattle.seize_words.specs.Deposits.{deposit}
-use Rattle.seize_words.specs.Homes.{count_in, home_of}
-use Rattle.seize_words.specs.Private.{is_one, key_of, label_of}
-use Rattle.seize_words.specs.Tokens.{Name, name_coded, start, keys_own}
+use Rattle.seize_book.specs.Ledger.{Held, fact}
+use Rattle.seize_book.specs.Entry.{Entry}
+use Rattle.seize_book.specs.Book.{Kind, TheHead, TheLink, TheCount, TheField, TheTotal, kind_of, after, blocks, counts, fields, totals}
+use Rattle.seize_book.specs.Blocks.{count_word, head_word, link_word}
+use Rattle.seize_book.specs.Chains.{told}
+use Rattle.seize_book.specs.Deposits.{deposit}
+use Rattle.seize_book.specs.Homes.{count_in, home_of}
+use Rattle.seize_book.specs.Private.{AreKeysOf, is_one, key_of, label_of}
+use Rattle.seize_book.specs.Tokens.{Name, name_coded, start, keys_own}
 
 pub record Site : Type 0 where
   pub name : Name
@@ -34,6 +33,9 @@ pub record Site : Type 0 where
 
 abbrev pub IsField : Site → Type 0
 IsField site = site.kind ≡ fields
+
+abbrev pub IsCount : Site → Type 0
+IsCount site = site.kind ≡ counts
 
 abbrev pub IsTotal : Site → Type 0
 IsTotal site = (site.kind ≡ totals) × (site.number ≡ 0)
@@ -58,17 +60,6 @@ Shows site v log = ShowsOf (start site.name) (kind_of site.kind) site.number v l
 abbrev pub IsKeyOf : Option ℕ → List (Held Entry) → Type 0
 IsKeyOf None vs = vs ≡ []
 IsKeyOf (Some v) vs = (is_one blocks vs ≡ true) × (key_of vs ≡ home_of v) × (label_of vs ≡ v)
-
--- each is the key of a block, with the name of a value on it that lies there
-abbrev pub are_of_blocks : List (Held Entry) → Bool
-are_of_blocks vs = list_all (λ h. (h.kind == blocks) && (h.key == home_of h.label)) vs
-
-abbrev pub labels_of : List (Held Entry) → List ℕ
-labels_of vs = map (λ h. h.label) vs
-
--- and these are the values
-abbrev pub AreKeysOf : List ℕ → List (Held Entry) → Type 0
-AreKeysOf values vs = (labels_of vs ≡ values) × (are_of_blocks vs ≡ true)
 
 abbrev pub StandsOf : State → Kind → ℕ → List Entry → List (Held Entry) → Type 0
 StandsOf st TheLink l log vs = IsKeyOf (link_at (after st log) l) vs

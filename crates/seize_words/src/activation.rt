@@ -6,10 +6,10 @@ ghost use base.Fraction.{full_share};
 ghost use base.Stored.{coded_list};
 ghost use denote.Sharing.{one};
 ghost use Rattle.std.specs.Coded.{coded_ℕ};
-ghost use Rattle.seize_words.specs.Entry.{Entry, entry_coded};
-ghost use Rattle.seize_words.specs.Tokens.{Name, name_coded, over};
+ghost use Rattle.seize_book.specs.Entry.{Entry, entry_coded};
+ghost use Rattle.seize_book.specs.Tokens.{Name, name_coded, over};
 
-use crate::book::Keys;
+use seize_book::book::Keys;
 use std::marker::{Model, PhantomData};
 
 /// One activation of a slot, in the hands of who made it. While it is borrowed, the slot neither leaves nor refreshes.

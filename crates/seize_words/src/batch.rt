@@ -2,10 +2,10 @@
 //! keys.
 ghost use Rattle.std.specs.Prelude.{◌≡◌, [], pos};
 ghost use Rattle.seize_machine.specs.Machine.Event.{AddCount, SubCount};
-ghost use Rattle.seize_words.specs.Batches.{IsCount};
+ghost use Rattle.seize_words.specs.Words.{IsCount};
 
-use crate::book::{CountKey, Pass, SlotKey, ValueKeys};
 use crate::word::Word;
+use seize_book::book::{CountKey, Pass, SlotKey, ValueKeys};
 use std::marker::Brand;
 
 /// The count of one block, which threads share.
@@ -18,9 +18,10 @@ pub struct Count {
 }
 
 impl Count {
-    ghost use Rattle.seize_words.specs.Counts.{AddsTo, AddsWith, AreOfBook, Counts, GivesUp, IsCountOf, IsOfBook, Leaves, Takes, Walks, count_known, deposit_known};
-    ghost use Rattle.seize_words.specs.Slots.{IsOf, number_of};
-    ghost use Rattle.seize_words.specs.Values.{IsEmpty};
+    ghost use Rattle.seize_words.specs.Counts.{AddsTo, AddsWith, Counts, GivesUp, IsCountOf, IsOfBook, Leaves, Takes, Walks};
+    ghost use Rattle.seize_book.specs.Values.{AreOfBook, IsEmpty};
+    ghost use Rattle.seize_book.specs.Books.{count_known, deposit_known};
+    ghost use Rattle.seize_book.specs.Slots.{IsOf, number_of};
 
     /// The word of a block's count, which is 0.
     pub fn new(key: CountKey) -> Count

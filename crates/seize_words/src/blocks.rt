@@ -3,8 +3,8 @@ ghost use Rattle.std.specs.Prelude.{◌≡◌, IfErr, IfOk, Some};
 ghost use Rattle.seize_store.specs.Known.{family_in};
 ghost use Rattle.seize_store.specs.Named.{name_of};
 
-use crate::book::{Book, BookKeys, Keeps, Pass, SlotKey, Unopened, ValueKey, ValueKeys};
 use crate::chunk::{Header, Part};
+use seize_book::book::{Book, BookKeys, Keeps, Pass, SlotKey, Unopened, ValueKey, ValueKeys};
 use seize_store::{Bare, Store};
 use seize_table::Refusal;
 use std::alloc::Global;
@@ -21,15 +21,15 @@ pub struct Blocks<T> {
 }
 
 impl<T: Drop> Blocks<T> {
-    ghost use Rattle.seize_words.specs.Books.{Opens, OpensAlone};
+    ghost use Rattle.seize_book.specs.Books.{Opens, OpensAlone};
     ghost use Rattle.seize_store.specs.Named.{bare_value};
     ghost use Rattle.seize_table.specs.declared.refusal.Refusal.TheVariants.{NoMemory};
     ghost use Rattle.seize_words.specs.Chunks.{IsBlockIn, IsHeaderOf, LiesIn, OpensAloneIn, OpensIn, book_in};
-    ghost use Rattle.seize_words.specs.Others.{IsVacated, book_of};
-    ghost use Rattle.seize_words.specs.Homesteads.{HasNumber, state_seen};
-    ghost use Rattle.seize_words.specs.Passes.{LooksOn};
-    ghost use Rattle.seize_words.specs.Slots.{IsOf};
-    ghost use Rattle.seize_words.specs.Values.{IsEmpty};
+    ghost use Rattle.seize_book.specs.Others.{IsVacated, book_of};
+    ghost use Rattle.seize_book.specs.Homesteads.{HasNumber, state_seen};
+    ghost use Rattle.seize_book.specs.Passes.{LooksOn};
+    ghost use Rattle.seize_book.specs.Slots.{IsOf};
+    ghost use Rattle.seize_book.specs.Values.{IsEmpty};
     ghost use Rattle.seize_words.specs.Walks.{CountsDown, IsAtBatch, Knows};
 
     /// Those of a book whose blocks lie in this store.

@@ -1,14 +1,14 @@
 //! Chunks: what each chunk of a store has of a book, from when its row is made. In its header lie the words of its block, and with whoever
 //! has the chunk out goes the key of its values. It uses the book, counts and fields; `blocks` makes a store of such chunks.
-ghost use Rattle.seize_words.specs.Bare.{bare_home};
-ghost use Rattle.seize_words.specs.Chains.{first_field, next_field};
+ghost use Rattle.seize_book.specs.Bare.{bare_home};
+ghost use Rattle.seize_book.specs.Chains.{first_field, next_field};
 ghost use Rattle.seize_words.specs.Chunk.{HasCount, HasField, HasKey};
 ghost use Rattle.seize_words.specs.Counts.{home};
-ghost use Rattle.seize_words.specs.Tokens.{label_at};
+ghost use Rattle.seize_book.specs.Tokens.{label_at};
 
 use crate::batch::Count;
-use crate::book::{BareKey, Book, ChunkKeys};
 use crate::header::Field;
+use seize_book::book::{BareKey, Book, ChunkKeys};
 use seize_store::{Labelled, Maker};
 
 /// The header of a chunk: the words of its block, which stay there for good. Its label says the book, and the home of the block's values.

@@ -3,8 +3,8 @@
 ghost use Rattle.std.specs.Prelude.{◌≡◌};
 ghost use Rattle.seize_words.specs.Words.{IsField};
 
-use crate::book::{FieldKey, Pass, SlotKey};
 use crate::word::Word;
+use seize_book::book::{FieldKey, Pass, SlotKey};
 use std::marker::Brand;
 
 /// One field of one block's header, which threads share.
@@ -19,9 +19,10 @@ pub struct Field {
 }
 
 impl Field {
-    ghost use Rattle.seize_words.specs.Headers.{IsFieldOf, IsOfBook, MayLoad, MayStore, Shows, Uses, Wrote, number, told_known, told_seen};
-    ghost use Rattle.seize_words.specs.Passes.{LooksOn};
-    ghost use Rattle.seize_words.specs.Slots.{IsOf, IsStill};
+    ghost use Rattle.seize_words.specs.Headers.{IsFieldOf, IsOfBook, MayLoad, MayStore, Shows, Uses, Wrote, number, told_seen};
+    ghost use Rattle.seize_book.specs.Books.{told_known};
+    ghost use Rattle.seize_book.specs.Passes.{LooksOn};
+    ghost use Rattle.seize_book.specs.Slots.{IsOf, IsStill};
 
     /// The word of a field in which nothing was stored.
     pub fn new(key: FieldKey) -> Field

@@ -1,14 +1,13 @@
-//! The list that threads share, of the machine's events and of uses of blocks' fields, and what their holders know of it.
+//! The words that threads change by atomic steps, each of which is an entry in the list of the crate below.
 //!
-//! `book` is the list with its keys and passes, which have no bytes, as have activations and what readers see (`glimpse`). The words that
-//! threads change by atomic steps are those of `reservation`, `link`, `batch`, `header` and `total`. `chunk` and `blocks` have them in a
-//! store, by the numbers of blocks, and `slots` in a table, by the numbers of slots.
+//! They are those of `reservation`, `link`, `batch`, `header` and `total`. `chunk` and `blocks` have them in a store, by the numbers of
+//! blocks, and `slots` in a table, by the numbers of slots. Activations and what readers see (`glimpse`) have no bytes, as has nothing of
+//! the list itself (`book`).
 #![tactic(auto)]
 
 pub mod activation;
 pub mod batch;
 pub mod blocks;
-pub mod book;
 pub mod chunk;
 pub mod glimpse;
 pub mod header;
@@ -18,3 +17,5 @@ pub mod slots;
 pub mod total;
 mod word;
 pub mod words;
+
+pub use seize_book::book;

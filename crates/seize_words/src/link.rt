@@ -6,10 +6,10 @@ ghost use Rattle.seize_words.specs.Links.{IsLink, is_at_most_one};
 mod row;
 
 use crate::activation::Activation;
-use crate::book::{Keys, LinkKeys, Pass, ValueKey};
 use crate::glimpse::Glimpse;
 use crate::word::Word;
 pub use row::Links;
+use seize_book::book::{Keys, LinkKeys, Pass, ValueKey};
 use std::marker::Brand;
 
 /// One link, which threads share.

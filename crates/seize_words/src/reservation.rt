@@ -6,8 +6,8 @@ ghost use Rattle.seize_machine.specs.Machine.Event.{Enter, Insert, ReadHead, Swa
 ghost use Rattle.seize_words.specs.Heads.{IsHead, found_end};
 
 use crate::activation::Activation;
-use crate::book::{HeadKey, Pass, SlotKey};
 use crate::word::Word;
+use seize_book::book::{HeadKey, Pass, SlotKey};
 use std::marker::Brand;
 
 /// The head of one slot, which threads share.
@@ -22,7 +22,7 @@ pub struct Head {
 
 impl Head {
     ghost use Rattle.seize_words.specs.Reservations.{FoundBefore, IsActivationOf, IsHeadOf, IsLastOf, IsOfBook, IsOut, IsOwn, MayRead, Shows, TriesAt, WalksOn, beginning, head_known, slot};
-    ghost use Rattle.seize_words.specs.Slots.{IsOf, Notes, NotesAs, active_of, number_of, slot_of};
+    ghost use Rattle.seize_book.specs.Slots.{IsOf, Notes, NotesAs, active_of, number_of, slot_of};
 
     /// The word of an inactive slot's head. The slot may be one that is not there yet.
     pub fn new(key: HeadKey) -> Head

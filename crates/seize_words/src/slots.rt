@@ -4,17 +4,19 @@ ghost use Rattle.std.specs.Prelude.{◌≡◌, ◌≤◌, length, Some};
 ghost use Rattle.crossbeam_utils.specs.Padded.{padded_value};
 ghost use Rattle.seize_table.specs.Named.{name_of};
 ghost use Rattle.seize_words.specs.Reservations.{slot};
-ghost use Rattle.seize_words.specs.Tokens.{label_at};
+ghost use Rattle.seize_book.specs.Tokens.{label_at};
 
 mod heads;
 mod next;
 
-use crate::book::{Book, BookKeys, Keeps, LinkKeys, NumbersKey, Pass, SlotKey, TotalKey, Unopened};
 use crate::reservation::Head;
 use crate::total::Total;
 use crossbeam_utils::CachePadded;
 pub use heads::Heads;
 pub use next::NextSlot;
+use seize_book::book::{
+    Book, BookKeys, Keeps, LinkKeys, NumbersKey, Pass, SlotKey, TotalKey, Unopened,
+};
 use seize_table::thread_id::Thread;
 use seize_table::tls::{AllFilled, ThreadLocal};
 use seize_table::{Labelled, Refusal};
@@ -73,9 +75,9 @@ impl Slots {
     ghost use Rattle.std.specs.Prelude.{◌<◌, IfErr, IfOk};
     ghost use Rattle.seize_table.specs.Place.{all_numbers};
     ghost use Rattle.seize_table.specs.declared.refusal.Refusal.TheVariants.{NoMemory};
-    ghost use Rattle.seize_words.specs.Books.{Opens};
+    ghost use Rattle.seize_book.specs.Books.{Opens};
     ghost use Rattle.seize_words.specs.Named.{total_key_book};
-    ghost use Rattle.seize_words.specs.Passes.{LooksOn};
+    ghost use Rattle.seize_book.specs.Passes.{LooksOn};
     ghost use Rattle.seize_words.specs.Reserved.{AreAll, HasNext, IsCount, IsHeadAt, IsSame, MakesNext, OpensSlots, comes_to, ends_at, heads_book, slots_book};
     ghost use Rattle.seize_words.specs.Totals.{NumbersOf, slots_seen, total_known};
 

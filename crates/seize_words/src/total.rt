@@ -3,8 +3,8 @@
 ghost use Rattle.std.specs.Prelude.{◌≡◌};
 ghost use Rattle.seize_words.specs.Words.{IsTotal};
 
-use crate::book::{HeadKey, Keys, NumbersKey, Pass, SlotKey, SlotKeys, TotalKey};
 use crate::word::Word;
+use seize_book::book::{HeadKey, Keys, NumbersKey, Pass, SlotKey, SlotKeys, TotalKey};
 use std::marker::Brand;
 
 /// How many slots there are, which threads share. Slots are made in the order of their numbers, so those below it are there.
@@ -15,9 +15,9 @@ pub struct Total {
 }
 
 impl Total {
-    ghost use Rattle.seize_words.specs.Slots.{IsOf};
-    ghost use Rattle.seize_words.specs.Passes.{LooksOn};
-    ghost use Rattle.seize_words.specs.Tables.{IsPlaced};
+    ghost use Rattle.seize_book.specs.Slots.{IsOf};
+    ghost use Rattle.seize_book.specs.Passes.{LooksOn};
+    ghost use Rattle.seize_book.specs.Tables.{IsPlaced};
     ghost use Rattle.seize_words.specs.Totals.{AreNext, IsOfBook, IsTotalOf, MakesSlot, MayMake, NumbersOf, slots_seen, total_known};
 
     /// The word of a book that has no slot yet.

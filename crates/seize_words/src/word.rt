@@ -4,13 +4,13 @@
 ghost use Rattle.std.specs.Prelude.{◌≡◌, ℕ, ◌<◌, ◌==◌, ◌^◌, Bool, false, if◌then◌else◌, List, []};
 ghost use base.Fml.{fsep, fex};
 ghost use Rattle.seize_machine.specs.Machine.Event.{Return};
-ghost use Rattle.seize_words.specs.Entry.{Entry, Made};
+ghost use Rattle.seize_book.specs.Entry.{Entry, Made};
 ghost use Rattle.seize_words.specs.Words.{Site, site_coded, word_owns, word_shares};
 
 use crate::activation::{Activation, Ended};
-use crate::book::{Keys, Pass};
 use crate::glimpse::Glimpse;
 use atomic_table::exchange;
+use seize_book::book::{Keys, Pass};
 use std::marker::{Brand, Move, Owns, PhantomData};
 use std::sync::atomic::Ordering::SeqCst;
 use std::sync::atomic::raw;

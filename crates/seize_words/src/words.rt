@@ -7,11 +7,11 @@ ghost use Rattle.seize_words.specs.Reserved.{slots_book};
 
 use crate::activation::Activation;
 use crate::blocks::Blocks;
-use crate::book::{Book, BookKeys, Keeps, NumbersKey, Pass, SlotKey, Unopened};
 use crate::chunk::{Header, Part};
 use crate::glimpse::Glimpse;
 use crate::link::{Links, MaybeKey};
 use crate::slots::{NextSlot, Reservation, Slots};
+use seize_book::book::{Book, BookKeys, Keeps, NumbersKey, Pass, SlotKey, Unopened};
 use seize_store::Store;
 use seize_table::Refusal;
 use seize_table::tls::ThreadLocal;
@@ -38,13 +38,13 @@ impl<T: Drop> Words<T> {
     ghost use Rattle.seize_store.specs.Named.{name_of as store_name};
     ghost use Rattle.seize_table.specs.Named.{name_of};
     ghost use Rattle.seize_table.specs.declared.refusal.Refusal.TheVariants.{NoMemory, NoNumbers};
-    ghost use Rattle.seize_words.specs.Books.{HasKeys, Opens, OpensAlone};
+    ghost use Rattle.seize_book.specs.Books.{HasKeys, Opens, OpensAlone};
     ghost use Rattle.seize_words.specs.Heads.{found_end};
     ghost use Rattle.seize_words.specs.Joined.{IsHolder, IsInAt, IsNewTo, IsStoreOf, MayReadAt, OnHead, OnLink, OpensWords, OpensWordsAlone, TriesAtSlot, words_book};
     ghost use Rattle.seize_words.specs.LinkWords.{CompareExchanges, Sees, Swaps};
     ghost use Rattle.seize_words.specs.Reservations.{FoundBefore, IsActivationOf, IsLastOf, IsOut, Shows, WalksOn, beginning};
     ghost use Rattle.seize_words.specs.Reserved.{HasNext, IsSame, MakesNext};
-    ghost use Rattle.seize_words.specs.Slots.{IsOf, Notes, NotesAs, active_of, number_of, slot_of};
+    ghost use Rattle.seize_book.specs.Slots.{IsOf, Notes, NotesAs, active_of, number_of, slot_of};
     ghost use Rattle.seize_words.specs.Totals.{NumbersOf, slots_seen};
 
     /// The words of a new book, to which many may append, with so many links, which are empty, and no slot; and what its slots are made

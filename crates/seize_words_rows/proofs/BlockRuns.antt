@@ -10,19 +10,19 @@ use Rattle.seize_machine.specs.declared.machine.event.Answer.TheVariants.{Done, 
 use Rattle.seize_machine.specs.declared.machine.event.Job.TheVariants.{Retire, Leave}
 use Rattle.seize_machine.specs.declared.machine.event.Try.TheVariants.{Won}
 use Rattle.seize_machine.proofs.Facts.{Step, step_of}
-use Rattle.seize_words.specs.Blocks.{Plan, block_in, block_of, list_word, no_plan}
-use Rattle.seize_words.specs.Book.{after}
-use Rattle.seize_words.specs.Chains.{served}
+use Rattle.seize_book.specs.Blocks.{Plan, block_in, block_of, list_word, no_plan}
+use Rattle.seize_book.specs.Book.{after}
+use Rattle.seize_book.specs.Chains.{served}
 use Rattle.seize_words.specs.Chunks.{IsHeaderOf, header_home}
-use Rattle.seize_words.specs.Homes.{home_of}
-use Rattle.seize_words.specs.Homesteads.{state_seen}
-use Rattle.seize_words.specs.Passes.{LooksOn}
-use Rattle.seize_words.specs.Slots.{Looks, Notes, number_of}
-use Rattle.seize_words.specs.Tokens.{IsSole, Name, start}
-use Rattle.seize_words.specs.Entry.{Entry}
+use Rattle.seize_book.specs.Homes.{home_of}
+use Rattle.seize_book.specs.Homesteads.{state_seen}
+use Rattle.seize_book.specs.Passes.{LooksOn}
+use Rattle.seize_book.specs.Slots.{Looks, Notes, number_of}
+use Rattle.seize_book.specs.Tokens.{IsSole, Name, start}
+use Rattle.seize_book.specs.Entry.{Entry}
 use Rattle.seize_store.specs.Named.{bare_number}
-use Rattle.seize_words.specs.declared.book.pass.Pass.{Pass}
-use Rattle.seize_words.specs.declared.book.slot_key.SlotKey.{SlotKey}
+use Rattle.seize_book.specs.declared.book.pass.Pass.{Pass}
+use Rattle.seize_book.specs.declared.book.slot_key.SlotKey.{SlotKey}
 use Rattle.seize_words.specs.declared.chunk.Header.{Header}
 use Rattle.seize_words_rows.specs.Runs.{calls, idle}
 use Rattle.seize_words_rows.specs.Stages.{Goes, IsAt, Knows, Leads, Sees, Stage, word_at}

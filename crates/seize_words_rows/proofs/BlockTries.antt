@@ -4,16 +4,16 @@ use Rattle.std.specs.Prelude.{slice_index_or}
 use Rattle.seize_machine.specs.Machine.State.{Call, Slot, Try}
 use Rattle.seize_machine.specs.Machine.History.{first_of}
 use Rattle.seize_machine.specs.declared.machine.event.Try.TheVariants.{Lost, Won}
-use Rattle.seize_words.specs.Blocks.{Plan, block_in, block_of, list_word, no_plan}
-use Rattle.seize_words.specs.Chains.{first_field, next_field, served}
+use Rattle.seize_book.specs.Blocks.{Plan, block_in, block_of, list_word, no_plan}
+use Rattle.seize_book.specs.Chains.{first_field, next_field, served}
 use Rattle.seize_words.specs.Counts.{home}
 use Rattle.seize_words.specs.Heads.{found_end}
 use Rattle.seize_words.specs.Headers.{Stores, number}
-use Rattle.seize_words.specs.Homes.{home_of}
+use Rattle.seize_book.specs.Homes.{home_of}
 use Rattle.seize_words.specs.Reservations.{slot}
-use Rattle.seize_words.specs.Tokens.{Name}
+use Rattle.seize_book.specs.Tokens.{Name}
 use Rattle.seize_words.specs.declared.batch.Count.{Count}
-use Rattle.seize_words.specs.declared.book.slot_key.SlotKey.{SlotKey}
+use Rattle.seize_book.specs.declared.book.slot_key.SlotKey.{SlotKey}
 use Rattle.seize_words.specs.declared.header.Field.{Field}
 use Rattle.seize_words.specs.declared.reservation.Head.{Head}
 use Rattle.seize_words_rows.specs.Attempts.{IsLastTry, home_for}

@@ -6,22 +6,22 @@ use denote.Bor.{Bor}
 use Rattle.seize_machine.specs.Machine.State.{Rest, Slot, State, has}
 use Rattle.seize_machine.specs.Machine.Event.{SubCount}
 use Rattle.seize_machine.specs.declared.machine.event.Answer.TheVariants.{Count}
-use Rattle.seize_words.specs.Blocks.{Plan, block_in, block_of, list_word, no_plan, plans}
-use Rattle.seize_words.specs.Book.{after, blocks}
-use Rattle.seize_words.specs.Counts.{AreLast, values_in}
-use Rattle.seize_words.specs.Entry.{Entry}
-use Rattle.seize_words.specs.Homesteads.{state_seen}
-use Rattle.seize_words.specs.Ledger.{Held, renewed}
-use Rattle.seize_words.specs.Others.{IsSpent}
-use Rattle.seize_words.specs.Passes.{LooksOn}
-use Rattle.seize_words.specs.Private.{is_one}
-use Rattle.seize_words.specs.Slots.{Looks, number_of, own_list, start_of}
-use Rattle.seize_words.specs.Tokens.{IsSole, Name, start}
-use Rattle.seize_words.specs.Values.{book_in, values_of}
+use Rattle.seize_book.specs.Blocks.{Plan, block_in, block_of, list_word, no_plan, plans}
+use Rattle.seize_book.specs.Book.{after, blocks}
+use Rattle.seize_book.specs.Values.{AreLast, book_in, values_of}
+use Rattle.seize_words.specs.Counts.{values_in}
+use Rattle.seize_book.specs.Entry.{Entry}
+use Rattle.seize_book.specs.Homesteads.{state_seen}
+use Rattle.seize_book.specs.Ledger.{Held, renewed}
+use Rattle.seize_book.specs.Others.{IsSpent}
+use Rattle.seize_book.specs.Passes.{LooksOn}
+use Rattle.seize_book.specs.Private.{is_one}
+use Rattle.seize_book.specs.Slots.{Looks, number_of, own_list, start_of}
+use Rattle.seize_book.specs.Tokens.{IsSole, Name, start}
 use Rattle.seize_words.specs.Walks.{CountsDown, IsAtBatch}
-use Rattle.seize_words.specs.declared.book.pass.Pass.{Pass}
-use Rattle.seize_words.specs.declared.book.slot_key.SlotKey.{SlotKey}
-use Rattle.seize_words.specs.declared.book.value_keys.ValueKeys.{ValueKeys}
+use Rattle.seize_book.specs.declared.book.pass.Pass.{Pass}
+use Rattle.seize_book.specs.declared.book.slot_key.SlotKey.{SlotKey}
+use Rattle.seize_book.specs.declared.book.value_keys.ValueKeys.{ValueKeys}
 use Rattle.seize_words_rows.specs.BlockRuns.{AreAllIn, AreIn, AreReady, Two, at_walk, both, given_up, gone_in, listed, named_in, planned, waiting, word_over}
 use Rattle.seize_words_rows.specs.Stages.{IsAt, Knows, Leads, Sees, Stage}
 use Rattle.seize_words_rows.specs.declared.block_run.Pair.{Pair}

@@ -2,14 +2,14 @@
 use Rattle.std.proofs.Common.{◌≡◌, ℕ, Option, Some, unwrap_or, sym, ap, ◌∙◌}
 use Rattle.std.specs.Prelude.{slice_index_or}
 use Rattle.seize_machine.specs.Machine.History.{first_of}
-use Rattle.seize_words.specs.Blocks.{Plan, block_of, front_of, no_plan, plans}
-use Rattle.seize_words.specs.Chains.{first_field, next_field}
+use Rattle.seize_book.specs.Blocks.{Plan, block_of, front_of, no_plan, plans}
+use Rattle.seize_book.specs.Chains.{first_field, next_field}
 use Rattle.seize_words.specs.Heads.{IsTrying}
 use Rattle.seize_words.specs.Reservations.{TriesAt, slot}
-use Rattle.seize_words.specs.Slots.{IsOf, number_of, own_list, start_of, written_of}
+use Rattle.seize_book.specs.Slots.{IsOf, number_of, own_list, start_of, written_of}
 use Rattle.seize_words.specs.declared.batch.Count.{Count}
-use Rattle.seize_words.specs.declared.book.pass.Pass.{Pass}
-use Rattle.seize_words.specs.declared.book.slot_key.SlotKey.{SlotKey}
+use Rattle.seize_book.specs.declared.book.pass.Pass.{Pass}
+use Rattle.seize_book.specs.declared.book.slot_key.SlotKey.{SlotKey}
 use Rattle.seize_words.specs.declared.header.Field.{Field}
 use Rattle.seize_words.specs.declared.reservation.Head.{Head}
 use Rattle.seize_words.proofs.Facts.{field_same, plan_used, still_trying}

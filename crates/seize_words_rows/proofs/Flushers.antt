@@ -9,13 +9,13 @@ use Rattle.seize_machine.specs.declared.machine.event.Answer.{Answer}
 use Rattle.seize_machine.specs.declared.machine.event.Answer.TheVariants.{Done}
 use Rattle.seize_machine.specs.declared.machine.event.Job.TheVariants.{Flush, Retire}
 use Rattle.seize_machine.proofs.Facts.{Stands, Step, after_put, and_true, beginning, next_of, some_is, step_of, step_put}
-use Rattle.seize_words.specs.Book.{after}
-use Rattle.seize_words.specs.Entry.{Entry}
-use Rattle.seize_words.specs.Private.{puts_next}
-use Rattle.seize_words.specs.Slots.{IsOf, Moves, Notes, active_of, number_of, own_list, size_of, slot_of, start_of}
-use Rattle.seize_words.specs.Tokens.{Name}
-use Rattle.seize_words.specs.declared.book.pass.Pass.{Pass}
-use Rattle.seize_words.specs.declared.book.slot_key.SlotKey.{SlotKey}
+use Rattle.seize_book.specs.Book.{after}
+use Rattle.seize_book.specs.Entry.{Entry}
+use Rattle.seize_book.specs.Private.{puts_next}
+use Rattle.seize_book.specs.Slots.{IsOf, Moves, Notes, active_of, number_of, own_list, size_of, slot_of, start_of}
+use Rattle.seize_book.specs.Tokens.{Name}
+use Rattle.seize_book.specs.declared.book.pass.Pass.{Pass}
+use Rattle.seize_book.specs.declared.book.slot_key.SlotKey.{SlotKey}
 use Rattle.seize_words.proofs.Facts.{moved}
 use Rattle.seize_words_rows.specs.Flushers.{CanFlush}
 use Rattle.seize_words_rows.specs.Leaves.{IsInside}

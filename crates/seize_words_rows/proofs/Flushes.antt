@@ -9,11 +9,11 @@ use Rattle.seize_machine.specs.declared.machine.event.Answer.{Answer}
 use Rattle.seize_machine.specs.declared.machine.event.Answer.TheVariants.{Done}
 use Rattle.seize_machine.specs.declared.machine.event.Job.TheVariants.{Flush}
 use Rattle.seize_machine.proofs.Facts.{Step, Stands, beginning, next_of, and_true}
-use Rattle.seize_words.specs.Entry.{Entry}
+use Rattle.seize_book.specs.Entry.{Entry}
 use Rattle.seize_words.proofs.Facts.{answered, moved}
-use Rattle.seize_words.specs.Book.{after}
-use Rattle.seize_words.specs.Slots.{Moves, active_of, number_of, size_of, slot_of, start_of}
-use Rattle.seize_words.specs.declared.book.slot_key.SlotKey.{SlotKey}
+use Rattle.seize_book.specs.Book.{after}
+use Rattle.seize_book.specs.Slots.{Moves, active_of, number_of, size_of, slot_of, start_of}
+use Rattle.seize_book.specs.declared.book.slot_key.SlotKey.{SlotKey}
 
 -- a slot in use is one of those made
 made : (slots : List Slot) (s : ℕ) → (get_or slots s no_slot).used ≡ true → s < length slots

@@ -8,10 +8,10 @@ use Rattle.seize_machine.specs.Machine.Next.{lost_on, won_on}
 use Rattle.seize_machine.specs.declared.machine.event.Answer.{Answer}
 use Rattle.seize_machine.specs.declared.machine.event.Try.TheVariants.{Won, Lost}
 use Rattle.seize_machine.proofs.Facts.{Step, some_is, step_of}
-use Rattle.seize_words.specs.Book.{after}
-use Rattle.seize_words.specs.Entry.{Entry}
-use Rattle.seize_words.specs.Slots.{Moves, number_of, size_of, slot_of, start_of}
-use Rattle.seize_words.specs.declared.book.slot_key.SlotKey.{SlotKey}
+use Rattle.seize_book.specs.Book.{after}
+use Rattle.seize_book.specs.Entry.{Entry}
+use Rattle.seize_book.specs.Slots.{Moves, number_of, size_of, slot_of, start_of}
+use Rattle.seize_book.specs.declared.book.slot_key.SlotKey.{SlotKey}
 
 -- a slot with a call is there
 there : (st : State) (s : ℕ) (call : Call) → (slot_at st s).call ≡ Some call → s < length st.slots

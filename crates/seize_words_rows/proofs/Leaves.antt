@@ -7,10 +7,10 @@ use Rattle.seize_machine.specs.declared.machine.event.Answer.{Answer}
 use Rattle.seize_machine.specs.declared.machine.event.Answer.TheVariants.{Done}
 use Rattle.seize_machine.specs.declared.machine.event.Job.TheVariants.{Leave}
 use Rattle.seize_machine.proofs.Facts.{Stands, Step, and_true, go_on, next_of, some_is}
-use Rattle.seize_words.specs.Book.{after}
-use Rattle.seize_words.specs.Entry.{Entry}
-use Rattle.seize_words.specs.Slots.{Moves, active_of, number_of, size_of, slot_of, start_of}
-use Rattle.seize_words.specs.declared.book.slot_key.SlotKey.{SlotKey}
+use Rattle.seize_book.specs.Book.{after}
+use Rattle.seize_book.specs.Entry.{Entry}
+use Rattle.seize_book.specs.Slots.{Moves, active_of, number_of, size_of, slot_of, start_of}
+use Rattle.seize_book.specs.declared.book.slot_key.SlotKey.{SlotKey}
 use Rattle.seize_words.proofs.Facts.{moved}
 use Rattle.seize_words_rows.proofs.Flushes.{same_slot}
 use Rattle.seize_words_rows.specs.Leaves.{IsInside}

@@ -6,20 +6,20 @@ use Rattle.seize_machine.specs.Machine.Event.{Enter, Event, ExchangeLink, ReadLi
 use Rattle.seize_machine.specs.declared.machine.event.Answer.{Answer}
 use Rattle.seize_machine.specs.declared.machine.event.Answer.TheVariants.{Done, Link as Held_}
 use Rattle.seize_machine.specs.declared.machine.event.Exchange.TheVariants.{Swap}
-use Rattle.seize_words.specs.Adding.{private}
-use Rattle.seize_words.specs.Book.{after, blocks}
-use Rattle.seize_words.specs.Entry.{Entry}
-use Rattle.seize_words.specs.Ledger.{Held}
+use Rattle.seize_book.specs.Adding.{private}
+use Rattle.seize_book.specs.Book.{after, blocks}
+use Rattle.seize_book.specs.Entry.{Entry}
+use Rattle.seize_book.specs.Ledger.{Held}
 use Rattle.seize_words.specs.Links.{value_in}
 use Rattle.seize_words.specs.Named.{slot_book}
-use Rattle.seize_words.specs.Private.{is_one, label_of}
+use Rattle.seize_book.specs.Private.{is_one, label_of}
 use Rattle.seize_words.specs.Reservations.{IsActivationOf}
-use Rattle.seize_words.specs.Slots.{own_list}
-use Rattle.seize_words.specs.declared.book.slot_key.SlotKey.{SlotKey}
+use Rattle.seize_book.specs.Slots.{own_list}
+use Rattle.seize_book.specs.declared.book.slot_key.SlotKey.{SlotKey}
 use Rattle.seize_words.specs.LinkWords.{IsIn, Takes, held_before, number}
-use Rattle.seize_words.specs.Tokens.{IsSole, Name, start}
+use Rattle.seize_book.specs.Tokens.{IsSole, Name, start}
 use Rattle.seize_words.specs.declared.activation.Activation.{Activation}
-use Rattle.seize_words.specs.declared.book.pass.Pass.{Pass}
+use Rattle.seize_book.specs.declared.book.pass.Pass.{Pass}
 use Rattle.seize_words.specs.declared.link.Link.{Link}
 use Rattle.seize_words.proofs.Facts.{known_in, seen_grows}
 use Rattle.seize_words_rows.specs.Lent.{IsTheLink, both_in, linked, out}

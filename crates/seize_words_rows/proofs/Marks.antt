@@ -11,18 +11,18 @@ use Rattle.seize_machine.specs.Machine.Event.{ReadHead}
 use Rattle.seize_machine.specs.Machine.Next.{can_detach_at, in_turn, marked_place, of_call}
 use Rattle.seize_machine.specs.declared.machine.event.Answer.{Answer}
 use Rattle.seize_machine.proofs.Facts.{Step, Stands, some_is, step_of}
-use Rattle.seize_words.specs.Adding.{private}
-use Rattle.seize_words.specs.Blocks.{block_for, word_of}
-use Rattle.seize_words.specs.Book.{IsLegalList, after}
-use Rattle.seize_words.specs.Entry.{Entry, Made}
+use Rattle.seize_book.specs.Adding.{private}
+use Rattle.seize_book.specs.Blocks.{block_for, word_of}
+use Rattle.seize_book.specs.Book.{IsLegalList, after}
+use Rattle.seize_book.specs.Entry.{Entry, Made}
 use Rattle.seize_words.specs.Heads.{reads_at}
-use Rattle.seize_words.specs.Passes.{IsSame, LooksOn, mine_of}
+use Rattle.seize_book.specs.Passes.{IsSame, LooksOn, mine_of}
 use Rattle.seize_words.specs.Reservations.{MayRead, Shows, slot}
-use Rattle.seize_words.specs.Slots.{IsOf, Notes, active_of, number_of, own_list, size_of, slot_of, start_of}
-use Rattle.seize_words.specs.Tokens.{Name, start}
+use Rattle.seize_book.specs.Slots.{IsOf, Notes, active_of, number_of, own_list, size_of, slot_of, start_of}
+use Rattle.seize_book.specs.Tokens.{Name, start}
 use Rattle.seize_words.specs.Totals.{slots_seen}
-use Rattle.seize_words.specs.declared.book.pass.Pass.{Pass}
-use Rattle.seize_words.specs.declared.book.slot_key.SlotKey.{SlotKey}
+use Rattle.seize_book.specs.declared.book.pass.Pass.{Pass}
+use Rattle.seize_book.specs.declared.book.slot_key.SlotKey.{SlotKey}
 use Rattle.seize_words.specs.declared.reservation.Head.{Head as Word}
 use Rattle.seize_words.proofs.Facts.{grew, more_slots, note_seen, seen_grows}
 use Rattle.seize_words_rows.specs.Marks.{BeginsToMark, Ends, HasRead, entries_by}

@@ -8,22 +8,22 @@ use Rattle.seize_machine.specs.declared.machine.event.Answer.TheVariants.{Done, 
 use Rattle.seize_machine.specs.declared.machine.event.Exchange.TheVariants.{Swap}
 use Rattle.seize_machine.specs.declared.machine.event.Job.TheVariants.{Refresh, Retire}
 use Rattle.seize_machine.proofs.Facts.{Step, next_of}
-use Rattle.seize_words.specs.Blocks.{block_of}
-use Rattle.seize_words.specs.Chains.{first_field, next_field}
+use Rattle.seize_book.specs.Blocks.{block_of}
+use Rattle.seize_book.specs.Chains.{first_field, next_field}
 use Rattle.seize_words.specs.Counts.{home}
-use Rattle.seize_words.specs.Entry.{Entry}
+use Rattle.seize_book.specs.Entry.{Entry}
 use Rattle.seize_words.specs.Headers.{number}
-use Rattle.seize_words.specs.Homes.{home_of}
-use Rattle.seize_words.specs.Laws.{life}
-use Rattle.seize_words.specs.Ledger.{Held}
+use Rattle.seize_book.specs.Homes.{home_of}
+use Rattle.seize_book.specs.Laws.{life}
+use Rattle.seize_book.specs.Ledger.{Held}
 use Rattle.seize_words.specs.Links.{value_in}
 use Rattle.seize_words.specs.Named.{count_book, field_book, first_value}
-use Rattle.seize_words.specs.Private.{is_one, label_of}
+use Rattle.seize_book.specs.Private.{is_one, label_of}
 use Rattle.seize_words.specs.Reservations.{IsActivationOf, IsLastOf}
-use Rattle.seize_words.specs.Values.{book_in, values_of}
+use Rattle.seize_book.specs.Values.{book_in, values_of}
 use Rattle.seize_words.specs.declared.activation.Activation.{Activation}
-use Rattle.seize_words.specs.declared.book.slot_key.SlotKey.{SlotKey}
-use Rattle.seize_words.specs.declared.book.value_keys.ValueKeys.{ValueKeys}
+use Rattle.seize_book.specs.declared.book.slot_key.SlotKey.{SlotKey}
+use Rattle.seize_book.specs.declared.book.value_keys.ValueKeys.{ValueKeys}
 use Rattle.seize_words_rows.specs.Linked.{AreLinked, book_by, loosened, put_in, refreshed, refreshing}
 use Rattle.seize_words_rows.specs.Runs.{AreHeads, AreWords, begun, entered}
 use Rattle.seize_words_rows.specs.Stages.{Goes, Stage}

@@ -8,21 +8,21 @@ use Rattle.seize_machine.specs.Machine.Next.{are_fresh, next, set_slot}
 use Rattle.seize_machine.specs.declared.machine.event.Answer.{Answer}
 use Rattle.seize_machine.specs.declared.machine.event.Answer.TheVariants.{Count, Done, Handed, Head as HeadRead}
 use Rattle.seize_machine.proofs.Facts.{Stands, Step, after_put, eq_true, is_true, next_of, step_of, step_put}
-use Rattle.seize_words.specs.Adding.{private}
-use Rattle.seize_words.specs.Book.{after}
-use Rattle.seize_words.specs.Blocks.{block_of}
+use Rattle.seize_book.specs.Adding.{private}
+use Rattle.seize_book.specs.Book.{after}
+use Rattle.seize_book.specs.Blocks.{block_of}
 use Rattle.seize_words.specs.Counts.{home}
-use Rattle.seize_words.specs.Entry.{Entry, Made}
-use Rattle.seize_words.specs.Homes.{home_of}
-use Rattle.seize_words.specs.Ledger.{Held, renewed}
-use Rattle.seize_words.specs.Passes.{mine_of}
-use Rattle.seize_words.specs.Private.{label_of, next_at, puts_next}
-use Rattle.seize_words.specs.Slots.{Moves, Notes, number_of, size_of, slot_of, start_of}
-use Rattle.seize_words.specs.Tokens.{Name}
-use Rattle.seize_words.specs.Values.{Keep, book_in, values_of}
-use Rattle.seize_words.specs.declared.book.pass.Pass.{Pass}
-use Rattle.seize_words.specs.declared.book.slot_key.SlotKey.{SlotKey}
-use Rattle.seize_words.specs.declared.book.value_keys.ValueKeys.{ValueKeys}
+use Rattle.seize_book.specs.Entry.{Entry, Made}
+use Rattle.seize_book.specs.Homes.{home_of}
+use Rattle.seize_book.specs.Ledger.{Held, renewed}
+use Rattle.seize_book.specs.Passes.{mine_of}
+use Rattle.seize_book.specs.Private.{label_of, next_at, puts_next}
+use Rattle.seize_book.specs.Slots.{Moves, Notes, number_of, size_of, slot_of, start_of}
+use Rattle.seize_book.specs.Tokens.{Name}
+use Rattle.seize_book.specs.Values.{Keep, book_in, values_of}
+use Rattle.seize_book.specs.declared.book.pass.Pass.{Pass}
+use Rattle.seize_book.specs.declared.book.slot_key.SlotKey.{SlotKey}
+use Rattle.seize_book.specs.declared.book.value_keys.ValueKeys.{ValueKeys}
 use Rattle.seize_words.proofs.Facts.{answered, grew, moved}
 use Rattle.seize_words_rows.specs.Puts.{HandsLast, IsPut, PutsFirst, RunsOn, both_gone, detached_on, gave_both, handed_both, handed_on, one_read_on, put_in, put_on, read_on}
 use Rattle.seize_words_rows.specs.Runs.{AreWords, book_of, counted_up, value_of}

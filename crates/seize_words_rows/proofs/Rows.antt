@@ -3,17 +3,17 @@ use Rattle.std.proofs.Common.{◌≡◌, ℕ, suc, ◌+◌, ◌<◌, List, lengt
 use Rattle.std.proofs.lemmas.List.{get_or-replicate, length-replicate}
 use base.Growing.{prefix_trans}
 use mathlib.Core.List.{IsPrefix}
-use Rattle.seize_words.specs.Begin.{first_links}
-use Rattle.seize_words.specs.Entry.{Entry}
-use Rattle.seize_words.specs.Ledger.{Held}
+use Rattle.seize_book.specs.Begin.{first_links}
+use Rattle.seize_book.specs.Entry.{Entry}
+use Rattle.seize_book.specs.Ledger.{Held}
 use Rattle.seize_words.specs.LinkWords.{HasNext, IsIn, IsNext, number}
 use Rattle.seize_words.specs.Links.{IsWithin}
-use Rattle.seize_words.specs.Private.{key_of}
-use Rattle.seize_words.specs.Tokens.{Name}
+use Rattle.seize_book.specs.Private.{key_of}
+use Rattle.seize_book.specs.Tokens.{Name}
 use Rattle.seize_words.specs.declared.activation.Activation.{Activation}
-use Rattle.seize_words.specs.declared.book.link_keys.LinkKeys.{LinkKeys}
-use Rattle.seize_words.specs.declared.book.pass.Pass.{Pass}
-use Rattle.seize_words.specs.declared.book.token.Book.{Book}
+use Rattle.seize_book.specs.declared.book.link_keys.LinkKeys.{LinkKeys}
+use Rattle.seize_book.specs.declared.book.pass.Pass.{Pass}
+use Rattle.seize_book.specs.declared.book.token.Book.{Book}
 use Rattle.seize_words.specs.declared.link.Link.{Link}
 use Rattle.seize_words_rows.specs.Making.{AreLeft}
 use Rattle.seize_words_rows.specs.Rows.{HasBegun}

@@ -9,27 +9,26 @@ use Rattle.seize_machine.specs.Machine.History.{first_of}
 use Rattle.seize_machine.specs.declared.machine.event.Answer.{Answer}
 use Rattle.seize_machine.specs.declared.machine.event.Answer.TheVariants.{Done}
 use Rattle.seize_machine.proofs.Facts.{some_is}
-use Rattle.seize_words.specs.Adding.{private}
-use Rattle.seize_words.specs.Blocks.{Plan, block_in, front_of, head_word, no_plan, planned_by, plans, word_of}
-use Rattle.seize_words.specs.Book.{after}
+use Rattle.seize_book.specs.Adding.{private}
+use Rattle.seize_book.specs.Blocks.{Plan, block_in, front_of, head_word, no_plan, planned_by, plans, word_of}
+use Rattle.seize_book.specs.Book.{after}
 use Rattle.seize_words.specs.Counts.{Leaves, values_in}
-use Rattle.seize_words.specs.Entry.{Deed, Entry, Made, Use, Used}
+use Rattle.seize_book.specs.Entry.{Deed, Entry, Made, Use, Used}
 use Rattle.seize_words.specs.Headers.{Uses}
-use Rattle.seize_words.specs.Ledger.{Held, renewed}
+use Rattle.seize_book.specs.Ledger.{Held, renewed}
 use Rattle.seize_words.specs.Named.{values_state}
-use Rattle.seize_words.specs.Others.{Follows, value_of}
-use Rattle.seize_words.specs.Passes.{IsSame, LooksOn}
-use Rattle.seize_words.specs.Private.{key_of, label_of, own_of}
+use Rattle.seize_book.specs.Others.{Follows, value_of}
+use Rattle.seize_book.specs.Passes.{IsSame, LooksOn}
+use Rattle.seize_book.specs.Private.{key_of, label_of, own_of, labels_of}
 use Rattle.seize_words.specs.Reservations.{FoundBefore, Shows, beginning, slot}
-use Rattle.seize_words.specs.Slots.{IsStill, Notes, NotesAs, number_of, own_list, slot_of, start_of}
-use Rattle.seize_words.specs.Tokens.{IsSole, Name, Noted, start}
-use Rattle.seize_words.specs.Values.{Nexts, Pushes, book_in, values_of}
-use Rattle.seize_words.specs.Words.{labels_of}
-use Rattle.seize_words.specs.declared.book.keys.Keys.{Keys}
-use Rattle.seize_words.specs.declared.book.pass.Pass.{Pass}
-use Rattle.seize_words.specs.declared.book.slot_key.SlotKey.{SlotKey}
-use Rattle.seize_words.specs.declared.book.value_key.ValueKey.{ValueKey}
-use Rattle.seize_words.specs.declared.book.value_keys.ValueKeys.{ValueKeys}
+use Rattle.seize_book.specs.Slots.{IsStill, Notes, NotesAs, number_of, own_list, slot_of, start_of}
+use Rattle.seize_book.specs.Tokens.{IsSole, Name, Noted, start}
+use Rattle.seize_book.specs.Values.{Nexts, Pushes, book_in, values_of}
+use Rattle.seize_book.specs.declared.book.keys.Keys.{Keys}
+use Rattle.seize_book.specs.declared.book.pass.Pass.{Pass}
+use Rattle.seize_book.specs.declared.book.slot_key.SlotKey.{SlotKey}
+use Rattle.seize_book.specs.declared.book.value_key.ValueKey.{ValueKey}
+use Rattle.seize_book.specs.declared.book.value_keys.ValueKeys.{ValueKeys}
 use Rattle.seize_words.specs.declared.reservation.Head.{Head}
 use Rattle.seize_words.proofs.Facts.{after_used, planned_after, plans_used}
 use Rattle.seize_words_rows.specs.Attempts.{UsesBoth}

@@ -2,12 +2,12 @@
 use Rattle.std.proofs.Common.{◌≡◌, ℕ, List, [], Some, arith, refl, sym, ap, ◌∙◌}
 use Rattle.std.specs.Prelude.{slice_index_or}
 use Rattle.seize_machine.specs.Machine.State.{Call, Slot, Try}
-use Rattle.seize_words.specs.Blocks.{Plan, block_in, no_plan}
-use Rattle.seize_words.specs.Chains.{first_field, next_field, served}
+use Rattle.seize_book.specs.Blocks.{Plan, block_in, no_plan}
+use Rattle.seize_book.specs.Chains.{first_field, next_field, served}
 use Rattle.seize_words.specs.Headers.{Stores, number}
-use Rattle.seize_words.specs.Homes.{home_of}
+use Rattle.seize_book.specs.Homes.{home_of}
 use Rattle.seize_words.specs.Reservations.{slot}
-use Rattle.seize_words.specs.declared.book.slot_key.SlotKey.{SlotKey}
+use Rattle.seize_book.specs.declared.book.slot_key.SlotKey.{SlotKey}
 use Rattle.seize_words_rows.specs.Attempts.{IsLastTry, home_for}
 use Rattle.seize_words_rows.specs.Runs.{AreWords, book_of, looked, value_of}
 use Rattle.seize_words_rows.specs.Stages.{Knows}

@@ -8,20 +8,20 @@
 --                         batch is given up to it where the count came to 0, and else nothing is
 use Rattle.std.specs.Prelude.{◌≡◌, ℕ, ◌+◌, ◌<◌, ◌^◌, Bool, if◌then◌else◌, [], Option, Some, None, slice_index_or}
 use Rattle.seize_machine.specs.Machine.State.{Call, Look, Rest}
-use Rattle.seize_words.specs.Blocks.{block_of, front_of, no_plan, plans}
-use Rattle.seize_words.specs.Chains.{first_field, next_field, served}
+use Rattle.seize_book.specs.Blocks.{block_of, front_of, no_plan, plans}
+use Rattle.seize_book.specs.Chains.{first_field, next_field, served}
 use Rattle.seize_words.specs.Counts.{Leaves, home, values_in}
 use Rattle.seize_words.specs.Headers.{Uses, number}
 use Rattle.seize_words.specs.Heads.{IsTrying}
-use Rattle.seize_words.specs.Homes.{home_of}
+use Rattle.seize_book.specs.Homes.{home_of}
 use Rattle.seize_words.specs.Named.{slot_book}
 use Rattle.seize_words.specs.Reservations.{slot}
-use Rattle.seize_words.specs.Slots.{number_of, own_list, slot_of, start_of}
-use Rattle.seize_words.specs.Values.{values_of}
+use Rattle.seize_book.specs.Slots.{number_of, own_list, slot_of, start_of}
+use Rattle.seize_book.specs.Values.{values_of}
 use Rattle.seize_words.specs.declared.batch.Count.{Count}
-use Rattle.seize_words.specs.declared.book.pass.Pass.{Pass}
-use Rattle.seize_words.specs.declared.book.slot_key.SlotKey.{SlotKey}
-use Rattle.seize_words.specs.declared.book.value_keys.ValueKeys.{ValueKeys}
+use Rattle.seize_book.specs.declared.book.pass.Pass.{Pass}
+use Rattle.seize_book.specs.declared.book.slot_key.SlotKey.{SlotKey}
+use Rattle.seize_book.specs.declared.book.value_keys.ValueKeys.{ValueKeys}
 use Rattle.seize_words.specs.declared.header.Field.{Field}
 use Rattle.seize_words.specs.declared.reservation.Head.{Head}
 use Rattle.seize_words_rows.specs.declared.attempts.Attempt.{Attempt}

@@ -20,21 +20,21 @@ use Rattle.std.specs.List.{Contains}
 use Rattle.seize_machine.specs.Machine.State.{Slot, Head, has, slot_at, Inactive, Active, Batch, Append, Mark, Look, Try, Add, Out, Rest}
 use Rattle.seize_store.specs.Named.{bare_label, bare_number}
 use Rattle.seize_store.specs.declared.bare.Bare.{Bare}
-use Rattle.seize_words.specs.Blocks.{Plan, block_of}
-use Rattle.seize_words.specs.Books.{IsNextIn}
+use Rattle.seize_book.specs.Blocks.{Plan, block_of}
+use Rattle.seize_book.specs.Books.{IsNextIn}
 use Rattle.seize_words.specs.Chunks.{LiesIn}
 use Rattle.seize_words.specs.Chunks as chunks
-use Rattle.seize_words.specs.Counts.{AreLast}
-use Rattle.seize_words.specs.Homes.{home_of}
-use Rattle.seize_words.specs.Homesteads.{state_seen}
-use Rattle.seize_words.specs.Ledger.{renewed}
-use Rattle.seize_words.specs.Others as others
-use Rattle.seize_words.specs.Tokens.{IsSole, Name, label_at}
-use Rattle.seize_words.specs.Values as values
-use Rattle.seize_words.specs.declared.book.pass.Pass.{Pass}
-use Rattle.seize_words.specs.declared.book.slot_key.SlotKey.{SlotKey}
-use Rattle.seize_words.specs.declared.book.value_key.ValueKey.{ValueKey}
-use Rattle.seize_words.specs.declared.book.value_keys.ValueKeys.{ValueKeys}
+use Rattle.seize_book.specs.Values.{AreLast}
+use Rattle.seize_book.specs.Homes.{home_of}
+use Rattle.seize_book.specs.Homesteads.{state_seen}
+use Rattle.seize_book.specs.Ledger.{renewed}
+use Rattle.seize_book.specs.Others as others
+use Rattle.seize_book.specs.Tokens.{IsSole, Name, label_at}
+use Rattle.seize_book.specs.Values as values
+use Rattle.seize_book.specs.declared.book.pass.Pass.{Pass}
+use Rattle.seize_book.specs.declared.book.slot_key.SlotKey.{SlotKey}
+use Rattle.seize_book.specs.declared.book.value_key.ValueKey.{ValueKey}
+use Rattle.seize_book.specs.declared.book.value_keys.ValueKeys.{ValueKeys}
 use Rattle.seize_words.specs.declared.chunk.Header.{Header}
 use Rattle.seize_words.specs.declared.chunk.Part.{Part}
 use Rattle.seize_words_rows.specs.Runs.{AreHeads, book_in, calls, idle}

@@ -5,10 +5,10 @@ use Rattle.std.specs.Prelude.{◌≡◌, [], ◌∷◌, ◌++◌}
 use Rattle.seize_machine.specs.Machine.Event.{Event}
 use Rattle.seize_machine.specs.declared.machine.event.Answer.{Answer}
 use Rattle.seize_machine.specs.declared.machine.event.Answer.TheVariants.{Done}
-use Rattle.seize_words.specs.Adding.{private}
-use Rattle.seize_words.specs.Entry.{Made}
-use Rattle.seize_words.specs.Passes.{mine_of}
-use Rattle.seize_words.specs.declared.book.pass.Pass.{Pass}
+use Rattle.seize_book.specs.Adding.{private}
+use Rattle.seize_book.specs.Entry.{Made}
+use Rattle.seize_book.specs.Passes.{mine_of}
+use Rattle.seize_book.specs.declared.book.pass.Pass.{Pass}
 
 abbrev pub HasMade : Pass → Pass → Event → Event → Type 0
 HasMade pass pass' first last = mine_of pass' ≡ mine_of pass ++ (Made (private pass first), Done) ∷ (Made (private pass last), Done) ∷ []

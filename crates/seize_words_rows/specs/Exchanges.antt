@@ -7,9 +7,9 @@ use Rattle.std.specs.Prelude.{◌≡◌, ◌<◌, length, None}
 use Rattle.seize_words.specs.LinkWords.{IsIn, number}
 use Rattle.seize_words.specs.Links.{IsWithin}
 use Rattle.seize_words.specs.Named.{link_book}
-use Rattle.seize_words.specs.Tokens.{Name, many}
+use Rattle.seize_book.specs.Tokens.{Name, many}
 use Rattle.seize_words.specs.declared.activation.Activation.{Activation}
-use Rattle.seize_words.specs.declared.book.token.Book.{Book}
+use Rattle.seize_book.specs.declared.book.token.Book.{Book}
 use Rattle.seize_words.specs.declared.link.Link.{Link}
 use Rattle.seize_words_rows.specs.declared.exchanges.Swapper.{Swapper}
 

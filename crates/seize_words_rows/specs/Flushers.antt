@@ -8,10 +8,10 @@ use Rattle.std.specs.Prelude.{◌≡◌, ℕ, ◌<◌, [], length}
 use mathlib.Core.List.{IsPrefix}
 use Rattle.seize_words.specs.Named.{numbers_book}
 use Rattle.seize_words.specs.Reserved.{HasNext, slots_book}
-use Rattle.seize_words.specs.Slots.{IsOf, own_list, slot_of}
+use Rattle.seize_book.specs.Slots.{IsOf, own_list, slot_of}
 use Rattle.seize_words.specs.Totals.{made_of}
-use Rattle.seize_words.specs.declared.book.pass.Pass.{Pass}
-use Rattle.seize_words.specs.declared.book.slot_key.SlotKey.{SlotKey}
+use Rattle.seize_book.specs.declared.book.pass.Pass.{Pass}
+use Rattle.seize_book.specs.declared.book.slot_key.SlotKey.{SlotKey}
 use Rattle.seize_words.specs.declared.slots.Slots.{Slots}
 use Rattle.seize_words_rows.specs.Leaves.{IsInside}
 use Rattle.seize_words_rows.specs.declared.flushing.Flusher.{Flusher}

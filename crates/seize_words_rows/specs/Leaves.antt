@@ -6,9 +6,9 @@ use Rattle.std.specs.Prelude.{◌≡◌, ℕ, true, false, []}
 use Rattle.seize_machine.specs.Machine.State.{is_idle}
 use Rattle.seize_words.specs.Named.{slot_book}
 use Rattle.seize_words.specs.Reservations.{IsOfBook, IsOwn, WalksOn}
-use Rattle.seize_words.specs.Slots.{IsOf, active_of, number_of, slot_of}
-use Rattle.seize_words.specs.declared.book.pass.Pass.{Pass}
-use Rattle.seize_words.specs.declared.book.slot_key.SlotKey.{SlotKey}
+use Rattle.seize_book.specs.Slots.{IsOf, active_of, number_of, slot_of}
+use Rattle.seize_book.specs.declared.book.pass.Pass.{Pass}
+use Rattle.seize_book.specs.declared.book.slot_key.SlotKey.{SlotKey}
 use Rattle.seize_words.specs.declared.reservation.Head.{Head}
 
 abbrev pub IsInside : SlotKey → Type 0

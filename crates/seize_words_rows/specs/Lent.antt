@@ -12,16 +12,16 @@ use base.Stored.{Gv}
 use Rattle.seize_content.specs.Stages.{Name as Content}
 use Rattle.seize_content.specs.declared.loan.Pool.{Pool}
 use Rattle.seize_machine.specs.Machine.State.{Active}
-use Rattle.seize_words.specs.Books.{IsNextIn}
-use Rattle.seize_words.specs.Lending.{GoesWith}
+use Rattle.seize_book.specs.Books.{IsNextIn}
+use Rattle.seize_book.specs.Lending.{GoesWith}
 use Rattle.seize_words.specs.LinkWords.{IsIn, number}
-use Rattle.seize_words.specs.Loans.{Carries}
+use Rattle.seize_book.specs.Loans.{Carries}
 use Rattle.seize_words.specs.Named.{link_book}
-use Rattle.seize_words.specs.Others.{book_of, value_of}
-use Rattle.seize_words.specs.Tokens.{Name}
+use Rattle.seize_book.specs.Others.{book_of, value_of}
+use Rattle.seize_book.specs.Tokens.{Name}
 use Rattle.seize_words.specs.declared.activation.Activation.{Activation}
-use Rattle.seize_words.specs.declared.book.pass.Pass.{Pass}
-use Rattle.seize_words.specs.declared.book.value_key.ValueKey.{ValueKey}
+use Rattle.seize_book.specs.declared.book.pass.Pass.{Pass}
+use Rattle.seize_book.specs.declared.book.value_key.ValueKey.{ValueKey}
 use Rattle.seize_words.specs.declared.link.Link.{Link}
 use Rattle.seize_words_rows.specs.Runs.{idle}
 use Rattle.seize_words_rows.specs.Stages.{Sees, Stage}

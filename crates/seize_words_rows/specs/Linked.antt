@@ -8,16 +8,16 @@
 --     refreshing .. loosened v      the stages, in order
 use Rattle.std.specs.Prelude.{◌≡◌, ℕ, true, List, [], ◌∷◌, length, Option, Some, None}
 use Rattle.seize_machine.specs.Machine.State.{Active, Inactive, Out, Rest}
-use Rattle.seize_words.specs.Blocks.{block_of}
-use Rattle.seize_words.specs.Chains.{first_field, next_field}
+use Rattle.seize_book.specs.Blocks.{block_of}
+use Rattle.seize_book.specs.Chains.{first_field, next_field}
 use Rattle.seize_words.specs.Counts.{home}
 use Rattle.seize_words.specs.Headers.{number}
-use Rattle.seize_words.specs.Homes.{home_of}
+use Rattle.seize_book.specs.Homes.{home_of}
 use Rattle.seize_words.specs.LinkWords as links
 use Rattle.seize_words.specs.Named.{count_book, field_book, link_book}
-use Rattle.seize_words.specs.Tokens.{Name}
+use Rattle.seize_book.specs.Tokens.{Name}
 use Rattle.seize_words.specs.declared.activation.Activation.{Activation}
-use Rattle.seize_words.specs.declared.book.pass.Pass.{Pass}
+use Rattle.seize_book.specs.declared.book.pass.Pass.{Pass}
 use Rattle.seize_words_rows.specs.Runs.{AreHeads, before_detached, book_in, calls, idle}
 use Rattle.seize_words_rows.specs.Stages.{Stage}
 use Rattle.seize_words_rows.specs.declared.linked.Linked.{Linked}

@@ -12,21 +12,21 @@ use Rattle.std.specs.Prelude.{◌≡◌, ℕ, suc, ◌+◌, ◌<◌, ◌≤◌, 
 use Rattle.seize_table.specs.Place.{all_numbers}
 use Rattle.seize_machine.specs.Machine.Event.{Take}
 use Rattle.seize_machine.specs.Machine.State.{Inactive}
-use Rattle.seize_words.specs.Adding.{private}
-use Rattle.seize_words.specs.Entry.{Made}
+use Rattle.seize_book.specs.Adding.{private}
+use Rattle.seize_book.specs.Entry.{Made}
 use Rattle.seize_words.specs.Named.{AreLinks, head_book, links_book, next_book, next_head, next_list, numbers_book, numbers_list, slot_book, total_book, total_key_book, total_list}
-use Rattle.seize_words.specs.Passes.{IsSame}
+use Rattle.seize_book.specs.Passes.{IsSame}
 use Rattle.seize_words.specs.Reservations.{head_known, slot}
-use Rattle.seize_words.specs.Slots.{active_of, number_of, own_list, slot_of}
-use Rattle.seize_words.specs.Tokens.{Name, Noted, many}
+use Rattle.seize_book.specs.Slots.{active_of, number_of, own_list, slot_of}
+use Rattle.seize_book.specs.Tokens.{Name, Noted, many}
 use Rattle.seize_words.specs.Totals.{IsFull, made_of}
-use Rattle.seize_words.specs.declared.book.link_keys.LinkKeys.{LinkKeys}
-use Rattle.seize_words.specs.declared.book.numbers_key.NumbersKey.{NumbersKey}
-use Rattle.seize_words.specs.declared.book.pass.Pass.{Pass}
-use Rattle.seize_words.specs.declared.book.slot_key.SlotKey.{SlotKey}
-use Rattle.seize_words.specs.declared.book.slot_keys.SlotKeys.{SlotKeys}
-use Rattle.seize_words.specs.declared.book.token.Book.{Book}
-use Rattle.seize_words.specs.declared.book.total_key.TotalKey.{TotalKey}
+use Rattle.seize_book.specs.declared.book.link_keys.LinkKeys.{LinkKeys}
+use Rattle.seize_book.specs.declared.book.numbers_key.NumbersKey.{NumbersKey}
+use Rattle.seize_book.specs.declared.book.pass.Pass.{Pass}
+use Rattle.seize_book.specs.declared.book.slot_key.SlotKey.{SlotKey}
+use Rattle.seize_book.specs.declared.book.slot_keys.SlotKeys.{SlotKeys}
+use Rattle.seize_book.specs.declared.book.token.Book.{Book}
+use Rattle.seize_book.specs.declared.book.total_key.TotalKey.{TotalKey}
 use Rattle.seize_words.specs.declared.reservation.Head.{Head}
 use Rattle.seize_words_rows.specs.declared.making.Maker.{Maker}
 

@@ -8,14 +8,14 @@ use Rattle.std.specs.Prelude.{◌≡◌, ℕ, ◌≤◌, List, [], ◌++◌, map
 use Rattle.std.specs.List.{range_with_len}
 use Rattle.seize_machine.specs.Machine.Event.{ReadHead}
 use Rattle.seize_machine.specs.Machine.State.{Mark, Rest}
-use Rattle.seize_words.specs.Adding.{private}
-use Rattle.seize_words.specs.Batches.{CanDetach}
-use Rattle.seize_words.specs.Entry.{Entry, Made}
-use Rattle.seize_words.specs.Passes.{mine_of}
-use Rattle.seize_words.specs.Slots.{active_of, number_of, slot_of}
+use Rattle.seize_book.specs.Adding.{private}
+use Rattle.seize_book.specs.Batches.{CanDetach}
+use Rattle.seize_book.specs.Entry.{Entry, Made}
+use Rattle.seize_book.specs.Passes.{mine_of}
+use Rattle.seize_book.specs.Slots.{active_of, number_of, slot_of}
 use Rattle.seize_words.specs.Totals.{slots_seen}
-use Rattle.seize_words.specs.declared.book.pass.Pass.{Pass}
-use Rattle.seize_words.specs.declared.book.slot_key.SlotKey.{SlotKey}
+use Rattle.seize_book.specs.declared.book.pass.Pass.{Pass}
+use Rattle.seize_book.specs.declared.book.slot_key.SlotKey.{SlotKey}
 use Rattle.seize_words_rows.specs.declared.marking.Marked.{Marked}
 use Rattle.seize_words_rows.specs.declared.marking.Marked.TheVariants.{Ready, TooMany}
 

@@ -13,19 +13,19 @@ use Rattle.std.specs.Prelude.{◌≡◌, ℕ, pos, true, List, [], ◌∷◌, �
 use Rattle.seize_machine.specs.Machine.State.{Add, Batch, Inactive, Mark, Place, Rest, Slot}
 use Rattle.seize_machine.specs.Machine.Event.{Hand, Put}
 use Rattle.seize_machine.specs.declared.machine.event.Answer.TheVariants.{Done, Handed}
-use Rattle.seize_words.specs.Adding.{private}
-use Rattle.seize_words.specs.Blocks.{Plan, block_of}
+use Rattle.seize_book.specs.Adding.{private}
+use Rattle.seize_book.specs.Blocks.{Plan, block_of}
 use Rattle.seize_words.specs.Counts.{home}
-use Rattle.seize_words.specs.Entry.{Made}
-use Rattle.seize_words.specs.Homes.{home_of}
+use Rattle.seize_book.specs.Entry.{Made}
+use Rattle.seize_book.specs.Homes.{home_of}
 use Rattle.seize_words.specs.Named.{count_book, first_value, slot_book}
-use Rattle.seize_words.specs.Passes.{mine_of}
-use Rattle.seize_words.specs.Slots.{number_of, slot_of}
-use Rattle.seize_words.specs.Tokens.{Name}
-use Rattle.seize_words.specs.Values.{AreNew, book_in, values_of}
-use Rattle.seize_words.specs.declared.book.pass.Pass.{Pass}
-use Rattle.seize_words.specs.declared.book.slot_key.SlotKey.{SlotKey}
-use Rattle.seize_words.specs.declared.book.value_keys.ValueKeys.{ValueKeys}
+use Rattle.seize_book.specs.Passes.{mine_of}
+use Rattle.seize_book.specs.Slots.{number_of, slot_of}
+use Rattle.seize_book.specs.Tokens.{Name}
+use Rattle.seize_book.specs.Values.{AreNew, book_in, values_of}
+use Rattle.seize_book.specs.declared.book.pass.Pass.{Pass}
+use Rattle.seize_book.specs.declared.book.slot_key.SlotKey.{SlotKey}
+use Rattle.seize_book.specs.declared.book.value_keys.ValueKeys.{ValueKeys}
 use Rattle.seize_words_rows.specs.Runs as runs
 use Rattle.seize_words_rows.specs.Runs.{AreWords, book_of, idle, value_of}
 use Rattle.seize_words_rows.specs.Stages.{Knows, Sees, Stage}

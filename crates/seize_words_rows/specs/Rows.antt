@@ -8,10 +8,10 @@ use Rattle.std.specs.Prelude.{◌≡◌, ℕ, ◌<◌, List, length}
 use Rattle.std.specs.List.{All}
 use Rattle.seize_words.specs.LinkWords.{IsIn}
 use Rattle.seize_words.specs.Links.{IsWithin}
-use Rattle.seize_words.specs.Tokens.{Name, many}
+use Rattle.seize_book.specs.Tokens.{Name, many}
 use Rattle.seize_words.specs.declared.activation.Activation.{Activation}
-use Rattle.seize_words.specs.declared.book.pass.Pass.{Pass}
-use Rattle.seize_words.specs.declared.book.token.Book.{Book}
+use Rattle.seize_book.specs.declared.book.pass.Pass.{Pass}
+use Rattle.seize_book.specs.declared.book.token.Book.{Book}
 use Rattle.seize_words.specs.declared.link.Link.{Link}
 use Rattle.seize_words_rows.specs.Exchanges.{IsLink}
 use Rattle.seize_words_rows.specs.Making.{CanMake, TakesPart, made_by}

@@ -7,18 +7,18 @@
 --     opened .. over v   the stages, in order
 use Rattle.std.specs.Prelude.{◌≡◌, ℕ, ℤ, pos, negsuc, true, false, List, [], ◌∷◌, Some, None}
 use Rattle.seize_machine.specs.Machine.State.{Slot, Head, Inactive, Active, Batch, Place, Append, Mark, Look, Try, Add, Out, Rest}
-use Rattle.seize_words.specs.Blocks.{block_of}
-use Rattle.seize_words.specs.Chains.{first_field, next_field}
+use Rattle.seize_book.specs.Blocks.{block_of}
+use Rattle.seize_book.specs.Chains.{first_field, next_field}
 use Rattle.seize_words.specs.Counts.{home}
 use Rattle.seize_words.specs.Headers.{number}
-use Rattle.seize_words.specs.Homes.{home_of}
+use Rattle.seize_book.specs.Homes.{home_of}
 use Rattle.seize_words.specs.Named.{count_book, field_book, first_value, head_book, values_state}
-use Rattle.seize_words.specs.Others as others
+use Rattle.seize_book.specs.Others as others
 use Rattle.seize_words.specs.Reservations.{slot}
-use Rattle.seize_words.specs.Tokens.{Name}
-use Rattle.seize_words.specs.Values as values
-use Rattle.seize_words.specs.declared.book.pass.Pass.{Pass}
-use Rattle.seize_words.specs.declared.book.slot_key.SlotKey.{SlotKey}
+use Rattle.seize_book.specs.Tokens.{Name}
+use Rattle.seize_book.specs.Values as values
+use Rattle.seize_book.specs.declared.book.pass.Pass.{Pass}
+use Rattle.seize_book.specs.declared.book.slot_key.SlotKey.{SlotKey}
 use Rattle.seize_words_rows.specs.Stages.{Knows, Sees, Stage}
 use Rattle.seize_words_rows.specs.declared.worked_run.Block.{Block}
 use Rattle.seize_words_rows.specs.declared.worked_run.Heads.{Heads}

@@ -4,9 +4,9 @@
 --     begun_again v w               slot 1 has begun to retire w; the stages after that are those of a further value
 use Rattle.std.specs.Prelude.{ℕ, []}
 use Rattle.seize_machine.specs.Machine.State.{Append}
-use Rattle.seize_words.specs.Tokens.{Name}
-use Rattle.seize_words.specs.declared.book.pass.Pass.{Pass}
-use Rattle.seize_words.specs.declared.book.slot_key.SlotKey.{SlotKey}
+use Rattle.seize_book.specs.Tokens.{Name}
+use Rattle.seize_book.specs.declared.book.pass.Pass.{Pass}
+use Rattle.seize_book.specs.declared.book.slot_key.SlotKey.{SlotKey}
 use Rattle.seize_words_rows.specs.Puts.{after_handed}
 use Rattle.seize_words_rows.specs.Runs as runs
 use Rattle.seize_words_rows.specs.Runs.{AreWords, book_of, over, value_of}

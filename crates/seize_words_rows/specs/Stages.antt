@@ -11,14 +11,14 @@ use Rattle.seize_machine.specs.Machine.State.{State, head_at}
 use Rattle.seize_machine.specs.Machine.Event.{Event}
 use Rattle.seize_machine.specs.Machine.Next.{next}
 use Rattle.seize_machine.specs.declared.machine.event.Answer.{Answer}
-use Rattle.seize_words.specs.Blocks.{Plan, block_in, no_plan, planned_by, plans, word_of}
-use Rattle.seize_words.specs.Book.{after}
-use Rattle.seize_words.specs.Entry.{Entry}
+use Rattle.seize_book.specs.Blocks.{Plan, block_in, no_plan, planned_by, plans, word_of}
+use Rattle.seize_book.specs.Book.{after}
+use Rattle.seize_book.specs.Entry.{Entry}
 use Rattle.seize_words.specs.Named.{slot_book}
-use Rattle.seize_words.specs.Slots.{number_of, own_list}
-use Rattle.seize_words.specs.Tokens.{IsSole, Name, start}
-use Rattle.seize_words.specs.declared.book.pass.Pass.{Pass}
-use Rattle.seize_words.specs.declared.book.slot_key.SlotKey.{SlotKey}
+use Rattle.seize_book.specs.Slots.{number_of, own_list}
+use Rattle.seize_book.specs.Tokens.{IsSole, Name, start}
+use Rattle.seize_book.specs.declared.book.pass.Pass.{Pass}
+use Rattle.seize_book.specs.declared.book.slot_key.SlotKey.{SlotKey}
 
 pub record Stage : Type 0 where
   pub size : ℕ

@@ -8,11 +8,11 @@
 --     GoesOn at v w        v leads to the rest of the walk, and w is the number of the batch's first block
 use Rattle.std.specs.Prelude.{◌≡◌, ℕ, List, [], ◌∷◌, Option, Some, None}
 use Rattle.seize_machine.specs.Machine.State.{Rest}
-use Rattle.seize_words.specs.Blocks.{block_for, list_word}
-use Rattle.seize_words.specs.Chains.{first_field, next_field}
+use Rattle.seize_book.specs.Blocks.{block_for, list_word}
+use Rattle.seize_book.specs.Chains.{first_field, next_field}
 use Rattle.seize_words.specs.Headers.{IsFrontBlock, number}
-use Rattle.seize_words.specs.Slots.{number_of, own_list, slot_of, start_of}
-use Rattle.seize_words.specs.declared.book.slot_key.SlotKey.{SlotKey}
+use Rattle.seize_book.specs.Slots.{number_of, own_list, slot_of, start_of}
+use Rattle.seize_book.specs.declared.book.slot_key.SlotKey.{SlotKey}
 use Rattle.seize_words.specs.declared.header.Field.{Field}
 use Rattle.seize_words_rows.specs.Attempts.{home_for}
 

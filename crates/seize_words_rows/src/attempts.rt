@@ -1,11 +1,12 @@
 //! The end of an attempt: the batch is inserted at the last of the slots where it has still to be, and the insertions won are added to its
 //! count. Others may step on all these words meanwhile, and add any events.
 ghost use Rattle.std.specs.Prelude.{◌≡◌, ◌+◌, ◌<◌, ◌^◌, Some};
-ghost use Rattle.seize_words.specs.Chains.{first_field, next_field};
-ghost use Rattle.seize_words.specs.Counts.{AreOfBook as IsInBook, IsOfBook as IsCountIn};
+ghost use Rattle.seize_book.specs.Chains.{first_field, next_field};
+ghost use Rattle.seize_book.specs.Values.{AreOfBook as IsInBook};
+ghost use Rattle.seize_words.specs.Counts.{IsOfBook as IsCountIn};
 ghost use Rattle.seize_words.specs.Headers.{IsOfBook as IsFieldIn, Stores, number};
 ghost use Rattle.seize_words.specs.Reservations.{IsOfBook};
-ghost use Rattle.seize_words.specs.Slots.{IsOf, written_of};
+ghost use Rattle.seize_book.specs.Slots.{IsOf, written_of};
 ghost use Rattle.seize_words_rows.specs.Attempts.{Ends, IsLastTry, KeepsValues, TriesWith, UsesBoth};
 
 use seize_words::batch::Count;

@@ -8,10 +8,9 @@
 ghost use Rattle.std.specs.Prelude.{◌≡◌, ◌+◌, [], ◌∷◌, ◌++◌, IfSome, false, true};
 ghost use Rattle.seize_store.specs.Named.{bare_number, bare_value};
 ghost use Rattle.seize_words.specs.Chunks.{book_in as blocks_book};
-ghost use Rattle.seize_words.specs.Passes.{LooksOn};
+ghost use Rattle.seize_book.specs.Passes.{LooksOn};
 ghost use Rattle.seize_words.specs.Reservations.{IsLastOf};
-ghost use Rattle.seize_words_rows.specs.BlockRuns.{AreNew, AreReady, LeavesOut, LiesFirst, Rests, StandsAt, StandsWith, Walks, book_of, listed, word_over};
-ghost use Rattle.seize_words_rows.specs.BlockRuns.{entered, inserted, looked, marked, opened, put, rests};
+ghost use Rattle.seize_words_rows.specs.BlockRuns.{AreNew, AreReady, LeavesOut, LiesFirst, Rests, StandsAt, StandsWith, Walks, book_of, listed, word_over, entered, inserted, looked, marked, opened, put, rests};
 ghost use Rattle.seize_words_rows.specs.Making.{CanMake, made_by, name_by};
 ghost use Rattle.seize_words_rows.specs.Runs.{AreHeads, book_in};
 ghost use Rattle.seize_words_rows.specs.Stages.{Knows, Sees};

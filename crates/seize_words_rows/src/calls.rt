@@ -3,7 +3,7 @@ ghost use Rattle.std.specs.Prelude.{◌≡◌, [], true};
 ghost use Rattle.seize_machine.specs.Machine.State.{is_idle};
 ghost use Rattle.seize_machine.specs.Machine.Event.{Begin, Return};
 ghost use Rattle.seize_machine.specs.declared.machine.event.Job.TheVariants.{Flush};
-ghost use Rattle.seize_words.specs.Slots.{IsOf, active_of, number_of, slot_of};
+ghost use Rattle.seize_book.specs.Slots.{IsOf, active_of, number_of, slot_of};
 ghost use Rattle.seize_words_rows.specs.Calls.{HasMade};
 
 use seize_words::book::{Pass, SlotKey};

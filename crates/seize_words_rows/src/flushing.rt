@@ -3,11 +3,11 @@
 ghost use Rattle.std.specs.Prelude.{◌≡◌, ◌+◌, ◌<◌, ◌∷◌, ◌++◌, [], length, true, IfOk, IfSome, None};
 ghost use Rattle.seize_table.specs.Place.{all_numbers};
 ghost use Rattle.seize_words.specs.Named.{numbers_book};
-ghost use Rattle.seize_words.specs.Others.{MayRetire, book_of, value_of};
-ghost use Rattle.seize_words.specs.Passes.{IsSame};
+ghost use Rattle.seize_book.specs.Others.{MayRetire, book_of, value_of};
+ghost use Rattle.seize_book.specs.Passes.{IsSame};
 ghost use Rattle.seize_words.specs.Reserved.{HasNext, slots_book};
-ghost use Rattle.seize_words.specs.Slots.{IsOf, own_list, size_of, slot_of};
-ghost use Rattle.seize_words.specs.Tokens.{many};
+ghost use Rattle.seize_book.specs.Slots.{IsOf, own_list, size_of, slot_of};
+ghost use Rattle.seize_book.specs.Tokens.{many};
 ghost use Rattle.seize_words.specs.Totals.{made_of};
 ghost use Rattle.seize_words_rows.specs.Flushers.{CanFlush, IsEntered, MayFlush, MayGrow, grown};
 ghost use Rattle.seize_words_rows.specs.Leaves.{IsInside};

@@ -2,11 +2,9 @@
 //! add. The second goes on with the worked run, on words: the reclaimer of its value puts one that lies in another block, and the call
 //! that handed the first value retires that one too, before it returns.
 ghost use Rattle.std.specs.Prelude.{◌≡◌, ◌≢◌, [], true, None};
-ghost use Rattle.seize_words.specs.Counts.{AreOfBook};
-ghost use Rattle.seize_words.specs.Slots.{IsOf};
-ghost use Rattle.seize_words.specs.Values.{AreNew, values_of};
-ghost use Rattle.seize_words_rows.specs.Puts.{HandsLast, IsNewPut, IsPut, PutsFirst, RunsOn};
-ghost use Rattle.seize_words_rows.specs.Puts.{both_gone, gave_both, put_on, read_on};
+ghost use Rattle.seize_book.specs.Values.{AreOfBook, AreNew, values_of};
+ghost use Rattle.seize_book.specs.Slots.{IsOf};
+ghost use Rattle.seize_words_rows.specs.Puts.{HandsLast, IsNewPut, IsPut, PutsFirst, RunsOn, both_gone, gave_both, put_on, read_on};
 ghost use Rattle.seize_words_rows.specs.Runs.{AreHeads, IsNewBlock, StandsAt, book_of, counted_up, one_made, two_made};
 ghost use Rattle.seize_words_rows.specs.Stages.{Knows, Leads};
 

@@ -2,7 +2,7 @@
 //! to be walked.
 ghost use Rattle.std.specs.Prelude.{◌≡◌, true};
 ghost use Rattle.seize_words.specs.Reservations.{IsLastOf, IsOfBook, IsOwn};
-ghost use Rattle.seize_words.specs.Slots.{IsOf};
+ghost use Rattle.seize_book.specs.Slots.{IsOf};
 ghost use Rattle.seize_words_rows.specs.Leaves.{GoesOut, IsInside, IsOutside};
 ghost use Rattle.seize_words_rows.specs.Making.{CanMake, HasOneMore, TakesPart};
 ghost use Rattle.seize_words_rows.specs.Visits.{MayVisit};

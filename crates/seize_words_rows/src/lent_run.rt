@@ -9,9 +9,8 @@ ghost use Rattle.seize_content.specs.Parts.{content_of};
 ghost use Rattle.seize_content.specs.Stages.{Name as Place};
 ghost use Rattle.seize_content.specs.declared.loan.Pool.{Pool as Loan};
 ghost use Rattle.seize_words.specs.Named.{link_book};
-ghost use Rattle.seize_words.specs.Others.{value_of};
-ghost use Rattle.seize_words_rows.specs.Lent.{HasBegun, IsLentValue, IsOfValue, IsTheLink, LendsWith, Stay};
-ghost use Rattle.seize_words_rows.specs.Lent.{both_in, linked, out};
+ghost use Rattle.seize_book.specs.Others.{value_of};
+ghost use Rattle.seize_words_rows.specs.Lent.{HasBegun, IsLentValue, IsOfValue, IsTheLink, LendsWith, Stay, both_in, linked, out};
 ghost use Rattle.seize_words_rows.specs.Runs.{AreHeads, book_in, entered, one_made, two_made};
 ghost use Rattle.seize_words_rows.specs.Stages.{Knows, Leads, Sees};
 

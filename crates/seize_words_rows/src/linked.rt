@@ -2,8 +2,8 @@
 //! there on the worked run follows it, until it was reclaimed. Then a second value lies in its block, and is retired too, without ever
 //! having been in a link; no slot is active by then.
 ghost use Rattle.std.specs.Prelude.{◌≡◌};
-ghost use Rattle.seize_words.specs.Books.{IsNextIn};
-ghost use Rattle.seize_words.specs.Others.{MayRetire, book_of, value_of};
+ghost use Rattle.seize_book.specs.Books.{IsNextIn};
+ghost use Rattle.seize_book.specs.Others.{MayRetire, book_of, value_of};
 ghost use Rattle.seize_words.specs.Reservations.{IsLastOf};
 ghost use Rattle.seize_words_rows.specs.Linked.{AreLinked, HasLink, IsOwnIn, book_by, loosened};
 ghost use Rattle.seize_words_rows.specs.Runs.{StandsAt, book_of as book_in, entered, one_made, put, two_made, value_of as value_in};

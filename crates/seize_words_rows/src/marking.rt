@@ -2,9 +2,9 @@
 //! active. Others may step on all these words meanwhile, make slots, and add any events.
 ghost use Rattle.std.specs.Prelude.{◌≡◌, ◌≤◌, length};
 ghost use mathlib.Core.List.{IsPrefix};
-ghost use Rattle.seize_words.specs.Passes.{IsSame};
+ghost use Rattle.seize_book.specs.Passes.{IsSame};
 ghost use Rattle.seize_words.specs.Reserved.{comes_to, ends_at, heads_book, slots_book};
-ghost use Rattle.seize_words.specs.Slots.{IsOf, number_of, own_list, slot_of};
+ghost use Rattle.seize_book.specs.Slots.{IsOf, number_of, own_list, slot_of};
 ghost use Rattle.seize_words.specs.Totals.{slots_seen};
 ghost use Rattle.seize_words_rows.specs.Marks.{BeginsToMark, Ends};
 

@@ -1,9 +1,9 @@
 //! A row of links, made whole and read whole: under an activation that threads share, or by a slot that enters and leaves.
 ghost use Rattle.std.specs.Prelude.{◌≡◌, IfOk, IfSome, length};
 ghost use Rattle.seize_words.specs.Named.{links_book};
-ghost use Rattle.seize_words.specs.Passes.{IsSame};
+ghost use Rattle.seize_book.specs.Passes.{IsSame};
 ghost use Rattle.seize_words.specs.Reservations.{IsOfBook, IsOwn};
-ghost use Rattle.seize_words.specs.Slots.{IsOf};
+ghost use Rattle.seize_book.specs.Slots.{IsOf};
 ghost use Rattle.seize_words_rows.specs.Leaves.{IsOutside};
 ghost use Rattle.seize_words_rows.specs.Making.{AreLeft};
 ghost use Rattle.seize_words_rows.specs.Rows.{AreIn, AreOf, MayReadAll, OpensRow};

@@ -2,7 +2,7 @@
 //! the first retires this one too, without a link. No slot is active by then, so it waits for none.
 ghost use Rattle.std.specs.Prelude.{◌≡◌, true};
 ghost use Rattle.seize_words.specs.Named.{values_state};
-ghost use Rattle.seize_words.specs.Values.{AreNew};
+ghost use Rattle.seize_book.specs.Values.{AreNew};
 ghost use Rattle.seize_words_rows.specs.Puts.{both_gone, gave_both, put_on, read_on};
 ghost use Rattle.seize_words_rows.specs.Runs.{AreWords, book_of, counted_up, over, value_of};
 ghost use Rattle.seize_words_rows.specs.SecondValue.{GoesOn, IsOver};

@@ -2,10 +2,10 @@
 //! list says with which block its first batch was inserted; the fields of that block say where the list goes on, and where the batch's
 //! count is. Others may step on all these words meanwhile, and add any events.
 ghost use Rattle.std.specs.Prelude.{◌≡◌, ℕ, List};
-ghost use Rattle.seize_words.specs.Blocks.{list_word};
+ghost use Rattle.seize_book.specs.Blocks.{list_word};
 ghost use Rattle.seize_words.specs.Headers.{IsOfBook};
-ghost use Rattle.seize_words.specs.Passes.{LooksOn};
-ghost use Rattle.seize_words.specs.Slots.{IsOf, IsStill};
+ghost use Rattle.seize_book.specs.Passes.{LooksOn};
+ghost use Rattle.seize_book.specs.Slots.{IsOf, IsStill};
 ghost use Rattle.seize_words.specs.Walks.{IsAtBatch, Knows};
 ghost use Rattle.seize_words_rows.specs.Walks.{GoesOn, HandsInWalk, IsAtBlock, LeadsTo};
 

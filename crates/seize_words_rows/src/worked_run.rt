@@ -7,12 +7,10 @@
 //! comes out. So the contracts say which words are found.
 ghost use Rattle.std.specs.Prelude.{◌≡◌, true, false, None, Some};
 ghost use Rattle.seize_words.specs.Named.{values_state};
-ghost use Rattle.seize_words.specs.Slots.{written_of};
+ghost use Rattle.seize_book.specs.Slots.{written_of};
 ghost use Rattle.seize_words.specs.Reservations.{IsLastOf};
 ghost use Rattle.seize_words_rows.specs.Making.{CanMake, made_by, name_by};
-ghost use Rattle.seize_words_rows.specs.Runs.{AreHeads, IsLaid, IsNewBlock, StandsAt, book_in, book_of, value_in, value_of};
-ghost use Rattle.seize_words_rows.specs.Runs.{entered, one_made, opened, put, two_made};
-ghost use Rattle.seize_words_rows.specs.Runs.{counted_up, inserted, left, looked, marked, over, reader_over};
+ghost use Rattle.seize_words_rows.specs.Runs.{AreHeads, IsLaid, IsNewBlock, StandsAt, book_in, book_of, value_in, value_of, entered, one_made, opened, put, two_made, counted_up, inserted, left, looked, marked, over, reader_over};
 ghost use Rattle.seize_words_rows.specs.Stages.{Knows, Leads, Sees};
 
 use crate::attempts::{Attempt, insert_last, prepare};

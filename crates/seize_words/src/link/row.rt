@@ -2,8 +2,8 @@
 ghost use Rattle.std.specs.Prelude.{◌≡◌};
 ghost use Rattle.seize_words.specs.LinkRows.{AreInRow};
 
-use crate::book::{Book, LinkKeys};
 use crate::link::Link;
+use seize_book::book::{Book, LinkKeys};
 use seize_table::Refusal;
 use std::alloc::{AllocError, Global};
 

@@ -1,11 +1,11 @@
 //! The walk over the heads of the first slots. It stands on the walk of the table.
 ghost use Rattle.std.specs.Prelude.{◌≡◌, ◌≤◌, length};
 ghost use Rattle.seize_table.specs.Walk.{end_of, labels_of};
-ghost use Rattle.seize_words.specs.Tokens.{slot_labels};
+ghost use Rattle.seize_book.specs.Tokens.{slot_labels};
 
-use crate::book::Book;
 use crate::reservation::Head;
 use crate::slots::Reservation;
+use seize_book::book::Book;
 use seize_table::tls::First;
 
 /// The heads of the first slots of a book, by number. It takes no memory. For each bucket of the table it looks up the bucket once; then

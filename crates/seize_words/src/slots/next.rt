@@ -2,11 +2,11 @@
 ghost use Rattle.std.specs.Prelude.{◌≡◌};
 ghost use Rattle.crossbeam_utils.specs.Padded.{padded_value};
 ghost use Rattle.seize_words.specs.Reservations.{slot};
-ghost use Rattle.seize_words.specs.Slots.{number_of};
+ghost use Rattle.seize_book.specs.Slots.{number_of};
 
-use crate::book::{Book, SlotKey, SlotKeys};
 use crate::reservation::Head;
 use crate::slots::Reservation;
+use seize_book::book::{Book, SlotKey, SlotKeys};
 
 /// The slot that comes next, with its head, which is in no place yet.
 #[derive(Drop)]

@@ -4,14 +4,14 @@ use Rattle.seize_machine.specs.Machine.Event.{Insert}
 use Rattle.seize_machine.specs.Machine.History.{first_of}
 use Rattle.seize_machine.specs.declared.machine.event.Try.{Try as Insertion}
 use Rattle.seize_machine.specs.declared.machine.event.Try.TheVariants.{Won, Lost}
-use Rattle.seize_words.specs.Blocks.{Plan}
+use Rattle.seize_book.specs.Blocks.{Plan}
 use Rattle.seize_words.specs.Counts.{AddsTo}
 use Rattle.seize_words.specs.Heads.{found_end}
 use Rattle.seize_words.specs.Reservations.{slot}
-use Rattle.seize_words.specs.Slots.{Notes, number_of}
+use Rattle.seize_book.specs.Slots.{Notes, number_of}
 use Rattle.seize_words.specs.declared.batch.Count.{Count}
-use Rattle.seize_words.specs.declared.book.pass.Pass.{Pass}
-use Rattle.seize_words.specs.declared.book.slot_key.SlotKey.{SlotKey}
+use Rattle.seize_book.specs.declared.book.pass.Pass.{Pass}
+use Rattle.seize_book.specs.declared.book.slot_key.SlotKey.{SlotKey}
 use Rattle.seize_words.specs.declared.header.Field.{Field}
 use Rattle.seize_words.specs.declared.reservation.Head.{Head}
 use Rattle.seize_words.proofs.Facts.{plan_kept}

@@ -1,5 +1,5 @@
 use Rattle.std.proofs.Common.{ℕ, Option, Some, unwrap_or, ap, ◌∙◌, inr}
-use Rattle.seize_words.specs.Chains.{first_field}
+use Rattle.seize_book.specs.Chains.{first_field}
 use Rattle.seize_words.specs.Headers.{number}
 use Rattle.seize_words.proofs.Facts.{still_stores}
 use Rattle.seize_words_rows.proofs.attempts.prepare.Goals as goal

@@ -2,7 +2,7 @@ use Rattle.std.proofs.Common.{ℕ, ◌+◌, ◌<◌, ◌^◌, ◌∷◌, [], ref
 use Rattle.seize_machine.specs.Machine.Event.{Insert}
 use Rattle.seize_machine.specs.declared.machine.event.Answer.TheVariants.{Done}
 use Rattle.seize_machine.specs.declared.machine.event.Try.{Try}
-use Rattle.seize_words.specs.Chains.{first_field, next_field}
+use Rattle.seize_book.specs.Chains.{first_field, next_field}
 use Rattle.seize_words.specs.Headers.{number}
 use Rattle.seize_words.specs.Heads.{found_end}
 use Rattle.seize_words.specs.Reservations.{slot}

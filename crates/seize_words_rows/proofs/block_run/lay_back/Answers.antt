@@ -1,11 +1,11 @@
 use Rattle.std.proofs.Common.{◌≡◌, ℕ, List, sym, subst, ap, ◌∙◌}
 use Rattle.seize_machine.specs.Machine.State.{has}
-use Rattle.seize_words.specs.Book.{after}
-use Rattle.seize_words.specs.Entry.{Entry}
-use Rattle.seize_words.specs.Ledger.{Held, renewed}
-use Rattle.seize_words.specs.Others.{value_of}
-use Rattle.seize_words.specs.Tokens.{IsSole, Name, start}
-use Rattle.seize_words.specs.Values.{values_of}
+use Rattle.seize_book.specs.Book.{after}
+use Rattle.seize_book.specs.Entry.{Entry}
+use Rattle.seize_book.specs.Ledger.{Held, renewed}
+use Rattle.seize_book.specs.Others.{value_of}
+use Rattle.seize_book.specs.Tokens.{IsSole, Name, start}
+use Rattle.seize_book.specs.Values.{values_of}
 use Rattle.seize_words_rows.proofs.BlockWalks.{among_all, others_know}
 use Rattle.seize_words_rows.proofs.block_run.lay_back.Goals as goal
 

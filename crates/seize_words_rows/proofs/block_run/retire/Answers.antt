@@ -2,9 +2,9 @@ use Rattle.std.proofs.Common.{ℕ, List, [], ◌∷◌, ◌++◌, sym, ap, ◌�
 use Rattle.seize_machine.specs.Machine.Event.{Begin, Put, Return}
 use Rattle.seize_machine.specs.declared.machine.event.Answer.TheVariants.{Done}
 use Rattle.seize_machine.specs.declared.machine.event.Job.TheVariants.{Retire}
-use Rattle.seize_words.specs.Homes.{home_of}
-use Rattle.seize_words.specs.Others.{value_of}
-use Rattle.seize_words.specs.Tokens.{Name, label_at}
+use Rattle.seize_book.specs.Homes.{home_of}
+use Rattle.seize_book.specs.Others.{value_of}
+use Rattle.seize_book.specs.Tokens.{Name, label_at}
 use Rattle.seize_words_rows.specs.BlockRuns.{Two, begun_first, begun_second, book_of, both, one_put, put, put_first, rests}
 use Rattle.seize_words_rows.proofs.BlockRuns.{begins_first, begins_second, few_before, fresh_now, puts_first, puts_second, returns_first}
 use Rattle.seize_words_rows.proofs.Stages.{same_value, steps}

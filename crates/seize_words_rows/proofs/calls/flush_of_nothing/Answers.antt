@@ -3,11 +3,11 @@ use Rattle.seize_machine.specs.Machine.Event.{Begin, Return}
 use Rattle.seize_machine.specs.declared.machine.event.Answer.TheVariants.{Done}
 use Rattle.seize_machine.specs.declared.machine.event.Job.TheVariants.{Flush}
 use Rattle.seize_words.proofs.Facts.{grew}
-use Rattle.seize_words.specs.Adding.{private}
-use Rattle.seize_words.specs.Entry.{Made}
-use Rattle.seize_words.specs.Passes.{mine_of}
-use Rattle.seize_words.specs.Slots.{number_of, slot_of}
-use Rattle.seize_words.specs.Tokens.{Name}
+use Rattle.seize_book.specs.Adding.{private}
+use Rattle.seize_book.specs.Entry.{Made}
+use Rattle.seize_book.specs.Passes.{mine_of}
+use Rattle.seize_book.specs.Slots.{number_of, slot_of}
+use Rattle.seize_book.specs.Tokens.{Name}
 use Rattle.seize_words_rows.proofs.Flushes.{begun_nothing, returned}
 use Rattle.seize_words_rows.proofs.calls.flush_of_nothing.Goals as goal
 

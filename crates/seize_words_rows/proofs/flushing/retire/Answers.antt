@@ -1,4 +1,4 @@
-use Rattle.seize_words.specs.Others.{value_of}
+use Rattle.seize_book.specs.Others.{value_of}
 use Rattle.seize_words_rows.proofs.Flushers.{is_over, puts_it, retired}
 use Rattle.seize_words_rows.proofs.flushing.retire.Goals as goal
 

@@ -1,5 +1,5 @@
 use Rattle.std.proofs.Common.{sym, subst}
-use Rattle.seize_words.specs.Tokens.{Name}
+use Rattle.seize_book.specs.Tokens.{Name}
 use Rattle.seize_words_rows.specs.Puts.{IsNewPut}
 use Rattle.seize_words_rows.proofs.further.give_up.Goals as goal
 

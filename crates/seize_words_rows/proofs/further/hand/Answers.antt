@@ -1,7 +1,7 @@
 use Rattle.std.proofs.Common.{ℕ, List, sym, ◌∙◌, subst}
 use Rattle.seize_machine.specs.Machine.Event.{Hand, Put}
 use Rattle.seize_machine.specs.declared.machine.event.Answer.TheVariants.{Done, Handed}
-use Rattle.seize_words.specs.Values.{values_of}
+use Rattle.seize_book.specs.Values.{values_of}
 use Rattle.seize_words_rows.specs.Puts.{handed_on, put_in, put_on}
 use Rattle.seize_words_rows.specs.Runs.{book_of, counted_up, value_of}
 use Rattle.seize_words_rows.specs.Stages.{Goes}

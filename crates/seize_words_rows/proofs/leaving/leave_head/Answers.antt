@@ -1,6 +1,6 @@
 use Rattle.std.proofs.Common.{[], refl, sym, ap, ◌∙◌}
 use Rattle.seize_machine.proofs.Facts.{and_true}
-use Rattle.seize_words.specs.Slots.{slot_of}
+use Rattle.seize_book.specs.Slots.{slot_of}
 use Rattle.seize_words.proofs.Facts.{life_kept}
 use Rattle.seize_words_rows.proofs.Leaves.{begun_out, gone_out}
 use Rattle.seize_words_rows.proofs.leaving.leave_head.Goals as goal

@@ -5,8 +5,8 @@ use Rattle.seize_machine.specs.declared.machine.event.Exchange.TheVariants.{Swap
 use Rattle.seize_words.specs.LinkWords.{holds, number}
 use Rattle.seize_words.specs.Links.{value_in}
 use Rattle.seize_words.specs.Named.{link_book}
-use Rattle.seize_words.specs.Others.{value_of}
-use Rattle.seize_words.specs.declared.book.keys.Keys.{Keys}
+use Rattle.seize_book.specs.Others.{value_of}
+use Rattle.seize_book.specs.declared.book.keys.Keys.{Keys}
 use Rattle.seize_words_rows.specs.Lent.{both_in, linked}
 use Rattle.seize_words_rows.specs.Stages.{Goes}
 use Rattle.seize_words_rows.proofs.Lent.{goes_in, stays, steps_on, value_of_one}

@@ -6,7 +6,7 @@ use Rattle.seize_words.specs.Glimpses.{SightFor}
 use Rattle.seize_words.specs.LinkWords.{Sees as Seen, number}
 use Rattle.seize_words.specs.Named.{link_book}
 use Rattle.seize_words.specs.declared.activation.Activation.{Activation}
-use Rattle.seize_words.specs.declared.book.pass.Pass.{Pass}
+use Rattle.seize_book.specs.declared.book.pass.Pass.{Pass}
 use Rattle.seize_words.specs.declared.glimpse.Glimpse.{Glimpse}
 use Rattle.seize_words.specs.declared.link.Link.{Link}
 use Rattle.seize_words.proofs.Facts.{same_content}

@@ -1,10 +1,10 @@
 use Rattle.std.proofs.Common.{◌<◌, length, refl, sym, ◌∙◌, subst}
 use denote.Builtin.{u64}
 use Rattle.seize_content.specs.Stages.{Name as Content}
-use Rattle.seize_words.specs.Loans.{Carries}
+use Rattle.seize_book.specs.Loans.{Carries}
 use Rattle.seize_words.specs.Named.{link_book}
-use Rattle.seize_words.specs.Others.{value_of}
-use Rattle.seize_words.specs.Tokens.{Name}
+use Rattle.seize_book.specs.Others.{value_of}
+use Rattle.seize_book.specs.Tokens.{Name}
 use Rattle.seize_words.specs.declared.link.Link.{Link}
 use Rattle.seize_words_rows.specs.Lent.{IsTheLink, LendsWith}
 use Rattle.seize_words_rows.proofs.lent_run.seen_in_link.Goals as goal

@@ -5,9 +5,9 @@ use Rattle.seize_machine.specs.declared.machine.event.Exchange.TheVariants.{Swap
 use Rattle.seize_words.specs.LinkWords.{IsIn, holds, number}
 use Rattle.seize_words.specs.Links.{value_in}
 use Rattle.seize_words.specs.Named.{link_book}
-use Rattle.seize_words.specs.Private.{label_of}
-use Rattle.seize_words.specs.declared.book.keys.Keys.{Keys}
-use Rattle.seize_words.specs.declared.book.pass.Pass.{Pass}
+use Rattle.seize_book.specs.Private.{label_of}
+use Rattle.seize_book.specs.declared.book.keys.Keys.{Keys}
+use Rattle.seize_book.specs.declared.book.pass.Pass.{Pass}
 use Rattle.seize_words_rows.specs.Lent.{linked, out}
 use Rattle.seize_words_rows.specs.Stages.{Goes}
 use Rattle.seize_words_rows.proofs.Lent.{comes_out, held_is, label_is, stays, steps_on}

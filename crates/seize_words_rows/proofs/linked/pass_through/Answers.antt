@@ -2,12 +2,12 @@ use Rattle.std.proofs.Common.{Some, None, ap, refl, ◌∙◌}
 use Rattle.seize_machine.specs.Machine.Event.{ExchangeLink}
 use Rattle.seize_machine.specs.declared.machine.event.Answer.TheVariants.{Link}
 use Rattle.seize_machine.specs.declared.machine.event.Exchange.TheVariants.{Swap}
-use Rattle.seize_words.specs.Adding.{private}
-use Rattle.seize_words.specs.Book.{blocks}
+use Rattle.seize_book.specs.Adding.{private}
+use Rattle.seize_book.specs.Book.{blocks}
 use Rattle.seize_words.specs.LinkWords.{holds, number}
 use Rattle.seize_words.specs.Links.{value_in}
-use Rattle.seize_words.specs.Others.{value_of}
-use Rattle.seize_words.specs.declared.book.keys.Keys.{Keys}
+use Rattle.seize_book.specs.Others.{value_of}
+use Rattle.seize_book.specs.declared.book.keys.Keys.{Keys}
 use Rattle.seize_words_rows.specs.Linked.{book_by, loosened, put_in}
 use Rattle.seize_words_rows.specs.Runs.{entered}
 use Rattle.seize_words_rows.proofs.Passages.{exchanges, holds_it, puts_in, takes_out}

@@ -2,9 +2,9 @@ use Rattle.std.proofs.Common.{ℕ, [], ◌∷◌, ap, sym, subst, ◌∙◌}
 use Rattle.seize_machine.specs.Machine.Event.{Begin, Put}
 use Rattle.seize_machine.specs.declared.machine.event.Answer.TheVariants.{Done}
 use Rattle.seize_machine.specs.declared.machine.event.Job.TheVariants.{Retire}
-use Rattle.seize_words.specs.Others.{value_of}
-use Rattle.seize_words.specs.Private.{label_of}
-use Rattle.seize_words.specs.declared.book.keys.Keys.{Keys}
+use Rattle.seize_book.specs.Others.{value_of}
+use Rattle.seize_book.specs.Private.{label_of}
+use Rattle.seize_book.specs.declared.book.keys.Keys.{Keys}
 use Rattle.seize_words_rows.specs.Linked.{book_by, loosened}
 use Rattle.seize_words_rows.specs.Runs.{begun, put, two_made}
 use Rattle.seize_words_rows.specs.Stages.{Leads}

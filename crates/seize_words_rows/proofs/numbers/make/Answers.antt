@@ -1,5 +1,5 @@
 use Rattle.std.proofs.Common.{sym, subst}
-use Rattle.seize_words.specs.Tokens.{Name}
+use Rattle.seize_book.specs.Tokens.{Name}
 use Rattle.seize_words_rows.specs.Runs.{one_made, opened}
 use Rattle.seize_words_rows.specs.Stages.{Leads}
 use Rattle.seize_words_rows.proofs.Runs.{makes_one}

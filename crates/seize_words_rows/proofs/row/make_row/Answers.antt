@@ -1,7 +1,7 @@
 use Rattle.std.proofs.Common.{List, length, ◌≡◌, ℕ, zero, suc, ◌+◌, ◌<◌, refl, sym, ap, ◌∙◌, subst, arith}
 use Rattle.std.proofs.lemmas.List.{length_push}
 use Rattle.std.proofs.lemmas.List.Elements.{All-push}
-use Rattle.seize_words.specs.declared.book.link_keys.LinkKeys.{LinkKeys}
+use Rattle.seize_book.specs.declared.book.link_keys.LinkKeys.{LinkKeys}
 use Rattle.seize_words.specs.declared.link.Link.{Link}
 use Rattle.seize_words_rows.specs.Making.{AreLeft}
 use Rattle.seize_words_rows.specs.Rows.{AreOf}

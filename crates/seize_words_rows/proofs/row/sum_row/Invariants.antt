@@ -1,4 +1,4 @@
-use Rattle.seize_words.specs.Passes.{IsSame}
+use Rattle.seize_book.specs.Passes.{IsSame}
 use Rattle.seize_words_rows.specs.Rows.{AreIn}
 use Rattle.seize_words_rows.proofs.row.sum_row.Given as goal
 

@@ -1,5 +1,5 @@
 use Rattle.seize_words.specs.Reservations.{IsOfBook, IsOwn}
-use Rattle.seize_words.specs.Slots.{IsOf}
+use Rattle.seize_book.specs.Slots.{IsOf}
 use Rattle.seize_words_rows.specs.Leaves.{IsOutside}
 use Rattle.seize_words_rows.specs.Rows.{AreOf}
 use Rattle.seize_words_rows.proofs.row.visit_many.Given as goal

@@ -3,9 +3,9 @@ use Rattle.seize_machine.specs.Machine.State.{Slot}
 use Rattle.seize_machine.specs.Machine.Event.{AddCount, Detach}
 use Rattle.seize_machine.specs.declared.machine.event.Answer.TheVariants.{Count, Done}
 use Rattle.seize_words.specs.Counts.{AddsTo}
-use Rattle.seize_words.specs.Slots.{Notes, number_of}
-use Rattle.seize_words.specs.declared.book.pass.Pass.{Pass}
-use Rattle.seize_words.specs.declared.book.slot_key.SlotKey.{SlotKey}
+use Rattle.seize_book.specs.Slots.{Notes, number_of}
+use Rattle.seize_book.specs.declared.book.pass.Pass.{Pass}
+use Rattle.seize_book.specs.declared.book.slot_key.SlotKey.{SlotKey}
 use Rattle.seize_words_rows.specs.Puts.{detached_on, gave_both, read_on}
 use Rattle.seize_words_rows.specs.Runs.{AreWords, book_of, value_of}
 use Rattle.seize_words_rows.specs.SecondValue.{GoesOn}

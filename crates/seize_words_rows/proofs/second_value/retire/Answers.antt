@@ -3,11 +3,11 @@ use Rattle.seize_machine.specs.Machine.Event.{Begin, Put}
 use Rattle.seize_machine.specs.Machine.Next.{next}
 use Rattle.seize_machine.specs.declared.machine.event.Answer.TheVariants.{Done}
 use Rattle.seize_machine.specs.declared.machine.event.Job.TheVariants.{Retire}
-use Rattle.seize_words.specs.Adding.{private}
-use Rattle.seize_words.specs.Others.{value_of as value_by}
-use Rattle.seize_words.specs.Private.{label_of}
-use Rattle.seize_words.specs.Slots.{number_of}
-use Rattle.seize_words.specs.declared.book.keys.Keys.{Keys}
+use Rattle.seize_book.specs.Adding.{private}
+use Rattle.seize_book.specs.Others.{value_of as value_by}
+use Rattle.seize_book.specs.Private.{label_of}
+use Rattle.seize_book.specs.Slots.{number_of}
+use Rattle.seize_book.specs.declared.book.keys.Keys.{Keys}
 use Rattle.seize_words_rows.specs.Puts.{put_on}
 use Rattle.seize_words_rows.specs.Runs.{book_of, over, value_of}
 use Rattle.seize_words_rows.specs.SecondValue.{begun_again}

@@ -1,8 +1,8 @@
 use Rattle.std.proofs.Common.{[], Option, ap, is_some}
 use Rattle.seize_machine.specs.Machine.Event.{Hand}
 use Rattle.seize_machine.specs.Machine.Next.{of_call, handing_at}
-use Rattle.seize_words.specs.Adding.{private}
-use Rattle.seize_words.specs.Slots.{number_of}
+use Rattle.seize_book.specs.Adding.{private}
+use Rattle.seize_book.specs.Slots.{number_of}
 use Rattle.seize_words.proofs.Facts.{batch_next, knows_noted}
 use Rattle.seize_words_rows.proofs.walking.hand_in_walk.Goals as goal
 

@@ -1,10 +1,10 @@
 use Rattle.std.proofs.Common.{◌≡◌, ℕ, Some, sym, subst, ◌∙◌, inr}
-use Rattle.seize_words.specs.Chains.{first_field}
+use Rattle.seize_book.specs.Chains.{first_field}
 use Rattle.seize_words.specs.Headers.{IsPassing, Passes, number}
-use Rattle.seize_words.specs.Private.{key_of, own_of}
-use Rattle.seize_words.specs.Blocks.{block_of, front_of}
-use Rattle.seize_words.specs.Tokens.{start}
-use Rattle.seize_words.specs.declared.book.keys.Keys.{Keys}
+use Rattle.seize_book.specs.Private.{key_of, own_of}
+use Rattle.seize_book.specs.Blocks.{block_of, front_of}
+use Rattle.seize_book.specs.Tokens.{start}
+use Rattle.seize_book.specs.declared.book.keys.Keys.{Keys}
 use Rattle.seize_words.proofs.Facts.{looks_twice}
 use Rattle.seize_words_rows.proofs.walking.look_on.Goals as goal
 

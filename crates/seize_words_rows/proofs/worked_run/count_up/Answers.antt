@@ -2,16 +2,16 @@ use Rattle.std.proofs.Common.{◌≡◌, ℕ, pos, [], ◌∷◌, ap, refl, sym,
 use Rattle.seize_machine.specs.Machine.State.{Slot}
 use Rattle.seize_machine.specs.Machine.Event.{AddCount}
 use Rattle.seize_machine.specs.declared.machine.event.Answer.TheVariants.{Count}
-use Rattle.seize_words.specs.Blocks.{block_of}
-use Rattle.seize_words.specs.Chains.{first_field, next_field}
+use Rattle.seize_book.specs.Blocks.{block_of}
+use Rattle.seize_book.specs.Chains.{first_field, next_field}
 use Rattle.seize_words.specs.Counts.{AddsTo, home}
 use Rattle.seize_words.specs.Headers.{number}
-use Rattle.seize_words.specs.Homes.{home_of}
-use Rattle.seize_words.specs.Tokens.{Name}
-use Rattle.seize_words.specs.Values.{book_in, values_of}
-use Rattle.seize_words.specs.declared.book.pass.Pass.{Pass}
-use Rattle.seize_words.specs.declared.book.slot_key.SlotKey.{SlotKey}
-use Rattle.seize_words.specs.declared.book.value_keys.ValueKeys.{ValueKeys}
+use Rattle.seize_book.specs.Homes.{home_of}
+use Rattle.seize_book.specs.Tokens.{Name}
+use Rattle.seize_book.specs.Values.{book_in, values_of}
+use Rattle.seize_book.specs.declared.book.pass.Pass.{Pass}
+use Rattle.seize_book.specs.declared.book.slot_key.SlotKey.{SlotKey}
+use Rattle.seize_book.specs.declared.book.value_keys.ValueKeys.{ValueKeys}
 use Rattle.seize_words_rows.specs.Runs.{AreHeads, AreWords, book_of, counted_up, inserted, reader_over, value_of}
 use Rattle.seize_words_rows.specs.Stages.{Knows, Sees}
 use Rattle.seize_words_rows.specs.declared.worked_run.Words.{Words}

@@ -3,11 +3,11 @@ use Rattle.std.specs.Prelude.{slice_index_or}
 use Rattle.seize_machine.specs.Machine.State.{Slot}
 use Rattle.seize_machine.specs.Machine.History.{first_of}
 use Rattle.seize_machine.proofs.Facts.{some_is}
-use Rattle.seize_words.specs.Blocks.{Plan, block_of, front_of, no_plan}
-use Rattle.seize_words.specs.Chains.{first_field, next_field, served}
-use Rattle.seize_words.specs.Homes.{home_of}
-use Rattle.seize_words.specs.Slots.{number_of, own_list, start_of}
-use Rattle.seize_words.specs.declared.book.slot_key.SlotKey.{SlotKey}
+use Rattle.seize_book.specs.Blocks.{Plan, block_of, front_of, no_plan}
+use Rattle.seize_book.specs.Chains.{first_field, next_field, served}
+use Rattle.seize_book.specs.Homes.{home_of}
+use Rattle.seize_book.specs.Slots.{number_of, own_list, start_of}
+use Rattle.seize_book.specs.declared.book.slot_key.SlotKey.{SlotKey}
 use Rattle.seize_words_rows.specs.Attempts.{home_for}
 use Rattle.seize_words_rows.specs.Runs.{AreWords, book_of, left, value_of}
 use Rattle.seize_words_rows.specs.Stages.{Knows}

@@ -2,7 +2,7 @@ use Rattle.std.proofs.Common.{ℕ, sym, subst, ◌∙◌}
 use Rattle.seize_machine.specs.Machine.Event.{Begin, Put}
 use Rattle.seize_machine.specs.declared.machine.event.Answer.TheVariants.{Done}
 use Rattle.seize_machine.specs.declared.machine.event.Job.TheVariants.{Retire}
-use Rattle.seize_words.specs.Others.{value_of}
+use Rattle.seize_book.specs.Others.{value_of}
 use Rattle.seize_words_rows.specs.Runs.{begun, book_in, entered, put, two_made}
 use Rattle.seize_words_rows.specs.Stages.{Leads}
 use Rattle.seize_words_rows.proofs.Runs.{begins, puts}

@@ -1,9 +1,9 @@
 -- `begun` tells what is known.
-use Rattle.seize_words.proofs.Kit.{ℕ, List, [], ◌∷◌, refl, proved, named, Val, vptr, vunit, SProp, emp, Fml, ftrue, fsep, flft, ‵, raw, ◌⊛◌, ◌$◌, ◌∵◌, !, qed, by, move, keep, split, fsplit, fsplit3, fjoin, fjoin3, feq_i, unit_lit, of_opd, returns, enter, alloc_all, pass_all, free_all, look_at, sets, fact_i, tables, owns, types_at, plain, mut_vals, mut_Tells, nothing, opens, closes, Stays, stay_ref, walk_of, Goes-ref}
-use Rattle.seize_words.specs.Private.{own_of}
+use Rattle.seize_book.proofs.Kit.{ℕ, List, [], ◌∷◌, refl, proved, named, Val, vptr, vunit, SProp, emp, Fml, ftrue, fsep, flft, ‵, raw, ◌⊛◌, ◌$◌, ◌∵◌, !, qed, by, move, keep, split, fsplit, fsplit3, fjoin, fjoin3, feq_i, unit_lit, of_opd, returns, enter, alloc_all, pass_all, free_all, look_at, sets, fact_i, tables, owns, types_at, plain, mut_vals, mut_Tells, nothing, opens, closes, Stays, stay_ref, walk_of, Goes-ref}
+use Rattle.seize_book.specs.Private.{own_of}
 use Rattle.seize_words.specs.contracts.activation.Activation as Activation
-use Rattle.seize_words.specs.contracts.book.keys.Keys as Keys
-use Rattle.seize_words.proofs.Fields.{ends}
+use Rattle.seize_book.specs.contracts.book.keys.Keys as Keys
+use Rattle.seize_book.proofs.Fields.{ends}
 use Rattle.seize_words.specs.contracts.activation.Activation.begun.{ended, clauses}
 use Rattle.seize_words.specs.contracts.activation.Activation.begun.Key.{name as #self}
 use Rattle.seize_words.proofs.activation.Activation.begun.Statement.{statement}

@@ -1,10 +1,10 @@
 -- `new` makes a lifetime.
-use Rattle.seize_words.proofs.Kit.{some, later, await, pick, use1, ℕ, List, [], ◌∷◌, refl, proved, named, Val, vptr, SProp, emp, Fml, ftrue, fsep, flft, ‵, raw, ◌⊛◌, ◌$◌, ◌∵◌, !, qed, by, move, keep, split, fsplit, fsplit3, fjoin, fjoin3, use0, feq_i, no_more, and_then, returns, enter, alloc_all, pass_all, free_all, look_at, get, sets, agg, fact_i, tables, owns, types_at, plain, mut_vals, mut_Tells, nothing, Stays, stay_ref, walk_of, Goes-ref}
+use Rattle.seize_book.proofs.Kit.{some, later, await, pick, use1, ℕ, List, [], ◌∷◌, refl, proved, named, Val, vptr, SProp, emp, Fml, ftrue, fsep, flft, ‵, raw, ◌⊛◌, ◌$◌, ◌∵◌, !, qed, by, move, keep, split, fsplit, fsplit3, fjoin, fjoin3, use0, feq_i, no_more, and_then, returns, enter, alloc_all, pass_all, free_all, look_at, get, sets, agg, fact_i, tables, owns, types_at, plain, mut_vals, mut_Tells, nothing, Stays, stay_ref, walk_of, Goes-ref}
 use base.Fraction.{full_share}
-use Rattle.seize_words.specs.Private.{key_of}
-use Rattle.seize_words.specs.contracts.book.keys.Keys as Keys
+use Rattle.seize_book.specs.Private.{key_of}
+use Rattle.seize_book.specs.contracts.book.keys.Keys as Keys
 use Rattle.seize_words.proofs.Activations.{begins}
-use Rattle.seize_words.proofs.Fields.{Token, token, token_made, ends}
+use Rattle.seize_book.proofs.Fields.{Token, token, token_made, ends}
 use Rattle.seize_words.specs.contracts.activation.Activation.new.{ended, clauses}
 use Rattle.seize_words.specs.contracts.activation.Activation.new.Key.{name as #self}
 use Rattle.seize_words.proofs.activation.Activation.new.Statement.{statement}

@@ -1,11 +1,11 @@
 -- `renew` ends a lifetime and makes another one.
-use Rattle.seize_words.proofs.Kit.{ℕ, List, [], ◌∷◌, refl, proved, named, Val, vptr, SProp, emp, Fml, ftrue, fsep, flft, ‵, raw, ◌⊛◌, some, later, await, ◌$◌, ◌∵◌, !, qed, by, move, keep, split, fsplit, fsplit3, fjoin, fjoin3, pick, use0, use1, feq_i, no_more, and_then, returns, enter, alloc_all, pass_all, free_all, look_at, get, sets, agg, fact_i, tables, owns, types_at, plain, mut_vals, mut_Tells, nothing, opens, closes, Stays, stay_ref, walk_of, Goes-ref}
+use Rattle.seize_book.proofs.Kit.{ℕ, List, [], ◌∷◌, refl, proved, named, Val, vptr, SProp, emp, Fml, ftrue, fsep, flft, ‵, raw, ◌⊛◌, some, later, await, ◌$◌, ◌∵◌, !, qed, by, move, keep, split, fsplit, fsplit3, fjoin, fjoin3, pick, use0, use1, feq_i, no_more, and_then, returns, enter, alloc_all, pass_all, free_all, look_at, get, sets, agg, fact_i, tables, owns, types_at, plain, mut_vals, mut_Tells, nothing, opens, closes, Stays, stay_ref, walk_of, Goes-ref}
 use base.Fraction.{full_share}
-use Rattle.seize_words.specs.Tokens.{over}
+use Rattle.seize_book.specs.Tokens.{over}
 use Rattle.seize_words.specs.contracts.activation.Ended as Ended
 use Rattle.seize_words.specs.contracts.activation.Activation as Activation
 use Rattle.seize_words.proofs.Activations.{renews}
-use Rattle.seize_words.proofs.Fields.{Token, token, token_made, ends}
+use Rattle.seize_book.proofs.Fields.{Token, token, token_made, ends}
 use Rattle.seize_words.specs.contracts.activation.Activation.renew.{ended, clauses}
 use Rattle.seize_words.specs.contracts.activation.Activation.renew.Key.{name as #self}
 use Rattle.seize_words.proofs.activation.Activation.renew.Statement.{statement}

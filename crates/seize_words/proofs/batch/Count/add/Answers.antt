@@ -1,13 +1,12 @@
 use Rattle.std.proofs.Common.{subst, ◌==◌, not, [], sym, refl, ◌∙◌, ap}
 use Rattle.seize_machine.specs.Machine.Event.{AddCount}
 use Rattle.seize_words.specs.Atomic.{plus}
-use Rattle.seize_words.specs.Book.{after}
+use Rattle.seize_book.specs.Book.{after}
 use Rattle.seize_words.specs.Counts.{home, values_in}
-use Rattle.seize_words.specs.Others.{IsLastIn}
-use Rattle.seize_words.specs.Private.{key_of, own_of}
-use Rattle.seize_words.specs.Tokens.{Name, start}
-use Rattle.seize_words.specs.Words.{are_of_blocks, labels_of}
-use Rattle.seize_words.specs.declared.book.slot_key.SlotKey.{SlotKey}
+use Rattle.seize_book.specs.Others.{IsLastIn}
+use Rattle.seize_book.specs.Private.{key_of, own_of, are_of_blocks, labels_of}
+use Rattle.seize_book.specs.Tokens.{Name, start}
+use Rattle.seize_book.specs.declared.book.slot_key.SlotKey.{SlotKey}
 use Rattle.seize_words.proofs.Counting.{may_add_count}
 use Rattle.seize_words.proofs.Counted.{added, adding_in, all_last, counts_so, gives_so, in_pass, joined_may, joined_step, labels_stay, left_with, of_those, still_blocks}
 use Rattle.seize_words.proofs.batch.Count.add.Goals as goal

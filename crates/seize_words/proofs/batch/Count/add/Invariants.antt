@@ -1,6 +1,6 @@
 use Rattle.std.specs.Prelude.{not, ◌==◌, []}
 use Rattle.seize_machine.specs.Machine.Event.{AddCount}
-use Rattle.seize_words.specs.Private.{key_of}
+use Rattle.seize_book.specs.Private.{key_of}
 use Rattle.seize_words.specs.Atomic.{entries, plus}
 use Rattle.seize_words.proofs.batch.Count.add.Given as goal
 

@@ -1,13 +1,12 @@
 use Rattle.std.proofs.Common.{ℕ, ◌==◌, Bool, if◌then◌else◌, List, [], sym, ◌∙◌, ap, subst, append-nil}
 use Rattle.seize_machine.specs.Machine.Event.{SubCount}
 use Rattle.seize_words.specs.Atomic.{minus}
-use Rattle.seize_words.specs.Book.{after}
+use Rattle.seize_book.specs.Book.{after}
 use Rattle.seize_words.specs.Counts.{home, values_in}
-use Rattle.seize_words.specs.Others.{IsLastIn}
-use Rattle.seize_words.specs.Private.{key_of, own_of}
-use Rattle.seize_words.specs.Tokens.{Name, start}
-use Rattle.seize_words.specs.Words.{are_of_blocks, labels_of}
-use Rattle.seize_words.specs.declared.book.slot_key.SlotKey.{SlotKey}
+use Rattle.seize_book.specs.Others.{IsLastIn}
+use Rattle.seize_book.specs.Private.{key_of, own_of, are_of_blocks, labels_of}
+use Rattle.seize_book.specs.Tokens.{Name, start}
+use Rattle.seize_book.specs.declared.book.slot_key.SlotKey.{SlotKey}
 use Rattle.seize_words.proofs.Counting.{may_subtract_count}
 use Rattle.seize_words.proofs.Counted.{all_blocks, all_last, counts_so, gives_so, joined_may, joined_step, labels_are, of_those, others_are, renewed_twice, subtracted, values_known, walking_in, was_one}
 use Rattle.seize_words.proofs.batch.Count.subtract.Goals as goal

@@ -1,6 +1,6 @@
 use Rattle.std.specs.Prelude.{◌==◌, []}
 use Rattle.seize_machine.specs.Machine.Event.{SubCount}
-use Rattle.seize_words.specs.Private.{key_of}
+use Rattle.seize_book.specs.Private.{key_of}
 use Rattle.seize_words.specs.Atomic.{entries, minus}
 use Rattle.seize_words.proofs.batch.Count.subtract.Given as goal
 

@@ -5,8 +5,8 @@ use Rattle.seize_store.specs.Titled.{label_of}
 use Rattle.seize_store.specs.declared.known.Title.{Title}
 use Rattle.seize_table.specs.Pairs.{left_of}
 use Rattle.seize_table.proofs.Pairs.{left_pair}
-use Rattle.seize_words.specs.Bare.{bare_home}
-use Rattle.seize_words.specs.Tokens.{Name, label_at}
+use Rattle.seize_book.specs.Bare.{bare_home}
+use Rattle.seize_book.specs.Tokens.{Name, label_at}
 use Rattle.seize_words.proofs.Chunked.{label_kin}
 use Rattle.seize_words.proofs.blocks.Blocks.add.Goals as goal
 

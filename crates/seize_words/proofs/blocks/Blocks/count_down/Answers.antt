@@ -1,14 +1,14 @@
 use Rattle.std.proofs.Common.{[], ◌∷◌, sym, ◌∙◌, subst, inl, inr, arith}
 use mathlib.Core.List.{IsPrefix}
-use Rattle.seize_words.specs.Chains.{first_field, next_field}
+use Rattle.seize_book.specs.Chains.{first_field, next_field}
 use Rattle.seize_words.specs.Counts.{Counts, GivesUp, Takes, Walks}
 use Rattle.seize_words.specs.Headers.{Passes, number}
 use base.Growing.{prefix_trans}
 use Rattle.seize_machine.specs.Machine.Event.{SubCount}
-use Rattle.seize_words.specs.Adding.{private}
-use Rattle.seize_words.specs.Entry.{Made}
-use Rattle.seize_words.specs.Slots.{number_of, own_list}
-use Rattle.seize_words.specs.declared.book.slot_key.SlotKey.{SlotKey}
+use Rattle.seize_book.specs.Adding.{private}
+use Rattle.seize_book.specs.Entry.{Made}
+use Rattle.seize_book.specs.Slots.{number_of, own_list}
+use Rattle.seize_book.specs.declared.book.slot_key.SlotKey.{SlotKey}
 use Rattle.seize_words.proofs.Traversals.{at_field, at_header, at_number, front_home, front_number, front_shown, knows_still, looks_thrice, looks_twice, rest_walks, same_key, word_stays}
 use Rattle.seize_words.proofs.blocks.Blocks.count_down.Goals as goal
 

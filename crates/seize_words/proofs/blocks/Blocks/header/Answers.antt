@@ -1,11 +1,11 @@
 use Rattle.std.proofs.Common.{◌≡◌, ℕ, true, sym, ap, ◌∙◌, subst}
 use Rattle.seize_machine.specs.Machine.State.{has}
-use Rattle.seize_words.specs.Homesteads.{state_seen}
+use Rattle.seize_book.specs.Homesteads.{state_seen}
 use Rattle.seize_words.specs.Counts.{home}
-use Rattle.seize_words.specs.Homes.{home_of}
-use Rattle.seize_words.specs.Tokens.{label_at}
+use Rattle.seize_book.specs.Homes.{home_of}
+use Rattle.seize_book.specs.Tokens.{label_at}
 use Rattle.seize_words.specs.declared.chunk.Header.{Header}
-use Rattle.seize_words.specs.declared.book.pass.Pass.{Pass}
+use Rattle.seize_book.specs.declared.book.pass.Pass.{Pass}
 use Rattle.seize_words.proofs.Chunked.{found_label, named_seen, same_family, same_home}
 use Rattle.seize_words.proofs.blocks.Blocks.header.Goals as goal
 

@@ -1,7 +1,7 @@
 use Rattle.std.proofs.Common.{ap, ◌∙◌}
 use Rattle.seize_table.proofs.Pairs.{left_pair}
 use Rattle.seize_words.specs.Counts.{home}
-use Rattle.seize_words.specs.Tokens.{Name}
+use Rattle.seize_book.specs.Tokens.{Name}
 use Rattle.seize_words.proofs.chunk.BookMakerHeaderPart.make.Goals as goal
 
 -- src/chunk.rt:52:5

@@ -6,7 +6,7 @@ use denote.Struct.Owning.{shape, fields, to}
 use Rattle.core.specs.contracts.marker.PhantomData as marker
 use Rattle.std_alloc.proofs.SendSync.{quiet}
 use Rattle.seize_words.specs.contracts.glimpse.Glimpse.{the_row, the_type}
-use Rattle.seize_words.proofs.Sent.{glimpse_keyless}
+use Rattle.seize_words.proofs.Sights.{glimpse_keyless}
 
 pub send : (a : NamedLft) → IsSend (the_row a)
 send a = let O = the_type a in let ms : IsSend (marker.the_field (ShrRef a.mir a.lft unit)).row = search sendable depth 30 in owning_send O (ms, tt) (λ d. glimpse_keyless a.lft d.value)

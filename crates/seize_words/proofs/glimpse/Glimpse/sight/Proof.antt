@@ -1,5 +1,5 @@
 -- `sight` gives the sight by itself.
-use Rattle.seize_words.proofs.Kit.{ℕ, [], ◌∷◌, refl, proved, Val, SProp, emp, Lft, ftrue, fsep, flft, ‵, raw, ◌⊛◌, some, given, ◌$◌, ◌∵◌, !, qed, by, move, keep, split, fsplit, fjoin, pick, learn, use0, use1, no_more, and_then, returns, enter, alloc_all, pass_all, free_all, look_at, get, sets, agg, fact, fact_i, heard, tables, RattleType, owns, types_at, plain, nothing, Stays, stay_dropped, walk_of, Goes-dropped, named}
+use Rattle.seize_book.proofs.Kit.{ℕ, [], ◌∷◌, refl, proved, Val, SProp, emp, Lft, ftrue, fsep, flft, ‵, raw, ◌⊛◌, some, given, ◌$◌, ◌∵◌, !, qed, by, move, keep, split, fsplit, fjoin, pick, learn, use0, use1, no_more, and_then, returns, enter, alloc_all, pass_all, free_all, look_at, get, sets, agg, fact, fact_i, heard, tables, RattleType, owns, types_at, plain, nothing, Stays, stay_dropped, walk_of, Goes-dropped, named}
 use base.Stored.{Gv}
 use contract.Lifetimes.{Lfts}
 use denote.Builtin.{unit}
@@ -12,8 +12,8 @@ use Rattle.seize_content.specs.contracts.loan.Sight as Sight
 use Rattle.seize_content.proofs.Fields.{token, Marked, marked_made}
 use Rattle.seize_words.specs.Glimpses.{IsLentWith}
 use Rattle.seize_words.specs.contracts.glimpse.Glimpse as Glimpse
-use Rattle.seize_words.proofs.Fields.{glimpse_tells, no_bytes, ends}
-use Rattle.seize_words.proofs.Loans.{IsOf, glimpsed}
+use Rattle.seize_words.proofs.Sights.{glimpse_tells, IsOf, glimpsed}
+use Rattle.seize_book.proofs.Fields.{no_bytes, ends}
 use Rattle.seize_words.specs.contracts.glimpse.Glimpse.sight.{ended, clauses}
 use Rattle.seize_words.specs.contracts.glimpse.Glimpse.sight.Key.{name as #self}
 use Rattle.seize_words.proofs.glimpse.Glimpse.sight.Statement.{statement}

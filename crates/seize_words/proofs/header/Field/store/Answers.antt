@@ -1,10 +1,10 @@
 use Rattle.std.proofs.Common.{false, [], sym, subst, ◌⊎◌}
 use Rattle.seize_words.specs.Atomic.{Takes}
-use Rattle.seize_words.specs.Chains.{first_field, next_field}
+use Rattle.seize_book.specs.Chains.{first_field, next_field}
 use Rattle.seize_words.specs.Headers.{IsStoring, number}
-use Rattle.seize_words.specs.Private.{key_of, own_of}
+use Rattle.seize_book.specs.Private.{key_of, own_of}
 use Rattle.seize_words.specs.Stepping.{MayStep}
-use Rattle.seize_words.specs.Tokens.{Name, start}
+use Rattle.seize_book.specs.Tokens.{Name, start}
 use Rattle.seize_words.specs.Words.{Site}
 use Rattle.seize_words.proofs.Stepped.{key_then}
 use Rattle.seize_words.proofs.Uses.{is_at_field, may_store, used, uses_it, wrote_first, wrote_next}

@@ -1,6 +1,6 @@
 use Rattle.std.specs.Prelude.{false, []}
-use Rattle.seize_words.specs.Entry.{Used}
-use Rattle.seize_words.specs.Private.{key_of}
+use Rattle.seize_book.specs.Entry.{Used}
+use Rattle.seize_book.specs.Private.{key_of}
 use Rattle.seize_words.proofs.header.Field.store.Given as goal
 
 abbrev pub ghosts-replace : goal.ghosts-replace

@@ -2,16 +2,16 @@ use Rattle.std.proofs.Common.{ℕ, Bool, ap, ◌==◌, [], ◌∷◌, Option, re
 use Rattle.seize_machine.specs.Machine.State.{link_at}
 use Rattle.seize_machine.specs.Machine.Event.{Event, ExchangeLink}
 use Rattle.seize_machine.specs.declared.machine.event.Exchange.TheVariants.{Compare}
-use Rattle.seize_words.specs.Entry.{Made}
+use Rattle.seize_book.specs.Entry.{Made}
 use Rattle.seize_words.specs.Atomic.{Events, FindsFor, Takes as Took, exchanged, entries}
-use Rattle.seize_words.specs.Book.{after}
+use Rattle.seize_book.specs.Book.{after}
 use Rattle.seize_words.specs.Glimpses.{shown}
 use Rattle.seize_words.specs.LinkWords.{holds, number}
 use Rattle.seize_words.specs.Links.{IsNewIn, compared}
 use Rattle.seize_words.specs.Stepping.{MayStep}
-use Rattle.seize_words.specs.Tokens.{Name, start}
+use Rattle.seize_book.specs.Tokens.{Name, start}
 use Rattle.seize_words.specs.Words.{Site}
-use Rattle.seize_words.proofs.Lists.{equal, unequal}
+use Rattle.seize_book.proofs.Lists.{equal, unequal}
 use Rattle.seize_words.proofs.Exchanged.{came_out, is_at, is_out, knows_all, link_kept, stayed, still_may, still_one, taken}
 use Rattle.seize_words.proofs.Exchanges.{compare_finds, hit, may_compare_link, missed}
 use Rattle.seize_words.proofs.link.Link.compare_exchange.Goals as goal

@@ -2,9 +2,9 @@ use Rattle.std.specs.Prelude.{◌==◌, []}
 use Rattle.seize_machine.specs.Machine.State.{link_at}
 use Rattle.seize_machine.specs.Machine.Event.{ExchangeLink}
 use Rattle.seize_machine.specs.declared.machine.event.Exchange.TheVariants.{Compare}
-use Rattle.seize_words.specs.Book.{after}
+use Rattle.seize_book.specs.Book.{after}
 use Rattle.seize_words.specs.Links.{compared, value_in}
-use Rattle.seize_words.specs.Tokens.{start}
+use Rattle.seize_book.specs.Tokens.{start}
 use Rattle.seize_words.specs.Atomic.{entries}
 use Rattle.seize_words.proofs.link.Link.compare_exchange.Given as goal
 

@@ -2,15 +2,15 @@ use Rattle.std.proofs.Common.{List, [], ◌∷◌, false, sym, ◌∙◌, ap, su
 use Rattle.seize_machine.specs.Machine.Event.{ReadLink}
 use Rattle.seize_machine.specs.Machine.State.{link_at}
 use Rattle.seize_words.specs.Atomic.{FindsFor, MayTake, Takes as Took, entries}
-use Rattle.seize_words.specs.Book.{after}
+use Rattle.seize_book.specs.Book.{after}
 use Rattle.seize_words.specs.LinkWords.{number}
 use Rattle.seize_words.specs.Words.{Site}
-use Rattle.seize_words.specs.Ledger.{Held}
-use Rattle.seize_words.specs.Entry.{Entry, Made}
+use Rattle.seize_book.specs.Ledger.{Held}
+use Rattle.seize_book.specs.Entry.{Entry, Made}
 use Rattle.seize_words.specs.Stepping.{MayStep}
-use Rattle.seize_words.specs.Tokens.{Name, start}
-use Rattle.seize_words.specs.declared.book.keys.Keys.{Keys}
-use Rattle.seize_words.specs.declared.book.pass.Pass.{Pass}
+use Rattle.seize_book.specs.Tokens.{Name, start}
+use Rattle.seize_book.specs.declared.book.keys.Keys.{Keys}
+use Rattle.seize_book.specs.declared.book.pass.Pass.{Pass}
 use Rattle.seize_words.proofs.Exchanged.{is_at, read_later, taken}
 use Rattle.seize_words.proofs.Exchanges.{may_read_link, read_finds}
 use Rattle.seize_words.proofs.link.Link.see.Goals as goal

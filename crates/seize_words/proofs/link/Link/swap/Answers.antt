@@ -1,12 +1,12 @@
 use Rattle.std.proofs.Common.{ℕ, [], ◌∷◌, Option, true, refl, sym, ◌∙◌, subst}
 use Rattle.seize_machine.specs.Machine.Event.{ExchangeLink}
 use Rattle.seize_machine.specs.declared.machine.event.Exchange.TheVariants.{Swap}
-use Rattle.seize_words.specs.Entry.{Made}
+use Rattle.seize_book.specs.Entry.{Made}
 use Rattle.seize_words.specs.Atomic.{Takes as Took, entries}
 use Rattle.seize_words.specs.LinkWords.{holds, number}
 use Rattle.seize_words.specs.Links.{IsNewIn}
 use Rattle.seize_words.specs.Stepping.{MayStep}
-use Rattle.seize_words.specs.Tokens.{Name, start}
+use Rattle.seize_book.specs.Tokens.{Name, start}
 use Rattle.seize_words.specs.Words.{Site}
 use Rattle.seize_words.proofs.Exchanged.{came_out, is_at, is_out, knows_all, still_one, taken}
 use Rattle.seize_words.proofs.Exchanges.{may_swap_link}

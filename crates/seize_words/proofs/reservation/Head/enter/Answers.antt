@@ -1,17 +1,17 @@
 use Rattle.std.proofs.Common.{◌≡◌, ℕ, true, false, [], refl, sym, ap, ◌∙◌, subst}
 use Rattle.seize_machine.specs.Machine.State.{head_at, is_active, is_idle, slot_at}
 use Rattle.seize_machine.specs.Machine.Event.{Enter}
-use Rattle.seize_words.specs.Entry.{Made}
+use Rattle.seize_book.specs.Entry.{Made}
 use Rattle.seize_words.specs.Atomic.{MayTake, Takes, entries}
-use Rattle.seize_words.specs.Book.{after}
-use Rattle.seize_words.specs.Private.{key_of, own_of}
+use Rattle.seize_book.specs.Book.{after}
+use Rattle.seize_book.specs.Private.{key_of, own_of}
 use Rattle.seize_words.specs.Reservations.{slot}
 use Rattle.seize_words.specs.Stepping.{MayStep}
-use Rattle.seize_words.specs.Tokens.{Name, start}
+use Rattle.seize_book.specs.Tokens.{Name, start}
 use Rattle.seize_words.specs.Words.{Site}
-use Rattle.seize_words.specs.declared.book.keys.Keys.{Keys}
-use Rattle.seize_words.specs.declared.book.pass.Pass.{Pass}
-use Rattle.seize_words.proofs.Lists.{equal}
+use Rattle.seize_book.specs.declared.book.keys.Keys.{Keys}
+use Rattle.seize_book.specs.declared.book.pass.Pass.{Pass}
+use Rattle.seize_book.proofs.Lists.{equal}
 use Rattle.seize_words.proofs.Heads.{at_head, may_enter}
 use Rattle.seize_words.proofs.Stepped.{activation_is, is_at_head, noted_by}
 use Rattle.seize_words.proofs.reservation.Head.enter.Goals as goal

@@ -1,13 +1,13 @@
 use Rattle.std.proofs.Common.{◌≡◌, ◌+◌, false, List, [], ◌∷◌, ◌++◌, sym, subst}
 use Rattle.seize_machine.specs.Machine.Event.{Insert}
 use Rattle.seize_words.specs.Atomic.{Takes, exchanged, entries}
-use Rattle.seize_words.specs.Blocks.{head_word}
-use Rattle.seize_words.specs.Entry.{Entry, Made}
+use Rattle.seize_book.specs.Blocks.{head_word}
+use Rattle.seize_book.specs.Entry.{Entry, Made}
 use Rattle.seize_words.specs.Heads.{IsTrying, found_end}
-use Rattle.seize_words.specs.Private.{key_of, own_of}
+use Rattle.seize_book.specs.Private.{key_of, own_of}
 use Rattle.seize_words.specs.Reservations.{slot}
 use Rattle.seize_words.specs.Stepping.{MayStep}
-use Rattle.seize_words.specs.Tokens.{Name, start}
+use Rattle.seize_book.specs.Tokens.{Name, start}
 use Rattle.seize_words.specs.Words.{Site}
 use Rattle.seize_words.proofs.Heads.{Wrote, may_insert}
 use Rattle.seize_words.proofs.Stepped.{found_before, is_at_head, noted_by}

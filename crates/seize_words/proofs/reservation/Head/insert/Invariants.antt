@@ -1,7 +1,7 @@
 use Rattle.std.specs.Prelude.{false, []}
 use Rattle.seize_machine.specs.Machine.Event.{Insert}
 use Rattle.seize_words.specs.Heads.{found_end}
-use Rattle.seize_words.specs.Private.{key_of}
+use Rattle.seize_book.specs.Private.{key_of}
 use Rattle.seize_words.specs.Atomic.{entries}
 use Rattle.seize_words.proofs.reservation.Head.insert.Given as goal
 

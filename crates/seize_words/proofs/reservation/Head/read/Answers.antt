@@ -1,15 +1,15 @@
 use Rattle.std.proofs.Common.{◌≡◌, ◌<◌, true, false, [], length, sym, subst}
 use Rattle.seize_machine.specs.Machine.State.{slot_at}
 use Rattle.seize_machine.specs.Machine.Event.{ReadHead}
-use Rattle.seize_words.specs.Entry.{Made}
+use Rattle.seize_book.specs.Entry.{Made}
 use Rattle.seize_words.specs.Atomic.{Takes, entries}
-use Rattle.seize_words.specs.Blocks.{head_word}
-use Rattle.seize_words.specs.Book.{after}
+use Rattle.seize_book.specs.Blocks.{head_word}
+use Rattle.seize_book.specs.Book.{after}
 use Rattle.seize_words.specs.Heads.{reads}
-use Rattle.seize_words.specs.Private.{key_of, own_of}
+use Rattle.seize_book.specs.Private.{key_of, own_of}
 use Rattle.seize_words.specs.Reservations.{slot}
 use Rattle.seize_words.specs.Stepping.{MayStep}
-use Rattle.seize_words.specs.Tokens.{Name, start}
+use Rattle.seize_book.specs.Tokens.{Name, start}
 use Rattle.seize_words.specs.Words.{Site}
 use Rattle.seize_words.proofs.Heads.{may_read}
 use Rattle.seize_words.proofs.Stepped.{is_at_head, noted_by, shows_after}

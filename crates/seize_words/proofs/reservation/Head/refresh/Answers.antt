@@ -3,18 +3,18 @@ use Rattle.seize_machine.specs.Machine.State.{Out}
 use Rattle.seize_machine.specs.Machine.Event.{SwapOut}
 use Rattle.seize_machine.proofs.Facts.{Stands}
 use Rattle.seize_words.specs.Atomic.{Takes, entries}
-use Rattle.seize_words.specs.Blocks.{head_word}
-use Rattle.seize_words.specs.Book.{after}
-use Rattle.seize_words.specs.Entry.{Entry, Made}
-use Rattle.seize_words.specs.Laws.{IsIn, life}
-use Rattle.seize_words.specs.Private.{key_of, own_of}
+use Rattle.seize_book.specs.Blocks.{head_word}
+use Rattle.seize_book.specs.Book.{after}
+use Rattle.seize_book.specs.Entry.{Entry, Made}
+use Rattle.seize_book.specs.Laws.{IsIn, life}
+use Rattle.seize_book.specs.Private.{key_of, own_of}
 use Rattle.seize_words.specs.Reservations.{slot}
 use Rattle.seize_words.specs.Stepping.{MayStep}
-use Rattle.seize_words.specs.Tokens.{Name, start}
+use Rattle.seize_book.specs.Tokens.{Name, start}
 use Rattle.seize_words.specs.Words.{Site}
-use Rattle.seize_words.specs.declared.book.keys.Keys.{Keys}
-use Rattle.seize_words.specs.declared.book.pass.Pass.{Pass}
-use Rattle.seize_words.proofs.Lists.{equal}
+use Rattle.seize_book.specs.declared.book.keys.Keys.{Keys}
+use Rattle.seize_book.specs.declared.book.pass.Pass.{Pass}
+use Rattle.seize_book.proofs.Lists.{equal}
 use Rattle.seize_words.proofs.Heads.{at_head, may_leave}
 use Rattle.seize_words.proofs.Stepped.{activation_is, found_before, is_at_head, key_then, noted_by}
 use Rattle.seize_words.proofs.Walked.{walks_on}

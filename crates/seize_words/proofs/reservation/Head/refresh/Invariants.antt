@@ -1,6 +1,6 @@
 use Rattle.std.specs.Prelude.{false, []}
 use Rattle.seize_machine.specs.Machine.Event.{SwapOut}
-use Rattle.seize_words.specs.Private.{key_of}
+use Rattle.seize_book.specs.Private.{key_of}
 use Rattle.seize_words.specs.Atomic.{entries}
 use Rattle.seize_words.proofs.reservation.Head.refresh.Given as goal
 

@@ -1,5 +1,5 @@
 use Rattle.std.proofs.Common.{ap, ◌∙◌, sym, arith}
-use Rattle.seize_words.specs.Tokens.{Name}
+use Rattle.seize_book.specs.Tokens.{Name}
 use Rattle.seize_words.specs.Totals.{slots_seen}
 use Rattle.seize_words.proofs.Facts.{more_seen}
 use Rattle.seize_words.proofs.Reserved.{few_seen, long_labels, their_labels}

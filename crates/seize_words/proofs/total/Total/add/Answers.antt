@@ -3,15 +3,15 @@ use Rattle.std.specs.Prelude.{drop, take}
 use Rattle.seize_machine.specs.Machine.State.{State, head_at, is_active, slot_at}
 use Rattle.seize_machine.specs.Machine.Event.{Take}
 use Rattle.seize_machine.specs.Machine.Next.{first_free}
-use Rattle.seize_words.specs.Adding.{private}
-use Rattle.seize_words.specs.Book.{numbers}
-use Rattle.seize_words.specs.Entry.{Made}
-use Rattle.seize_words.specs.Ledger.{Held, renewed}
-use Rattle.seize_words.specs.Private.{key_of, own_of}
-use Rattle.seize_words.specs.Tokens.{Name, Noted}
+use Rattle.seize_book.specs.Adding.{private}
+use Rattle.seize_book.specs.Book.{numbers}
+use Rattle.seize_book.specs.Entry.{Made}
+use Rattle.seize_book.specs.Ledger.{Held, renewed}
+use Rattle.seize_book.specs.Private.{key_of, own_of}
+use Rattle.seize_book.specs.Tokens.{Name, Noted}
 use Rattle.seize_words.specs.Totals.{made_of}
-use Rattle.seize_words.specs.declared.book.keys.Keys.{Keys}
-use Rattle.seize_words.proofs.Private.{only_is}
+use Rattle.seize_book.specs.declared.book.keys.Keys.{Keys}
+use Rattle.seize_book.proofs.Private.{only_is}
 use Rattle.seize_words.proofs.Taken.{AreBoth, may_take, now_at, told}
 use Rattle.seize_words.proofs.total.Total.add.Goals as goal
 

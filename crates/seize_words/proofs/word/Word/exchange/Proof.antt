@@ -1,19 +1,19 @@
 -- `exchange` is one step, and one event.
-use Rattle.seize_words.proofs.Kit.{ℕ, ◌^◌, List, [], ◌∷◌, refl, sym, ◌∙◌, w64, tail, proved, named, Val, vint, vptr, SProp, wand, emp, via, apply∗, Lft, Share, Fml, ftrue, fsep, flft, fnamed, ‵, raw, ◌⊛◌, some, given, later, mean, at_ret, ◌$◌, ◌∵◌, !, qed, by, move, keep, drop, split, split3, join, fsplit, fsplit3, fjoin, fjoin3, fpick, pick, learn, use1, use2, use3, await, rewrite, feq_i, flt_i, stop, addr, of_opd, no_more, and_then, first, blocks, exec, Calls-last, returns, enter, alloc_all, pass_all, free_all, look_at, get, through, sets, lands_last, env, fact, fact_i, tables, Lends-one, yes, owns, types_at, plain, RefOf, block_ptr, unhide, uint_vals, uint_Tells, u64, mut_vals, mut_Tells, shr_vals, shr_Tells, nothing, opens, closes, heard, Stays, stay_dropped, stay_ref, walk_of, Goes-dropped, Goes-ref}
+use Rattle.seize_book.proofs.Kit.{ℕ, ◌^◌, List, [], ◌∷◌, refl, sym, ◌∙◌, w64, tail, proved, named, Val, vint, vptr, SProp, wand, emp, via, apply∗, Lft, Share, Fml, ftrue, fsep, flft, fnamed, ‵, raw, ◌⊛◌, some, given, later, mean, at_ret, ◌$◌, ◌∵◌, !, qed, by, move, keep, drop, split, split3, join, fsplit, fsplit3, fjoin, fjoin3, fpick, pick, learn, use1, use2, use3, await, rewrite, feq_i, flt_i, stop, addr, of_opd, no_more, and_then, first, blocks, exec, Calls-last, returns, enter, alloc_all, pass_all, free_all, look_at, get, through, sets, lands_last, env, fact, fact_i, tables, Lends-one, yes, owns, types_at, plain, RefOf, block_ptr, unhide, uint_vals, uint_Tells, u64, mut_vals, mut_Tells, shr_vals, shr_Tells, nothing, opens, closes, heard, Stays, stay_dropped, stay_ref, walk_of, Goes-dropped, Goes-ref}
 use mir.Syntax.{a_type, dcons, dnil}
 use mir.MapTy.{inst_fn}
 use base.Fraction.{full_share}
 use denote.Param.{bounded}
 use Rattle.atomic_table.proofs.Calls.{fm, found, finds, exchanges}
-use Rattle.seize_words.specs.Entry.{Entry}
+use Rattle.seize_book.specs.Entry.{Entry}
 use Rattle.seize_words.specs.Atomic.{MayTake, exchanged}
-use Rattle.seize_words.specs.Tokens.{Name, inside, knows, keys_own, pass_owns, pass_holds}
-use Rattle.seize_words.specs.contracts.book.keys.Keys as Keys
-use Rattle.seize_words.specs.contracts.book.pass.Pass as Pass
+use Rattle.seize_book.specs.Tokens.{Name, inside, knows, keys_own, pass_owns, pass_holds}
+use Rattle.seize_book.specs.contracts.book.keys.Keys as Keys
+use Rattle.seize_book.specs.contracts.book.pass.Pass as Pass
 use Rattle.seize_words.specs.contracts.word.Word as Word
-use Rattle.seize_words.proofs.Passes.{IsDistinct}
+use Rattle.seize_book.proofs.Passes.{IsDistinct}
 use Rattle.seize_words.proofs.Steps.{after_step, opened, steps}
-use Rattle.seize_words.proofs.Fields.{ends}
+use Rattle.seize_book.proofs.Fields.{ends}
 use Rattle.seize_words.specs.contracts.word.Word.exchange.{ended, clauses}
 use Rattle.seize_words.specs.contracts.word.Word.exchange.Key.{name as #self}
 use Rattle.seize_words.proofs.word.Word.exchange.Statement.{statement}

@@ -1,16 +1,16 @@
 -- `new` puts the keys beside the word.
-use Rattle.seize_words.proofs.Kit.{ℕ, ◌^◌, ◌<◌, List, [], ◌∷◌, refl, w64, proved, named, Ura, Val, vint, vptr, vstruct, vcons, vnil, SProp, ent, emp, Fml, ftrue, fsep, fex, flft, Logic, sem, ‵, ◌⊛◌, given, ◌$◌, ◌∵◌, !, qed, by, move, keep, drop, split, fsplit, fsplit3, fjoin, fjoin3, fpack, learn, use0, use1, rewrite, feq_i, done, no_more, and_then, returns, enter, alloc_all, pass_all, free_all, look_at, get, sets, agg, fact_i, tables, yes, RattleType, owns, types_at, plain, u64, makes_shadow, uint_vals, uint_Tells, mut_vals, mut_Tells, nothing, opens, closes, Stays, stay_dropped, stay_ref, walk_of, Goes-dropped, Goes-ref}
+use Rattle.seize_book.proofs.Kit.{ℕ, ◌^◌, ◌<◌, List, [], ◌∷◌, refl, w64, proved, named, Ura, Val, vint, vptr, vstruct, vcons, vnil, SProp, ent, emp, Fml, ftrue, fsep, fex, flft, Logic, sem, ‵, ◌⊛◌, given, ◌$◌, ◌∵◌, !, qed, by, move, keep, drop, split, fsplit, fsplit3, fjoin, fjoin3, fpack, learn, use0, use1, rewrite, feq_i, done, no_more, and_then, returns, enter, alloc_all, pass_all, free_all, look_at, get, sets, agg, fact_i, tables, yes, RattleType, owns, types_at, plain, u64, makes_shadow, uint_vals, uint_Tells, mut_vals, mut_Tells, nothing, opens, closes, Stays, stay_dropped, stay_ref, walk_of, Goes-dropped, Goes-ref}
 use denote.Laws.{Typed}
-use Rattle.seize_words.specs.Ledger.{Held}
-use Rattle.seize_words.specs.Entry.{Entry}
+use Rattle.seize_book.specs.Ledger.{Held}
+use Rattle.seize_book.specs.Entry.{Entry}
 use Rattle.seize_words.specs.Atomic.{site_of}
-use Rattle.seize_words.specs.Private.{own_of}
-use Rattle.seize_words.specs.Tokens.{keys_own}
+use Rattle.seize_book.specs.Private.{own_of}
+use Rattle.seize_book.specs.Tokens.{keys_own}
 use Rattle.seize_words.specs.Words.{Site, Shows, Stands, word_knows, word_owns}
-use Rattle.seize_words.specs.contracts.book.keys.Keys as Keys
+use Rattle.seize_book.specs.contracts.book.keys.Keys as Keys
 use Rattle.seize_words.specs.contracts.word.Word as Word
 use Rattle.seize_words.specs.contracts.word.Word.TheInside as Inside
-use Rattle.seize_words.proofs.Fields.{ends}
+use Rattle.seize_book.proofs.Fields.{ends}
 use Rattle.seize_words.specs.contracts.word.Word.new.{ended, clauses}
 use Rattle.seize_words.specs.contracts.word.Word.new.Key.{name as #self}
 use Rattle.seize_words.proofs.word.Word.new.Statement.{statement}

@@ -1,5 +1,5 @@
 -- `see_in` is one step, and one event; a share of what is lent goes out in it.
-use Rattle.seize_words.proofs.Kit.{use0, ◌++◌, ℕ, ◌^◌, List, [], ◌∷◌, refl, sym, ◌∙◌, w64, lit<, fm, found, finds, seq_cst, loads, tail, proved, named, Val, vint, vptr, SProp, wand, emp, via, apply∗, Lft, Share, Fml, ftrue, fsep, flft, fnamed, ‵, raw, ◌⊛◌, some, given, later, mean, at_ret, ◌$◌, ◌∵◌, !, qed, by, move, keep, drop, split, split3, join, fsplit, fsplit3, fjoin, fjoin3, fpick, pick, learn, use1, use2, use3, await, rewrite, feq_i, flt_i, stop, addr, lit, of_opd, no_more, and_then, first, blocks, exec, Calls-last, returns, enter, alloc_all, pass_all, free_all, look_at, get, through, sets, lands_last, env, agg, fact, fact_i, tables, Lends-one, yes, owns, types_at, plain, RefOf, block_ptr, unhide, mut_vals, mut_Tells, shr_vals, shr_Tells, nothing, opens, closes, heard, Stays, stay_dropped, stay_ref, walk_of, Goes-dropped, Goes-ref}
+use Rattle.seize_book.proofs.Kit.{use0, ◌++◌, ℕ, ◌^◌, List, [], ◌∷◌, refl, sym, ◌∙◌, w64, lit<, fm, found, finds, seq_cst, loads, tail, proved, named, Val, vint, vptr, SProp, wand, emp, via, apply∗, Lft, Share, Fml, ftrue, fsep, flft, fnamed, ‵, raw, ◌⊛◌, some, given, later, mean, at_ret, ◌$◌, ◌∵◌, !, qed, by, move, keep, drop, split, split3, join, fsplit, fsplit3, fjoin, fjoin3, fpick, pick, learn, use1, use2, use3, await, rewrite, feq_i, flt_i, stop, addr, lit, of_opd, no_more, and_then, first, blocks, exec, Calls-last, returns, enter, alloc_all, pass_all, free_all, look_at, get, through, sets, lands_last, env, agg, fact, fact_i, tables, Lends-one, yes, owns, types_at, plain, RefOf, block_ptr, unhide, mut_vals, mut_Tells, shr_vals, shr_Tells, nothing, opens, closes, heard, Stays, stay_dropped, stay_ref, walk_of, Goes-dropped, Goes-ref}
 use mir.Syntax.{a_type, dcons, dnil}
 use mir.MapTy.{inst_fn}
 use base.Before.{before}
@@ -7,7 +7,7 @@ use base.Share
 use contract.BorrowLft.{meet_⊑_left}
 use types.Na.{before-Incl, before_lent}
 use denote.Param.{bounded}
-use Rattle.seize_words.specs.Entry.{Entry}
+use Rattle.seize_book.specs.Entry.{Entry}
 use Rattle.std.specs.Prelude.{Option}
 use base.Fml.{flent, fobor, fshr_bor}
 use denote.Builtin.{u64, unit}
@@ -20,17 +20,17 @@ use Rattle.seize_content.proofs.Fields.{Marked, marked_made}
 use Rattle.seize_content.proofs.Readers.{readies}
 use Rattle.seize_words.specs.Atomic.{MaySeeIn}
 use Rattle.seize_words.specs.Glimpses.{glimpse}
-use Rattle.seize_words.specs.Tokens.{Name, inside, knows, keys_own, pass_owns, pass_holds}
+use Rattle.seize_book.specs.Tokens.{Name, inside, knows, keys_own, pass_owns, pass_holds}
 use Rattle.seize_words.specs.contracts.activation.Activation as Activation
-use Rattle.seize_words.specs.contracts.book.keys.Keys as Keys
-use Rattle.seize_words.specs.contracts.book.pass.Pass as Pass
+use Rattle.seize_book.specs.contracts.book.keys.Keys as Keys
+use Rattle.seize_book.specs.contracts.book.pass.Pass as Pass
 use Rattle.seize_words.specs.contracts.glimpse.Glimpse as Glimpse
 use Rattle.seize_words.specs.contracts.word.Word as Word
-use Rattle.seize_words.proofs.Passes.{IsDistinct}
+use Rattle.seize_book.proofs.Passes.{IsDistinct}
 use Rattle.seize_words.proofs.Glimpses.{brought, closes_glimpse, had_of, seen_there, takes}
 use Rattle.seize_words.proofs.Steps.{after_with, opened, steps_with}
-use Rattle.seize_words.proofs.Fields.{ends, token}
-use Rattle.seize_words.proofs.Tuples.{pair_of, pair_val}
+use Rattle.seize_book.proofs.Fields.{ends, token}
+use Rattle.seize_book.proofs.Tuples.{pair_of, pair_val}
 use Rattle.seize_words.specs.contracts.word.Word.see_in.{ended, clauses}
 use Rattle.seize_words.specs.contracts.word.Word.see_in.Key.{name as #self}
 use Rattle.seize_words.proofs.word.Word.see_in.Statement.{statement}

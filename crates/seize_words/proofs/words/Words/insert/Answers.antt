@@ -1,7 +1,7 @@
 use Rattle.std.proofs.Common.{ℕ, sym, ◌∙◌, ap}
 use Rattle.seize_machine.specs.Machine.Event.{Insert}
 use Rattle.seize_words.specs.Heads.{found_end}
-use Rattle.seize_words.specs.Slots.{number_of}
+use Rattle.seize_book.specs.Slots.{number_of}
 use Rattle.seize_words.proofs.Joined.{noted_on, tries_at}
 use Rattle.seize_words.proofs.words.Words.insert.Goals as goal
 

@@ -1,7 +1,7 @@
 use Rattle.std.proofs.Common.{ℕ, true, ◌≡◌, sym, ◌∙◌, ap, subst}
 use Rattle.seize_machine.specs.Machine.Event.{ReadHead}
 use Rattle.seize_words.specs.Heads.{reads}
-use Rattle.seize_words.specs.Slots.{number_of, slot_of}
+use Rattle.seize_book.specs.Slots.{number_of, slot_of}
 use Rattle.seize_words.proofs.Joined.{made_still, noted_on}
 use Rattle.seize_words.proofs.words.Words.read_head.Goals as goal
 

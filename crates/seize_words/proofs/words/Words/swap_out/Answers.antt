@@ -1,6 +1,6 @@
 use Rattle.std.proofs.Common.{ℕ, sym, ◌∙◌, ap}
 use Rattle.seize_machine.specs.Machine.Event.{SwapOut}
-use Rattle.seize_words.specs.Slots.{number_of}
+use Rattle.seize_book.specs.Slots.{number_of}
 use Rattle.seize_words.proofs.Joined.{noted_on}
 use Rattle.seize_words.proofs.words.Words.swap_out.Goals as goal
 

@@ -1,13 +1,13 @@
 use Rattle.std.proofs.Common.{List, length, ◌≡◌, ℕ, zero, suc, ◌+◌, ◌<◌, ◌++◌, [], ◌∷◌, Option, None, slice_index_or, drop, Bool, true, if◌then◌else◌, refl, sym, ap, ◌∙◌, subst, arith}
 use Rattle.std.specs.Result.{is_ok}
 use Rattle.std.proofs.lemmas.List.{length_push, get_or-replicate}
-use Rattle.seize_words.specs.Begin.{first_links}
-use Rattle.seize_words.specs.Ledger.{Held}
+use Rattle.seize_book.specs.Begin.{first_links}
+use Rattle.seize_book.specs.Ledger.{Held}
 use Rattle.seize_words.specs.LinkRows.{IsLinkAt}
 use Rattle.seize_words.specs.LinkWords.{number}
-use Rattle.seize_words.specs.Private.{key_of}
-use Rattle.seize_words.specs.Entry.{Entry}
-use Rattle.seize_words.specs.Tokens.{Name}
+use Rattle.seize_book.specs.Private.{key_of}
+use Rattle.seize_book.specs.Entry.{Entry}
+use Rattle.seize_book.specs.Tokens.{Name}
 use Rattle.seize_words.specs.declared.link.Link.{Link}
 use Rattle.seize_words.proofs.LinkRows.{some_left, pushed}
 use Rattle.seize_words.proofs.link.row.Links.row.Goals as goal

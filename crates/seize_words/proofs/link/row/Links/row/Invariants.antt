@@ -1,5 +1,5 @@
 use Rattle.std.proofs.Common.{◌≡◌, ℕ, ◌+◌, ◌<◌, List, length, slice_index_or}
-use Rattle.seize_words.specs.Begin.{first_links}
+use Rattle.seize_book.specs.Begin.{first_links}
 use Rattle.seize_words.specs.LinkRows.{IsLinkAt}
 use Rattle.seize_words.specs.declared.link.Link.{Link}
 use Rattle.seize_words.proofs.link.row.Links.row.Given as goal

@@ -1,0 +1,56 @@
+-- Homes: values with a given home, and what an event that leaves a home alone does to its values.
+use Rattle.std.proofs.Common.{◌≡◌, ℕ, ◌+◌, ◌*◌, ◌/◌, ◌^◌, ◌<◌, ◌≤◌, false, ◌==◌, List, [], ◌∷◌, Option, Some, None, refl, sym, ap, ◌∙◌, arith}
+use Rattle.std.specs.List.{list_any}
+use Rattle.std.proofs.lemmas.Bool.{true≢false, or_from, or_parts}
+use Rattle.seize_machine.specs.Machine.State.{State, link_at, has}
+use Rattle.seize_machine.specs.Machine.Event.{Event, Begin, Hand, ExchangeLink}
+use Rattle.seize_machine.specs.Machine.Next.{new_link}
+use Rattle.seize_machine.specs.Machine.Frames.{is_number, changes_value}
+use Rattle.seize_machine.specs.declared.machine.event.Job.TheVariants.{Retire}
+use Rattle.seize_book.specs.Homes.{home_of, is_home, changes_home}
+use Rattle.seize_table.specs.Pairs.{left_of, pair, right_of}
+use Rattle.seize_table.proofs.Pairs.{left_pair, past, right_pair}
+use Rattle.seize_book.specs.Blocks.{block_of}
+use Rattle.seize_book.specs.Loans.{loan_of, place_of, rest_of}
+use Rattle.seize_book.proofs.Lists.{equal, unequal}
+
+-- each home has values with any block's number, any place and anything that is lent with them, past any bound
+pub another_with : (k place carried p bound : ℕ) → p < 2 ^ 64
+    → (v : ℕ) × (home_of v ≡ k) × (block_of v ≡ p) × (bound ≤ v) × (place_of v ≡ place) × (loan_of v ≡ carried)
+another_with k place carried p bound small =
+    let turn : ℕ = pair carried bound in let rest : ℕ = pair place turn in let w : ℕ = pair k rest in let v : ℕ = w * 2 ^ 64 + p in
+    let above : v / 2 ^ 64 ≡ w = omega (arith, small) in
+    let last : bound ≤ turn = past carried bound in let middle : turn ≤ rest = past place turn in let first : rest ≤ w = past k rest in
+    let its_rest : rest_of v ≡ rest = ap right_of above ∙ right_pair k rest in (
+      v,
+      ap left_of above ∙ left_pair k rest,
+      omega (arith, small),
+      omega (arith, last, middle, first),
+      ap left_of its_rest ∙ left_pair place turn,
+      ap (λ (r : ℕ). left_of (right_of r)) its_rest ∙ (ap left_of (right_pair place turn) ∙ left_pair carried bound),
+    )
+
+-- with which nothing is lent
+pub another_of : (k p bound : ℕ) → p < 2 ^ 64 → (v : ℕ) × (home_of v ≡ k) × (block_of v ≡ p) × (bound ≤ v)
+another_of k p bound small = let v = another_with k 0 0 p bound small in (v.0, v.1, v.2, v.3)
+
+-- what changes nothing of a home changes nothing of its values
+
+other : (v w : ℕ) → (home_of w == home_of v) ≡ false → (w == v) ≡ false
+other v w out = unequal w v (λ e. true≢false (sym (equal (home_of w) (home_of v) (ap home_of e)) ∙ out))
+
+others : (v : ℕ) (values : List ℕ) → list_any (λ w. home_of w == home_of v) values ≡ false → has v values ≡ false
+others v [] out = refl
+others v (w ∷ values) out = let each = or_parts (home_of w == home_of v) (list_any (λ w. home_of w == home_of v) values) out in
+    or_from (w == v) (has v values) (other v w each.0) (others v values each.1)
+
+other_held : (v : ℕ) (held : Option ℕ) → is_home (home_of v) held ≡ false → is_number v held ≡ false
+other_held v None out = refl
+other_held v (Some w) out = other v w out
+
+pub home_value : (st : State) (v : ℕ) (event : Event) → changes_home st (home_of v) event ≡ false → changes_value st v event ≡ false
+home_value st v (Begin s (Retire w)) out = other v w out
+home_value st v (Hand s puts) out = others v puts out
+home_value st v (ExchangeLink s l exchange) out = let each = or_parts (is_home (home_of v) (new_link exchange)) (is_home (home_of v) (link_at st l)) out in
+    or_from (is_number v (new_link exchange)) (is_number v (link_at st l)) (other_held v (new_link exchange) each.0) (other_held v (link_at st l) each.1)
+home_value st v event out = refl

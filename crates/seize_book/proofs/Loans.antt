@@ -1,0 +1,148 @@
+-- Loans of values that stand in links: who finds a value is one of its readers for good, and all of them are over when the value goes to its
+-- reclaimer. Assumes `Logic`.
+use Rattle.std.proofs.Common.{◌≡◌, ℕ, zero, suc, ◌<◌, ◌≤◌, Bool, true, false, ◌==◌, ◌||◌, List, [], ◌∷◌, ◌++◌, length, take, slice_get, Option, Some, None, refl, sym, ◌∙◌, ap, subst, arith}
+use Rattle.std.specs.Prelude.{option_to_list}
+use Rattle.std.proofs.lemmas.Option.{slice_get_within}
+use mathlib.Core.List.{IsPrefix}
+use seplogic.Ra.Ura.{Ura}
+use base.Fml.{Fml}
+use base.Logic.{SProp, ent, sep}
+use types.Growing.{at_least_dup}
+use types.Kit.{‵, ◌⊛◌, ◌$◌, ◌∵◌, !, qed, move, split, fsplit, fjoin, fpick, fpack, done, use1}
+use types.Logic.{Logic, sem}
+use Rattle.seize_machine.specs.Machine.State.{State, linked, are_distinct, opening, has}
+use Rattle.seize_machine.specs.Machine.Next.{next}
+use Rattle.seize_machine.specs.Machine.History.{Moment, Found, Reclaimed, answers_of, handed, handed_value, done_by, is_link_event, linked_value, or_illegal}
+use Rattle.seize_machine.specs.declared.machine.event.Answer.{Answer}
+use Rattle.seize_machine.proofs.Facts.{eq_true, law_gone, law_protection}
+use Rattle.seize_book.specs.Entry.{Entry, entry_coded, Made, Used, Deed, deeds, timed, events_of}
+use Rattle.seize_book.specs.Book.{moments, after, IsLegalList, Does}
+use Rattle.seize_book.specs.Laws.{AllOver, AllParted, Reader, life, life_from}
+use Rattle.seize_book.specs.Ledger.{logs, reached}
+use Rattle.seize_book.specs.Tokens.{Name, pass_at, pass_holds}
+use Rattle.seize_book.proofs.Handed.{get_last, moment, moments_push}
+use Rattle.seize_book.proofs.Lists.{as_legal, deeds_append}
+use Rattle.seize_book.proofs.Lives.{all_over}
+
+-- A value that was reclaimed was handed by an event of the list.
+
+was_handed : (ms : List Moment) (v : ℕ) → has v (handed (answers_of ms)) ≡ true → (c : ℕ) × Reclaimed ms v c
+was_handed [] v h = absurd (cc)
+was_handed (m ∷ ms) v h = go (handed_value m.answer) refl h (was_handed ms v)
+  where
+    Later : Type 0
+    Later = has v (handed (answers_of ms)) ≡ true → (c : ℕ) × Reclaimed ms v c
+
+    later : (c : ℕ) × Reclaimed ms v c → (c : ℕ) × Reclaimed (m ∷ ms) v c
+    later r = (suc r.0, r.1)
+
+    is : (w : ℕ) → handed_value m.answer ≡ Some w → (b : Bool) → (w == v) ≡ b → (b || has v (handed (answers_of ms))) ≡ true → Later → (c : ℕ) × Reclaimed (m ∷ ms) v c
+    is w e true same t rest = (zero, (m, refl, e ∙ ap Some (eq_true w v same)))
+    is w e false other t rest = later (rest t)
+
+    go : (o : Option ℕ) → handed_value m.answer ≡ o → has v (option_to_list o ++ handed (answers_of ms)) ≡ true → Later → (c : ℕ) × Reclaimed (m ∷ ms) v c
+    go None e t rest = later (rest t)
+    go (Some w) e t rest = is w e (w == v) refl t rest
+
+moments_long : (st : State) (log : List Entry) → length (moments st log) ≡ length (deeds log)
+moments_long st [] = refl
+moments_long st (Made e ∷ log) = ap suc (moments_long (done_by next st (timed e)).0 log)
+moments_long st (Used u ∷ log) = moments_long st log
+
+-- of a value that was reclaimed, all activations are over in which it was found
+pub gone_over : (slots : ℕ) (links : List (Option ℕ)) → are_distinct (linked links) ≡ true → (log : List Entry) (v : ℕ) → IsLegalList (opening slots links) log → has v (after (opening slots links) log).gone ≡ true
+    → AllOver (opening slots links) log v
+gone_over slots links distinct log v legal gone = all_over st log v legal parted
+  where
+    st : State
+    st = opening slots links
+
+    by_list : has v (handed (answers_of (moments st log))) ≡ true
+    by_list = subst (λ (vs : List ℕ). has v vs ≡ true) (law_gone slots links (events_of log) _ _ distinct (as_legal st log legal)) gone
+
+    parted : AllParted st log v
+    parted s i f =
+        let r = was_handed (moments st log) v by_list in let c : ℕ = r.0 in
+        let p = (law_protection slots links (events_of log) _ _ distinct (as_legal st log legal) s v i c f r.1).1 in
+        let below : c < length (moments st log) = slice_get_within (moments st log) c (r.1).0 (r.1).1 in let n = moments_long st log in let before = p.2 in
+        (p.0, p.1, omega (arith, below, n, before), p.3)
+
+-- A reader of a list is one of each longer one.
+
+get_more : {X : Type 0} (xs ys : List X) (i : ℕ) (x : X) → slice_get xs i ≡ Some x → slice_get (xs ++ ys) i ≡ Some x
+get_more [] ys i x h = absurd (cc)
+get_more (z ∷ xs) ys zero x h = h
+get_more (z ∷ xs) ys (suc i) x h = get_more xs ys i x h
+
+take_more : {X : Type 0} (xs ys : List X) (i : ℕ) → i ≤ length xs → take i (xs ++ ys) ≡ take i xs
+take_more xs ys zero le = refl
+take_more [] ys (suc i) le = absurd (omega (arith, le))
+take_more (x ∷ xs) ys (suc i) le = ap (λ (l : List _). x ∷ l) (take_more xs ys i (omega (arith, le)))
+
+take_whole : {X : Type 0} (xs : List X) → take (length xs) xs ≡ xs
+take_whole [] = refl
+take_whole (x ∷ xs) = ap (λ (l : List _). x ∷ l) (take_whole xs)
+
+moments_append : (st : State) (log more : List Entry) → moments st (log ++ more) ≡ moments st log ++ moments (after st log) more
+moments_append st [] more = refl
+moments_append st (Made e ∷ log) more = ap (λ (ms : List Moment). moment st e ∷ ms) (moments_append (done_by next st (timed e)).0 log more)
+moments_append st (Used u ∷ log) more = moments_append st log more
+
+pub reader_later : (st : State) (log log' : List Entry) (v a : ℕ) → IsPrefix log log' → Reader st log v a → Reader st log' v a
+reader_later st log log' v a grows r = subst (λ (l : List Entry). Reader st l v a) grows.1 (r.0, r.1, (f.0, still, f.2, f.3), r.3 ∙ same)
+  where
+    more : List Entry
+    more = grows.0
+
+    f : Found (moments st log) r.1 v r.0
+    f = r.2
+
+    still : slice_get (moments st (log ++ more)) r.0 ≡ Some f.0
+    still = ap (λ (ms : List Moment). slice_get ms r.0) (moments_append st log more) ∙ get_more (moments st log) (moments (after st log) more) r.0 f.0 f.1
+
+    within : r.0 ≤ length (deeds log)
+    within = let below = slice_get_within (moments st log) r.0 f.0 f.1 in let n = moments_long st log in omega (arith, below, n)
+
+    same : life_from 0 r.1 (take r.0 (deeds log)) ≡ life_from 0 r.1 (take r.0 (deeds (log ++ more)))
+    same = ap (life_from 0 r.1) (sym (ap (take r.0) (deeds_append log more) ∙ take_more (deeds log) (deeds more) r.0 within))
+
+-- who finds a value by a legal event is a reader
+pub found_now : (st : State) (log : List Entry) (e : Deed) (d : State × Answer) (s w : ℕ) → Does st log (Made e) d → is_link_event s e.event ≡ true → linked_value d.1 ≡ Some w → Reader st (log ++ Made e ∷ []) w (life s log)
+found_now st log e d s w does own is = (length (deeds log), s, (moment (after st log) e, last, own, answered), alive)
+  where
+    last : slice_get (moments st (log ++ Made e ∷ [])) (length (deeds log)) ≡ Some (moment (after st log) e)
+    last = ap (λ (ms : List Moment). slice_get ms (length (deeds log))) (moments_push st log e)
+        ∙ (ap (λ (n : ℕ). slice_get (moments st log ++ moment (after st log) e ∷ []) n) (sym (moments_long st log)) ∙ get_last (moments st log) (moment (after st log) e))
+
+    answered : linked_value (done_by next (after st log) (timed e)).1 ≡ Some w
+    answered = ap (λ o. linked_value (or_illegal (after st log) o).1) does ∙ is
+
+    alive : life s log ≡ life_from 0 s (take (length (deeds log)) (deeds (log ++ Made e ∷ [])))
+    alive = ap (life_from 0 s) (sym (ap (take (length (deeds log))) (deeds_append log (Made e ∷ [])) ∙ (take_more (deeds log) (deeds (Made e ∷ [])) (length (deeds log)) (omega arith) ∙ take_whole (deeds log))))
+
+-- As resources.
+module _ {M : Type 1} {𝓤 : Ura M} (𝓛 : Logic 𝓤) (n : Name) where
+  open 𝓛 use {H, A}
+
+  abbrev Pr : Type 2
+  Pr = SProp 𝓤
+
+  abbrev ◌⊢◌ : Pr → Pr → Type 1
+  P ⊢ Q = ent 𝓤 P Q
+
+  abbrev ◌∗◌ : Pr → Pr → Pr
+  P ∗ Q = sep 𝓤 P Q
+
+  abbrev ⟦◌⟧ : Fml → Pr
+  ⟦ P ⟧ = sem 𝓛 P
+
+  infix 26 ◌⊢◌
+  infixr 35 ◌∗◌
+  abbrev had : List Entry → Fml
+  had log = reached entry_coded n.log log
+
+  -- what a pass has seen was reached
+  pub pass_shows : (p : ℕ) (log : List Entry) → ⟦ pass_holds n p log ⟧ ⊢ ⟦ pass_holds n p log ⟧ ∗ ⟦ had log ⟧
+  pass_shows p log = qed 𝓛 (‵ (pass_holds n p log) ∷ []) ∵ fpick ! (λ own. fsplit ! $ move ! (1 ∷ []) $ fsplit ! $ use1 𝓛 (‵ (had log) ⊛ ‵ (had log)) (at_least_dup (logs entry_coded) 𝓛 n.log log) $ split ! $
+      -- [the list, twice; the rest; its key]
+      move ! (0 ∷ 2 ∷ []) $ fjoin ! $ move ! (2 ∷ 0 ∷ []) $ fjoin ! $ fpack ! (List Entry) (pass_at n p log) own $ done !)

@@ -1,0 +1,221 @@
+-- The key of a block is for another of its values then. Assumes `Logic`.
+use Rattle.std.proofs.Common.{◌≡◌, ℕ, suc, ◌+◌, ◌^◌, ◌<◌, ◌≤◌, true, false, ◌==◌, List, [], ◌∷◌, refl, sym, ◌∙◌, ap, subst, arith}
+use Rattle.std.proofs.lemmas.Bool.{or_from}
+use seplogic.Ra.Ura.{Ura}
+use base.Logic.{ent}
+use base.Fml.{Fml, fsep}
+use types.Logic.{Logic, sem}
+use types.Kit.{‵, ◌$◌, ◌∵◌, !, qed, move, drop, fsplit, fjoin, rewrite, use1, done}
+use native.Mathlib.Decide.{ℕ_discrete}
+use base.Stored.{Gv}
+use Rattle.seize_content.specs.Stages.{Name as Content}
+use Rattle.seize_content.specs.declared.loan.Pool.{Pool}
+use Rattle.seize_machine.specs.Machine.State.{State, has}
+use Rattle.seize_book.specs.Bare.{Numbers}
+use Rattle.seize_book.specs.Blocks.{block_of}
+use Rattle.seize_book.specs.Book.{Kept, TheBlock, after, blocks, rules}
+use Rattle.seize_book.specs.Entry.{Entry}
+use Rattle.seize_book.specs.Fair.{Before}
+use Rattle.seize_book.specs.Homes.{IsVacant, home_of}
+use Rattle.seize_book.specs.Ledger.{AllKept, Held, renewed}
+use Rattle.seize_book.specs.Lending.{GoesWith, IsLentKey, Lends, MayRedeem}
+use Rattle.seize_book.specs.Passes.{IsSame}
+use Rattle.seize_book.specs.Loans.{Carries, CarriesNone, loan, loan_number, loan_of, place_number, place_of}
+use Rattle.seize_book.specs.Books.{IsNextIn}
+use Rattle.seize_book.specs.Others.{HasGone, IsLast, Renames, labelled, state_of, value_of}
+use Rattle.seize_book.specs.Private.{is_one, key_of, label_of, own_of}
+use Rattle.seize_book.specs.Tokens.{Name, label_at, leads, leads_in, rights_own, keys_own, start, way}
+use Rattle.seize_book.specs.declared.book.keys.Keys.{Keys}
+use Rattle.seize_book.specs.declared.book.pass.Pass.{Pass}
+use Rattle.seize_book.specs.declared.book.value_key.ValueKey.{ValueKey}
+use Rattle.seize_book.proofs.Homes.{another_with}
+use Rattle.seize_book.proofs.Lists.{unequal}
+use Rattle.seize_book.proofs.Private.{after_one, only_is, renewed_label, same_kind}
+use Rattle.seize_book.proofs.Sound.{gone_later}
+use Rattle.seize_book.proofs.Ways.{bare_way, way_opens}
+
+-- past all that are in a list
+past : (xs : List ℕ) → (bound : ℕ) × ((v : ℕ) → bound ≤ v → has v xs ≡ false)
+past [] = (0, λ v le. refl)
+past (x ∷ xs) = let rest = past xs in
+    (suc x + rest.0, λ v le. or_from (x == v) (has v xs) (unequal x v (λ e. omega (arith, le, e))) (rest.1 v (omega (arith, le))))
+
+small : (v : ℕ) → block_of v < 2 ^ 64
+small v = omega arith
+
+-- a value of the same block that was never named
+another : (n : Name) (held : List (Held Entry))
+    → (v : ℕ) × (home_of v ≡ home_of (label_of held)) × (block_of v ≡ block_of (label_of held)) × ((past (after (start n) (own_of held)).named).0 ≤ v)
+    × (place_of v ≡ place_of (label_of held)) × (loan_of v ≡ 0)
+another n held =
+    another_with (home_of (label_of held)) (place_of (label_of held)) 0 (block_of (label_of held)) (past (after (start n) (own_of held)).named).0 (small (label_of held))
+
+pub fresh : Name → List (Held Entry) → ℕ
+fresh n held = (another n held).0
+
+pub fresh_home : (n : Name) (held : List (Held Entry)) → (home_of (label_of held) ≡ home_of (fresh n held)) × (block_of (label_of held) ≡ block_of (fresh n held)) × CarriesNone (fresh n held)
+unfolding fresh
+fresh_home n held = let v = another n held in (sym v.1, sym v.2, v.5)
+
+pub renames : (marker : _) (n : Name) (held : List (Held Entry))
+    → Renames (record { marker = marker; name = n; held = held }) (record { marker = marker; name = n; held = labelled (fresh n held) held })
+unfolding fresh
+renames marker n held = let v = another n held in
+    record { value = v.0; book = refl; held = refl; home = v.1; numbered = v.2; unnamed = (past (after (start n) (own_of held)).named).1 v.0 v.3; place = v.4; free = v.5 }
+
+-- the same, where the book is named by another
+pub renames_in : (marker : _) (n m : Name) → n ≡ m → (held : List (Held Entry))
+    → Renames (record { marker = marker; name = n; held = held }) (record { marker = marker; name = m; held = labelled (fresh n held) held })
+unfolding fresh
+renames_in marker n m same held = let r = renames marker n held in
+    record { value = r.value; book = sym same; held = r.held; home = r.home; numbered = r.numbered; unnamed = r.unnamed; place = r.place; free = r.free }
+
+-- of a block whose number is still to be said, one with this number
+pub fresh_at : (n : Name) (held : List (Held Entry)) (number : ℕ) → number < 2 ^ 64 → ℕ
+fresh_at n held number fits = (another_with (key_of held) (place_of (label_of held)) 0 number (past (after (start n) (own_of held)).named).0 fits).0
+
+pub numbers : (marker : _) (n : Name) (held : List (Held Entry)) (number : ℕ) (fits : number < 2 ^ 64)
+    → Numbers (record { marker = marker; name = n; held = held }) (record { marker = marker; name = n; held = labelled (fresh_at n held number fits) held }) number
+unfolding fresh_at
+numbers marker n held number fits =
+    let bound = past (after (start n) (own_of held)).named in let v = another_with (key_of held) (place_of (label_of held)) 0 number bound.0 fits in
+    record { value = v.0; book = refl; held = refl; home = v.1; numbered = v.2; unnamed = bound.1 v.0 v.3; place = v.4; free = v.5 }
+
+-- one with which a content is lent
+pub fresh_lent : Name → List (Held Entry) → Content → Gv → ℕ
+fresh_lent n held c g =
+    (another_with (home_of (label_of held)) (place_number c) (loan_number g) (block_of (label_of held)) (past (after (start n) (own_of held)).named).0 (small (label_of held))).0
+
+pub fresh_lent_is : (n : Name) (held : List (Held Entry)) (c : Content) (g : Gv)
+    → (home_of (label_of held) ≡ home_of (fresh_lent n held c g)) × (block_of (label_of held) ≡ block_of (fresh_lent n held c g)) × Carries (fresh_lent n held c g) c g
+unfolding fresh_lent
+fresh_lent_is n held c g =
+    let v = another_with (home_of (label_of held)) (place_number c) (loan_number g) (block_of (label_of held)) (past (after (start n) (own_of held)).named).0 (small (label_of held)) in
+    (sym v.1, sym v.2, (v.4, v.5))
+
+pub lends : (marker : _) (n : Name) (held : List (Held Entry)) (pool : Pool)
+    → Lends (record { marker = marker; name = n; held = held }) pool (record { marker = marker; name = n; held = labelled (fresh_lent n held pool.name pool.value) held })
+unfolding fresh_lent
+lends marker n held pool =
+    let named = past (after (start n) (own_of held)).named in let v = another_with (home_of (label_of held)) (place_number pool.name) (loan_number pool.value) (block_of (label_of held)) named.0 (small (label_of held)) in
+    record { value = v.0; book = refl; held = refl; home = v.1; numbered = v.2; unnamed = named.1 v.0 v.3; carries = (v.4, v.5) }
+
+own_labelled : (v : ℕ) (held : List (Held Entry)) → own_of (labelled v held) ≡ own_of held
+own_labelled v [] = refl
+own_labelled v (h ∷ held) = refl
+
+label_one : (held : List (Held Entry)) (v : ℕ) → is_one blocks held ≡ true → label_of (labelled v held) ≡ v
+label_one [] v one = absurd (cc)
+label_one (h ∷ held) v one = refl
+
+module _ {M : Type 1} {𝓤 : Ura M} (𝓛 : Logic 𝓤) (n : Name) where
+  pub same_lead : (v w : ℕ) → home_of v ≡ home_of w → block_of v ≡ block_of w → leads n v ≡ leads n w
+  same_lead v w home block = ap (λ (t : ℕ × ℕ). leads_in n.store t.0 (label_at n t.1)) (λ j. (block j, home j))
+
+  pub right_labelled : (held : List (Held Entry)) (v : ℕ) → ent 𝓤 (sem 𝓛 (rights_own n held)) (sem 𝓛 (rights_own n (labelled v held)))
+  right_labelled [] v = qed 𝓛 (‵ (rights_own n []) ∷ []) ∵ done !
+  right_labelled (h ∷ held) v = qed 𝓛 (‵ (rights_own n (h ∷ held)) ∷ []) ∵ done !
+
+  -- a label is no part of the right, and its number leads to the same home
+  pub relabels : (held : List (Held Entry)) (v : ℕ) → is_one blocks held ≡ true → home_of (label_of held) ≡ home_of v → block_of (label_of held) ≡ block_of v → CarriesNone v
+      → ent 𝓤 (sem 𝓛 (keys_own n held)) (sem 𝓛 (keys_own n (labelled v held)))
+  relabels [] v one home block none = absurd (cc)
+  relabels (h ∷ g ∷ held) v one home block none = absurd (cc)
+  relabels (h ∷ []) v one home block none = let h' : Held Entry = record { kind = h.kind; key = h.key; own = h.own; label = v } in let L : Fml = leads n h.label in
+      qed 𝓛 (‵ (keys_own n (h ∷ [])) ∷ []) ∵ fsplit ! $ fsplit ! $ move ! (1 ∷ []) $ use1 𝓛 (‵ (fsep L (loan (start n) n.log h.label))) (way_opens 𝓛 n h one) $ fsplit ! $ move ! (1 ∷ []) $ drop ! $
+      -- [where it leads; the right; nothing], for what was lent is let go
+      rewrite ! 0 (λ (F : Fml). ‵ F) (same_lead h.label v home block) refl $ use1 𝓛 (‵ (way n h')) (bare_way 𝓛 n h' none one) $ move ! (1 ∷ 0 ∷ []) $ fjoin ! $ fjoin ! $ done !
+
+-- what the key of a block knows that was looked up and labelled, where its last value was reclaimed and all others were before
+module _ (value : ValueKey) (pass : Pass) (seen' : List Entry) (looked renamed : Keys) (book : value.keys.name ≡ pass.name) (before : Before pass.name pass.id pass.seen value.keys.held seen')
+    (name : looked.name ≡ value.keys.name) (held : looked.held ≡ renewed value.keys.held seen') (is : Renames looked renamed) where
+  abbrev st : State
+  st = start pass.name
+
+  abbrev u : ℕ
+  u = label_of value.keys.held
+
+  looks : (key_of looked.held ≡ key_of value.keys.held) × (own_of looked.held ≡ seen')
+  looks = let known = after_one blocks value.keys.held seen' value.one in (ap key_of held ∙ known.0, ap own_of held ∙ known.1)
+
+  state_looked : state_of looked ≡ after st seen'
+  state_looked = ap (λ (t : Name × List Entry). after (start t.0) t.1) (λ j. ((name ∙ book) j, looks.1 j))
+
+  state_same : state_of renamed ≡ state_of looked
+  state_same = ap (λ (t : Name × List Entry). after (start t.0) t.1) (λ j. (is.book j, (ap own_of is.held ∙ own_labelled is.value looked.held) j))
+
+  kept : Kept st TheBlock (key_of value.keys.held) (own_of value.keys.held) seen'
+  kept = (subst (λ (hs : List (Held Entry)). AllKept (rules st) hs seen') (only_is blocks value.keys.held value.one) before.kept).0
+
+  its_value : label_of renamed.held ≡ is.value
+  its_value = ap label_of (is.held ∙ ap (labelled is.value) held) ∙ label_one (renewed value.keys.held seen') is.value (same_kind blocks value.keys.held seen' value.one)
+
+  same_label : label_of looked.held ≡ u
+  same_label = ap label_of held ∙ renewed_label value.keys.held seen'
+
+  its_home : home_of is.value ≡ home_of u
+  its_home = is.home ∙ ap home_of same_label
+
+  pub next_home : home_of (label_of renamed.held) ≡ home_of u
+  next_home = ap home_of its_value ∙ its_home
+
+  pub next_free : CarriesNone (label_of renamed.held)
+  next_free = ap loan_of its_value ∙ is.free
+
+  gone_all : IsLast value → HasGone value pass → IsVacant (after st seen') (home_of is.value)
+  gone_all last gone w home named = go (ℕ_discrete w u)
+    where
+      same : home_of w ≡ home_of u
+      same = home ∙ its_home
+
+      go : Dec (w ≡ u) → has w (after st seen').gone ≡ true
+      go (yes e) = gone_later st pass.seen seen' w before.grows before.legal (subst (λ (x : ℕ). has x (after st pass.seen).gone ≡ true) (sym e) gone)
+      go (no other) =
+          let known : has w (after st (own_of value.keys.held)).named ≡ true = (kept.1 w (same ∙ sym value.home)).0 ∙ named in
+          let in_book : state_of value.keys ≡ after st (own_of value.keys.held) = ap (λ (n : Name). after (start n) (own_of value.keys.held)) book in
+          gone_later st (own_of value.keys.held) seen' w kept.0 before.legal
+          (subst (λ (z : State). has w z.gone ≡ true) in_book (last w same other (subst (λ (z : State). has w z.named ≡ true) (sym in_book) known)))
+
+  pub next_in : IsLast value → HasGone value pass
+      → (has (label_of renamed.held) (state_of renamed).named ≡ false) × IsVacant (state_of renamed) (home_of (label_of renamed.held)) × (block_of (label_of renamed.held) ≡ block_of u)
+  next_in last gone = (
+    subst (λ (t : ℕ × State). has t.0 t.1.named ≡ false) (λ j. (sym its_value j, sym state_same j)) is.unnamed,
+    subst (λ (t : ℕ × State). IsVacant t.1 (home_of t.0)) (λ j. (sym its_value j, sym (state_same ∙ state_looked) j)) (gone_all last gone),
+    ap block_of its_value ∙ is.numbered ∙ ap block_of same_label,
+  )
+
+-- what a key knows with which a content is lent
+module _ (value : ValueKey) (pool : Pool) (lent : Keys) (is : Lends value.keys pool lent) (next : IsNextIn value (block_of (value_of value))) where
+  lent_value : label_of lent.held ≡ is.value
+  lent_value = ap label_of is.held ∙ label_one value.keys.held is.value value.one
+
+  lent_state : state_of lent ≡ state_of value.keys
+  lent_state = ap (λ (t : Name × List Entry). after (start t.0) t.1) (λ j. (is.book j, (ap own_of is.held ∙ own_labelled is.value value.keys.held) j))
+
+  pub lent_home : home_of (label_of lent.held) ≡ home_of (value_of value)
+  lent_home = ap home_of lent_value ∙ is.home
+
+  pub lent_next : (has (label_of lent.held) (state_of lent).named ≡ false) × IsVacant (state_of lent) (home_of (label_of lent.held)) × (block_of (label_of lent.held) ≡ block_of (value_of value))
+  lent_next = (
+    subst (λ (t : ℕ × State). has t.0 t.1.named ≡ false) (λ j. (sym lent_value j, sym lent_state j)) is.unnamed,
+    subst (λ (t : ℕ × State). IsVacant t.1 t.0) (λ j. (sym lent_home j, sym lent_state j)) next.1,
+    ap block_of lent_value ∙ is.numbered,
+  )
+
+  pub lent_goes : Carries (label_of lent.held) pool.name pool.value
+  lent_goes = subst (λ (v : ℕ). Carries v pool.name pool.value) (sym lent_value) is.carries
+
+-- a key that was looked up, of a value that was reclaimed, gives back what is lent with it
+pub may_redeem : (value : ValueKey) (pass pass' : Pass) (looked : Keys) → value.keys.name ≡ pass.name → IsSame pass pass' → Before pass.name pass.id pass.seen value.keys.held pass'.seen → looked.name ≡ value.keys.name
+    → looked.held ≡ renewed value.keys.held pass'.seen → HasGone value pass → IsLentKey value → MayRedeem looked pass'
+may_redeem value pass pass' looked book same before name held gone lent =
+    let label : label_of looked.held ≡ value_of value = ap label_of held ∙ renewed_label value.keys.held pass'.seen in (
+      name ∙ book ∙ sym same.0,
+      subst (λ (hs : List (Held Entry)). is_one blocks hs ≡ true) (sym held) (same_kind blocks value.keys.held pass'.seen value.one),
+      (λ none. lent (subst CarriesNone label none)),
+      subst (λ (t : ℕ × Name). has t.0 (after (start t.1) pass'.seen).gone ≡ true) (λ j. (sym label j, sym same.0 j)) (gone_later (start pass.name) pass.seen pass'.seen (value_of value) before.grows before.legal gone),
+    )
+
+-- and what comes back is what was lent with that value
+pub was_lent : (value : ValueKey) (pool : Pool) (looked : Keys) (seen' : List Entry) → looked.held ≡ renewed value.keys.held seen' → Carries (label_of looked.held) pool.name pool.value → GoesWith value pool
+was_lent value pool looked seen' held carries = subst (λ (v : ℕ). Carries v pool.name pool.value) (ap label_of held ∙ renewed_label value.keys.held seen') carries

@@ -1,0 +1,96 @@
+-- What the tokens own may go to another thread.
+use Rattle.std.proofs.Common.{ℕ, zero, suc, Bool, true, false, ◌==◌, List, [], ◌∷◌, length, Option, Some, None}
+use base.Growing.{latest, at_least}
+use base.Fml.{Lft}
+use base.Shift.{Keyless}
+use types.Keyed.{entry_keyless, entries_keyless}
+use Rattle.seize_table.specs.Filled.{all_from}
+use Rattle.seize_book.specs.Ledger.{Held, halved, roster, rosters, first, rest}
+use Rattle.seize_book.specs.Entry.{Entry, entry_coded}
+use Rattle.seize_book.specs.Book.{after, blocks}
+use Rattle.seize_content.specs.Stages.{lent}
+use Rattle.seize_content.proofs.Sends.{ticket_sent, lent_sent}
+use Rattle.seize_machine.specs.Machine.State.{State}
+use Rattle.seize_book.specs.Laws.{ended}
+use Rattle.seize_book.specs.Loans.{loan_if, loan_of, readers}
+use Rattle.seize_book.specs.Tokens.{Name, rows, start, inside, over, Gate, many, sole, gate_keeps, gate_gives, leads_in, all_lead, lies_in, all_lie_in, lies_if, is_placed, slot_labels, way_if, rights_own, keys_own, pass_owns}
+use Rattle.seize_book.specs.Begin.{book_owns}
+
+roster_keyless : (δ k : ℕ) (owns : List (List Entry)) → Keyless (roster entry_coded δ k owns)
+roster_keyless δ k [] = entries_keyless (halved entry_coded) δ k _
+roster_keyless δ k (o ∷ owns) = (entry_keyless (halved entry_coded) δ k _, roster_keyless δ (suc k) owns)
+
+rosters_keyless : (δs : List ℕ) (rows : List (List (List Entry))) → Keyless (rosters entry_coded δs rows)
+rosters_keyless [] rows = tt
+rosters_keyless (δ ∷ δs) rows = (roster_keyless δ 0 (first rows), rosters_keyless δs (rest rows))
+
+pub over_keyless : (lives : List ℕ) → Keyless (over lives)
+over_keyless [] = tt
+over_keyless (a ∷ lives) = (tt, over_keyless lives)
+
+keeps_keyless : (g : Gate) (log : List Entry) → Keyless (gate_keeps g log)
+unfolding latest
+keeps_keyless many log = tt
+keeps_keyless (sole η) log = tt
+
+gives_keyless : (g : Gate) (seen : List Entry) → Keyless (gate_gives g seen)
+unfolding latest
+gives_keyless many seen = tt
+gives_keyless (sole η) seen = tt
+
+lead_keyless : (store : Option (List ℕ)) (b label : ℕ) → Keyless (leads_in store b label)
+lead_keyless None b label = tt
+lead_keyless (Some store) b label = λ way. tt
+
+leads_keyless : (n : Name) (vs : List ℕ) → Keyless (all_lead n vs)
+leads_keyless n [] = tt
+leads_keyless n (v ∷ vs) = (lead_keyless n.store _ _, leads_keyless n vs)
+
+readers_keyless : (st : State) (η v : ℕ) (ds : List (Lft × ℕ)) → Keyless (readers st η v ds)
+unfolding at_least
+readers_keyless st η v [] = tt
+readers_keyless st η v (d ∷ ds) = ((λ t. ((λ _. tt), tt)), readers_keyless st η v ds)
+
+loan_keyless : (k : ℕ) (st : State) (η v : ℕ) → Keyless (loan_if k st η v)
+loan_keyless zero st η v = tt
+loan_keyless (suc k) st η v = λ l. ((λ _. tt), (ticket_sent l.content (lent l.life l.code), (lent_sent l.content l.life l.code l.readers, readers_keyless st η v l.readers)))
+
+way_keyless : (b : Bool) (n : Name) (v : ℕ) → Keyless (way_if b n v)
+way_keyless true n v = (lead_keyless n.store _ _, loan_keyless (loan_of v) (start n) n.log v)
+way_keyless false n v = tt
+
+lies_keyless : (table : Option (List ℕ)) (s label : ℕ) → Keyless (lies_in table s label)
+lies_keyless None s label = tt
+lies_keyless (Some table) s label = λ way. (tt, tt)
+
+filled_keyless : (table : List ℕ) (from : ℕ) (labels : List ℕ) → Keyless (all_from table from labels)
+filled_keyless table from [] = tt
+filled_keyless table from (label ∷ labels) = ((λ way. (tt, tt)), filled_keyless table (suc from) labels)
+
+all_lie_keyless : (table : Option (List ℕ)) (labels : List ℕ) → Keyless (all_lie_in table labels)
+all_lie_keyless None labels = tt
+all_lie_keyless (Some table) labels = filled_keyless table 0 labels
+
+lies_if_keyless : (b : Bool) (n : Name) (s : ℕ) → Keyless (lies_if b n s)
+lies_if_keyless true n s = lies_keyless n.table s _
+lies_if_keyless false n s = tt
+
+inside_keyless : (n : Name) → Keyless (inside n)
+unfolding latest
+inside_keyless n = λ s. (rosters_keyless (rows n) s.0, (tt, ((over_keyless (ended s.1), (keeps_keyless n.gate s.1, (leads_keyless n (after (start n) s.1).named, all_lie_keyless n.table (slot_labels n (length (after (start n) s.1).slots))))), (λ _. tt))))
+
+pub book_keyless : (n : Name) (seen : List Entry) → Keyless (book_owns n seen)
+unfolding at_least
+book_keyless n seen = ((inside_keyless n, (tt, λ _. tt)), tt)
+
+pub pass_keyless : (n : Name) (p : ℕ) (seen : List Entry) → Keyless (pass_owns n p seen)
+unfolding at_least
+pass_keyless n p seen = ((inside_keyless n, (tt, λ _. tt)), λ own. (entry_keyless (halved entry_coded) _ p _, (tt, (gives_keyless n.gate seen, λ _. tt))))
+
+pub keys_keyless : (n : Name) (held : List (Held Entry)) → Keyless (keys_own n held)
+keys_keyless n [] = tt
+keys_keyless n (h ∷ held) = ((entry_keyless (halved entry_coded) _ h.key _, (way_keyless (h.kind == blocks) n h.label, lies_if_keyless (is_placed h) n h.key)), keys_keyless n held)
+
+pub rights_keyless : (n : Name) (held : List (Held Entry)) → Keyless (rights_own n held)
+rights_keyless n [] = tt
+rights_keyless n (h ∷ held) = (entry_keyless (halved entry_coded) _ h.key _, rights_keyless n held)

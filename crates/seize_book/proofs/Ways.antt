@@ -1,0 +1,392 @@
+-- Where the numbers of values lead, and where heads lie: what goes with keys beside the rights, and what the book has of all that were named and
+-- of all slots. Assumes `Logic`.
+use Rattle.std.proofs.Common.{◌≡◌, ℕ, zero, suc, Bool, true, false, ◌||◌, ◌&&◌, ◌==◌, List, [], ◌∷◌, ◌++◌, length, take, Option, Some, None, ◌⊎◌, inl, inr, refl, sym, ◌∙◌, ap, subst, nat_lt, ◌+◌, ◌^◌, ◌<◌, arith}
+use Rattle.std.specs.Prelude.{drop as past}
+use seplogic.Ra.Ura.{Ura}
+use base.Logic.{SProp, ent, sep, guard}
+use base.Fml.{Fml, ftrue, fsep}
+use types.Logic.{Logic, sem}
+use types.Kit.{‵, raw, given, learn, check, ◌⊛◌, ◌$◌, ◌∵◌, !, qed, by, move, keep, drop, split, fsplit, fjoin, rewrite, use1, use2, done}
+use denote.Steps.{heard, nothing}
+use Rattle.seize_machine.specs.Machine.State.{State, has}
+use Rattle.seize_machine.proofs.Facts.{eq_true, is_true}
+use denote.RawPtr.{Ptr}
+use Rattle.seize_table.specs.Filled.{filled_at}
+use Rattle.seize_table.specs.Place.{IsPlace}
+use Rattle.seize_store.specs.Known.{IsRowIn, entry_of, known_row, label_in, leads_to}
+use Rattle.seize_store.proofs.Leads.{known_leads, leads_agree, leads_twice}
+use Rattle.seize_store.proofs.Tokens.{row_twice}
+use native.Mathlib.Decide.{ℕ_discrete}
+use contract.Monad.{fact}
+use Rattle.seize_book.specs.Blocks.{block_of}
+use Rattle.seize_book.specs.Book.{blocks, slots}
+use Rattle.seize_book.specs.Entry.{Entry}
+use Rattle.seize_book.specs.Fair.{HasPlace, IsLabel}
+use Rattle.seize_book.specs.Homes.{home_of}
+use Rattle.seize_book.specs.Ledger.{Held, born, renewed}
+use Rattle.seize_book.specs.Others.{labelled}
+use Rattle.seize_book.specs.Private.{is_one, key_of, label_of}
+use Rattle.seize_book.specs.Loans.{CarriesNone, loan, loan_if, loan_of}
+use Rattle.seize_book.specs.Tokens.{Name, start, leads, label_at, leads_in, all_lead, lies, lies_in, lies_if, all_lie, found, is_placed, rights_own, keys_own, one_key, key, way, way_if}
+use Rattle.seize_book.proofs.Goes.{AllFree}
+use Rattle.seize_book.proofs.Tables.{lies_twice, one_more}
+
+same : (u : ℕ) → (u == u) ≡ true
+same u = grind arith
+
+or_true : (b : Bool) → (b || true) ≡ true
+or_true true = refl
+or_true false = refl
+
+and_false : (b : Bool) → (b && false) ≡ false
+and_false true = refl
+and_false false = refl
+
+here : (u : ℕ) (us : List ℕ) → has u (u ∷ us) ≡ true
+here u us = ap (λ (b : Bool). b || has u us) (same u)
+
+there : (u v : ℕ) (us : List ℕ) → has v us ≡ true → has v (u ∷ us) ≡ true
+there u v us h = ap (λ (b : Bool). (u == v) || b) h ∙ or_true (u == v)
+
+-- whether an entry of a row is the place of a number
+is_place : (b row e : ℕ) → Dec (IsPlace b row e)
+is_place b row e = go (ℕ_discrete (2 ^ (row + 5) + e) (b + 32)) (is_true (nat_lt e (2 ^ (row + 5))))
+  where
+    go : Dec (2 ^ (row + 5) + e ≡ b + 32) → (nat_lt e (2 ^ (row + 5)) ≡ true) ⊎ (nat_lt e (2 ^ (row + 5)) ≡ false) → Dec (IsPlace b row e)
+    go (no out) less = no (λ p. out p.place)
+    go (yes is) (inl less) = yes (record { place = is; within = grind arith })
+    go (yes is) (inr past) = no (λ p. let less : e < 2 ^ (row + 5) = p.within in absurd (grind arith))
+
+-- its block has the label there
+abbrev pub IsIn : Name → ℕ → List (Ptr × ℕ) → ℕ → Type 0
+IsIn n row chunks v = IsPlace (block_of v) row (entry_of row (block_of v)) → label_in chunks (entry_of row (block_of v)) ≡ label_at n (home_of v)
+
+abbrev pub AreIn : Name → ℕ → List (Ptr × ℕ) → List ℕ → Type 0
+AreIn n row chunks vs = (v : ℕ) → has v vs ≡ true → IsIn n row chunks v
+
+both_in : (n : Name) (row : ℕ) (chunks : List (Ptr × ℕ)) (u : ℕ) (vs : List ℕ) → IsIn n row chunks u → AreIn n row chunks vs → AreIn n row chunks (u ∷ vs)
+both_in n row chunks u vs one rest v h = go (u == v) refl h
+  where
+    go : (b : Bool) → (u == v) ≡ b → (b || has v vs) ≡ true → IsIn n row chunks v
+    go true e t = subst (IsIn n row chunks) (eq_true u v e) one
+    go false e t = rest v t
+
+module _ {M : Type 1} {𝓤 : Ura M} (𝓛 : Logic 𝓤) (n : Name) where
+  abbrev Pr : Type 2
+  Pr = SProp 𝓤
+
+  abbrev ◌⊢◌ : Pr → Pr → Type 1
+  P ⊢ Q = ent 𝓤 P Q
+
+  abbrev ◌∗◌ : Pr → Pr → Pr
+  P ∗ Q = sep 𝓤 P Q
+
+  abbrev ⟦◌⟧ : Fml → Pr
+  ⟦ P ⟧ = sem 𝓛 P
+
+  infix 26 ◌⊢◌
+  infixr 35 ◌∗◌
+  abbrev Keys : Type 0
+  Keys = List (Held Entry)
+
+  -- what goes with some keys beside the rights
+  abbrev pub ways : Keys → Fml
+  ways [] = ftrue
+  ways (h ∷ held) = fsep (way n h) (ways held)
+
+  pub keys_apart : (held : Keys) → ⟦ keys_own n held ⟧ ⊢ ⟦ rights_own n held ⟧ ∗ ⟦ ways held ⟧
+  keys_apart [] = qed 𝓛 (‵ ftrue ∷ []) ∵ nothing ! $ done !
+  keys_apart (h ∷ held) = qed 𝓛 (‵ (keys_own n (h ∷ held)) ∷ []) ∵ fsplit ! $ fsplit ! $ move ! (2 ∷ []) $ use1 𝓛 (‵ (rights_own n held) ⊛ ‵ (ways held)) (keys_apart held) $ split ! $
+      -- [the other rights; the other ways; the right; the way]
+      move ! (2 ∷ 0 ∷ []) $ fjoin ! $ move ! (2 ∷ 1 ∷ []) $ fjoin ! $ move ! (1 ∷ 0 ∷ []) $ done !
+
+  pub only_rights : (held : Keys) → ⟦ keys_own n held ⟧ ⊢ ⟦ rights_own n held ⟧
+  only_rights held = qed 𝓛 (‵ (keys_own n held) ∷ []) ∵ use1 𝓛 (‵ (rights_own n held) ⊛ ‵ (ways held)) (keys_apart held) $ split ! $ keep ! (0 ∷ []) $ done !
+
+  pub keys_whole : (held : Keys) → ⟦ rights_own n held ⟧ ∗ ⟦ ways held ⟧ ⊢ ⟦ keys_own n held ⟧
+  keys_whole [] = qed 𝓛 (‵ ftrue ∷ ‵ ftrue ∷ []) ∵ keep ! (0 ∷ []) $ done !
+  keys_whole (h ∷ held) = qed 𝓛 (‵ (rights_own n (h ∷ held)) ∷ ‵ (ways (h ∷ held)) ∷ []) ∵ fsplit ! $ move ! (2 ∷ []) $ fsplit ! $
+      -- [the way; the other ways; the right; the other rights]
+      move ! (3 ∷ 1 ∷ []) $ use2 𝓛 (‵ (keys_own n held)) (keys_whole held) $ move ! (2 ∷ 1 ∷ []) $ fjoin ! $ fjoin ! $ done !
+
+  -- keys one after the other
+  pub keys_parted : (a b : Keys) → ⟦ keys_own n (a ++ b) ⟧ ⊢ ⟦ keys_own n a ⟧ ∗ ⟦ keys_own n b ⟧
+  keys_parted [] b = qed 𝓛 (‵ (keys_own n b) ∷ []) ∵ nothing ! $ done !
+  keys_parted (x ∷ a) b = qed 𝓛 ((‵ (one_key n x) ⊛ ‵ (keys_own n (a ++ b))) ∷ []) ∵ split ! $ move ! (1 ∷ []) $ use1 𝓛 (‵ (keys_own n a) ⊛ ‵ (keys_own n b)) (keys_parted a b) $ split ! $ move ! (2 ∷ 0 ∷ []) $ fjoin ! $ done !
+
+  pub keys_joined : (a b : Keys) → ⟦ keys_own n a ⟧ ∗ ⟦ keys_own n b ⟧ ⊢ ⟦ keys_own n (a ++ b) ⟧
+  keys_joined [] b = qed 𝓛 (‵ ftrue ∷ ‵ (keys_own n b) ∷ []) ∵ keep ! (1 ∷ []) $ done !
+  keys_joined (x ∷ a) b = qed 𝓛 ((‵ (one_key n x) ⊛ ‵ (keys_own n a)) ∷ ‵ (keys_own n b) ∷ []) ∵ split ! $ move ! (1 ∷ 2 ∷ []) $ use2 𝓛 (‵ (keys_own n (a ++ b))) (keys_joined a b) $ move ! (1 ∷ 0 ∷ []) $ fjoin ! $ done !
+
+  pub first_parted : (m : ℕ) (held : Keys) → ⟦ keys_own n held ⟧ ⊢ ⟦ keys_own n (take m held) ⟧ ∗ ⟦ keys_own n (past m held) ⟧
+  first_parted zero held = qed 𝓛 (‵ (keys_own n held) ∷ []) ∵ nothing ! $ done !
+  first_parted (suc m) [] = qed 𝓛 (‵ ftrue ∷ []) ∵ nothing ! $ done !
+  first_parted (suc m) (x ∷ held) = qed 𝓛 ((‵ (one_key n x) ⊛ ‵ (keys_own n held)) ∷ []) ∵ split ! $ move ! (1 ∷ []) $ use1 𝓛 (‵ (keys_own n (take m held)) ⊛ ‵ (keys_own n (past m held))) (first_parted m held) $ split ! $ move ! (2 ∷ 0 ∷ []) $ fjoin ! $ done !
+
+  lead_twice_in : (store : Option (List ℕ)) (b label : ℕ) → ⟦ leads_in store b label ⟧ ⊢ ⟦ leads_in store b label ⟧ ∗ ⟦ leads_in store b label ⟧
+  lead_twice_in None b label = qed 𝓛 (‵ ftrue ∷ []) ∵ nothing ! $ done !
+  lead_twice_in (Some store) b label = leads_twice 𝓛 store b label
+
+  pub lead_twice : (v : ℕ) → ⟦ leads n v ⟧ ⊢ ⟦ leads n v ⟧ ∗ ⟦ leads n v ⟧
+  lead_twice v = lead_twice_in n.store (block_of v) (label_at n (home_of v))
+
+  -- of what goes with a key, what lasts for good: where the number leads of the value that it is labelled with, and that a slot's head lies in
+  -- the table
+  abbrev pub path_if : Bool → ℕ → Fml
+  path_if true v = leads n v
+  path_if false v = ftrue
+
+  abbrev pub path : Held Entry → Fml
+  path h = fsep (path_if (h.kind == blocks) h.label) (lies_if (is_placed h) n h.key)
+
+  abbrev pub paths : Keys → Fml
+  paths [] = ftrue
+  paths (h ∷ held) = fsep (path h) (paths held)
+
+  path_if_twice : (b : Bool) (v : ℕ) → ⟦ path_if b v ⟧ ⊢ ⟦ path_if b v ⟧ ∗ ⟦ path_if b v ⟧
+  path_if_twice true v = lead_twice v
+  path_if_twice false v = qed 𝓛 (‵ ftrue ∷ []) ∵ nothing ! $ done !
+
+  lies_if_twice : (b : Bool) (s : ℕ) → ⟦ lies_if b n s ⟧ ⊢ ⟦ lies_if b n s ⟧ ∗ ⟦ lies_if b n s ⟧
+  lies_if_twice true s = lies_twice 𝓛 n s
+  lies_if_twice false s = qed 𝓛 (‵ ftrue ∷ []) ∵ nothing ! $ done !
+
+  path_twice : (h : Held Entry) → ⟦ path h ⟧ ⊢ ⟦ path h ⟧ ∗ ⟦ path h ⟧
+  path_twice h = let A : Fml = path_if (h.kind == blocks) h.label in let B : Fml = lies_if (is_placed h) n h.key in
+      qed 𝓛 (‵ (path h) ∷ []) ∵ fsplit ! $ use1 𝓛 (‵ A ⊛ ‵ A) (path_if_twice (h.kind == blocks) h.label) $ split ! $ move ! (2 ∷ []) $
+      use1 𝓛 (‵ B ⊛ ‵ B) (lies_if_twice (is_placed h) h.key) $ split ! $ move ! (2 ∷ 0 ∷ []) $ fjoin ! $ move ! (2 ∷ 1 ∷ []) $ fjoin ! $ done !
+
+  pub paths_twice : (held : Keys) → ⟦ paths held ⟧ ⊢ ⟦ paths held ⟧ ∗ ⟦ paths held ⟧
+  paths_twice [] = qed 𝓛 (‵ ftrue ∷ []) ∵ nothing ! $ done !
+  paths_twice (h ∷ held) = let W : Fml = path h in qed 𝓛 (‵ (paths (h ∷ held)) ∷ []) ∵ fsplit ! $ use1 𝓛 (‵ W ⊛ ‵ W) (path_twice h) $ split ! $
+      move ! (2 ∷ []) $ use1 𝓛 (‵ (paths held) ⊛ ‵ (paths held)) (paths_twice held) $ split ! $
+      -- [the other paths, twice; the path, twice]
+      move ! (2 ∷ 0 ∷ []) $ fjoin ! $ move ! (2 ∷ 1 ∷ []) $ fjoin ! $ done !
+
+  lead_tells : (b : Bool) (v : ℕ) → ⟦ way_if b n v ⟧ ⊢ ⟦ path_if b v ⟧ ∗ ⟦ way_if b n v ⟧
+  lead_tells true v = qed 𝓛 (‵ (way_if true n v) ∷ []) ∵ fsplit ! $ use1 𝓛 (‵ (leads n v) ⊛ ‵ (leads n v)) (lead_twice v) $ split ! $ move ! (1 ∷ 2 ∷ []) $ fjoin ! $ move ! (1 ∷ 0 ∷ []) $ done !
+  lead_tells false v = qed 𝓛 (‵ ftrue ∷ []) ∵ nothing ! $ done !
+
+  way_tells : (h : Held Entry) → ⟦ way n h ⟧ ⊢ ⟦ path h ⟧ ∗ ⟦ way n h ⟧
+  way_tells h = let A : Fml = way_if (h.kind == blocks) n h.label in let B : Fml = lies_if (is_placed h) n h.key in
+      qed 𝓛 (‵ (way n h) ∷ []) ∵ fsplit ! $ use1 𝓛 (‵ (path_if (h.kind == blocks) h.label) ⊛ ‵ A) (lead_tells (h.kind == blocks) h.label) $ split ! $ move ! (2 ∷ []) $
+      use1 𝓛 (‵ B ⊛ ‵ B) (lies_if_twice (is_placed h) h.key) $ split ! $
+      -- [where it lies, twice; where it leads; that, and what is lent]
+      move ! (2 ∷ 0 ∷ []) $ fjoin ! $ move ! (2 ∷ 1 ∷ []) $ fjoin ! $ move ! (1 ∷ 0 ∷ []) $ done !
+
+  pub ways_tell : (held : Keys) → ⟦ ways held ⟧ ⊢ ⟦ paths held ⟧ ∗ ⟦ ways held ⟧
+  ways_tell [] = qed 𝓛 (‵ ftrue ∷ []) ∵ nothing ! $ done !
+  ways_tell (h ∷ held) = qed 𝓛 (‵ (ways (h ∷ held)) ∷ []) ∵ fsplit ! $ use1 𝓛 (‵ (path h) ⊛ ‵ (way n h)) (way_tells h) $ split ! $
+      move ! (2 ∷ []) $ use1 𝓛 (‵ (paths held) ⊛ ‵ (ways held)) (ways_tell held) $ split ! $
+      -- [the other paths; the other ways; the path; the way]
+      move ! (2 ∷ 0 ∷ []) $ fjoin ! $ move ! (2 ∷ 1 ∷ []) $ fjoin ! $ move ! (1 ∷ 0 ∷ []) $ done !
+
+  -- a way does not depend on what its key knows
+  pub ways_renewed : (held : Keys) (log : List Entry) → ways (renewed held log) ≡ ways held
+  ways_renewed [] log = refl
+  ways_renewed (h ∷ held) log = ap (λ (F : Fml). fsep (way n h) F) (ways_renewed held log)
+
+  -- new keys of other kinds need none, nor does the key of a slot whose head lies nowhere yet
+  abbrev pub needs : Held Entry → Bool
+  needs h = (h.kind == blocks) || is_placed h
+
+  lead_free : (b c : Bool) → (b || c) ≡ false → (v : ℕ) (P : Fml) → ⟦ P ⟧ ⊢ ⟦ way_if b n v ⟧ ∗ ⟦ P ⟧
+  lead_free true c e v P = absurd (cc)
+  lead_free false c e v P = qed 𝓛 (‵ P ∷ []) ∵ nothing ! $ done !
+
+  lies_free : (b c : Bool) → (b || c) ≡ false → (s : ℕ) (P : Fml) → ⟦ P ⟧ ⊢ ⟦ lies_if c n s ⟧ ∗ ⟦ P ⟧
+  lies_free b true e s P = absurd (let t : true ≡ false = sym (or_true b) ∙ e in cc)
+  lies_free b false e s P = qed 𝓛 (‵ P ∷ []) ∵ nothing ! $ done !
+
+  way_free : (h : Held Entry) → needs h ≡ false → (P : Fml) → ⟦ P ⟧ ⊢ ⟦ way n h ⟧ ∗ ⟦ P ⟧
+  way_free h e P = let A : Fml = way_if (h.kind == blocks) n h.label in let B : Fml = lies_if (is_placed h) n h.key in
+      qed 𝓛 (‵ P ∷ []) ∵ use1 𝓛 (‵ B ⊛ ‵ P) (lies_free (h.kind == blocks) (is_placed h) e h.key P) $ split ! $
+      move ! (1 ∷ []) $ use1 𝓛 (‵ A ⊛ ‵ P) (lead_free (h.kind == blocks) (is_placed h) e h.label P) $ split ! $
+      -- [where it leads; P; where it lies]
+      move ! (0 ∷ 2 ∷ []) $ fjoin ! $ done !
+
+  new_free : (kind key : ℕ) (log : List Entry) → (kind == blocks) ≡ false → needs (record { kind = kind; key = key; own = log; label = 0 }) ≡ false
+  new_free kind key log e = ap (λ (b : Bool). b || ((kind == slots) && (0 == 1))) e ∙ and_false (kind == slots)
+
+  pub ways_born : (held : Keys) (births : List (ℕ × ℕ)) (log : List Entry) → AllFree births → ⟦ ways held ⟧ ⊢ ⟦ ways (held ++ born births log) ⟧
+  ways_born (h ∷ held) births log free = qed 𝓛 (‵ (ways (h ∷ held)) ∷ []) ∵ fsplit ! $ move ! (1 ∷ []) $ use1 𝓛 (‵ (ways (held ++ born births log))) (ways_born held births log free) $ move ! (1 ∷ 0 ∷ []) $ fjoin ! $ done !
+  ways_born [] [] log free = qed 𝓛 (‵ ftrue ∷ []) ∵ done !
+  ways_born [] (b ∷ births) log free = let h : Held Entry = record { kind = b.0; key = b.1; own = log; label = 0 } in qed 𝓛 (‵ ftrue ∷ []) ∵
+      use1 𝓛 (‵ (ways (born births log))) (ways_born [] births log free.1) $
+      use1 𝓛 (‵ (way n h) ⊛ ‵ (ways (born births log))) (way_free h (new_free b.0 b.1 log free.0) (ways (born births log))) $ split ! $ fjoin ! $ done !
+
+  -- nor do the keys that a book begins with
+  abbrev pub NeedNone : Keys → Type 0
+  NeedNone [] = Unit {0}
+  NeedNone (h ∷ held) = (needs h ≡ false) × NeedNone held
+
+  pub free_own : (held : Keys) → NeedNone held → ⟦ rights_own n held ⟧ ⊢ ⟦ keys_own n held ⟧
+  free_own [] free = qed 𝓛 (‵ ftrue ∷ []) ∵ done !
+  free_own (h ∷ held) free = let K : Fml = key n h.kind h.key h.own in qed 𝓛 (‵ (rights_own n (h ∷ held)) ∷ []) ∵ fsplit ! $
+      use1 𝓛 (‵ (way n h) ⊛ ‵ K) (way_free h free.0 K) $ split ! $ move ! (1 ∷ 0 ∷ []) $ fjoin ! $
+      move ! (1 ∷ []) $ use1 𝓛 (‵ (keys_own n held)) (free_own held free.1) $ move ! (1 ∷ 0 ∷ []) $ fjoin ! $ done !
+
+  -- the way of a key of a block: where its label's number leads, and what is lent with that
+  block_way : (h : Held Entry) → (h.kind == blocks) ≡ true → way n h ≡ fsep (fsep (leads n h.label) (loan (start n) n.log h.label)) ftrue
+  block_way h is =
+      let kind : h.kind ≡ blocks = eq_true h.kind blocks is in
+      ap (λ (t : Bool × Bool). fsep (way_if t.0 n h.label) (lies_if t.1 n h.key)) (λ j. (is j, ap (λ (k : ℕ). (k == slots) && (h.label == 1)) kind j))
+
+  pub way_opens : (h : Held Entry) → (h.kind == blocks) ≡ true → ⟦ way n h ⟧ ⊢ ⟦ fsep (leads n h.label) (loan (start n) n.log h.label) ⟧
+  way_opens h is = qed 𝓛 (‵ (way n h) ∷ []) ∵ rewrite ! 0 (λ (F : Fml). ‵ F) (block_way h is) refl $ fsplit ! $ keep ! (0 ∷ []) $ done !
+
+  pub way_closes : (h : Held Entry) → (h.kind == blocks) ≡ true → ⟦ fsep (leads n h.label) (loan (start n) n.log h.label) ⟧ ⊢ ⟦ way n h ⟧
+  way_closes h is = qed 𝓛 (‵ (fsep (leads n h.label) (loan (start n) n.log h.label)) ∷ []) ∵ nothing ! $ move ! (1 ∷ 0 ∷ []) $ fjoin ! $ rewrite ! 0 (λ (F : Fml). ‵ F) (sym (block_way h is)) refl $ done !
+
+  none_lent : (k v : ℕ) → k ≡ 0 → (P : Fml) → ⟦ P ⟧ ⊢ ⟦ loan_if k (start n) n.log v ⟧ ∗ ⟦ P ⟧
+  none_lent zero v none P = qed 𝓛 (‵ P ∷ []) ∵ nothing ! $ done !
+  none_lent (suc k) v none P = absurd (let e : suc k ≡ 0 = none in omega (arith, e))
+
+  -- of a value with which nothing is lent
+  pub bare_way : (h : Held Entry) → CarriesNone h.label → (h.kind == blocks) ≡ true → ⟦ leads n h.label ⟧ ⊢ ⟦ way n h ⟧
+  bare_way h none is = let L : Fml = leads n h.label in qed 𝓛 (‵ L ∷ []) ∵ use1 𝓛 (‵ (loan (start n) n.log h.label) ⊛ ‵ L) (none_lent (loan_of h.label) h.label none L) $ split ! $ move ! (1 ∷ 0 ∷ []) $ fjoin ! $
+      use1 𝓛 (‵ (way n h)) (way_closes h is) $ done !
+
+  -- and what lasts of these
+  lead_path : (h : Held Entry) (v : ℕ) → (h.kind ≡ blocks) × (h.label ≡ v) → path h ≡ fsep (leads n v) ftrue
+  lead_path h v is =
+      ap (λ (t : Bool × Bool × ℕ). fsep (path_if t.0 t.2) (lies_if t.1 n h.key)) (λ j. (ap (λ (k : ℕ). k == blocks) is.0 j, ap (λ (k : ℕ). (k == slots) && (h.label == 1)) is.0 j, is.1 j))
+
+  slot_path : (h : Held Entry) (s : ℕ) → (h.kind ≡ slots) × (h.key ≡ s) × (h.label ≡ 1) → path h ≡ fsep ftrue (lies n s)
+  slot_path h s is =
+      ap (λ (t : Bool × Bool × ℕ). fsep (path_if t.0 h.label) (lies_if t.1 n t.2)) (λ j. (ap (λ (k : ℕ). k == blocks) is.0 j, ap (λ (t : ℕ × ℕ). (t.0 == slots) && (t.1 == 1)) (λ i. (is.0 i, is.2 i)) j, is.1 j))
+
+  slot_way : (h : Held Entry) (s : ℕ) → (h.kind ≡ slots) × (h.key ≡ s) × (h.label ≡ 1) → way n h ≡ fsep ftrue (lies n s)
+  slot_way h s is =
+      ap (λ (t : Bool × Bool × ℕ). fsep (way_if t.0 n h.label) (lies_if t.1 n t.2)) (λ j. (ap (λ (k : ℕ). k == blocks) is.0 j, ap (λ (t : ℕ × ℕ). (t.0 == slots) && (t.1 == 1)) (λ i. (is.0 i, is.2 i)) j, is.1 j))
+
+  -- a key whose value's number leads to its home
+  way_placed : (h : Held Entry) → (h.kind == blocks) ≡ true → CarriesNone h.label → ⟦ key n h.kind h.key h.own ⟧ ∗ ⟦ leads n h.label ⟧ ⊢ ⟦ keys_own n (h ∷ []) ⟧
+  way_placed h is none = qed 𝓛 (‵ (key n h.kind h.key h.own) ∷ ‵ (leads n h.label) ∷ []) ∵ move ! (1 ∷ []) $ use1 𝓛 (‵ (way n h)) (bare_way h none is) $
+      move ! (1 ∷ 0 ∷ []) $ fjoin ! $ nothing ! $ move ! (1 ∷ 0 ∷ []) $ fjoin ! $ done !
+
+  -- the key of a slot, with where its head lies
+  relabelled : (h : Held Entry) → is_one slots (h ∷ []) ≡ true → ⟦ keys_own n (h ∷ []) ⟧ ∗ ⟦ lies n h.key ⟧ ⊢ ⟦ keys_own n (labelled 1 (h ∷ [])) ⟧
+  relabelled h one = let h' : Held Entry = record { kind = h.kind; key = h.key; own = h.own; label = 1 } in let W : Fml = way n h' in
+      qed 𝓛 (‵ (keys_own n (h ∷ [])) ∷ ‵ (lies n h.key) ∷ []) ∵ nothing ! $ move ! (0 ∷ 2 ∷ []) $ fjoin ! $ rewrite ! 0 (λ (F : Fml). ‵ F) (sym (slot_way h' h.key (eq_true h.kind slots one, refl, refl))) refl $
+      -- [the new way; the key, with its own]
+      move ! (1 ∷ []) $ fsplit ! $ fsplit ! $ move ! (0 ∷ 3 ∷ []) $ fjoin ! $ move ! (0 ∷ 2 ∷ []) $ fjoin ! $ keep ! (0 ∷ []) $ done !
+
+  leads_anywhere : n.store ≡ None → (v : ℕ) (P : Fml) → ⟦ P ⟧ ⊢ ⟦ leads n v ⟧ ∗ ⟦ P ⟧
+  leads_anywhere none v P = qed 𝓛 (‵ P ∷ []) ∵ nothing ! $ rewrite ! 0 (λ (store : Option (List ℕ)). ‵ (leads_in store (block_of v) (label_at n (home_of v)))) (sym none) refl $ done !
+
+  -- where blocks lie in no store
+  pub all_anywhere : n.store ≡ None → (held : Keys) → is_one blocks held ≡ true → CarriesNone (label_of held) → ⟦ rights_own n held ⟧ ⊢ ⟦ keys_own n held ⟧
+  all_anywhere none [] one free = absurd (cc)
+  all_anywhere none (h ∷ g ∷ held) one free = absurd (cc)
+  all_anywhere none (h ∷ []) one free = let K : Fml = key n h.kind h.key h.own in qed 𝓛 (‵ (rights_own n (h ∷ [])) ∷ []) ∵ fsplit ! $
+      use1 𝓛 (‵ (leads n h.label) ⊛ ‵ K) (leads_anywhere none h.label K) $ split ! $ keep ! (1 ∷ 0 ∷ []) $ by ! (way_placed h one free)
+
+  pub label_leads : (held : Keys) (v : ℕ) → IsLabel held v → ⟦ paths held ⟧ ⊢ ⟦ leads n v ⟧
+  label_leads [] v is = absurd is
+  label_leads (h ∷ held) v (inl is) = qed 𝓛 (‵ (paths (h ∷ held)) ∷ []) ∵ fsplit ! $ keep ! (0 ∷ []) $ rewrite ! 0 (λ (F : Fml). ‵ F) (lead_path h v is) refl $ fsplit ! $ keep ! (0 ∷ []) $ done !
+  label_leads (h ∷ held) v (inr is) = qed 𝓛 (‵ (paths (h ∷ held)) ∷ []) ∵ fsplit ! $ drop ! $ by ! (label_leads held v is)
+
+  -- where the head of a slot lies whose key is labelled so
+  label_lies : (held : Keys) (s : ℕ) → HasPlace held s → ⟦ paths held ⟧ ⊢ ⟦ lies n s ⟧
+  label_lies [] s is = absurd is
+  label_lies (h ∷ held) s (inl is) = qed 𝓛 (‵ (paths (h ∷ held)) ∷ []) ∵ fsplit ! $ keep ! (0 ∷ []) $ rewrite ! 0 (λ (F : Fml). ‵ F) (slot_path h s is) refl $ fsplit ! $ keep ! (1 ∷ []) $ done !
+  label_lies (h ∷ held) s (inr is) = qed 𝓛 (‵ (paths (h ∷ held)) ∷ []) ∵ fsplit ! $ drop ! $ by ! (label_lies held s is)
+
+  -- the key of a slot whose head lies in the table, as a token of its entry shows
+  pub laid : (table : List ℕ) (s label : ℕ) (held : Keys) → is_one slots held ≡ true → n.table ≡ Some table → s ≡ key_of held → label ≡ label_at n (key_of held)
+      → ⟦ keys_own n held ⟧ ∗ ⟦ filled_at table s label ⟧ ⊢ ⟦ keys_own n (labelled 1 held) ⟧
+  laid table s label [] one is entry head = absurd (cc)
+  laid table s label (h ∷ g ∷ held) one is entry head = absurd (cc)
+  laid table s label (h ∷ []) one is entry head =
+      qed 𝓛 (‵ (keys_own n (h ∷ [])) ∷ ‵ (filled_at table s label) ∷ []) ∵ move ! (1 ∷ []) $ rewrite ! 0 (λ (t : ℕ × ℕ). ‵ (filled_at table t.0 t.1)) (λ j. (entry j, head j)) refl $
+      rewrite ! 0 (λ (t : Option (List ℕ)). ‵ (lies_in t h.key (label_at n h.key))) (sym is) refl $
+      -- [where the head lies; the key]
+      move ! (1 ∷ 0 ∷ []) $ by ! (relabelled h one)
+
+  -- or lies in none
+  pub laid_anywhere : n.table ≡ None → (held : Keys) → is_one slots held ≡ true → ⟦ keys_own n held ⟧ ⊢ ⟦ keys_own n (labelled 1 held) ⟧
+  laid_anywhere none [] one = absurd (cc)
+  laid_anywhere none (h ∷ g ∷ held) one = absurd (cc)
+  laid_anywhere none (h ∷ []) one = qed 𝓛 (‵ (keys_own n (h ∷ [])) ∷ []) ∵ nothing ! $
+      rewrite ! 0 (λ (t : Option (List ℕ)). ‵ (lies_in t h.key (label_at n h.key))) (sym none) refl $ move ! (1 ∷ 0 ∷ []) $ by ! (relabelled h one)
+
+  -- a key whose value's number leads to its home, as a token of the number's row shows
+  pub placed : (store : List ℕ) (row : ℕ) (chunks : List (Ptr × ℕ)) (held : Keys) → is_one blocks held ≡ true → n.store ≡ Some store
+      → IsRowIn store row chunks → IsPlace (block_of (label_of held)) row (entry_of row (block_of (label_of held))) → label_in chunks (entry_of row (block_of (label_of held))) ≡ label_at n (home_of (label_of held)) → CarriesNone (label_of held)
+      → ⟦ rights_own n held ⟧ ∗ ⟦ known_row store row chunks ⟧ ⊢ ⟦ keys_own n held ⟧
+  placed store row chunks [] one is made place home free = absurd (cc)
+  placed store row chunks (h ∷ g ∷ held) one is made place home free = absurd (cc)
+  placed store row chunks (h ∷ []) one is made place home free = let v : ℕ = h.label in let b : ℕ = block_of v in let k : ℕ = label_in chunks (entry_of row b) in
+      qed 𝓛 (‵ (rights_own n (h ∷ [])) ∷ ‵ (known_row store row chunks) ∷ []) ∵ move ! (1 ∷ []) $ use1 𝓛 (‵ (leads_to store b k)) (known_leads 𝓛 store b row chunks made place) $
+      rewrite ! 0 (λ (j : ℕ). ‵ (leads_to store b j)) home refl $ rewrite ! 0 (λ (s : Option (List ℕ)). ‵ (leads_in s (block_of v) (label_at n (home_of v)))) (sym is) refl $
+      -- [where it leads; the right]
+      move ! (1 ∷ []) $ fsplit ! $ keep ! (0 ∷ 2 ∷ []) $ by ! (way_placed h one free)
+
+  -- that of a value among others
+  pub one_leads : (vs : List ℕ) (v : ℕ) → has v vs ≡ true → ⟦ all_lead n vs ⟧ ⊢ ⟦ leads n v ⟧
+  one_leads [] v h = absurd (cc)
+  one_leads (u ∷ vs) v h = go (u == v) refl (one_leads vs v) h
+    where
+      go : (b : Bool) → (u == v) ≡ b → (has v vs ≡ true → ⟦ all_lead n vs ⟧ ⊢ ⟦ leads n v ⟧) → (b || has v vs) ≡ true → ⟦ all_lead n (u ∷ vs) ⟧ ⊢ ⟦ leads n v ⟧
+      go true e rest t = qed 𝓛 (‵ (all_lead n (u ∷ vs)) ∷ []) ∵ fsplit ! $ keep ! (0 ∷ []) $ rewrite ! 0 (λ (w : ℕ). ‵ (leads n w)) (eq_true u v e) refl $ done !
+      go false e rest t = qed 𝓛 (‵ (all_lead n (u ∷ vs)) ∷ []) ∵ fsplit ! $ drop ! $ by ! (rest t)
+
+  -- A value whose number is one of a row that a token shows lies in the block with the label that the row has there.
+
+  in_one : (store : List ℕ) (row : ℕ) (chunks : List (Ptr × ℕ)) → IsRowIn store row chunks → n.store ≡ Some store → (v : ℕ)
+      → ⟦ leads n v ⟧ ∗ ⟦ known_row store row chunks ⟧ ⊢ guard 𝓤 (IsIn n row chunks v) (⟦ leads n v ⟧ ∗ ⟦ known_row store row chunks ⟧)
+  in_one store row chunks made is v = go (is_place (block_of v) row (entry_of row (block_of v)))
+    where
+      go : Dec (IsPlace (block_of v) row (entry_of row (block_of v))) → ⟦ leads n v ⟧ ∗ ⟦ known_row store row chunks ⟧ ⊢ guard 𝓤 (IsIn n row chunks v) (⟦ leads n v ⟧ ∗ ⟦ known_row store row chunks ⟧)
+      go (no out) = qed 𝓛 (‵ (leads n v) ∷ ‵ (known_row store row chunks) ∷ []) ∵ check ! (λ place. absurd (out place)) $ done !
+      go (yes place) = let b : ℕ = block_of v in let k : ℕ = label_in chunks (entry_of row b) in let K : Fml = known_row store row chunks in let Same : Type 0 = k ≡ label_at n (home_of v) in
+          qed 𝓛 (‵ (leads n v) ∷ ‵ K ∷ []) ∵ use1 𝓛 (‵ (leads n v) ⊛ ‵ (leads n v)) (lead_twice v) $ split ! $ rewrite ! 0 (λ (s : Option (List ℕ)). ‵ (leads_in s (block_of v) (label_at n (home_of v)))) is refl $
+          move ! (2 ∷ []) $ use1 𝓛 (‵ K ⊛ ‵ K) (row_twice 𝓛 store row chunks) $ split ! $ use1 𝓛 (‵ (leads_to store b k)) (known_leads 𝓛 store b row chunks made place) $
+          -- [where the number leads by the row; the row; where it leads by the book; that once more]
+          move ! (0 ∷ 2 ∷ []) $ use2 𝓛 (raw (fact 𝓤 Same)) (leads_agree 𝓛 store b k (label_at n (home_of v))) $ heard ! Same (λ same. check ! (λ _. same) $ move ! (1 ∷ 0 ∷ []) $ done !)
+
+  pub all_in : (store : List ℕ) (row : ℕ) (chunks : List (Ptr × ℕ)) → IsRowIn store row chunks → n.store ≡ Some store → (vs : List ℕ) → ⟦ all_lead n vs ⟧ ∗ ⟦ known_row store row chunks ⟧ ⊢ guard 𝓤 (AreIn n row chunks vs) ⟦ all_lead n vs ⟧
+  all_in store row chunks made is [] = qed 𝓛 (‵ ftrue ∷ ‵ (known_row store row chunks) ∷ []) ∵ check ! (λ v named. absurd (cc)) $ keep ! (0 ∷ []) $ done !
+  all_in store row chunks made is (u ∷ vs) = let K : Fml = known_row store row chunks in qed 𝓛 (‵ (all_lead n (u ∷ vs)) ∷ ‵ K ∷ []) ∵ fsplit ! $ move ! (0 ∷ 2 ∷ []) $
+      use2 𝓛 (given (IsIn n row chunks u) (‵ (leads n u) ⊛ ‵ K)) (in_one store row chunks made is u) $ learn ! (λ one. split ! $
+      -- [where the first leads; the row; where the others lead]
+      move ! (2 ∷ 1 ∷ []) $ use2 𝓛 (given (AreIn n row chunks vs) (‵ (all_lead n vs))) (all_in store row chunks made is vs) $ learn ! (λ rest.
+      check ! (both_in n row chunks u vs one rest) $ move ! (1 ∷ 0 ∷ []) $ fjoin ! $ done !))
+
+  pub all_twice : (vs : List ℕ) → ⟦ all_lead n vs ⟧ ⊢ ⟦ all_lead n vs ⟧ ∗ ⟦ all_lead n vs ⟧
+  all_twice [] = qed 𝓛 (‵ ftrue ∷ []) ∵ nothing ! $ done !
+  all_twice (v ∷ vs) = qed 𝓛 (‵ (all_lead n (v ∷ vs)) ∷ []) ∵ fsplit ! $ use1 𝓛 (‵ (leads n v) ⊛ ‵ (leads n v)) (lead_twice v) $ split ! $
+      move ! (2 ∷ []) $ use1 𝓛 (‵ (all_lead n vs) ⊛ ‵ (all_lead n vs)) (all_twice vs) $ split ! $
+      move ! (2 ∷ 0 ∷ []) $ fjoin ! $ move ! (2 ∷ 1 ∷ []) $ fjoin ! $ done !
+
+  -- values that were named, or that keys are labelled with
+  abbrev pub Among : List ℕ → Keys → List ℕ → Type 0
+  Among vs held us = (v : ℕ) → has v us ≡ true → (has v vs ≡ true) ⊎ IsLabel held v
+
+  from_either : (vs : List ℕ) (held : Keys) (v : ℕ) → (has v vs ≡ true) ⊎ IsLabel held v → ⟦ all_lead n vs ⟧ ∗ ⟦ paths held ⟧ ⊢ ⟦ leads n v ⟧
+  from_either vs held v (inl named) = qed 𝓛 (‵ (all_lead n vs) ∷ ‵ (paths held) ∷ []) ∵ keep ! (0 ∷ []) $ by ! (one_leads vs v named)
+  from_either vs held v (inr is) = qed 𝓛 (‵ (all_lead n vs) ∷ ‵ (paths held) ∷ []) ∵ keep ! (1 ∷ []) $ by ! (label_leads held v is)
+
+  pub all_more : (vs : List ℕ) (held : Keys) (us : List ℕ) → Among vs held us → ⟦ all_lead n vs ⟧ ∗ ⟦ paths held ⟧ ⊢ ⟦ all_lead n us ⟧
+  all_more vs held [] among = qed 𝓛 (‵ (all_lead n vs) ∷ ‵ (paths held) ∷ []) ∵ drop ! $ drop ! $ nothing ! $ done !
+  all_more vs held (u ∷ us) among = qed 𝓛 (‵ (all_lead n vs) ∷ ‵ (paths held) ∷ []) ∵ use1 𝓛 (‵ (all_lead n vs) ⊛ ‵ (all_lead n vs)) (all_twice vs) $ split ! $
+      move ! (2 ∷ []) $ use1 𝓛 (‵ (paths held) ⊛ ‵ (paths held)) (paths_twice held) $ split ! $
+      -- [the paths, twice; all that were named, twice]
+      move ! (2 ∷ 0 ∷ []) $ use2 𝓛 (‵ (leads n u)) (from_either vs held u (among u (here u us))) $
+      move ! (2 ∷ 1 ∷ []) $ use2 𝓛 (‵ (all_lead n us)) (all_more vs held us (λ v h. among v (there u v us h))) $ move ! (1 ∷ 0 ∷ []) $ fjoin ! $ done !
+
+  -- there are as many slots as before; or one more, whose key says where its head lies
+  abbrev pub MorePlaced : ℕ → Keys → ℕ → Type 0
+  MorePlaced m held more = (more ≡ m) ⊎ ((more ≡ suc m) × HasPlace held m)
+
+  lie_more : (m : ℕ) (held : Keys) (more : ℕ) → MorePlaced m held more → ⟦ all_lie n m ⟧ ∗ ⟦ paths held ⟧ ⊢ ⟦ all_lie n more ⟧
+  lie_more m held more (inl same) = qed 𝓛 (‵ (all_lie n m) ∷ ‵ (paths held) ∷ []) ∵ keep ! (0 ∷ []) $ rewrite ! 0 (λ (k : ℕ). ‵ (all_lie n k)) (sym same) refl $ done !
+  lie_more m held more (inr (is, has)) = qed 𝓛 (‵ (all_lie n m) ∷ ‵ (paths held) ∷ []) ∵ move ! (1 ∷ []) $ use1 𝓛 (‵ (lies n m)) (label_lies held m has) $ move ! (1 ∷ 0 ∷ []) $
+      use2 𝓛 (‵ (all_lie n (suc m))) (one_more 𝓛 n m) $ rewrite ! 0 (λ (k : ℕ). ‵ (all_lie n k)) (sym is) refl $ done !
+
+  pub found_more : (a b : State) (held : Keys) → Among a.named held b.named → MorePlaced (length a.slots) held (length b.slots) → ⟦ found n a ⟧ ∗ ⟦ paths held ⟧ ⊢ ⟦ found n b ⟧
+  found_more a b held among placed = qed 𝓛 (‵ (found n a) ∷ ‵ (paths held) ∷ []) ∵ fsplit ! $ move ! (2 ∷ []) $ use1 𝓛 (‵ (paths held) ⊛ ‵ (paths held)) (paths_twice held) $ split ! $
+      -- [the paths, twice; where all lead; where all lie]
+      move ! (2 ∷ 0 ∷ []) $ use2 𝓛 (‵ (all_lead n b.named)) (all_more a.named held b.named among) $
+      move ! (2 ∷ 1 ∷ []) $ use2 𝓛 (‵ (all_lie n (length b.slots))) (lie_more (length a.slots) held (length b.slots) placed) $ move ! (1 ∷ 0 ∷ []) $ fjoin ! $ done !

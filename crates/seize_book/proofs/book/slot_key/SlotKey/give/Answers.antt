@@ -1,0 +1,14 @@
+use Rattle.std.proofs.Common.{◌≡◌, refl, subst, true, false}
+use Rattle.seize_machine.specs.Machine.State.{slot_at, head_at, is_idle, is_active}
+use Rattle.seize_book.specs.Book.{after}
+use Rattle.seize_book.specs.Private.{key_of, own_of}
+use Rattle.seize_book.specs.Tokens.{Name, start}
+use Rattle.seize_book.proofs.Gives.{may_give}
+use Rattle.seize_book.proofs.book.slot_key.SlotKey.give.Goals as goal
+
+pub note_with-requires-clause-may : goal.note_with-requires-clause-may
+note_with-requires-clause-may c =
+    let a = c.args.self.now.keys.held in let b = c.args.numbers.now in let pass = c.args.pass.now in
+    let idle = subst (λ (n : Name). is_idle (slot_at (after (start n) (own_of a)) (key_of a)) ≡ true) c.requires.book.0 c.requires.idle.0 in
+    let off = subst (λ (n : Name). is_active (head_at (after (start n) (own_of a)) (key_of a)) ≡ false) c.requires.book.0 c.requires.idle.1 in
+    ((λ log before. refl), may_give pass.name pass.id pass.name.size pass.seen a b.keys.held c.args.self.now.one b.one b.zero idle off)

@@ -1,0 +1,13 @@
+use Rattle.std.proofs.Common.{subst}
+use Rattle.seize_book.specs.Book.{after}
+use Rattle.seize_book.specs.Others.{IsLeast}
+use Rattle.seize_book.specs.Private.{key_of, own_of}
+use Rattle.seize_book.specs.Tokens.{Name, start}
+use Rattle.seize_book.proofs.Gives.{may_take, takes_old}
+use Rattle.seize_book.proofs.book.slot_key.SlotKey.take_again.Goals as goal
+
+pub note_with-requires-clause-may : goal.note_with-requires-clause-may
+note_with-requires-clause-may c =
+    let key = c.args.self.now in let a = key.keys.held in let b = c.args.numbers.now in let pass = c.args.pass.now in let n : Name = pass.name in
+    let least = subst (λ (m : Name). IsLeast (key_of a) (after (start m) (own_of b.keys.held))) c.requires.book.1 c.requires.least in
+    ((λ log before. takes_old n a b.keys.held pass.id pass.seen log key.one b.one before least), may_take n a b.keys.held pass.id n.size pass.seen key.one b.one b.zero least)

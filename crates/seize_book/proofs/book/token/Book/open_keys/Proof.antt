@@ -1,0 +1,50 @@
+-- `open_keys` begins a book, to which many may append.
+use Rattle.seize_book.proofs.Kit.{◌≡◌, ℕ, [], ◌∷◌, refl, w64, proved, Val, vint, SProp, emp, ftrue, ‵, raw, ◌⊛◌, some, given, later, await, ◌$◌, ◌∵◌, !, qed, by, move, fsplit, keep, split3, fjoin, pick, learn, use0, use1, use2, of_opd, no_more, and_then, returns, enter, alloc_all, pass_all, free_all, look_at, get, sets, agg, fact_i, tables, yes, RattleType, owns, types_at, plain, uint_vals, uint_Tells, nothing, Stays, stay_dropped, walk_of, Goes-dropped, List, Fml, fsep, flft, split}
+use Rattle.std.specs.Prelude.{Option}
+use mir.Syntax.{a_type, dcons, dnil}
+use mir.MapTy.{inst_fn}
+use denote.Param.{bounded}
+use denote.Builtin.{usize}
+use denote.Struct.Tuple.{Tuple}
+use Rattle.seize_book.specs.Tokens.{Name, Gate, many, keys_own, pass_holds}
+use Rattle.seize_book.specs.Begin.{BeganWith, book_owns, first_keys}
+use Rattle.seize_book.specs.contracts.book.keys.Keys as Keys
+use Rattle.seize_book.specs.contracts.book.token.Book as Book
+use Rattle.seize_book.specs.contracts.book.unopened.Unopened as Unopened
+use Rattle.seize_book.proofs.Begins.{begins, many_opens}
+use Rattle.seize_book.proofs.Fields.{Token, token, token_made, no_bytes, unopened_tells, ends}
+use Rattle.seize_book.proofs.Tuples.{pair_val, pair_of}
+use Rattle.seize_book.specs.contracts.book.token.Book.open_keys.{ended, clauses}
+use Rattle.seize_book.specs.contracts.book.token.Book.open_keys.Key.{name as #self}
+use Rattle.seize_book.proofs.book.token.Book.open_keys.Statement.{statement}
+use Rattle.seize_book.proofs.book.token.Book.open_keys.Code as code
+
+pub open_keys_spec : {M : Type 1} → statement M
+open_keys_spec 𝓤 𝓛 𝓜 𝓡 wired P LP g d _ =
+    let H = 𝓛.H in let 𝓣 = tables 𝓤 H 𝓜 𝓡 𝓡.env in let En = ended P g d in let c = clauses P g d 𝓛 𝓜.mem 𝓡.returns in
+    let inst = bounded (a_type ∷ []) (P, tt) (dcons d dnil) in let fn = inst_fn inst code.function in let store : Option (List ℕ) = g.store in let table : Option (List ℕ) = g.table in
+    let hs : Stays En.signature.params En.kept = (stay_dropped (plain (λ _. Unopened.the_row)) yes, (stay_dropped (plain (λ _. usize)) yes, (stay_dropped (plain (λ _. usize)) yes, tt))) in let goes = Goes-dropped 𝓛 1 (plain (λ _. usize)) yes (λ κs x f. refl) in
+    proved 𝓛 En hs c 𝓜 𝓡 (Goes-dropped 𝓛 1 (plain (λ _. Unopened.the_row)) yes (λ κs x f. refl), (goes, (goes, tt))) (#self inst) fn (code.unfolded 𝓤 H 𝓜 𝓡 wired (P, tt) d)
+    (λ κs. (no_bytes, (uint_vals w64, (uint_vals w64, tt)))) (λ κs. (unopened_tells, (uint_Tells w64, (uint_Tells w64, tt)))) (λ κs qs bounds a gh are.
+    let family : ℕ = a.0.family in let links : ℕ = a.1.0 in let size : ℕ = a.1.1.0 in
+    let y : (walk_of 𝓛 En hs c).Ghost = ((κs, qs, bounds, a, (token ∷ [], (vint w64 links ∷ [], (vint w64 size ∷ [], tt)))), gh) in let Post : Val → SProp 𝓤 = (walk_of 𝓛 En hs c).post y in let toks : Fml = fsep (flft κs.0 qs.0) ftrue in
+    let Two : RattleType = Tuple (Book.the_row ∷ Keys.the_row ∷ []) in let pair : Val = pair_val token token in
+    qed 𝓛 ((‵ toks ⊛ ‵ (owns (types_at En.signature.params κs) a y.0.4)) ∷ raw ((c κs a).requires gh) ∷ []) ∵ split ! $ move ! (1 ∷ []) $ fsplit ! $ fsplit ! $
+    -- [its marker; what it owns; the numbers; the tokens; what was asked]
+    keep ! (1 ∷ 3 ∷ []) $
+    enter ! 𝓣.C 𝓣.Λ fn (token ∷ vint w64 links ∷ vint w64 size ∷ []) Post $ alloc_all ! (λ l. pass_all ! refl ((tt, (tt, tt)), ((tt, record { fits = are.1.0.1 }), ((tt, record { fits = are.1.1.0.1 }), tt))) $
+    use1 𝓛 (later (some (λ (m : Name). given ((m.gate ≡ many) × (m.family ≡ family) × BeganWith m links size store table) (‵ (book_owns m []) ⊛ ‵ (pass_holds m 0 []) ⊛ ‵ (keys_own m (first_keys links))))))
+    (begins 𝓛 links size store table (λ (g : Gate). g ≡ many) (many_opens 𝓛) family) $ await ! tt $ pick ! (λ m. learn ! (λ so. split3 ! $
+    -- [what the book owns; a pass, which is let go; what the keys own]
+    let b : Book.the_row.Denot = record { marker = record {}; name = m; seen = [] } in let k : Keys.the_row.Denot = record { marker = record {}; name = m; held = first_keys links } in
+    use0 𝓛 (‵ (Token.own_val (record {}, tt) (token ∷ []))) (token_made 𝓛) $ fjoin ! $
+    move ! (2 ∷ []) $ use0 𝓛 (‵ (Token.own_val (record {}, tt) (token ∷ []))) (token_made 𝓛) $ fjoin ! $
+    move ! (1 ∷ 0 ∷ []) $ use2 𝓛 (‵ (Two.own_val (b, k) (pair ∷ []))) (pair_of 𝓛 Book.the_row Keys.the_row b k token token) $
+    sets ! (agg ! (no_more !)) refl (tt, tt) $ sets ! (agg ! (and_then ! (get ! refl) (no_more !))) refl (tt, (tt, tt)) $
+    sets ! (agg ! (no_more !)) refl (tt, tt) $ sets ! (agg ! (and_then ! (get ! refl) (no_more !))) refl (tt, (tt, tt)) $
+    sets ! (of_opd ! (get ! refl)) refl (tt, (tt, tt)) $ sets ! (of_opd ! (get ! refl)) refl (tt, (tt, tt)) $
+    sets ! (agg ! (and_then ! (get ! refl) (and_then ! (get ! refl) (no_more !)))) refl (tt, ((tt, tt), ((tt, tt), tt))) $
+    -- [the result; what is let go; the tokens]
+    nothing ! $ nothing ! $ fjoin ! $ nothing ! $ fjoin ! $ nothing ! $ fjoin ! $
+    returns ! (look_at ! 0 refl) $ free_all ! refl $ keep ! (3 ∷ 0 ∷ 1 ∷ []) $
+    by ! (ends 𝓛 En hs c y pair (b, k) (tt, (tt, (tt, tt))) (tt, (tt, (tt, tt))) (fact_i 𝓤 _ (emp 𝓤) (so.0, (so.2, refl, refl, refl), so.1)))))))

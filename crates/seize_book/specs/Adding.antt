@@ -1,0 +1,45 @@
+-- The words in which the contracts of keys speak.
+--     private pass event            the entry of an event that is made with the pass and begins no activation
+--     Asks keys pass event          the holder of the keys may add it with the pass
+--     Adds keys pass keys' pass' event   it was added: see Added
+--     MayLook keys pass             the holder of the keys may look at the list with the pass
+--     Looks keys pass keys' pass'      the pass has seen a legal list, as in Before, and nothing was made with it; the keys know all of it;
+--                                      the links of the book's opening are distinct
+--     Joins keys other keys' other'    the other's keys come after its own, and the other has none
+--     Parts keys keys' other'          the other has all but the first
+use Rattle.std.specs.Prelude.{◌≡◌, true, [], ◌++◌, take, drop}
+use Rattle.seize_machine.specs.Machine.Event.{Event}
+use Rattle.seize_machine.specs.Machine.State.{are_distinct, linked}
+use Rattle.seize_book.specs.Entry.{Deed}
+use Rattle.seize_book.specs.Ledger.{WithKinds, renewed}
+use Rattle.seize_book.specs.Book.{kinds}
+use Rattle.seize_book.specs.Fair.{Before, MayAdd, Added}
+use Rattle.seize_book.specs.Passes.{IsSame}
+use Rattle.seize_book.specs.declared.book.keys.Keys.{Keys}
+use Rattle.seize_book.specs.declared.book.pass.Pass.{Pass}
+
+abbrev pub private : Pass → Event → Deed
+private pass event = record { pass = pass.id; size = pass.name.size; event = event; life = 0 }
+
+abbrev pub Asks : Keys → Pass → Event → Type 0
+Asks keys pass event = (keys.name ≡ pass.name) × MayAdd pass.name pass.id pass.seen keys.held (private pass event)
+
+abbrev pub Adds : Keys → Pass → Keys → Pass → Event → Type 0
+Adds keys pass keys' pass' event =
+    IsSame pass pass' × (keys'.name ≡ keys.name) × Added pass.name pass.id pass.seen pass'.seen keys.held keys'.held (private pass event)
+
+abbrev pub MayLook : Keys → Pass → Type 0
+MayLook keys pass = (keys.name ≡ pass.name) × WithKinds kinds keys.held
+
+abbrev pub Looks : Keys → Pass → Keys → Pass → Type 0
+Looks keys pass keys' pass' =
+    IsSame pass pass' × ((keys'.name ≡ keys.name) × (keys'.held ≡ renewed keys.held pass'.seen))
+    × Before pass.name pass.id pass.seen keys.held pass'.seen × (are_distinct (linked pass.name.links) ≡ true)
+
+abbrev pub Joins : Keys → Keys → Keys → Keys → Type 0
+Joins keys other keys' other' =
+    (keys'.name ≡ keys.name) × (other'.name ≡ keys.name) × (keys'.held ≡ keys.held ++ other.held) × (other'.held ≡ [])
+
+abbrev pub Parts : Keys → Keys → Keys → Type 0
+Parts keys keys' other' =
+    (keys'.name ≡ keys.name) × (other'.name ≡ keys.name) × (keys'.held ≡ take 1 keys.held) × (other'.held ≡ drop 1 keys.held)

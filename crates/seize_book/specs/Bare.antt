@@ -1,0 +1,111 @@
+-- The words in which the contracts of bare keys speak: keys of blocks before it is said by which number words hold the block.
+--     state_in rights                what the rights know of the machine
+--     Numbers rights rights' number  the first key's label is a value of its block, with this number, that was never named, as it knows
+--     IsWay rights known             there is one key, and the number of its value leads to its block in the store of their book; and
+--                                    nothing is lent with the value
+--     Places rights keys             the keys are these
+--     bare_book key, bare_home key   the book of a bare key, and the home that its values have;  bare_label key   the label of that
+--     Becomes key value number       it is the key of a value of this block now, with this number, as IsNextIn says; and it knows no more
+--     IsLaid value key               it is the key of the value's block
+--     IsNewChunk rights keys         the key of a block of which no value was ever named, and those of its count and of its fields
+--     IsChunkOf book keys            they are the keys of a new block of the book
+use Rattle.std.specs.Prelude.{◌≡◌, ℕ, pos, true, false, List, [], ◌∷◌, Some}
+use Rattle.seize_machine.specs.Machine.State.{State, has}
+use Rattle.seize_store.specs.Known.{label_in}
+use Rattle.seize_store.specs.declared.known.Known.{Known}
+use Rattle.seize_table.specs.Place.{IsPlace}
+use Rattle.seize_book.specs.Blocks.{block_of}
+use Rattle.seize_book.specs.Book.{after, blocks, counts, fields}
+use Rattle.seize_book.specs.Books.{IsCountAt, IsFieldAt, IsNextIn}
+use Rattle.seize_book.specs.Chains.{first_field, next_field, told}
+use Rattle.seize_book.specs.Deposits.{deposit}
+use Rattle.seize_book.specs.Entry.{Entry}
+use Rattle.seize_book.specs.Homes.{count_in, home_of}
+use Rattle.seize_book.specs.Homesteads.{entry_in}
+use Rattle.seize_book.specs.Ledger.{Held}
+use Rattle.seize_book.specs.Loans.{CarriesNone, place_of}
+use Rattle.seize_book.specs.Others.{book_of, labelled, state_of, value_of}
+use Rattle.seize_book.specs.Private.{is_one, key_of, label_of, own_of}
+use Rattle.seize_book.specs.Tokens.{Name, label_at, start}
+use Rattle.seize_book.specs.declared.book.bare_key.BareKey.{BareKey}
+use Rattle.seize_book.specs.declared.book.chunk_keys.ChunkKeys.{ChunkKeys}
+use Rattle.seize_book.specs.declared.book.keys.Keys.{Keys}
+use Rattle.seize_book.specs.declared.book.rights.Rights.{Rights}
+use Rattle.seize_book.specs.declared.book.token.Book.{Book}
+use Rattle.seize_book.specs.declared.book.value_key.ValueKey.{ValueKey}
+
+abbrev pub state_in : Rights → State
+state_in rights = after (start rights.name) (own_of rights.held)
+
+pub record Numbers (rights rights' : Rights) (number : ℕ) : Type 0 where
+  pub value : ℕ
+  pub book : rights'.name ≡ rights.name
+  pub held : rights'.held ≡ labelled value rights.held
+  pub home : home_of value ≡ key_of rights.held
+  pub numbered : block_of value ≡ number
+  pub unnamed : has value (state_in rights).named ≡ false
+  pub place : place_of value ≡ place_of (label_of rights.held)
+  pub free : CarriesNone value
+
+pub record IsWay (rights : Rights) (known : Known) : Type 0 where
+  pub one : is_one blocks rights.held ≡ true
+  pub store : rights.name.store ≡ Some known.store
+  pub placed : IsPlace (block_of (label_of rights.held)) known.row (entry_in known (label_of rights.held))
+  pub home : label_in known.chunks (entry_in known (label_of rights.held)) ≡ label_at rights.name (home_of (label_of rights.held))
+  pub free : CarriesNone (label_of rights.held)
+
+-- there is one key, and nothing is lent with its value
+abbrev pub IsFree : Rights → Type 0
+IsFree rights = (is_one blocks rights.held ≡ true) × CarriesNone (label_of rights.held)
+
+abbrev pub Places : Rights → Keys → Type 0
+Places rights keys = (keys.name ≡ rights.name) × (keys.held ≡ rights.held)
+
+abbrev pub bare_book : BareKey → Name
+bare_book key = key.rights.name
+
+abbrev pub bare_home : BareKey → ℕ
+bare_home key = key_of key.rights.held
+
+abbrev pub bare_label : BareKey → ℕ
+bare_label key = label_at (bare_book key) (bare_home key)
+
+pub record Becomes (key : BareKey) (value : ValueKey) (number : ℕ) : Type 0 where
+  pub book : book_of value ≡ bare_book key
+  pub home : home_of (value_of value) ≡ bare_home key
+  pub state : state_of value.keys ≡ state_in key.rights
+  pub next : IsNextIn value number
+  pub free : CarriesNone (value_of value)
+
+abbrev pub IsLaid : ValueKey → BareKey → Type 0
+IsLaid value key = (bare_book key ≡ book_of value) × (bare_home key ≡ home_of (value_of value))
+
+-- the key of the values of the block with home k, labelled with this one; and those of its count and of its fields
+abbrev pub of_values : ℕ → ℕ → List Entry → List (Held Entry)
+of_values value k own = record { kind = blocks; key = k; own = own; label = value } ∷ []
+
+abbrev pub of_header : ℕ → List Entry → List (Held Entry)
+of_header k own =
+    record { kind = counts; key = k; own = own; label = 0 } ∷ record { kind = fields; key = next_field k; own = own; label = 0 }
+    ∷ record { kind = fields; key = first_field k; own = own; label = 0 } ∷ []
+
+pub record IsNewChunk (rights : Rights) (keys : Keys) : Type 0 where
+  pub value : ℕ
+  pub own : List Entry
+  pub right : rights.held ≡ of_values value (home_of value) own
+  pub header : keys.held ≡ of_header (home_of value) own
+  pub book : rights.name ≡ keys.name
+  pub none_named : (v : ℕ) → home_of v ≡ home_of value → has v (after (start keys.name) own).named ≡ false
+  pub no_count
+      : (count_in (after (start keys.name) own) (home_of value) ≡ pos 0) × (deposit (after (start keys.name) own) (home_of value) ≡ [])
+  pub none_told : (told own (next_field (home_of value)) ≡ 0) × (told own (first_field (home_of value)) ≡ 0)
+
+-- no value of its home was ever named
+abbrev pub IsUntouched : BareKey → Type 0
+IsUntouched key = (v : ℕ) → home_of v ≡ bare_home key → has v (state_in key.rights).named ≡ false
+
+pub record IsChunkOf (book : Book) (keys : ChunkKeys) : Type 0 where
+  pub value : (bare_book keys.value ≡ book.name) × IsUntouched keys.value
+  pub count : (keys.count.keys.name ≡ book.name) × IsCountAt keys.count (bare_home keys.value)
+  pub next : (keys.next.keys.name ≡ book.name) × IsFieldAt next_field keys.next (bare_home keys.value)
+  pub first : (keys.first.keys.name ≡ book.name) × IsFieldAt first_field keys.first (bare_home keys.value)

@@ -1,0 +1,32 @@
+-- How a book begins.
+--     BeganWith n links size store table     its opening has no slot and so many links, which are empty; the batch size at each event is
+--                              this; and these are the store where its blocks lie and the table where its heads do, if they lie in one
+--     first_keys many          with so many links, the keys that there are then but for passes: those of the numbers, of the total, of the
+--                              first slot and its head, and of each link
+--     book_owns n seen         what the token of a book owns that has seen this beginning of the list
+use Rattle.std.specs.Prelude.{◌≡◌, ℕ, zero, suc, List, [], ◌∷◌, replicate, Option, None}
+use base.Fml.{Fml, fsep}
+use Rattle.seize_book.specs.Ledger.{Held, reached}
+use Rattle.seize_book.specs.Entry.{Entry, entry_coded}
+use Rattle.seize_book.specs.Book.{numbers, slots, heads, links, totals}
+use Rattle.seize_book.specs.Tokens.{Name, knows}
+
+abbrev pub BeganWith : Name → ℕ → ℕ → Option (List ℕ) → Option (List ℕ) → Type 0
+BeganWith n links size store table =
+    (n.slots ≡ 0) × (n.links ≡ replicate links None) × (n.size ≡ size) × (n.store ≡ store) × (n.table ≡ table)
+
+-- nothing was ever added by its holder
+abbrev pub unused : ℕ → ℕ → Held Entry
+unused kind key = record { kind = kind; key = key; own = []; label = 0 }
+
+-- those of so many links, from this one on
+abbrev pub first_links : ℕ → ℕ → List (Held Entry)
+first_links l zero = []
+first_links l (suc many) = unused links l ∷ first_links (suc l) many
+
+abbrev pub first_keys : ℕ → List (Held Entry)
+first_keys many = unused numbers 0 ∷ unused totals 0 ∷ unused slots 0 ∷ unused heads 0 ∷ first_links 0 many
+
+-- It lasts for good, and may be had twice. New passes have seen what it has seen.
+abbrev pub book_owns : Name → List Entry → Fml
+book_owns n seen = fsep (knows n) (reached entry_coded n.log seen)

@@ -1,0 +1,118 @@
+-- The words in which the contracts of books speak.
+--     Opens book keys links size store table     a new book to which many may append, with so many links, which are empty; and its keys
+--     OpensAlone book pass keys links size store table     a new book to which this pass alone may append
+--     AreFirst keys, AreApart keys all         those that a book begins with;  the same, each by itself
+--     IsNew pass                               nothing was made with it
+--     IsNextIn value number                    it was never named, all values that lay in its block before were reclaimed, and this is the
+--                                              number by which words hold the block
+--     IsFirstIn value number                   and no value of its home was ever named
+--     MakesNext value pass value' pass'        it is for the next value of the block, and the pass has looked at the list
+--     home_in count, count_known count         the block whose count it is the key of, and the count, as the key knows
+--     deposit_known count, told_known field    the values whose keys stand beside it;  what was last stored in the field, as its key knows
+--     IsCountAt count home                     it is that of the block with this home, the count is 0, and no keys stand beside it
+--     AreOf book keys                          these keys are of the book
+--     IsFieldAt which field home               it is that of this field of the block with this home, and nothing was stored there
+use Rattle.std.specs.Prelude.{◌≡◌, ℕ, ℤ, pos, false, Option, List, [], drop, take}
+use Rattle.seize_machine.specs.Machine.State.{has}
+use Rattle.seize_book.specs.Blocks.{block_of}
+use Rattle.seize_book.specs.Chains.{told}
+use Rattle.seize_book.specs.Deposits.{deposit}
+use Rattle.seize_book.specs.Homes.{IsVacant, count_in, home_of}
+use Rattle.seize_book.specs.Others.{book_of, is_named, state_of, value_of}
+use Rattle.seize_book.specs.Tokens.{many, IsSole}
+use Rattle.seize_book.specs.Private.{key_of, own_of}
+use Rattle.seize_book.specs.Begin.{BeganWith, first_keys, first_links}
+use Rattle.seize_book.specs.Passes.{LooksOn, mine_of}
+use Rattle.seize_book.specs.declared.book.block_keys.BlockKeys.{BlockKeys}
+use Rattle.seize_book.specs.declared.book.book_keys.BookKeys.{BookKeys}
+use Rattle.seize_book.specs.declared.book.count_key.CountKey.{CountKey}
+use Rattle.seize_book.specs.declared.book.field_key.FieldKey.{FieldKey}
+use Rattle.seize_book.specs.declared.book.keys.Keys.{Keys}
+use Rattle.seize_book.specs.declared.book.pass.Pass.{Pass}
+use Rattle.seize_book.specs.declared.book.token.Book.{Book}
+use Rattle.seize_book.specs.declared.book.value_key.ValueKey.{ValueKey}
+
+-- the keys are all those of the book at its beginning, of which it has seen nothing more
+abbrev pub Begins : Book → Keys → ℕ → ℕ → Option (List ℕ) → Option (List ℕ) → Type 0
+Begins book keys links size store table =
+    BeganWith book.name links size store table × (book.seen ≡ []) × (keys.name ≡ book.name) × (keys.held ≡ first_keys links)
+
+abbrev pub IsNew : Pass → Type 0
+IsNew pass = mine_of pass ≡ []
+
+abbrev pub IsMany : Book → Type 0
+IsMany book = book.name.gate ≡ many
+
+abbrev pub IsAlone : Book → Pass → Type 0
+IsAlone book pass = IsSole book.name.gate × (pass.name ≡ book.name) × (pass.seen ≡ [])
+
+-- with so many links, those that a book begins with
+abbrev pub AreFirst : Keys → Type 0
+AreFirst keys = (links : ℕ) × (keys.held ≡ first_keys links)
+
+-- each by itself, in the order in which they were
+pub record AreApart (keys : Keys) (all : BookKeys) : Type 0 where
+  pub numbers : (all.numbers.keys.name ≡ keys.name) × (all.numbers.keys.held ≡ take 1 keys.held)
+  pub total : (all.total.keys.name ≡ keys.name) × (all.total.keys.held ≡ take 1 (drop 1 keys.held))
+  pub slot : (all.next.slot.keys.name ≡ keys.name) × (all.next.slot.keys.held ≡ take 1 (drop 2 keys.held))
+  pub head : (all.next.head.keys.name ≡ keys.name) × (all.next.head.keys.held ≡ take 1 (drop 3 keys.held))
+  pub links : (all.links.keys.name ≡ keys.name) × (all.links.keys.held ≡ drop 4 keys.held)
+
+-- it is of the book, and nothing was ever added by its holder
+abbrev pub IsUnused : Keys → Book → Type 0
+IsUnused keys book = (keys.name ≡ book.name) × (own_of keys.held ≡ [])
+
+-- It begins with so many links, which are empty, and has seen nothing more. These are its keys: those of the numbers, of the total, of the
+-- first slot and its head, and of all links.
+pub record HasKeys (book : Book) (keys : BookKeys) (many size : ℕ) (store table : Option (List ℕ)) : Type 0 where
+  pub began : BeganWith book.name many size store table × (book.seen ≡ [])
+  pub numbers : IsUnused keys.numbers.keys book
+  pub total : IsUnused keys.total.keys book
+  pub slot : IsUnused keys.next.slot.keys book × (key_of keys.next.slot.keys.held ≡ 0)
+  pub head : IsUnused keys.next.head.keys book × (key_of keys.next.head.keys.held ≡ 0)
+  pub links : (keys.links.keys.name ≡ book.name) × (keys.links.keys.held ≡ first_links 0 many)
+
+abbrev pub Opens : Book → BookKeys → ℕ → ℕ → Option (List ℕ) → Option (List ℕ) → Type 0
+Opens book keys links size store table = IsMany book × HasKeys book keys links size store table
+
+abbrev pub OpensAlone : Book → Pass → BookKeys → ℕ → ℕ → Option (List ℕ) → Option (List ℕ) → Type 0
+OpensAlone book pass keys links size store table = IsAlone book pass × HasKeys book keys links size store table
+
+-- it was never named, all values that lay in its block before were reclaimed, and words hold the block by this number
+abbrev pub IsNextIn : ValueKey → ℕ → Type 0
+IsNextIn value number =
+    (is_named value ≡ false) × IsVacant (state_of value.keys) (home_of (value_of value)) × (block_of (value_of value) ≡ number)
+
+-- nor was any other value of its home
+abbrev pub IsFirstIn : ValueKey → ℕ → Type 0
+IsFirstIn value number =
+    IsNextIn value number × ((w : ℕ) → home_of w ≡ home_of (value_of value) → has w (state_of value.keys).named ≡ false)
+
+-- it is for another value of the same block, and the pass has seen a legal list that goes on
+abbrev pub MakesNext : ValueKey → Pass → ValueKey → Pass → Type 0
+MakesNext value pass value' pass' =
+    LooksOn pass pass' × (value'.keys.name ≡ value.keys.name) × (home_of (value_of value') ≡ home_of (value_of value))
+
+abbrev pub home_in : CountKey → ℕ
+home_in key = key_of key.keys.held
+
+abbrev pub count_known : CountKey → ℤ
+count_known key = count_in (state_of key.keys) (home_in key)
+
+abbrev pub deposit_known : CountKey → List ℕ
+deposit_known key = deposit (state_of key.keys) (home_in key)
+
+abbrev pub told_known : FieldKey → ℕ
+told_known key = told (own_of key.keys.held) (key_of key.keys.held)
+
+-- the count of its block, which is 0
+abbrev pub IsCountAt : CountKey → ℕ → Type 0
+IsCountAt count home = (home_in count ≡ home) × (count_known count ≡ pos 0) × (deposit_known count ≡ [])
+
+abbrev pub IsFieldAt : (ℕ → ℕ) → FieldKey → ℕ → Type 0
+IsFieldAt which field home = (key_of field.keys.held ≡ which home) × (told_known field ≡ 0)
+
+abbrev pub AreOf : Book → BlockKeys → Type 0
+AreOf book keys =
+    (book_of keys.value ≡ book.name) × (keys.count.keys.name ≡ book.name) × (keys.next.keys.name ≡ book.name)
+    × (keys.first.keys.name ≡ book.name)

@@ -1,0 +1,57 @@
+-- The words in which contracts speak of contents that are lent with values: before a value is named, and when it was reclaimed.
+--     MayLend keys ticket pool          there is one key of a block, with whose value nothing is lent; and the ticket is that of the pool
+--     Lends keys pool keys'             the first key's label is another value of its block, which was never named, as it knows, and with
+--                                       which the pool's content is lent
+--     MayRedeem keys pass               there is one key of a block, of the pass's book; something is lent with its value, which was
+--                                       reclaimed, as the pass has seen
+--     Redeems keys keys' ticket pool    the ticket is that of the pool, which is of what was lent with the value; and see Renames
+--     IsInBlockOf value value'          it is of a value in the same block of the same book
+--     GoesWith value pool               the pool's content is lent with the value
+--     IsFreeKey value, IsLentKey value  nothing is lent with it;  something is
+use Rattle.std.specs.Prelude.{◌≡◌, ℕ, true, false}
+use Rattle.seize_content.specs.Loans.{IsLent}
+use Rattle.seize_content.specs.declared.loan.Pool.{Pool}
+use Rattle.seize_content.specs.declared.ticket.Ticket.{Ticket}
+use Rattle.seize_machine.specs.Machine.State.{has}
+use Rattle.seize_book.specs.Blocks.{block_of}
+use Rattle.seize_book.specs.Book.{after, blocks}
+use Rattle.seize_book.specs.Homes.{home_of}
+use Rattle.seize_book.specs.Loans.{Carries, CarriesNone}
+use Rattle.seize_book.specs.Others.{Renames, book_of, labelled, state_of, value_of}
+use Rattle.seize_book.specs.Private.{is_one, label_of}
+use Rattle.seize_book.specs.Tokens.{start}
+use Rattle.seize_book.specs.declared.book.keys.Keys.{Keys}
+use Rattle.seize_book.specs.declared.book.pass.Pass.{Pass}
+use Rattle.seize_book.specs.declared.book.value_key.ValueKey.{ValueKey}
+
+abbrev pub MayLend : Keys → Ticket → Pool → Type 0
+MayLend keys ticket pool = (is_one blocks keys.held ≡ true) × CarriesNone (label_of keys.held) × IsLent ticket pool
+
+pub record Lends (keys : Keys) (pool : Pool) (keys' : Keys) : Type 0 where
+  pub value : ℕ
+  pub book : keys'.name ≡ keys.name
+  pub held : keys'.held ≡ labelled value keys.held
+  pub home : home_of value ≡ home_of (label_of keys.held)
+  pub numbered : block_of value ≡ block_of (label_of keys.held)
+  pub unnamed : has value (state_of keys).named ≡ false
+  pub carries : Carries value pool.name pool.value
+
+abbrev pub MayRedeem : Keys → Pass → Type 0
+MayRedeem keys pass =
+    (keys.name ≡ pass.name) × (is_one blocks keys.held ≡ true) × (¬ (CarriesNone (label_of keys.held)))
+    × (has (label_of keys.held) (after (start pass.name) pass.seen).gone ≡ true)
+
+abbrev pub Redeems : Keys → Keys → Ticket → Pool → Type 0
+Redeems keys keys' ticket pool = Renames keys keys' × IsLent ticket pool × Carries (label_of keys.held) pool.name pool.value
+
+abbrev pub GoesWith : ValueKey → Pool → Type 0
+GoesWith value pool = Carries (value_of value) pool.name pool.value
+
+abbrev pub IsInBlockOf : ValueKey → ValueKey → Type 0
+IsInBlockOf value value' = (book_of value' ≡ book_of value) × (home_of (value_of value') ≡ home_of (value_of value))
+
+abbrev pub IsFreeKey : ValueKey → Type 0
+IsFreeKey value = CarriesNone (value_of value)
+
+abbrev pub IsLentKey : ValueKey → Type 0
+IsLentKey value = ¬ (CarriesNone (value_of value))

@@ -1,0 +1,136 @@
+-- The words in which contracts speak of the keys that a slot's holder needs beside its own.
+--     is_named value                    whether the value was ever named, as its key knows
+--     book_of value                     its book
+--     MayBegin v st                     it was never named, and all values that lay in its block before were reclaimed; or it was named,
+--                                       and is loose;  MayRetire value    so it is, as its key knows
+--     IsSpent v st                      it was named, and it is not loose;  CannotRetire value   so it is, as its key knows
+--     IsLeast s st                      slot s is there, and its number is the least that is not in use and one of a table;
+--     MayTake numbers key               so it is for this slot, as the key of the numbers knows
+--     IsOfBook keys pass                they are of one book;  IsValueOf value pass, AreNumbersOf numbers pass     so is this key
+--     state_of keys, value_of value     where the keys' list leads, and which value it is
+--     MakesNone n p seen held event     wherever the list is by then, the event makes no keys
+--     IsWith key other pass event       the slot's holder may add the event with the other keys
+--     Knew key other pass pass' event   the event was added where this was known of the list, by the slot's and the other keys
+--     IsLastIn v st                     all other values of its block that were ever named were reclaimed;  IsLast value    so it is, as
+--                                       its key knows
+--     HasGone value pass                the value was reclaimed, as the pass has seen
+--     labelled v held                   the first key has this label
+--     Renames keys keys'                the first key's label is another value of its block, which was never named, as it knows; nothing
+--                                       is lent with it
+--     SameKind keys keys'               if there was one key of some kind, there is one of this kind
+--     Follows keys pass' keys'          they are the same keys, and know all that the pass has seen;  FollowsValue value pass' value',
+--                                       FollowsNumbers numbers pass' numbers'     so it is with this key
+--     IsVacated value                   all values that ever lay in its block were reclaimed, as its key knows
+use Rattle.std.specs.Prelude.{◌≡◌, ◌≢◌, ℕ, ◌<◌, Bool, true, false, List, [], ◌∷◌, ◌++◌, length, ◌⊎◌}
+use Rattle.seize_machine.specs.Machine.State.{State, has}
+use Rattle.seize_book.specs.Blocks.{block_of}
+use Rattle.seize_book.specs.Book.{after, births}
+use Rattle.seize_book.specs.Private.{is_one, key_of, label_of, own_of}
+use Rattle.seize_machine.specs.Machine.Event.{Event}
+use Rattle.seize_machine.specs.Machine.Next.{first_free}
+use Rattle.seize_table.specs.Place.{all_numbers}
+use Rattle.seize_book.specs.Homes.{IsVacant, home_of}
+use Rattle.seize_book.specs.Loans.{CarriesNone, place_of}
+use Rattle.seize_book.specs.Ledger.{Held, renewed}
+use Rattle.seize_book.specs.Entry.{Entry, Made}
+use Rattle.seize_book.specs.Adding.{private}
+use Rattle.seize_book.specs.Fair.{Before, MayAdd}
+use Rattle.seize_book.specs.Tokens.{Name, start}
+use Rattle.seize_book.specs.declared.book.keys.Keys.{Keys}
+use Rattle.seize_book.specs.declared.book.numbers_key.NumbersKey.{NumbersKey}
+use Rattle.seize_book.specs.declared.book.pass.Pass.{Pass}
+use Rattle.seize_book.specs.declared.book.slot_key.SlotKey.{SlotKey}
+use Rattle.seize_book.specs.declared.book.value_key.ValueKey.{ValueKey}
+
+abbrev pub state_of : Keys → State
+state_of keys = after (start keys.name) (own_of keys.held)
+
+abbrev pub value_of : ValueKey → ℕ
+value_of value = label_of value.keys.held
+
+abbrev pub book_of : ValueKey → Name
+book_of value = value.keys.name
+
+abbrev pub is_named : ValueKey → Bool
+is_named value = has (value_of value) (state_of value.keys).named
+
+abbrev pub MayBegin : ℕ → State → Type 0
+MayBegin v st = ((has v st.named ≡ false) × IsVacant st (home_of v)) ⊎ ((has v st.named ≡ true) × (has v st.loose ≡ true))
+
+abbrev pub MayRetire : ValueKey → Type 0
+MayRetire value = MayBegin (value_of value) (state_of value.keys)
+
+abbrev pub IsSpent : ℕ → State → Type 0
+IsSpent v st = (has v st.named ≡ true) × (has v st.loose ≡ false)
+
+abbrev pub CannotRetire : ValueKey → Type 0
+CannotRetire value = IsSpent (value_of value) (state_of value.keys)
+
+abbrev pub IsOfBook : Keys → Pass → Type 0
+IsOfBook keys pass = keys.name ≡ pass.name
+
+abbrev pub IsValueOf : ValueKey → Pass → Type 0
+IsValueOf value pass = IsOfBook value.keys pass
+
+abbrev pub AreNumbersOf : NumbersKey → Pass → Type 0
+AreNumbersOf numbers pass = IsOfBook numbers.keys pass
+
+abbrev pub IsVacated : ValueKey → Type 0
+IsVacated value = IsVacant (state_of value.keys) (home_of (value_of value))
+
+abbrev pub IsLeast : ℕ → State → Type 0
+IsLeast s st = (s ≡ first_free st.slots) × (s < length st.slots) × (s < all_numbers)
+
+abbrev pub MayTake : NumbersKey → SlotKey → Type 0
+MayTake numbers key = IsLeast (key_of key.keys.held) (state_of numbers.keys)
+
+-- wherever the list is by then, the event makes no keys
+abbrev pub MakesNone : Name → ℕ → List Entry → List (Held Entry) → Event → Type 0
+MakesNone n p seen held event = (log : List Entry) → Before n p seen held log → births (after (start n) log) event ≡ []
+
+-- the event makes no keys, and may be added with the slot's and the other keys
+abbrev pub IsWith : SlotKey → Keys → Pass → Event → Type 0
+IsWith key other pass event =
+    MakesNone pass.name pass.id pass.seen (key.keys.held ++ other.held) event
+    × MayAdd pass.name pass.id pass.seen (key.keys.held ++ other.held) (private pass event)
+
+-- it was added where this was known of the list, by these keys too
+abbrev pub Knew : SlotKey → Keys → Pass → Pass → Event → Type 0
+Knew key other pass pass' event =
+    (log : List Entry) × (pass'.seen ≡ log ++ Made (private pass event) ∷ [])
+    × Before pass.name pass.id pass.seen (key.keys.held ++ other.held) log
+
+abbrev pub IsLastIn : ℕ → State → Type 0
+IsLastIn v st = (w : ℕ) → home_of w ≡ home_of v → w ≢ v → has w st.named ≡ true → has w st.gone ≡ true
+
+abbrev pub IsLast : ValueKey → Type 0
+IsLast value = IsLastIn (value_of value) (state_of value.keys)
+
+abbrev pub HasGone : ValueKey → Pass → Type 0
+HasGone value pass = has (value_of value) (after (start pass.name) pass.seen).gone ≡ true
+
+abbrev pub labelled : ℕ → List (Held Entry) → List (Held Entry)
+labelled v [] = []
+labelled v (h ∷ held) = record { kind = h.kind; key = h.key; own = h.own; label = v } ∷ held
+
+pub record Renames (keys keys' : Keys) : Type 0 where
+  pub value : ℕ
+  pub book : keys'.name ≡ keys.name
+  pub held : keys'.held ≡ labelled value keys.held
+  pub home : home_of value ≡ home_of (label_of keys.held)
+  pub numbered : block_of value ≡ block_of (label_of keys.held)
+  pub unnamed : has value (state_of keys).named ≡ false
+  pub place : place_of value ≡ place_of (label_of keys.held)
+  pub free : CarriesNone value
+
+abbrev pub SameKind : Keys → Keys → Type 0
+SameKind keys keys' = (r : ℕ) → is_one r keys.held ≡ true → is_one r keys'.held ≡ true
+
+abbrev pub Follows : Keys → Pass → Keys → Type 0
+Follows keys pass' keys' = (keys'.name ≡ keys.name) × (keys'.held ≡ renewed keys.held pass'.seen)
+
+abbrev pub FollowsValue : ValueKey → Pass → ValueKey → Type 0
+FollowsValue value pass' value' = Follows value.keys pass' value'.keys
+
+abbrev pub FollowsNumbers : NumbersKey → Pass → NumbersKey → Type 0
+FollowsNumbers numbers pass' numbers' = Follows numbers.keys pass' numbers'.keys

@@ -1,0 +1,263 @@
+-- What the tokens of a book own. None of them has bytes.
+--     Name          a book: the number of its invariant, its names, who may append, and the opening of its list
+--     called        the book's family is the number by which labels say that something is of it: it stands for this name alone, for good;
+--                   uncalled   for none yet
+--     label_at n k  the label of what is of the book and has the home k
+--     inside        what stands in its invariant;  knows   that there is this invariant, for good
+--     pass_owns     a pass: its key, a beginning of the list that it has seen, and at a closed gate the list itself
+--     leads n v     the value's number leads to the label of its home, in the store where the book's blocks lie; and nothing where they lie
+--                   in none
+--     all_lead n vs     so do the numbers of all these values
+--     lies n s      the entry of slot s, in the table where the heads of the book lie, has the slot's label for good; and nothing where
+--                   they lie in none
+--     all_lie n m   so do those of the first m slots, in their order;  slot_labels n m   their labels
+--     found n st    both, of all that were ever named and of all slots that there are
+--     is_placed h   it is the key of a slot whose head lies in the table, as the label 1 says
+--     rights_own    the rights to some keys, in a given order;  keys_own   and with each key of a block, where its value's number leads,
+--                   and what is lent with the value; and with that of a slot whose head lies in the table, that it does
+--     Noted         one entry was appended with a pass
+use Rattle.std.specs.Prelude.{◌≡◌, ℕ, Bool, true, false, ◌&&◌, ◌==◌, List, [], ◌∷◌, ◌++◌, length, map, Option, slice_index_or}
+use Rattle.std.specs.List.{range_with_len}
+use Rattle.std.specs.Coded.{Coded, code_by, coded_ℕ, coded×, coded_list, coded_option}
+use mathlib.Core.Path.{refl}
+use mathlib.Core.List.{IsPrefix}
+use base.Share.{quarter, three_quarters}
+use base.Growing.{latest}
+use base.Stored.{gnil, gcons}
+use base.Fml.{Fml, ftrue, fsep, fex, fdead, fnamed, fobs, fauth, fres}
+use Rattle.seize_machine.specs.Machine.State.{State, opening, linked, are_distinct}
+use Rattle.seize_machine.specs.declared.machine.event.Answer.{Answer}
+use Rattle.seize_store.specs.Known.{leads_to}
+use Rattle.seize_table.specs.Filled.{all_filled, filled_at}
+use Rattle.seize_table.specs.Pairs.{pair}
+use Rattle.seize_book.specs.Ledger.{Held, fact, logs, right, rights, reached, contents}
+use Rattle.seize_book.specs.Entry.{Entry, entry_coded}
+use Rattle.seize_book.specs.Book.{IsLegalList, Does, after, mine, blocks, passes, slots, rules}
+use Rattle.seize_book.specs.Blocks.{block_of, plans}
+use Rattle.seize_book.specs.Chains.{Chained, told}
+use Rattle.seize_book.specs.Homes.{IsSound, home_of}
+use Rattle.seize_book.specs.Laws.{ended}
+use Rattle.seize_book.specs.Loans.{loan}
+
+-- Who may append: whoever has a pass; or one pass alone, whose copy of the list has this name.
+pub data Gate : Type 0 where
+  many : Gate
+  sole : ℕ → Gate
+
+abbrev pub IsSole : Gate → Type 0
+IsSole many = ⊥
+IsSole (sole η) = Unit {0}
+
+abbrev pub gate_code : Gate → Option ℕ
+gate_code many = Option.None
+gate_code (sole η) = Option.Some η
+
+abbrev pub gate_of : Option ℕ → Gate
+gate_of Option.None = many
+gate_of (Option.Some η) = sole η
+
+pub gate_back : (g : Gate) → gate_of (gate_code g) ≡ g
+gate_back many = refl
+gate_back (sole η) = refl
+
+abbrev pub gate_coded : Coded Gate
+gate_coded = code_by (Option ℕ) (coded_option coded_ℕ) gate_code gate_of gate_back
+
+pub record Name : Type 0 where
+  pub number : ℕ
+  pub log : ℕ
+  pub family : ℕ
+  -- the names of the keys, by kind
+  pub pass_keys : ℕ
+  pub number_keys : ℕ
+  pub slot_keys : ℕ
+  pub head_keys : ℕ
+  pub link_keys : ℕ
+  pub count_keys : ℕ
+  pub block_keys : ℕ
+  pub field_keys : ℕ
+  pub total_keys : ℕ
+  pub gate : Gate
+  -- the batch size at each event that is added
+  pub size : ℕ
+  -- the store where the blocks lie, if they lie in one: then their numbers are the store's
+  pub store : Option (List ℕ)
+  -- the table where the heads of its slots lie, if they lie in one
+  pub table : Option (List ℕ)
+  -- the opening
+  pub slots : ℕ
+  pub links : List (Option ℕ)
+
+abbrev nth : List ℕ → ℕ → ℕ
+nth xs i = slice_index_or xs i 0
+
+abbrev pub rows : Name → List ℕ
+rows n =
+    n.pass_keys ∷ n.number_keys ∷ n.slot_keys ∷ n.head_keys ∷ n.link_keys ∷ n.count_keys ∷ n.block_keys ∷ n.field_keys ∷ n.total_keys ∷ []
+
+abbrev places_coded : Coded (Option (List ℕ))
+places_coded = coded_option (coded_list coded_ℕ)
+
+abbrev pub name_coded : Coded Name
+name_coded =
+    code_by (List ℕ × (Gate × (List (Option ℕ) × (Option (List ℕ) × Option (List ℕ)))))
+    (coded× (coded_list coded_ℕ) (coded× gate_coded (coded× (coded_list (coded_option coded_ℕ)) (coded× places_coded places_coded))))
+    (λ n. (n.number ∷ n.log ∷ n.family ∷ n.slots ∷ n.size ∷ rows n, (n.gate, (n.links, (n.store, n.table)))))
+    (λ t. record {
+      number = nth t.0 0;
+      log = nth t.0 1;
+      family = nth t.0 2;
+      slots = nth t.0 3;
+      size = nth t.0 4;
+      pass_keys = nth t.0 5;
+      number_keys = nth t.0 6;
+      slot_keys = nth t.0 7;
+      head_keys = nth t.0 8;
+      link_keys = nth t.0 9;
+      count_keys = nth t.0 10;
+      block_keys = nth t.0 11;
+      field_keys = nth t.0 12;
+      total_keys = nth t.0 13;
+      gate = t.1.0;
+      links = t.1.1.0;
+      store = t.1.1.1.0;
+      table = t.1.1.1.1;
+    })
+    (λ _. refl)
+
+abbrev pub start : Name → State
+start n = opening n.slots n.links
+
+abbrev pub uncalled : ℕ → Fml
+uncalled family = fsep (fobs family gnil) (fauth family gnil)
+
+abbrev pub called : Name → Fml
+called n = fres n.family (gcons gnil (name_coded.code n))
+
+abbrev pub label_at : Name → ℕ → ℕ
+label_at n k = pair n.family k
+
+-- these lifetimes are over
+abbrev pub over : List ℕ → Fml
+over [] = ftrue
+over (a ∷ lives) = fsep (fdead (a ∷ [])) (over lives)
+
+-- where one pass is alone: the book's share of its copy of the list, and the pass's
+abbrev pub gate_keeps : Gate → List Entry → Fml
+gate_keeps many log = ftrue
+gate_keeps (sole η) log = latest (logs entry_coded) quarter η log
+
+abbrev pub gate_gives : Gate → List Entry → Fml
+gate_gives many seen = ftrue
+gate_gives (sole η) seen = latest (logs entry_coded) three_quarters η seen
+
+-- a number leads to one label for good, since a chunk of a store keeps its header
+abbrev pub leads_in : Option (List ℕ) → ℕ → ℕ → Fml
+leads_in Option.None b label = ftrue
+leads_in (Option.Some store) b label = leads_to store b label
+
+abbrev pub leads : Name → ℕ → Fml
+leads n v = leads_in n.store (block_of v) (label_at n (home_of v))
+
+abbrev pub all_lead : Name → List ℕ → Fml
+all_lead n [] = ftrue
+all_lead n (v ∷ vs) = fsep (leads n v) (all_lead n vs)
+
+-- an entry of a table has one label for good, since it is filled once
+
+abbrev pub lies_in : Option (List ℕ) → ℕ → ℕ → Fml
+lies_in Option.None s label = ftrue
+lies_in (Option.Some table) s label = filled_at table s label
+
+abbrev pub lies : Name → ℕ → Fml
+lies n s = lies_in n.table s (label_at n s)
+
+abbrev pub slot_labels : Name → ℕ → List ℕ
+slot_labels n m = map (label_at n) (range_with_len 0 m)
+
+abbrev pub all_lie_in : Option (List ℕ) → List ℕ → Fml
+all_lie_in Option.None labels = ftrue
+all_lie_in (Option.Some table) labels = all_filled table labels
+
+abbrev pub all_lie : Name → ℕ → Fml
+all_lie n m = all_lie_in n.table (slot_labels n m)
+
+abbrev pub found : Name → State → Fml
+found n st = fsep (all_lead n st.named) (all_lie n (length st.slots))
+
+-- what the invariant holds beside the list and the keys: each activation that has ended is over; the gate; and where all is found that was
+-- ever named or made
+abbrev pub beside : Name → List Entry → Fml
+beside n log = fsep (over (ended log)) (fsep (gate_keeps n.gate log) (found n (after (start n) log)))
+
+abbrev pub inside : Name → Fml
+inside n = contents entry_coded (rules (start n)) (beside n) n.log (rows n)
+
+-- it lasts for good, and may be had twice; and the links of the opening are distinct
+abbrev pub knows : Name → Fml
+knows n = fsep (fnamed n.number (inside n)) (fsep (called n) (fact (are_distinct (linked n.links) ≡ true)))
+
+abbrev pub key : Name → ℕ → ℕ → List Entry → Fml
+key n r k own = right entry_coded (rows n) r k own
+
+-- what was last made with the pass, when the list was `own`, and nothing since then
+abbrev pub pass_at : Name → ℕ → List Entry → List Entry → Fml
+pass_at n p seen own =
+    fsep (key n passes p own)
+    (fsep (reached entry_coded n.log seen)
+    (fsep (gate_gives n.gate seen) (fact (IsPrefix own seen × (mine (start n) p own ≡ mine (start n) p seen)))))
+
+abbrev pub pass_holds : Name → ℕ → List Entry → Fml
+pass_holds n p seen = fex (List Entry) (pass_at n p seen)
+
+abbrev pub pass_owns : Name → ℕ → List Entry → Fml
+pass_owns n p seen = fsep (knows n) (pass_holds n p seen)
+
+abbrev pub rights_own : Name → List (Held Entry) → Fml
+rights_own n held = rights entry_coded (rows n) held
+
+-- with the key of a block's values goes where the number leads of the value that it is labelled with, and what is lent with that
+abbrev pub way_if : Bool → Name → ℕ → Fml
+way_if true n v = fsep (leads n v) (loan (start n) n.log v)
+way_if false n v = ftrue
+
+-- and with that of a slot that is labelled 1 goes that its head lies in the table
+abbrev pub is_placed : Held Entry → Bool
+is_placed h = (h.kind == slots) && (h.label == 1)
+
+abbrev pub lies_if : Bool → Name → ℕ → Fml
+lies_if true n s = lies n s
+lies_if false n s = ftrue
+
+abbrev pub way : Name → Held Entry → Fml
+way n h = fsep (way_if (h.kind == blocks) n h.label) (lies_if (is_placed h) n h.key)
+
+abbrev pub one_key : Name → Held Entry → Fml
+one_key n h = fsep (key n h.kind h.key h.own) (way n h)
+
+abbrev pub keys_own : Name → List (Held Entry) → Fml
+keys_own n [] = ftrue
+keys_own n (h ∷ held) = fsep (one_key n h) (keys_own n held)
+
+abbrev pub held_coded : Coded (Held Entry)
+held_coded =
+    code_by (ℕ × (ℕ × (ℕ × List Entry))) (coded× coded_ℕ (coded× coded_ℕ (coded× coded_ℕ (coded_list entry_coded))))
+    (λ h. (h.kind, (h.key, (h.label, h.own)))) (λ t. record { kind = t.0; key = t.1.0; label = t.1.1.0; own = t.1.1.1 }) (λ _. refl)
+
+-- Entry e was added with pass p. It took the machine to this state, with this answer, and this state is where all that the pass has seen
+-- leads. Nothing had been made with the pass since it had seen its beginning, and where it is alone nothing at all had been added. The
+-- links of the book's opening are distinct, so that the laws hold of its list.
+pub record Noted (n : Name) (p : ℕ) (seen seen' : List Entry) (e : Entry) : Type 0 where
+  pub before : List Entry
+  pub appended : seen' ≡ before ++ e ∷ []
+  pub legal : IsLegalList (start n) seen'
+  pub sound : IsSound (after (start n) seen')
+  pub chained : Chained (after (start n) seen') (plans (start n) seen') (told seen')
+  pub grows : IsPrefix seen before
+  pub later : State
+  pub answer : Answer
+  pub does : Does (start n) before e (later, answer)
+  pub leads : after (start n) seen' ≡ later
+  pub made : mine (start n) p seen' ≡ mine (start n) p seen ++ (e, answer) ∷ []
+  pub alone : IsSole n.gate → before ≡ seen
+  pub distinct : are_distinct (linked n.links) ≡ true

@@ -1,0 +1,81 @@
+-- The words in which the contracts of values' keys speak.
+--     values_of keys                 the values whose keys they are, in order;  book_in keys     their book
+--     AreOfBook keys pass            they are of the pass's book
+--     IsEmpty keys pass, IsOfBook value keys     there are none, of the pass's book;  the value's key is of the same book
+--     IsKeyOfOne value keys          it is the value's alone
+--     Pushes keys value keys'        the value's key comes last
+--     Nexts keys value keys'         the value's was the first, and the others are left
+--     AreStill keys keys'            they are the same, and know what they knew
+--     LieApart values                no two of them lie in one block
+--     AllNew n held, AreNew keys     each of the values was never named, and all that lay in its block before were reclaimed, as its key
+--                                    knows
+--     Keep keys pass' keys'          they are the same keys, and know all that the pass has seen
+--     AreSpent keys pass             each value was named, and no call may begin to retire it, as the pass has seen
+--     AreLast keys pass              all others that lay in the blocks of these values were reclaimed, as the pass has seen
+use Rattle.std.specs.Prelude.{◌≡◌, ℕ, true, false, map, List, [], ◌∷◌, ◌++◌}
+use Rattle.std.specs.List.{Contains}
+use Rattle.seize_machine.specs.Machine.State.{are_distinct, has}
+use Rattle.seize_book.specs.Book.{after}
+use Rattle.seize_book.specs.Entry.{Entry}
+use Rattle.seize_book.specs.Homes.{IsVacant, home_of}
+use Rattle.seize_book.specs.Ledger.{Held, renewed}
+use Rattle.seize_book.specs.Others.{IsLastIn, IsSpent, book_of, value_of}
+use Rattle.seize_book.specs.Tokens.{Name, start}
+use Rattle.seize_book.specs.Private.{labels_of}
+use Rattle.seize_book.specs.declared.book.pass.Pass.{Pass}
+use Rattle.seize_book.specs.declared.book.value_key.ValueKey.{ValueKey}
+use Rattle.seize_book.specs.declared.book.value_keys.ValueKeys.{ValueKeys}
+
+abbrev pub values_of : ValueKeys → List ℕ
+values_of keys = labels_of keys.keys.held
+
+abbrev pub book_in : ValueKeys → Name
+book_in keys = keys.keys.name
+
+abbrev pub AreOfBook : ValueKeys → Pass → Type 0
+AreOfBook values pass = book_in values ≡ pass.name
+
+abbrev pub IsEmpty : ValueKeys → Pass → Type 0
+IsEmpty keys pass = (book_in keys ≡ pass.name) × (keys.keys.held ≡ [])
+
+abbrev pub IsOfBook : ValueKey → ValueKeys → Type 0
+IsOfBook value keys = book_of value ≡ book_in keys
+
+abbrev pub IsKeyOfOne : ValueKey → ValueKeys → Type 0
+IsKeyOfOne value keys = (keys.keys ≡ value.keys) × (values_of keys ≡ value_of value ∷ [])
+
+abbrev pub Pushes : ValueKeys → ValueKey → ValueKeys → Type 0
+Pushes keys value keys' =
+    (book_in keys' ≡ book_in keys) × (values_of keys' ≡ values_of keys ++ value_of value ∷ [])
+    × (keys'.keys.held ≡ keys.keys.held ++ value.keys.held)
+
+abbrev pub Nexts : ValueKeys → ValueKey → ValueKeys → Type 0
+Nexts keys value keys' =
+    (book_in keys' ≡ book_in keys) × (book_of value ≡ book_in keys) × (values_of keys ≡ value_of value ∷ values_of keys')
+    × (keys.keys.held ≡ value.keys.held ++ keys'.keys.held)
+
+abbrev pub AreStill : ValueKeys → ValueKeys → Type 0
+AreStill keys keys' = keys'.keys ≡ keys.keys
+
+abbrev pub LieApart : List ℕ → Type 0
+LieApart values = are_distinct (map home_of values) ≡ true
+
+-- as each key knows, of its own value
+abbrev pub AllNew : Name → List (Held Entry) → Type 0
+AllNew n [] = Unit {0}
+AllNew n (h ∷ held) =
+    ((has h.label (after (start n) h.own).named ≡ false) × IsVacant (after (start n) h.own) (home_of h.label)) × AllNew n held
+
+abbrev pub AreNew : ValueKeys → Type 0
+AreNew keys = AllNew (book_in keys) keys.keys.held
+
+abbrev pub Keep : ValueKeys → Pass → ValueKeys → Type 0
+Keep keys pass' keys' =
+    (book_in keys' ≡ book_in keys) × (values_of keys' ≡ values_of keys) × (keys'.keys.held ≡ renewed keys.keys.held pass'.seen)
+
+abbrev pub AreSpent : ValueKeys → Pass → Type 0
+AreSpent keys pass = (v : ℕ) → Contains (values_of keys) v → IsSpent v (after (start pass.name) pass.seen)
+
+-- all others that lay in the blocks of these values were reclaimed, as the pass has seen
+abbrev pub AreLast : ValueKeys → Pass → Type 0
+AreLast values pass' = (v : ℕ) → Contains (values_of values) v → IsLastIn v (after (start pass'.name) pass'.seen)

@@ -1,0 +1,60 @@
+//! The key of a block that may lie anywhere: what a chunk of a store keeps. It is `Rights` with one key.
+ghost use Rattle.std.specs.Prelude.{◌≡◌, ◌+◌, ◌<◌, ◌^◌, None, Some, true};
+ghost use Rattle.seize_store.specs.Known.{entry_of, label_in};
+ghost use Rattle.seize_store.specs.Named.{IsRowOf};
+ghost use Rattle.seize_book.specs.Book.{after, blocks};
+ghost use Rattle.seize_book.specs.Homes.{IsVacant, home_of};
+ghost use Rattle.seize_book.specs.Private.{is_one, key_of, label_of, own_of};
+ghost use Rattle.seize_book.specs.Tokens.{label_at, start};
+
+use crate::book::rights::Rights;
+use crate::book::value_key::ValueKey;
+use seize_store::{Known, Labelled};
+
+/// The right to name the values of one block, before it is said by which number words hold the block. All values that ever lay in it were
+/// reclaimed.
+///
+/// A chunk of a store has the key of its block for good, with the chunk's label: it lies there while the chunk is in.
+#[derive(Drop)]
+pub struct BareKey {
+    pub(crate) rights: Rights,
+    ghost one: { is_one blocks rights.held ≡ true },
+    ghost home: { key_of rights.held ≡ home_of (label_of rights.held) },
+    ghost vacant: { IsVacant (after (start rights.name) (own_of rights.held)) (key_of rights.held) },
+}
+
+impl Labelled for BareKey {
+    ghost label = { λ key. label_at key.rights.name (key_of key.rights.held) };
+}
+
+impl BareKey {
+    ghost use Rattle.seize_book.specs.Bare.{Becomes, bare_book, bare_label};
+
+    /// The key for a value of the block, which words hold by this number. The blocks of its book lie in no store.
+    pub fn anywhere(self, number: u64) -> ValueKey
+        requires none { (bare_book self).store ≡ None }
+        requires fits { number + 2 < 2 ^ 64 }
+        ensures { Becomes self result number }
+    {
+        let mut rights = self.rights;
+        rights.number(number);
+        ValueKey {
+            keys: rights.anywhere(),
+        }
+    }
+
+    /// The key for a value of the block, which lies in the chunk with this number in the store of its book, as the token shows: the chunk
+    /// has the block's label. Words hold the block by this number.
+    pub fn place(self, number: u64, known: &Known) -> ValueKey
+        requires store { (bare_book self).store ≡ Some known.now.store }
+        requires row { IsRowOf known.now number }
+        requires home { label_in known.now.chunks (entry_of known.now.row number) ≡ bare_label self }
+        ensures { Becomes self result number }
+    {
+        let mut rights = self.rights;
+        rights.number(number);
+        ValueKey {
+            keys: rights.place(known),
+        }
+    }
+}

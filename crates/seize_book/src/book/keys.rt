@@ -1,0 +1,152 @@
+//! Keys, one or several in a given order: the one generic step of the book. Each kind of key is a `Keys` with one key of that kind.
+ghost use Rattle.std.specs.Prelude.{◌≡◌, List, [], None, true};
+ghost use base.Stored.{coded_list};
+ghost use Rattle.seize_machine.specs.Machine.Event.{Event, Return};
+ghost use Rattle.seize_book.specs.Book.{blocks, slots};
+ghost use Rattle.seize_book.specs.Entry.{Entry};
+ghost use Rattle.seize_book.specs.Ledger.{Held};
+ghost use Rattle.seize_book.specs.Private.{is_one};
+ghost use Rattle.seize_book.specs.Tokens.{Name, held_coded, keys_own, name_coded};
+
+use crate::book::pass::Pass;
+use crate::book::rights::Rights;
+use seize_content::{Pool, Ticket};
+use seize_table::tls::FilledAt;
+use std::marker::{Brand, Model, PhantomData};
+
+/// Some keys of one book, each with the list as it was when its holder last added an event.
+///
+/// It is for crates with words, whose atomic steps add entries by the rights themselves. Others need the kinds of keys alone.
+pub struct Keys {
+    pub(super) marker: PhantomData<()>,
+    /// The book.
+    pub ghost name: { Name } by { name_coded },
+    /// The keys, in order.
+    pub ghost held: { List (Held Entry) } by { coded_list held_coded },
+}
+
+impl Model for Keys {
+    ghost also_owns = { λ k. keys_own k.name k.held };
+}
+
+/// An event. A caller passes `Brand`, and its proof picks the event; the one below stands where none is picked.
+pub(crate) trait Picks {
+    ghost event: { Event };
+}
+
+impl Picks for Brand {
+    ghost event = { Return 0 };
+}
+
+impl Keys {
+    ghost use Rattle.seize_book.specs.Adding.{Adds, Asks, Joins, Looks, MayLook, Parts};
+    ghost use Rattle.seize_book.specs.Ledger.{AllApart};
+    ghost use Rattle.seize_book.specs.Lending.{Lends, MayLend, MayRedeem, Redeems};
+    ghost use Rattle.seize_book.specs.Others.{Renames};
+    ghost use Rattle.seize_book.specs.Tables.{GetsPlace, LiesAt};
+
+    /// Adds the event with the pass.
+    pub(crate) fn note<P: Picks>(&mut self, pass: &mut Pass)
+        requires { Asks self.old pass.old P.event }
+        ensures { Adds self.old pass.old self.new pass.new P.event }
+    {}
+
+    /// Looks at the list with the pass, and adds nothing.
+    pub(crate) fn look(&mut self, pass: &mut Pass)
+        requires { MayLook self.old pass.old }
+        ensures { Looks self.old pass.old self.new pass.new }
+    {}
+
+    /// The label of a block's key is another value of the block then, which was never named.
+    pub(crate) fn rename(&mut self)
+        requires { is_one blocks self.old.held ≡ true }
+        ensures { Renames self.old self.new }
+    {}
+
+    /// The head of the slot lies in the table of the book, as the token shows, and its key says so then.
+    pub(crate) fn place(&mut self, token: &FilledAt)
+        requires { LiesAt self.old token.now }
+        ensures { GetsPlace self.old self.new }
+    {}
+
+    /// The same where heads lie in no table.
+    pub(crate) fn anywhere(&mut self)
+        requires { (self.old.name.table ≡ None) × (is_one slots self.old.held ≡ true) }
+        ensures { GetsPlace self.old self.new }
+    {}
+
+    /// The content goes with the first key, whose label is another value of its block then, which was never named.
+    pub(crate) fn lend(&mut self, ticket: Ticket, pool: Pool)
+        requires { MayLend self.old ticket pool }
+        ensures { Lends self.old pool self.new }
+    {
+        let Ticket { marker: _ } = ticket;
+        let Pool { marker: _ } = pool;
+    }
+
+    /// What went with the first key comes back, whole. Its value was reclaimed, as the pass has seen, so nobody sees the content any more.
+    pub(crate) fn redeem(&mut self, pass: &mut Pass) -> (Ticket, Pool)
+        requires { MayRedeem self.old pass.old }
+        ensures { (pass.new ≡ pass.old) × Redeems self.old self.new result.0 result.1 }
+    {
+        let ticket = Ticket {
+            marker: PhantomData,
+        };
+        let pool = Pool {
+            marker: PhantomData,
+        };
+        (ticket, pool)
+    }
+
+    /// No two of them are one: nobody has a right twice.
+    pub(crate) fn apart(&mut self)
+        ensures { (self.new ≡ self.old) × AllApart self.old.held }
+    {}
+
+    /// All of them, without the ways.
+    pub(crate) fn bare(&mut self) -> Rights
+        ensures { (result.name ≡ self.old.name) × (result.held ≡ self.old.held) }
+    {
+        Rights {
+            marker: PhantomData,
+        }
+    }
+
+    /// No keys of the same book.
+    pub fn none(&mut self) -> Keys
+        ensures { (self.new ≡ self.old) × (result.name ≡ self.old.name) × (result.held ≡ []) }
+    {
+        Keys {
+            marker: PhantomData,
+        }
+    }
+
+    /// No keys of the pass's book.
+    pub fn empty(pass: &mut Pass) -> Keys
+        ensures { (result.name ≡ pass.old.name) × (result.held ≡ []) × (pass.new ≡ pass.old) }
+    {
+        Keys {
+            marker: PhantomData,
+        }
+    }
+
+    /// Takes the other's keys, which come after its own.
+    pub fn join(&mut self, other: &mut Keys)
+        requires { other.old.name ≡ self.old.name }
+        ensures { Joins self.old other.old self.new other.new }
+    {}
+
+    /// Gives all but the first to the other, which had none.
+    pub fn part(&mut self, other: &mut Keys)
+        requires { (other.old.name ≡ self.old.name) × (other.old.held ≡ []) }
+        ensures { Parts self.old self.new other.new }
+    {}
+}
+
+impl Drop for Keys {
+    fn drop(self) {
+        let Self { marker: _ } = self;
+    }
+}
+
+unsafe impl Send for Keys {}

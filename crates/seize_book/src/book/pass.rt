@@ -1,0 +1,96 @@
+//! Passes. It uses nothing of the other modules; the keys beside it add entries with a pass.
+ghost use Rattle.std.specs.Prelude.{◌≡◌, ℕ, List, Some, is_some, true};
+ghost use base.Stored.{coded_list};
+ghost use Rattle.seize_book.specs.Entry.{Entry, entry_coded};
+ghost use Rattle.seize_store.specs.Named.{IsRowOf};
+ghost use Rattle.seize_book.specs.Tokens.{Name, name_coded, pass_owns};
+
+use crate::book::token::Book;
+use seize_store::Known;
+use seize_table::tls::AllFilled;
+use std::marker::{Model, PhantomData};
+
+/// What its holder has seen of the list, and the right to add entries under its id.
+pub struct Pass {
+    pub(super) marker: PhantomData<()>,
+    /// The book.
+    pub ghost name: { Name } by { name_coded },
+    /// Which pass of the book it is.
+    pub ghost id: { ℕ },
+    /// The beginning of the list that it has seen.
+    pub ghost seen: { List Entry } by { coded_list entry_coded },
+}
+
+impl Model for Pass {
+    ghost also_owns = { λ p. pass_owns p.name p.id p.seen };
+}
+
+impl Pass {
+    ghost use Rattle.seize_book.specs.Homesteads.{AreAt, HasNumber, state_seen};
+    ghost use Rattle.seize_book.specs.Passes.{LooksOn, Meets};
+    ghost use Rattle.seize_book.specs.Tables.{AreSlotsOf};
+
+    /// Two passes of one book tell each other what they have seen: afterwards both have seen the longer of their two beginnings. No event
+    /// is made with either.
+    pub fn meet(&mut self, other: &mut Pass)
+        requires { other.old.name ≡ self.old.name }
+        ensures { Meets self.old other.old self.new other.new }
+    {}
+
+    /// A book of the pass's family is its book. It does nothing: its contract is the law.
+    pub fn agree(&mut self, book: &Book)
+        requires { book.now.name.family ≡ self.old.name.family }
+        ensures { (self.new ≡ self.old) × (book.now.name ≡ self.new.name) }
+    {}
+
+    /// Looks at the list, and adds nothing. It gives what shows the row of this number, which is that of a value that was named: the value
+    /// lies in the block with the label that the row has there, and so does each other one that was named and whose number is one of the
+    /// row's.
+    pub fn seek(&mut self, number: u64) -> Known
+        requires store { is_some self.old.name.store ≡ true }
+        requires named { HasNumber number (state_seen self.old) }
+        ensures looks { LooksOn self.old self.new }
+        ensures row { (Some result.store ≡ self.old.name.store) × IsRowOf result number }
+        ensures homes { AreAt self.new.name result (state_seen self.new) }
+    {
+        let known = self.row_of(number);
+        self.find(&known);
+        known
+    }
+
+    // What shows the row of the number.
+    fn row_of(&mut self, number: u64) -> Known
+        requires { (is_some self.old.name.store ≡ true) × HasNumber number (state_seen self.old) }
+        ensures { LooksOn self.old self.new × (Some result.store ≡ self.old.name.store) × IsRowOf result number }
+    {
+        Known {
+            marker: PhantomData,
+        }
+    }
+
+    /// Looks at the list, and adds nothing. It gives what shows the first entries of the table where the heads of the book lie, one for
+    /// each slot that there is, with the slot's label.
+    pub fn slots(&mut self) -> AllFilled
+        requires table { is_some self.old.name.table ≡ true }
+        ensures { LooksOn self.old self.new × AreSlotsOf self.new result }
+    {
+        AllFilled {
+            marker: PhantomData,
+        }
+    }
+
+    /// Looks at the list, and adds nothing. Where the blocks of the book lie in the store of this row, each value that was ever named, and
+    /// whose number is one of the row's, lies in the block with the label that the row has there.
+    pub fn find(&mut self, known: &Known)
+        requires { self.old.name.store ≡ Some known.now.store }
+        ensures { LooksOn self.old self.new × AreAt self.new.name known.now (state_seen self.new) }
+    {}
+}
+
+impl Drop for Pass {
+    fn drop(self) {
+        let Self { marker: _ } = self;
+    }
+}
+
+unsafe impl Send for Pass {}

@@ -1,0 +1,61 @@
+//! The right to the key of a block by itself, without where the number of its value leads: what lies with a chunk of a store. It uses keys;
+//! `bare_key` wraps it for callers.
+ghost use Rattle.std.specs.Prelude.{◌≡◌, ◌<◌, ◌^◌, List, None, true};
+ghost use base.Stored.{coded_list};
+ghost use Rattle.seize_book.specs.Book.{blocks};
+ghost use Rattle.seize_book.specs.Entry.{Entry};
+ghost use Rattle.seize_book.specs.Ledger.{Held};
+ghost use Rattle.seize_book.specs.Private.{is_one};
+ghost use Rattle.seize_book.specs.Tokens.{Name, held_coded, name_coded, rights_own};
+
+use crate::book::keys::Keys;
+use seize_store::Known;
+use std::marker::{Model, PhantomData};
+
+/// As `Keys`, but for the ways.
+pub(crate) struct Rights {
+    pub(super) marker: PhantomData<()>,
+    pub(crate) ghost name: { Name } by { name_coded },
+    pub(crate) ghost held: { List (Held Entry) } by { coded_list held_coded },
+}
+
+impl Model for Rights {
+    ghost also_owns = { λ r. rights_own r.name r.held };
+}
+
+impl Rights {
+    ghost use Rattle.seize_book.specs.Bare.{IsFree, IsWay, Numbers, Places};
+
+    /// The first key's label is a value of its block then, with this number, which was never named.
+    pub(crate) fn number(&mut self, number: u64)
+        ensures { Numbers self.old self.new number }
+    {}
+
+    /// The key of a block's values, where blocks lie in no store.
+    pub(crate) fn anywhere(&mut self) -> Keys
+        requires { (self.old.name.store ≡ None) × IsFree self.old }
+        ensures { Places self.old result }
+    {
+        Keys {
+            marker: PhantomData,
+        }
+    }
+
+    /// All of them, where the number of the first key's label leads to its home.
+    pub(crate) fn place(&mut self, known: &Known) -> Keys
+        requires { IsWay self.old known.now }
+        ensures { Places self.old result }
+    {
+        Keys {
+            marker: PhantomData,
+        }
+    }
+}
+
+impl Drop for Rights {
+    fn drop(self) {
+        let Self { marker: _ } = self;
+    }
+}
+
+unsafe impl Send for Rights {}

@@ -1,0 +1,221 @@
+//! The key of a slot, and the events that its holder makes of the slot itself. It is `Keys` with one key; they are added with a pass.
+ghost use Rattle.std.specs.Prelude.{◌≡◌, [], true, false, IfSome, None, Some, is_some};
+ghost use Rattle.seize_machine.specs.Machine.State.{is_idle};
+ghost use Rattle.seize_machine.specs.Machine.Event.{Begin, Detach, Give, Hand, Put, Return, Take};
+ghost use Rattle.seize_machine.specs.declared.machine.event.Job.TheVariants.{Flush, Leave, Refresh, Retire};
+ghost use Rattle.seize_book.specs.Private.{IsOver, is_one, puts_next};
+ghost use Rattle.seize_book.specs.Book.{slots};
+
+use crate::book::keys::{Keys, Picks};
+use crate::book::numbers_key::NumbersKey;
+use crate::book::pass::Pass;
+use crate::book::value_key::ValueKey;
+use crate::book::value_keys::ValueKeys;
+use seize_table::tls::FilledAt;
+use std::marker::Brand;
+
+/// The right to the events of one slot, but for those on links, which whoever has a guard of the slot may make, and to its uses of fields.
+/// It knows the slot's record, whether the slot is active, and what was last stored in the fields of the block that its call is about to
+/// insert, whatever others add.
+#[derive(Drop)]
+pub struct SlotKey {
+    /// The right by itself, for crates with words.
+    pub keys: Keys,
+    ghost one: { is_one slots keys.held ≡ true },
+}
+
+impl SlotKey {
+    ghost use Rattle.seize_book.specs.Batches.{CanDetach, Detaches};
+    ghost use Rattle.seize_book.specs.Values.{AreLast, AreOfBook, AreNew, AreSpent, Keep, values_of};
+    ghost use Rattle.seize_book.specs.Others.{AreNumbersOf, CannotRetire, Follows, FollowsNumbers, FollowsValue, IsLast, IsOfBook, IsValueOf, IsWith, Knew, MayRetire, MayTake, SameKind, value_of};
+    ghost use Rattle.seize_book.specs.Private.{IsOpen, IsPrivate};
+    ghost use Rattle.seize_book.specs.Slots.{HandsOnce, HandsSoon, Looks, Notes, IsOf, active_of, hands_next, number_of, size_of, slot_of, start_of};
+    ghost use Rattle.seize_book.specs.Tables.{IsLike, IsPlaced};
+    ghost use Rattle.seize_book.specs.Tokens.{label_at};
+
+    // Any event that changes nothing but the slot's own record.
+    fn note<P: Picks>(&mut self, pass: &mut Pass)
+        requires book { IsOf self.old pass.old }
+        requires private { IsPrivate (number_of self.old) P.event }
+        requires open { IsOpen (slot_of self.old) (active_of self.old) (number_of self.old) (size_of self.old) P.event }
+        ensures noted { Notes self.old pass.old self.new pass.new P.event }
+    {
+        self.keys.note::<P>(pass);
+    }
+
+    // An event that changes what other keys know too.
+    fn note_with<P: Picks>(&mut self, other: &mut Keys, pass: &mut Pass)
+        requires book { IsOf self.old pass.old × IsOfBook other.old pass.old }
+        requires may { IsWith self.old other.old pass.old P.event }
+        ensures noted { Notes self.old pass.old self.new pass.new P.event }
+        ensures other { Follows other.old pass.new other.new × SameKind other.old other.new }
+        ensures knew { Knew self.old other.old pass.old pass.new P.event }
+    {
+        let both = &mut self.keys;
+        both.join(other);
+        both.note::<P>(pass);
+        both.part(other);
+    }
+
+    /// Looks at the list with no event: what the pass has seen is legal then, with all that the key knew, and the slot is in it as its key
+    /// knows it.
+    pub fn look(&mut self, pass: &mut Pass)
+        requires book { IsOf self.old pass.old }
+        ensures looked { Looks self.old pass.old self.new pass.new }
+    {
+        self.keys.look(pass);
+    }
+
+    /// The slot's head lies in the table of its book, in the entry with the slot's number, as the token shows: what is there has the slot's
+    /// label. The key of a slot that comes next says so from then on, also when the slot is there.
+    pub fn place(&mut self, token: &FilledAt)
+        requires table { self.old.keys.name.table ≡ Some token.now.table }
+        requires entry { token.now.number ≡ number_of self.old }
+        requires head { token.now.label ≡ label_at self.old.keys.name (number_of self.old) }
+        ensures { IsLike self.old self.new × IsPlaced self.new }
+    {
+        self.keys.place(token);
+    }
+
+    /// The same where the heads of its book lie in no table.
+    pub fn anywhere(&mut self)
+        requires none { self.old.keys.name.table ≡ None }
+        ensures { IsLike self.old self.new × IsPlaced self.new }
+    {
+        self.keys.anywhere();
+    }
+
+    /// The event `Begin` of the retirement of a value. Its key knows then that no call may begin to retire it, and that all others that lay
+    /// in its block were reclaimed.
+    pub fn begin_retire(&mut self, value: &mut ValueKey, pass: &mut Pass)
+        requires book { IsOf self.old pass.old × IsValueOf value.old pass.old }
+        requires idle { is_idle (slot_of self.old) ≡ true }
+        requires value { MayRetire value.old }
+        ensures noted { Notes self.old pass.old self.new pass.new (Begin (number_of self.old) (Retire (value_of value.old))) }
+        ensures value { FollowsValue value.old pass.new value.new }
+        ensures spent { CannotRetire value.new }
+        ensures last { IsLast value.new }
+    {
+        self.note_with::<Brand>(&mut value.keys, pass);
+    }
+
+    /// The event `Give`: the slot's number goes back.
+    pub fn give(&mut self, numbers: &mut NumbersKey, pass: &mut Pass)
+        requires book { IsOf self.old pass.old × AreNumbersOf numbers.old pass.old }
+        requires idle { (is_idle (slot_of self.old) ≡ true) × (active_of self.old ≡ false) }
+        ensures noted { Notes self.old pass.old self.new pass.new (Give (number_of self.old)) }
+        ensures numbers { FollowsNumbers numbers.old pass.new numbers.new }
+    {
+        self.note_with::<Brand>(&mut numbers.keys, pass);
+    }
+
+    /// The event `Take` of a number that was in use before: the slot, which is there, is in use again.
+    pub fn take_again(&mut self, numbers: &mut NumbersKey, pass: &mut Pass)
+        requires book { IsOf self.old pass.old × AreNumbersOf numbers.old pass.old }
+        requires least { MayTake numbers.old self.old }
+        ensures noted { Notes self.old pass.old self.new pass.new (Take (number_of self.old)) }
+        ensures numbers { FollowsNumbers numbers.old pass.new numbers.new }
+    {
+        self.note_with::<Brand>(&mut numbers.keys, pass);
+    }
+
+    /// The event `Begin` of a flush.
+    pub fn begin_flush(&mut self, pass: &mut Pass)
+        requires book { IsOf self.old pass.old }
+        requires idle { (is_idle (slot_of self.old) ≡ true) × (active_of self.old ≡ true) }
+        ensures noted { Notes self.old pass.old self.new pass.new (Begin (number_of self.old) Flush) }
+    {
+        self.note::<Brand>(pass);
+    }
+
+    /// The event `Begin` of a leave.
+    pub fn begin_leave(&mut self, pass: &mut Pass)
+        requires book { IsOf self.old pass.old }
+        requires idle { (is_idle (slot_of self.old) ≡ true) × (active_of self.old ≡ true) }
+        ensures noted { Notes self.old pass.old self.new pass.new (Begin (number_of self.old) Leave) }
+    {
+        self.note::<Brand>(pass);
+    }
+
+    /// The event `Begin` of a refresh.
+    pub fn begin_refresh(&mut self, pass: &mut Pass)
+        requires book { IsOf self.old pass.old }
+        requires idle { (is_idle (slot_of self.old) ≡ true) × (active_of self.old ≡ true) }
+        ensures noted { Notes self.old pass.old self.new pass.new (Begin (number_of self.old) Refresh) }
+    {
+        self.note::<Brand>(pass);
+    }
+
+    /// The event `Put`: the value that the slot's call is about to retire is appended to its batch.
+    pub fn put(&mut self, pass: &mut Pass)
+        requires book { IsOf self.old pass.old }
+        requires next { is_some (puts_next (slot_of self.old)) ≡ true }
+        ensures noted { Notes self.old pass.old self.new pass.new (Put (number_of self.old)) }
+    {
+        self.note::<Brand>(pass);
+    }
+
+    /// The event `Detach`: the slot's batch becomes a retired batch.
+    pub fn detach(&mut self, pass: &mut Pass)
+        requires book { IsOf self.old pass.old }
+        requires next { CanDetach self.old }
+        ensures noted { Notes self.old pass.old self.new pass.new (Detach (number_of self.old)) }
+        ensures batch { Detaches self.old pass.new }
+    {
+        self.note::<Brand>(pass);
+    }
+
+    /// The event `Hand`: the value that the slot's call is about to hand to its reclaimer goes there, and its reclaimer puts these values,
+    /// which were never named. All that lay in their blocks before were reclaimed.
+    ///
+    /// The value goes there for the first time, and was retired before. Each slot that was active then, and each that found it in a link,
+    /// has left or refreshed since, and the activations in which they found it are over. The slot's call is to retire the further values
+    /// then, in their order, after those that it had before. So their keys know then that no call may begin to retire them, and that all
+    /// others that lay in their blocks were reclaimed.
+    pub fn hand_with(&mut self, further: &mut ValueKeys, pass: &mut Pass)
+        requires book { IsOf self.old pass.old × AreOfBook further.old pass.old }
+        requires next { is_some (hands_next (slot_of self.old)) ≡ true }
+        requires new { AreNew further.old }
+        ensures noted { Notes self.old pass.old self.new pass.new (Hand (number_of self.old) (values_of further.old)) }
+        ensures once { IfSome (hands_next (slot_of self.old)) (HandsOnce self.old pass.new) }
+        ensures keys { Keep further.old pass.new further.new }
+        ensures spent { AreSpent further.new pass.new × AreLast further.new pass.new }
+    {
+        further.apart();
+        self.note_with::<Brand>(&mut further.keys, pass);
+    }
+
+    /// The event `Hand` of a value whose reclaimer puts none: the value that the slot's call is about to hand to its reclaimer goes there.
+    ///
+    /// It goes there for the first time, and was retired before. Each slot that was active then, and each that found it in a link, has left
+    /// or refreshed since, and the activations in which they found it are over.
+    pub fn hand(&mut self, pass: &mut Pass)
+        requires book { IsOf self.old pass.old }
+        requires next { is_some (hands_next (slot_of self.old)) ≡ true }
+        ensures noted { Notes self.old pass.old self.new pass.new (Hand (number_of self.old) []) }
+        ensures once { IfSome (hands_next (slot_of self.old)) (HandsOnce self.old pass.new) }
+    {
+        let mut none = ValueKeys::new(pass);
+        self.hand_with(&mut none, pass);
+    }
+
+    /// Looks at the list with no event, where the slot's call is about to hand a value to its reclaimer. What `hand` says of the value then
+    /// holds already: it was not handed before, and nobody sees it any more. So its reclaimer may have it before that names further ones.
+    pub fn about_to_hand(&mut self, pass: &mut Pass)
+        requires book { IsOf self.old pass.old }
+        requires next { is_some (hands_next (slot_of self.old)) ≡ true }
+        ensures looked { Looks self.old pass.old self.new pass.new }
+        ensures soon { IfSome (hands_next (slot_of self.old)) (HandsSoon (start_of self.old) pass.new.seen) }
+    {
+        self.look(pass);
+    }
+
+    /// The event `Return`: the slot's call is over.
+    pub fn finish(&mut self, pass: &mut Pass)
+        requires book { IsOf self.old pass.old }
+        requires over { IsOver (slot_of self.old) }
+        ensures noted { Notes self.old pass.old self.new pass.new (Return (number_of self.old)) }
+    {
+        self.note::<Brand>(pass);
+    }
+}

@@ -1,0 +1,57 @@
+//! Books that have not begun: what a book is known by before it has a list. `token` begins one of it.
+ghost use Rattle.std.specs.Prelude.{◌≡◌, ℕ};
+ghost use Rattle.seize_book.specs.Tokens.{uncalled};
+
+use crate::book::book_keys::BookKeys;
+use crate::book::pass::Pass;
+use crate::book::token::{Book, Keeps};
+use seize_store::Family;
+use std::marker::{Model, PhantomData};
+
+/// A book that has not begun. It has its family already, so that a store can be made of chunks that are labelled with it, and the book then
+/// begins with its blocks in that store.
+#[derive(Drop)]
+pub struct Unopened {
+    pub(crate) marker: PhantomData<()>,
+    /// By which labels say that something is of the book.
+    pub ghost family: { ℕ },
+}
+
+impl Model for Unopened {
+    ghost also_owns = { λ u. uncalled u.family };
+}
+
+impl Unopened {
+    ghost use Rattle.seize_book.specs.Books.{Opens, OpensAlone};
+
+    /// One of a new family, and that family.
+    pub fn new() -> (Unopened, Family)
+        ensures { result.1.number ≡ result.0.family }
+    {
+        let unopened = Unopened {
+            marker: PhantomData,
+        };
+        let family = Family {
+            marker: PhantomData,
+        };
+        (unopened, family)
+    }
+
+    /// The book begins, as one of `Book::open`.
+    pub fn open<K: Keeps>(self, links: usize, size: usize) -> (Book, BookKeys)
+        ensures { Opens result.0 result.1 links size K.store K.table × (result.0.name.family ≡ self.family) }
+    {
+        let (book, keys) = Book::open_keys::<K>(self, links, size);
+        (book, BookKeys::apart(keys))
+    }
+
+    /// The book begins, as one of `Book::open_alone`.
+    pub fn open_alone<K: Keeps>(self, links: usize, size: usize) -> (Book, Pass, BookKeys)
+        ensures { OpensAlone result.0 result.1 result.2 links size K.store K.table × (result.0.name.family ≡ self.family) }
+    {
+        let (book, pass, keys) = Book::open_sole::<K>(self, links, size);
+        (book, pass, BookKeys::apart(keys))
+    }
+}
+
+unsafe impl Send for Unopened {}

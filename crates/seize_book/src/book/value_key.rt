@@ -1,0 +1,81 @@
+//! The key of a value: that of the block in which it lies. It is `Keys` with one key, whose label is the value's name.
+ghost use Rattle.std.specs.Prelude.{◌≡◌, true};
+ghost use Rattle.seize_book.specs.Blocks.{block_of};
+ghost use Rattle.seize_book.specs.Book.{blocks};
+ghost use Rattle.seize_book.specs.Homes.{home_of};
+ghost use Rattle.seize_book.specs.Private.{is_one, key_of, label_of};
+
+use crate::book::bare_key::BareKey;
+use crate::book::keys::Keys;
+use crate::book::pass::Pass;
+use seize_content::{Pool, Ticket};
+
+/// The right to name the values of one block, of which it is this one's turn: to put it into a link, out of one, and to begin to retire it.
+/// It knows which of the block's values were ever named, and which came out of a link and no call began to retire them.
+#[derive(Drop)]
+pub struct ValueKey {
+    /// The right by itself, for crates with words.
+    pub keys: Keys,
+    ghost one: { is_one blocks keys.held ≡ true },
+    ghost home: { key_of keys.held ≡ home_of (label_of keys.held) },
+}
+
+impl ValueKey {
+    ghost use Rattle.seize_book.specs.Bare.{IsLaid};
+    ghost use Rattle.seize_book.specs.Books.{IsNextIn, MakesNext};
+    ghost use Rattle.seize_content.specs.Loans.{IsLent};
+    ghost use Rattle.seize_book.specs.Lending.{GoesWith, IsFreeKey, IsInBlockOf, IsLentKey};
+    ghost use Rattle.seize_book.specs.Others.{HasGone, IsLast, IsVacated, IsValueOf, value_of};
+
+    /// The key is for the next value of its block then, which words hold by the same number. The last one was reclaimed, as the pass has
+    /// seen. The pass and the key look at the list with no event.
+    pub fn next(&mut self, pass: &mut Pass)
+        requires book { IsValueOf self.old pass.old }
+        requires last { IsLast self.old × HasGone self.old pass.old }
+        ensures value { IsNextIn self.new (block_of (value_of self.old)) }
+        ensures free { IsFreeKey self.new }
+        ensures next { MakesNext self.old pass.old self.new pass.new }
+    {
+        self.keys.look(pass);
+        self.keys.rename();
+    }
+
+    /// A content that is lent goes with the key from then on, into a link and out of it, and whoever finds the value in a link can see the
+    /// content (`Link::see`). The key is for another value of its block then, which stands for this content. The value before was never
+    /// named, and nothing is lent with it.
+    pub fn lend(&mut self, ticket: Ticket, pool: Pool)
+        requires lent { IsLent ticket pool }
+        requires next { IsNextIn self.old (block_of (value_of self.old)) × IsFreeKey self.old }
+        ensures next { IsNextIn self.new (block_of (value_of self.old)) × IsInBlockOf self.old self.new }
+        ensures goes { GoesWith self.new pool }
+    {
+        self.keys.lend(ticket, pool);
+    }
+
+    /// The content that is lent with the value comes back, when the value was reclaimed, as the pass has seen: whoever found it in a link
+    /// has left or refreshed since, so nobody sees it any more. The key is for the next value of its block then, as `next` makes it.
+    pub fn redeem(&mut self, pass: &mut Pass) -> (Ticket, Pool)
+        requires book { IsValueOf self.old pass.old }
+        requires last { IsLast self.old × HasGone self.old pass.old }
+        requires lent { IsLentKey self.old }
+        ensures value { IsNextIn self.new (block_of (value_of self.old)) }
+        ensures free { IsFreeKey self.new }
+        ensures next { MakesNext self.old pass.old self.new pass.new }
+        ensures content { IsLent result.0 result.1 × GoesWith self.old result.1 }
+    {
+        let keys = &mut self.keys;
+        keys.look(pass);
+        keys.redeem(pass)
+    }
+
+    /// The key of the block by itself, as a chunk of a store keeps it. All values that ever lay in the block were reclaimed.
+    pub fn bare(self) -> BareKey
+        requires vacant { IsVacated self }
+        ensures { IsLaid self result }
+    {
+        let mut keys = self.keys;
+        BareKey {
+            rights: keys.bare(),
+        }
+    }
+}

@@ -1,6 +1,0 @@
-use denote.Param.Send.{IsSend}
-use Rattle.seize_words.specs.contracts.book.rights.Rights.{the_row}
-use Rattle.seize_words.proofs.Sent.{rights_keyless}
-
-pub send : IsSend the_row
-send = record { owned = λ d vs. ((λ vss. (tt, ((λ uss. (tt, tt)), tt))), rights_keyless d.name d.held); leaving = λ k f vs. tt }

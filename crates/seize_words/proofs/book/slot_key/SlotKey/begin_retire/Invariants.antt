@@ -1,8 +1,0 @@
-use Rattle.seize_machine.specs.Machine.Event.{Begin}
-use Rattle.seize_machine.specs.declared.machine.event.Job.TheVariants.{Retire}
-use Rattle.seize_words.specs.Private.{label_of}
-use Rattle.seize_words.specs.Slots.{number_of}
-use Rattle.seize_words.proofs.book.slot_key.SlotKey.begin_retire.Given as goal
-
-abbrev pub ghosts-note_with : goal.ghosts-note_with
-ghosts-note_with a = record { event = Begin (number_of a.self.now) (Retire (label_of a.other.now.held)) }

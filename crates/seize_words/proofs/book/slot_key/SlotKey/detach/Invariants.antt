@@ -1,6 +1,0 @@
-use Rattle.seize_machine.specs.Machine.Event.{Detach}
-use Rattle.seize_words.specs.Private.{key_of}
-use Rattle.seize_words.proofs.book.slot_key.SlotKey.detach.Given as goal
-
-abbrev pub ghosts-note : goal.ghosts-note
-ghosts-note a = record { event = Detach (key_of a.self.now.keys.held) }

@@ -1,6 +1,0 @@
-use Rattle.seize_machine.specs.Machine.Event.{Return}
-use Rattle.seize_words.specs.Slots.{number_of}
-use Rattle.seize_words.proofs.book.slot_key.SlotKey.finish.Given as goal
-
-abbrev pub ghosts-note : goal.ghosts-note
-ghosts-note a = record { event = Return (number_of a.self.now) }

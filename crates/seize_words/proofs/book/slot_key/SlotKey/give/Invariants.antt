@@ -1,6 +1,0 @@
-use Rattle.seize_machine.specs.Machine.Event.{Give}
-use Rattle.seize_words.specs.Slots.{number_of}
-use Rattle.seize_words.proofs.book.slot_key.SlotKey.give.Given as goal
-
-abbrev pub ghosts-note_with : goal.ghosts-note_with
-ghosts-note_with a = record { event = Give (number_of a.self.now) }

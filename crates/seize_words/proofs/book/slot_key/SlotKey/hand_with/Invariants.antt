@@ -1,7 +1,0 @@
-use Rattle.seize_machine.specs.Machine.Event.{Hand}
-use Rattle.seize_words.specs.Slots.{number_of}
-use Rattle.seize_words.specs.Words.{labels_of}
-use Rattle.seize_words.proofs.book.slot_key.SlotKey.hand_with.Given as goal
-
-abbrev pub ghosts-note_with : goal.ghosts-note_with
-ghosts-note_with a = record { event = Hand (number_of a.self.now) (labels_of a.other.now.held) }
