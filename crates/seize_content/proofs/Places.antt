@@ -1,4 +1,4 @@
--- A content's invariant: it is opened by private ghost steps alone, and each step of its stages is proved here. Assumes `Logic`.
+-- A content's invariant, whatever is lent there: it is opened by private ghost steps alone, and each step of its stages is proved here. Assumes `Logic`.
 use Rattle.std.proofs.Common.{◌≡◌, ℕ, List, [], ◌∷◌, ◌++◌, refl, sym, subst}
 use mathlib.Core.List.{IsPrefix, not-mem-nil}
 use seplogic.Ra.Ura.{Ura}
@@ -12,12 +12,9 @@ use base.Growing.{latest, at_least}
 use types.Logic.{Logic, sem}
 use types.Growing.{latest_grows, latest_bounds, latest_agrees, latest_cut, latest_glue, at_least_dup}
 use types.Kit.{‵, raw, ◌⊛◌, some as exists, given as when, later, ◌$◌, ◌∵◌, !, qed, by, move, keep, drop, split, split3, group, fsplit, fsplit3, fjoin, fjoin3, fpick, fpack, pick, learn, show, frame, assume, suffices, settle, done, use0, use1, use2, use3, updating, await, now, rewrite}
-use denote.RattleType.{RattleType}
-use denote.Param.Laws.{Laws}
-use denote.RawPtr.{Ptr}
 use denote.Steps.{nothing}
-use denote.Struct.Lending.{lent_at, lent_at_shr_laws}
-use Rattle.seize_content.specs.Stages.{Name, Stage, held, lent, stages, last, goes}
+use Rattle.seize_content.specs.Goods.{Goods, Lendable}
+use Rattle.seize_content.specs.Stages.{Stage, held, lent, stages, last, goes}
 use Rattle.seize_content.specs.Contents.{loan, body, onward, stands, shows, place, ticket_at, ticket_owns, stay_at, stay}
 
 pub last_more : (u : Stage) (ms : List Stage) (t : Stage) → last u (ms ++ t ∷ []) ≡ t
@@ -48,18 +45,18 @@ module _ {M : Type 1} {𝓤 : Ura M} (𝓛 : Logic 𝓤) where
       let Z : Pr = ⟦ P ⟧ ∗ ⟦ ftrue ⟧ ∗ Y in use2 𝓛 (raw (upd 𝓤 (⟦ P ⟧ ∗ Y))) h $ settle 𝓛 Z (‵ P ⊛ raw Y) $ suffices ! _ (upd_i 𝓤 Z) $ split ! $ frame ! $ nothing ! $ frame ! $ keep ! (0 ∷ []) $ done !
 
   -- what is known of a loan can be had twice
-  pub stay_twice : (n : Name) (a : ℕ) (g : Gv) → ⟦ stay n a g ⟧ ⊢ ⟦ stay n a g ⟧ ∗ ⟦ stay n a g ⟧
-  stay_twice n a g = qed 𝓛 (‵ (stay n a g) ∷ []) ∵ fpick ! (λ ms. let Is = last held ms ≡ lent a g in fsplit ! $ fpick ! (λ is. drop ! $
-      use1 𝓛 (‵ (at_least stages n.0 ms) ⊛ ‵ (at_least stages n.0 ms)) (at_least_dup stages 𝓛 n.0 ms) $ split ! $
-      nothing ! $ fpack ! Is (λ _. ftrue) is $ move ! (0 ∷ 1 ∷ []) $ fjoin ! $ fpack ! (List Stage) (stay_at n a g) ms $ frame ! $
-      nothing ! $ fpack ! Is (λ _. ftrue) is $ move ! (0 ∷ 1 ∷ []) $ fjoin ! $ fpack ! (List Stage) (stay_at n a g) ms $ done !))
+  pub stay_twice : (γ : ℕ) (a : ℕ) (g : Gv) → ⟦ stay γ a g ⟧ ⊢ ⟦ stay γ a g ⟧ ∗ ⟦ stay γ a g ⟧
+  stay_twice γ a g = qed 𝓛 (‵ (stay γ a g) ∷ []) ∵ fpick ! (λ ms. let Is = last held ms ≡ lent a g in fsplit ! $ fpick ! (λ is. drop ! $
+      use1 𝓛 (‵ (at_least stages γ ms) ⊛ ‵ (at_least stages γ ms)) (at_least_dup stages 𝓛 γ ms) $ split ! $
+      nothing ! $ fpack ! Is (λ _. ftrue) is $ move ! (0 ∷ 1 ∷ []) $ fjoin ! $ fpack ! (List Stage) (stay_at γ a g) ms $ frame ! $
+      nothing ! $ fpack ! Is (λ _. ftrue) is $ move ! (0 ∷ 1 ∷ []) $ fjoin ! $ fpack ! (List Stage) (stay_at γ a g) ms $ done !))
 
-  module _ (R : RattleType) (p : Ptr) where
+  module _ (G : Goods) where
     abbrev on : Stage → List Stage → Fml
-    on = onward R p
+    on = onward G
 
     abbrev in_it : Stage → Fml
-    in_it = body R p
+    in_it = body G
 
     -- one stage more
     pub ends : (u : Stage) (ms : List Stage) (t : Stage) → ⟦ on u ms ⟧ ⊢ ⟦ in_it (last u ms) ⟧ ∗ wand 𝓤 (⟦ goes (last u ms) t ⟧ ∗ ⟦ in_it t ⟧) ⟦ on u (ms ++ t ∷ []) ⟧
@@ -69,18 +66,18 @@ module _ {M : Type 1} {𝓤 : Ura M} (𝓛 : Logic 𝓤) where
         use2 𝓛 (‵ (on m (ms ++ t ∷ []))) (apply∗ 𝓤 (⟦ goes (last m ms) t ⟧ ∗ ⟦ in_it t ⟧) ⟦ on m (ms ++ t ∷ []) ⟧) $ move ! (1 ∷ 0 ∷ []) $ fjoin ! $ done !
 
     -- ---- whoever has a share of a loan's lifetime finds its value there
-    module _ (L : Laws R) (a : ℕ) (g : Gv) (e : Share) where
+    module _ (L : Lendable G) (a : ℕ) (g : Gv) (e : Share) where
       abbrev shown : Fml
-      shown = fex R.Denot (shows R p a g)
+      shown = fex G.Thing (shows G a g)
 
       abbrev Sees : Fml → Pr
       Sees F = ⟦ F ⟧ ∗ ⟦ flft (a ∷ []) e ⟧ ∗ ⟦ shown ⟧
 
       stays : (ts : List Stage) → ⟦ on (lent a g) ts ⟧ ∗ ⟦ flft (a ∷ []) e ⟧ ⊢ Sees (on (lent a g) ts)
-      stays [] = qed 𝓛 (‵ (in_it (lent a g)) ∷ ‵ (flft (a ∷ []) e) ∷ []) ∵ fpick ! (λ x. let Is = R.coded.code x ≡ g in fsplit3 ! $ fpick ! (λ is. drop ! $
-          use1 𝓛 (‵ (lent_at R p x (a ∷ [])) ⊛ ‵ (lent_at R p x (a ∷ []))) ((lent_at_shr_laws R L.shr_laws p x).contraction M 𝓤 𝓛 (a ∷ [])) $ split ! $
-          nothing ! $ fpack ! Is (λ _. ftrue) is $ move ! (0 ∷ 1 ∷ 3 ∷ []) $ fjoin3 ! $ fpack ! R.Denot (loan R p a g) x $ frame ! $
-          nothing ! $ fpack ! Is (λ _. ftrue) is $ move ! (0 ∷ 1 ∷ []) $ fjoin ! $ fpack ! R.Denot (shows R p a g) x $ move ! (1 ∷ 0 ∷ []) $ frame ! $ done !))
+      stays [] = qed 𝓛 (‵ (in_it (lent a g)) ∷ ‵ (flft (a ∷ []) e) ∷ []) ∵ fpick ! (λ x. let Is = G.code x ≡ g in fsplit3 ! $ fpick ! (λ is. drop ! $
+          use1 𝓛 (‵ (G.shr x (a ∷ [])) ⊛ ‵ (G.shr x (a ∷ []))) ((L.shr_laws x).contraction M 𝓤 𝓛 (a ∷ [])) $ split ! $
+          nothing ! $ fpack ! Is (λ _. ftrue) is $ move ! (0 ∷ 1 ∷ 3 ∷ []) $ fjoin3 ! $ fpack ! G.Thing (loan G a g) x $ frame ! $
+          nothing ! $ fpack ! Is (λ _. ftrue) is $ move ! (0 ∷ 1 ∷ []) $ fjoin ! $ fpack ! G.Thing (shows G a g) x $ move ! (1 ∷ 0 ∷ []) $ frame ! $ done !))
       stays (t ∷ ts) = qed 𝓛 (‵ (on (lent a g) (t ∷ ts)) ∷ ‵ (flft (a ∷ []) e) ∷ []) ∵ fsplit ! $ move ! (2 ∷ 0 ∷ []) $
           suffices ! (never 𝓤) (never_e 𝓤 (Sees (on (lent a g) (t ∷ ts)))) $ keep ! (0 ∷ 1 ∷ []) $ by ! (𝓛.lfts.lft-dead (a ∷ []) e)
 
@@ -89,47 +86,41 @@ module _ {M : Type 1} {𝓤 : Ura M} (𝓛 : Logic 𝓤) where
       finds u (k ∷ ks) ts is = qed 𝓛 (‵ (on u (k ∷ (ks ++ ts))) ∷ ‵ (flft (a ∷ []) e) ∷ []) ∵ fsplit ! $ move ! (1 ∷ 2 ∷ []) $
           use2 𝓛 (‵ (on k (ks ++ ts)) ⊛ ‵ (flft (a ∷ []) e) ⊛ ‵ shown) (finds k ks ts is) $ split3 ! $ move ! (3 ∷ 0 ∷ []) $ fjoin ! $ done !
 
-  -- ---- a content of the name n
-  module _ (R : RattleType) (n : Name) where
-    abbrev p : Ptr
-    p = n.1
-
-    abbrev γ : ℕ
-    γ = n.0
-
+  -- ---- a content of the name γ
+  module _ (G : Goods) (γ : ℕ) where
     -- a reader's step
-    module _ (L : Laws R) (a : ℕ) (g : Gv) (e : Share) where
-      find_in : ⟦ place R n ⟧ ∗ ⟦ stay n a g ⟧ ∗ ⟦ flft (a ∷ []) e ⟧ ⊢ upd 𝓤 (⟦ place R n ⟧ ∗ ⟦ fex R.Denot (shows R p a g) ⟧ ∗ ⟦ flft (a ∷ []) e ⟧)
-      find_in = let F : Fml = fex R.Denot (shows R p a g) in let Z : Pr = ⟦ place R n ⟧ ∗ ⟦ F ⟧ ∗ ⟦ flft (a ∷ []) e ⟧ in
-          qed 𝓛 (‵ (place R n) ∷ ‵ (stay n a g) ∷ ‵ (flft (a ∷ []) e) ∷ []) ∵ suffices ! _ (upd_i 𝓤 Z) $ fpick ! (λ ms. fsplit ! $ move ! (2 ∷ []) $ fpick ! (λ ks. fsplit ! $ fpick ! (λ is. drop ! $
+    module _ (L : Lendable G) (a : ℕ) (g : Gv) (e : Share) where
+      find_in : ⟦ place G γ ⟧ ∗ ⟦ stay γ a g ⟧ ∗ ⟦ flft (a ∷ []) e ⟧ ⊢ upd 𝓤 (⟦ place G γ ⟧ ∗ ⟦ fex G.Thing (shows G a g) ⟧ ∗ ⟦ flft (a ∷ []) e ⟧)
+      find_in = let F : Fml = fex G.Thing (shows G a g) in let Z : Pr = ⟦ place G γ ⟧ ∗ ⟦ F ⟧ ∗ ⟦ flft (a ∷ []) e ⟧ in
+          qed 𝓛 (‵ (place G γ) ∷ ‵ (stay γ a g) ∷ ‵ (flft (a ∷ []) e) ∷ []) ∵ suffices ! _ (upd_i 𝓤 Z) $ fpick ! (λ ms. fsplit ! $ move ! (2 ∷ []) $ fpick ! (λ ks. fsplit ! $ fpick ! (λ is. drop ! $
           -- [what was told; the name; what stands; the token]
           move ! (1 ∷ 0 ∷ []) $ use2 𝓛 (when (IsPrefix ks ms) (‵ (latest stages quarter γ ms) ⊛ ‵ (at_least stages γ ks))) (latest_bounds stages 𝓛 quarter γ ms ks) $ learn ! (λ past. split ! $ move ! (2 ∷ 3 ∷ []) $
-          use2 𝓛 (‵ (onward R p held ms) ⊛ ‵ (flft (a ∷ []) e) ⊛ ‵ F) (subst (λ (ls : List Stage). ⟦ onward R p held ls ⟧ ∗ ⟦ flft (a ∷ []) e ⟧ ⊢ Sees R p L a g e (onward R p held ls)) past.1 (finds R p L a g e held ks past.0 is)) $ split3 ! $
-          move ! (3 ∷ 0 ∷ []) $ fjoin ! $ fpack ! (List Stage) (stands R p γ) ms $ frame ! $ move ! (1 ∷ 0 ∷ []) $ frame ! $ keep ! (0 ∷ []) $ done !))))
+          use2 𝓛 (‵ (onward G held ms) ⊛ ‵ (flft (a ∷ []) e) ⊛ ‵ F) (subst (λ (ls : List Stage). ⟦ onward G held ls ⟧ ∗ ⟦ flft (a ∷ []) e ⟧ ⊢ Sees G L a g e (onward G held ls)) past.1 (finds G L a g e held ks past.0 is)) $ split3 ! $
+          move ! (3 ∷ 0 ∷ []) $ fjoin ! $ fpack ! (List Stage) (stands G γ) ms $ frame ! $ move ! (1 ∷ 0 ∷ []) $ frame ! $ keep ! (0 ∷ []) $ done !))))
 
-      pub sees : (j : ℕ) (ν : Lft) (q : Share) → A.named j (fbor ν (place R n)) ∗ A.lft ν q ∗ ⟦ stay n a g ⟧ ∗ ⟦ flft (a ∷ []) e ⟧ ⊢ H.⇛ ((⟦ fex R.Denot (shows R p a g) ⟧ ∗ ⟦ flft (a ∷ []) e ⟧) ∗ A.lft ν q)
-      sees j ν q = opened j ν q (place R n) (⟦ stay n a g ⟧ ∗ ⟦ flft (a ∷ []) e ⟧) (⟦ fex R.Denot (shows R p a g) ⟧ ∗ ⟦ flft (a ∷ []) e ⟧) find_in
+      pub sees : (j : ℕ) (ν : Lft) (q : Share) → A.named j (fbor ν (place G γ)) ∗ A.lft ν q ∗ ⟦ stay γ a g ⟧ ∗ ⟦ flft (a ∷ []) e ⟧ ⊢ H.⇛ ((⟦ fex G.Thing (shows G a g) ⟧ ∗ ⟦ flft (a ∷ []) e ⟧) ∗ A.lft ν q)
+      sees j ν q = opened j ν q (place G γ) (⟦ stay γ a g ⟧ ∗ ⟦ flft (a ∷ []) e ⟧) (⟦ fex G.Thing (shows G a g) ⟧ ∗ ⟦ flft (a ∷ []) e ⟧) find_in
 
     -- with the ticket: from the stage s to the stage t. What lay there at s comes out, and what lies there at t goes in
     module _ (s t : Stage) where
-      turn_in : ⟦ place R n ⟧ ∗ ⟦ ticket_owns n s ⟧ ∗ ⟦ goes s t ⟧ ∗ ⟦ body R p t ⟧ ⊢ upd 𝓤 (⟦ place R n ⟧ ∗ ⟦ ticket_owns n t ⟧ ∗ ⟦ body R p s ⟧)
-      turn_in = let Z : Pr = ⟦ place R n ⟧ ∗ ⟦ ticket_owns n t ⟧ ∗ ⟦ body R p s ⟧ in
-          qed 𝓛 (‵ (place R n) ∷ ‵ (ticket_owns n s) ∷ ‵ (goes s t) ∷ ‵ (body R p t) ∷ []) ∵ fpick ! (λ ls. fsplit ! $ move ! (2 ∷ []) $ fpick ! (λ ms. fsplit ! $ fpick ! (λ is. drop ! $
+      turn_in : ⟦ place G γ ⟧ ∗ ⟦ ticket_owns γ s ⟧ ∗ ⟦ goes s t ⟧ ∗ ⟦ body G t ⟧ ⊢ upd 𝓤 (⟦ place G γ ⟧ ∗ ⟦ ticket_owns γ t ⟧ ∗ ⟦ body G s ⟧)
+      turn_in = let Z : Pr = ⟦ place G γ ⟧ ∗ ⟦ ticket_owns γ t ⟧ ∗ ⟦ body G s ⟧ in
+          qed 𝓛 (‵ (place G γ) ∷ ‵ (ticket_owns γ s) ∷ ‵ (goes s t) ∷ ‵ (body G t) ∷ []) ∵ fpick ! (λ ls. fsplit ! $ move ! (2 ∷ []) $ fpick ! (λ ms. fsplit ! $ fpick ! (λ is. drop ! $
           -- [the ticket; the place's part; what stands; the way; what goes in]
           move ! (1 ∷ 0 ∷ []) $ use2 𝓛 (when (ls ≡ ms) (‵ (latest stages quarter γ ls) ⊛ ‵ (latest stages three_quarters γ ms))) (latest_agrees stages 𝓛 quarter three_quarters γ ls ms) $ learn ! (λ e. split ! $
-          let ms' : List Stage = ms ++ t ∷ [] in let W : Pr = wand 𝓤 (⟦ goes (last held ms) t ⟧ ∗ ⟦ body R p t ⟧) ⟦ onward R p held ms' ⟧ in
+          let ms' : List Stage = ms ++ t ∷ [] in let W : Pr = wand 𝓤 (⟦ goes (last held ms) t ⟧ ∗ ⟦ body G t ⟧) ⟦ onward G held ms' ⟧ in
           rewrite ! 0 (λ (l : List Stage). ‵ (latest stages quarter γ l)) e refl $
           use2 𝓛 (‵ (latest stages full_share γ ms)) (latest_glue stages 𝓛 full_share quarter three_quarters γ ms Share.quarters) $
           use1 𝓛 (raw (upd 𝓤 ⟦ latest stages full_share γ ms' ⟧)) (latest_grows stages 𝓛 γ ms ms' (t ∷ [], refl)) $ settle 𝓛 Z (‵ (latest stages full_share γ ms')) $ suffices ! _ (upd_i 𝓤 Z) $
           use1 𝓛 (‵ (latest stages quarter γ ms') ⊛ ‵ (latest stages three_quarters γ ms')) (latest_cut stages 𝓛 full_share quarter three_quarters γ ms' Share.quarters) $ split ! $
           -- [the place's part; the ticket; what stands; the way; what goes in]
-          move ! (2 ∷ []) $ rewrite ! 0 (λ (l : List Stage). ‵ (onward R p held l)) e refl $ use1 𝓛 (‵ (body R p (last held ms)) ⊛ raw W) (ends R p held ms t) $ split ! $
-          rewrite ! 0 (λ (u : Stage). ‵ (body R p u)) is refl $ move ! (4 ∷ []) $ rewrite ! 0 (λ (u : Stage). ‵ (goes u t)) (sym is) refl $
+          move ! (2 ∷ []) $ rewrite ! 0 (λ (l : List Stage). ‵ (onward G held l)) e refl $ use1 𝓛 (‵ (body G (last held ms)) ⊛ raw W) (ends G held ms t) $ split ! $
+          rewrite ! 0 (λ (u : Stage). ‵ (body G u)) is refl $ move ! (4 ∷ []) $ rewrite ! 0 (λ (u : Stage). ‵ (goes u t)) (sym is) refl $
           -- [the way; what comes out; the wand; the place's part; the ticket; what goes in]
-          move ! (0 ∷ 5 ∷ []) $ types.Kit.join ! $ move ! (0 ∷ 2 ∷ []) $ use2 𝓛 (‵ (onward R p held ms')) (apply∗ 𝓤 (⟦ goes (last held ms) t ⟧ ∗ ⟦ body R p t ⟧) ⟦ onward R p held ms' ⟧) $
+          move ! (0 ∷ 5 ∷ []) $ types.Kit.join ! $ move ! (0 ∷ 2 ∷ []) $ use2 𝓛 (‵ (onward G held ms')) (apply∗ 𝓤 (⟦ goes (last held ms) t ⟧ ∗ ⟦ body G t ⟧) ⟦ onward G held ms' ⟧) $
           -- [what stands; what comes out; the place's part; the ticket]
-          move ! (2 ∷ 0 ∷ []) $ fjoin ! $ fpack ! (List Stage) (stands R p γ) ms' $ frame ! $
-          nothing ! $ fpack ! (last held ms' ≡ t) (λ _. ftrue) (last_more held ms t) $ move ! (0 ∷ 2 ∷ []) $ fjoin ! $ fpack ! (List Stage) (ticket_at n t) ms' $ frame ! $ keep ! (0 ∷ []) $ done !))))
+          move ! (2 ∷ 0 ∷ []) $ fjoin ! $ fpack ! (List Stage) (stands G γ) ms' $ frame ! $
+          nothing ! $ fpack ! (last held ms' ≡ t) (λ _. ftrue) (last_more held ms t) $ move ! (0 ∷ 2 ∷ []) $ fjoin ! $ fpack ! (List Stage) (ticket_at γ t) ms' $ frame ! $ keep ! (0 ∷ []) $ done !))))
 
-      pub turns : (j : ℕ) (ν : Lft) (q : Share) → A.named j (fbor ν (place R n)) ∗ A.lft ν q ∗ ⟦ ticket_owns n s ⟧ ∗ ⟦ goes s t ⟧ ∗ ⟦ body R p t ⟧ ⊢ H.⇛ ((⟦ ticket_owns n t ⟧ ∗ ⟦ body R p s ⟧) ∗ A.lft ν q)
-      turns j ν q = opened j ν q (place R n) (⟦ ticket_owns n s ⟧ ∗ ⟦ goes s t ⟧ ∗ ⟦ body R p t ⟧) (⟦ ticket_owns n t ⟧ ∗ ⟦ body R p s ⟧) turn_in
+      pub turns : (j : ℕ) (ν : Lft) (q : Share) → A.named j (fbor ν (place G γ)) ∗ A.lft ν q ∗ ⟦ ticket_owns γ s ⟧ ∗ ⟦ goes s t ⟧ ∗ ⟦ body G t ⟧ ⊢ H.⇛ ((⟦ ticket_owns γ t ⟧ ∗ ⟦ body G s ⟧) ∗ A.lft ν q)
+      turns j ν q = opened j ν q (place G γ) (⟦ ticket_owns γ s ⟧ ∗ ⟦ goes s t ⟧ ∗ ⟦ body G t ⟧) (⟦ ticket_owns γ t ⟧ ∗ ⟦ body G s ⟧) turn_in

@@ -21,7 +21,6 @@ use types.Kit.{‵, raw, ◌⊛◌, some as exists, given, later, ◌$◌, ◌�
 use contract.BorrowLft.{meet_⊑_left}
 use denote.SharingLaws.{ends_shr_laws}
 use denote.Steps.{nothing}
-use Rattle.seize_content.specs.Stages.{Name}
 use Rattle.seize_content.specs.Contents.{stay, pool_owns, sight_owns}
 use Rattle.seize_content.specs.Readers.{Piece, pieces, holds, filled, escrow, deposit, pool, all_dead, left_of, lent_pool, found}
 use Rattle.seize_content.proofs.Places.{stay_twice}
@@ -111,42 +110,42 @@ module _ {M : Type 1} {𝓤 : Ura M} (𝓛 : Logic 𝓤) where
       use3 𝓛 (later (‵ (flft (a ∷ []) (Share.right r)))) (returns d.0 d.1 (a, Share.right r)) $ await ! tt $ move ! (1 ∷ 0 ∷ []) $ use2 𝓛 (‵ (flft (a ∷ []) r)) (𝓛.lfts.lft_join (a ∷ []) r) $ now ! $ done !
 
   -- ---- the pool of a loan, with what is known of it
-  module _ (n : Name) (a : ℕ) (g : Gv) where
+  module _ (γ : ℕ) (a : ℕ) (g : Gv) where
     -- one reader more, in one step
-    module _ (ds : List (Lft × ℕ)) (β : Lft) (γ : ℕ) where
+    module _ (ds : List (Lft × ℕ)) (β : Lft) (ε : ℕ) where
       abbrev pub share_of : Share
       share_of = Share.right (left_of full_share ds)
 
-      pub reads : ⟦ lent_pool n a g ds ⟧ ∗ ⟦ top full_share γ none ⟧ ∗ A.lent β (escrow γ) ⊢ upd 𝓤 (⟦ lent_pool n a g (ds ++ (β, γ) ∷ []) ⟧ ∗ ⟦ found n a g γ share_of ⟧)
-      reads = let e : Share = share_of in let d : Lft × ℕ = (β, γ) in let ds' : List (Lft × ℕ) = ds ++ d ∷ [] in let Z : Pr = ⟦ lent_pool n a g ds' ⟧ ∗ ⟦ found n a g γ e ⟧ in
+      pub reads : ⟦ lent_pool γ a g ds ⟧ ∗ ⟦ top full_share ε none ⟧ ∗ A.lent β (escrow ε) ⊢ upd 𝓤 (⟦ lent_pool γ a g (ds ++ (β, ε) ∷ []) ⟧ ∗ ⟦ found γ a g ε share_of ⟧)
+      reads = let e : Share = share_of in let d : Lft × ℕ = (β, ε) in let ds' : List (Lft × ℕ) = ds ++ d ∷ [] in let Z : Pr = ⟦ lent_pool γ a g ds' ⟧ ∗ ⟦ found γ a g ε e ⟧ in
           let W : Pr = wand 𝓤 ⟦ deposit a e d ⟧ ⟦ pool a full_share ds' ⟧ in
-          qed 𝓛 (‵ (lent_pool n a g ds) ∷ ‵ (top full_share γ none) ∷ ‵ (flent β (escrow γ)) ∷ []) ∵ move ! (1 ∷ []) $ use1 𝓛 (raw (upd 𝓤 (⟦ top full_share γ (some (a, e)) ⟧ ∗ ⟦ past γ (a, e) ⟧))) (fills γ (a, e)) $
-          settle 𝓛 Z (‵ (top full_share γ (some (a, e))) ⊛ ‵ (past γ (a, e))) $ suffices ! _ (upd_i 𝓤 Z) $ split ! $
+          qed 𝓛 (‵ (lent_pool γ a g ds) ∷ ‵ (top full_share ε none) ∷ ‵ (flent β (escrow ε)) ∷ []) ∵ move ! (1 ∷ []) $ use1 𝓛 (raw (upd 𝓤 (⟦ top full_share ε (some (a, e)) ⟧ ∗ ⟦ past ε (a, e) ⟧))) (fills ε (a, e)) $
+          settle 𝓛 Z (‵ (top full_share ε (some (a, e))) ⊛ ‵ (past ε (a, e))) $ suffices ! _ (upd_i 𝓤 Z) $ split ! $
           -- [its escrow's name; that it is filled; the pool; the right to the escrow]
           move ! (2 ∷ []) $ fsplit ! $ use1 𝓛 (‵ (flft (a ∷ []) e) ⊛ raw W) (takes a full_share ds d) $ split ! $
           -- [its share; the wand; what is known; the escrow's name; that it is filled; the right to the escrow]
           move ! (5 ∷ 4 ∷ []) $ fjoin ! $ move ! (0 ∷ 2 ∷ []) $ use2 𝓛 (‵ (pool a full_share ds')) (apply∗ 𝓤 ⟦ deposit a e d ⟧ ⟦ pool a full_share ds' ⟧) $
-          move ! (2 ∷ []) $ use1 𝓛 (‵ (stay n a g) ⊛ ‵ (stay n a g)) (stay_twice 𝓛 n a g) $ split ! $
+          move ! (2 ∷ []) $ use1 𝓛 (‵ (stay γ a g) ⊛ ‵ (stay γ a g)) (stay_twice 𝓛 γ a g) $ split ! $
           -- [what is known, twice; the pool; its share; the escrow's name]
           move ! (2 ∷ 0 ∷ []) $ fjoin ! $ frame ! $ move ! (2 ∷ 1 ∷ 0 ∷ []) $ fjoin3 ! $ keep ! (0 ∷ []) $ done !
 
     -- and none any more
-    pub whole : (ds : List (Lft × ℕ)) → ⟦ lent_pool n a g ds ⟧ ∗ ⟦ all_dead ds ⟧ ⊢ H.⇛ ⟦ pool_owns n a g ⟧
-    whole ds = qed 𝓛 (‵ (lent_pool n a g ds) ∷ ‵ (all_dead ds) ∷ []) ∵ updating ! $ fsplit ! $ move ! (0 ∷ 2 ∷ []) $ use2 𝓛 (later (‵ (flft (a ∷ []) full_share))) (gathers a full_share ds) $ await ! tt $ fjoin ! $ now ! $ keep ! (0 ∷ []) $ done !
+    pub whole : (ds : List (Lft × ℕ)) → ⟦ lent_pool γ a g ds ⟧ ∗ ⟦ all_dead ds ⟧ ⊢ H.⇛ ⟦ pool_owns γ a g ⟧
+    whole ds = qed 𝓛 (‵ (lent_pool γ a g ds) ∷ ‵ (all_dead ds) ∷ []) ∵ updating ! $ fsplit ! $ move ! (0 ∷ 2 ∷ []) $ use2 𝓛 (later (‵ (flft (a ∷ []) full_share))) (gathers a full_share ds) $ await ! tt $ fjoin ! $ now ! $ keep ! (0 ∷ []) $ done !
 
     -- what a reader has after its step is a sight, for as long as its activation is borrowed
-    pub sights : (β κ : Lft) → A.shr_bor β (λ s. flft (a ∷ []) s) ∗ A.shr_bor κ (λ s. flft β s) ∗ ⟦ stay n a g ⟧ ⊢ ⟦ sight_owns κ n a g ⟧
-    sights β κ = let α : Lft = a ∷ [] in qed 𝓛 (‵ (fshr_bor β (λ s. flft α s)) ∷ ‵ (fshr_bor κ (λ s. flft β s)) ∷ ‵ (stay n a g) ∷ []) ∵
+    pub sights : (β κ : Lft) → A.shr_bor β (λ s. flft (a ∷ []) s) ∗ A.shr_bor κ (λ s. flft β s) ∗ ⟦ stay γ a g ⟧ ⊢ ⟦ sight_owns κ γ a g ⟧
+    sights β κ = let α : Lft = a ∷ [] in qed 𝓛 (‵ (fshr_bor β (λ s. flft α s)) ∷ ‵ (fshr_bor κ (λ s. flft β s)) ∷ ‵ (stay γ a g) ∷ []) ∵
         use0 𝓛 (‵ (before (α ++ β) α)) (before-Incl 𝓛 (α ++ β) α (meet_⊑_left α β)) $ move ! (1 ∷ 0 ∷ []) $ use2 𝓛 (‵ (before β α)) (before_lent 𝓛 β α α) $
         use0 𝓛 (‵ (before (β ++ κ) β)) (before-Incl 𝓛 (β ++ κ) β (meet_⊑_left β κ)) $ move ! (2 ∷ 0 ∷ []) $ use2 𝓛 (‵ (before κ β)) (before_lent 𝓛 κ β β) $ move ! (0 ∷ 1 ∷ []) $
         use2 𝓛 (‵ (before κ α)) ((ends_shr_laws α).mono M 𝓤 𝓛 κ β) $ fjoin ! $ done !
 
     -- after the step: the share is laid into the escrow, and the reader has its sight, and its activation's token back
-    pub settled : (β κ : Lft) (q : Share) (γ : ℕ) (e : Share) → ⟦ found n a g γ e ⟧ ∗ A.obor β q (escrow γ) ∗ A.shr_bor κ (λ s. flft β s) ⊢ H.⇛ (⟦ sight_owns κ n a g ⟧ ∗ A.lft β q)
-    settled β κ q γ e = qed 𝓛 (‵ (found n a g γ e) ∷ ‵ (fobor β q (escrow γ)) ∷ ‵ (fshr_bor κ (λ s. flft β s)) ∷ []) ∵ updating ! $ fsplit3 ! $
+    pub settled : (β κ : Lft) (q : Share) (ε : ℕ) (e : Share) → ⟦ found γ a g ε e ⟧ ∗ A.obor β q (escrow ε) ∗ A.shr_bor κ (λ s. flft β s) ⊢ H.⇛ (⟦ sight_owns κ γ a g ⟧ ∗ A.lft β q)
+    settled β κ q ε e = qed 𝓛 (‵ (found γ a g ε e) ∷ ‵ (fobor β q (escrow ε)) ∷ ‵ (fshr_bor κ (λ s. flft β s)) ∷ []) ∵ updating ! $ fsplit3 ! $
         -- [the escrow's name; the share; what is known; the open escrow; the activation's]
-        move ! (0 ∷ 1 ∷ 3 ∷ []) $ use3 𝓛 (later (‵ (fshr_bor β (λ s. flft (a ∷ []) s)) ⊛ ‵ (flft β q))) (settles β q γ (a, e)) $ await ! tt $ split ! $
-        move ! (0 ∷ 3 ∷ 2 ∷ []) $ use3 𝓛 (‵ (sight_owns κ n a g)) (sights β κ) $ now ! $ keep ! (0 ∷ 1 ∷ []) $ types.Kit.join ! $ done !
+        move ! (0 ∷ 1 ∷ 3 ∷ []) $ use3 𝓛 (later (‵ (fshr_bor β (λ s. flft (a ∷ []) s)) ⊛ ‵ (flft β q))) (settles β q ε (a, e)) $ await ! tt $ split ! $
+        move ! (0 ∷ 3 ∷ 2 ∷ []) $ use3 𝓛 (‵ (sight_owns κ γ a g)) (sights β κ) $ now ! $ keep ! (0 ∷ 1 ∷ []) $ types.Kit.join ! $ done !
 
   -- where nothing was found the escrow stays empty
   pub left_empty : (β : Lft) (q : Share) (γ : ℕ) → ⟦ top full_share γ none ⟧ ∗ A.obor β q (escrow γ) ⊢ H.⇛ (A.lft β q)

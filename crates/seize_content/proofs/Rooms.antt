@@ -20,7 +20,7 @@ use Rattle.std.specs.contracts.impls.GlobalAllocator.TheImpl.{ghosts}
 use Rattle.std_alloc.proofs.ResultValues.{and_tt}
 use Rattle.std_alloc.specs.Vacant.{vacant}
 use Rattle.std_alloc.specs.contracts.room.vacant.Vacant as hollow
-use Rattle.seize_content.specs.Contents.{room}
+use Rattle.seize_content.specs.Goods.{room}
 use Rattle.seize_content.specs.Memory.{grant_owns}
 use Rattle.seize_content.specs.contracts.room.Grant as grant
 

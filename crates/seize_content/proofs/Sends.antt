@@ -16,8 +16,9 @@ use Rattle.std.specs.declared.alloc.Global.{Global}
 use Rattle.std_alloc.proofs.SendSync.{seen, lies as lies_keyless}
 use mir.Raw.{raw}
 use denote.Memory.{lone}
-use Rattle.seize_content.specs.Stages.{Name, Stage, empty, held, lent, goes}
-use Rattle.seize_content.specs.Contents.{room, body, onward, place, content_owns, content_shares, ticket_owns, held_owns, stay, pool_owns, pool_shares, sight_owns}
+use Rattle.seize_content.specs.Goods.{Goods, room, value_at}
+use Rattle.seize_content.specs.Stages.{Stage, empty, held, lent, goes}
+use Rattle.seize_content.specs.Contents.{body, onward, place, place_shares, content_owns, content_shares, ticket_owns, held_owns, stay, pool_owns, pool_shares, sight_owns}
 use Rattle.seize_content.specs.Memory.{grant_owns}
 use Rattle.seize_content.specs.Readers.{Piece, deposit, holds, lent_pool, pool}
 
@@ -28,22 +29,22 @@ room_sent R null_ptr = tt
 pub grant_sent : (R : RattleType) (h : Global) (p : Ptr) → Keyless (grant_owns R h p)
 grant_sent R h p = frees.frees h (raw (lone R.mir)) p
 
-pub ticket_sent : (n : Name) (s : Stage) → Keyless (ticket_owns n s)
+pub ticket_sent : (γ : ℕ) (s : Stage) → Keyless (ticket_owns γ s)
 unfolding latest
-ticket_sent n s = λ ms. ((λ _. tt), tt)
+ticket_sent γ s = λ ms. ((λ _. tt), tt)
 
-pub stay_sent : (n : Name) (a : ℕ) (g : Gv) → Keyless (stay n a g)
+pub stay_sent : (γ : ℕ) (a : ℕ) (g : Gv) → Keyless (stay γ a g)
 unfolding at_least
-stay_sent n a g = λ ms. ((λ _. tt), tt)
+stay_sent γ a g = λ ms. ((λ _. tt), tt)
 
-pub pool_sent : (n : Name) (a : ℕ) (g : Gv) → Keyless (pool_owns n a g)
-pool_sent n a g = (tt, stay_sent n a g)
+pub pool_sent : (γ : ℕ) (a : ℕ) (g : Gv) → Keyless (pool_owns γ a g)
+pool_sent γ a g = (tt, stay_sent γ a g)
 
-pub pool_seen : (n : Name) (a : ℕ) (g : Gv) (κ : Lft) → Keyless (pool_shares n a g κ)
-pool_seen n a g κ = ((λ _. tt), stay_sent n a g)
+pub pool_seen : (γ : ℕ) (a : ℕ) (g : Gv) (κ : Lft) → Keyless (pool_shares γ a g κ)
+pool_seen γ a g κ = ((λ _. tt), stay_sent γ a g)
 
-pub sight_sent : (κ : Lft) (n : Name) (a : ℕ) (g : Gv) → Keyless (sight_owns κ n a g)
-sight_sent κ n a g = ((λ νs. chain-Keyless νs κ (a ∷ [])), stay_sent n a g)
+pub sight_sent : (κ : Lft) (γ : ℕ) (a : ℕ) (g : Gv) → Keyless (sight_owns κ γ a g)
+sight_sent κ γ a g = ((λ νs. chain-Keyless νs κ (a ∷ [])), stay_sent γ a g)
 
 -- what readers have of a loan, and what is left of it
 
@@ -59,33 +60,38 @@ pool_kept : (a : ℕ) (r : Share) (ds : List (Lft × ℕ)) → Keyless (pool a r
 pool_kept a r [] = tt
 pool_kept a r (d ∷ ds) = (deposit_sent a (Share.right r) d, pool_kept a (Share.left r) ds)
 
-pub lent_sent : (n : Name) (a : ℕ) (g : Gv) (ds : List (Lft × ℕ)) → Keyless (lent_pool n a g ds)
-lent_sent n a g ds = (pool_kept a full_share ds, stay_sent n a g)
+pub lent_sent : (γ : ℕ) (a : ℕ) (g : Gv) (ds : List (Lft × ℕ)) → Keyless (lent_pool γ a g ds)
+lent_sent γ a g ds = (pool_kept a full_share ds, stay_sent γ a g)
 
-pub held_sent : (R : RattleType) → IsSend R → (n : Name) (t : Stage) (x : R.Denot) → Keyless (held_owns R n t x)
-held_sent R s n t x = (lies_keyless R s n.1 x, tt)
+pub held_sent : (R : RattleType) → IsSend R → (p : Ptr) (t : Stage) (x : R.Denot) → Keyless (held_owns R p t x)
+held_sent R s p t x = (lies_keyless R s p x, tt)
 
-module _ (R : RattleType) (send : IsSend R) (sync : IsSync R) where
+-- what is lent is seen on other threads, and comes back on any
+module _ (G : Goods) (bare : Keyless G.bare) (owned : (x : G.Thing) → Keyless (G.own x)) (seen : (x : G.Thing) (κ : Lft) → Keyless (G.shr x κ)) where
   goes_keyless : (s t : Stage) → Keyless (goes s t)
   goes_keyless empty t = tt
   goes_keyless held t = tt
   goes_keyless (lent a g) t = tt
 
-  body_keyless : (p : Ptr) (s : Stage) → Keyless (body R p s)
-  body_keyless p empty = room_sent R p
-  body_keyless p held = tt
-  body_keyless p (lent a g) = λ x. ((λ _. tt), (seen R sync p x (a ∷ []), lies_keyless R send p x))
+  body_keyless : (s : Stage) → Keyless (body G s)
+  body_keyless empty = bare
+  body_keyless held = tt
+  body_keyless (lent a g) = λ x. ((λ _. tt), (seen x (a ∷ []), owned x))
 
-  onward_keyless : (p : Ptr) (s : Stage) (ts : List Stage) → Keyless (onward R p s ts)
-  onward_keyless p s [] = body_keyless p s
-  onward_keyless p s (t ∷ ts) = (goes_keyless s t, onward_keyless p t ts)
+  onward_keyless : (s : Stage) (ts : List Stage) → Keyless (onward G s ts)
+  onward_keyless s [] = body_keyless s
+  onward_keyless s (t ∷ ts) = (goes_keyless s t, onward_keyless t ts)
 
-  place_keyless : (n : Name) → Keyless (place R n)
+  pub place_sent : (γ : ℕ) → Keyless (place G γ)
   unfolding latest
-  place_keyless n = λ ms. (tt, onward_keyless n.1 held ms)
+  place_sent γ = λ ms. (tt, onward_keyless held ms)
 
-  pub content_sent : (n : Name) (p : Ptr) → Keyless (content_owns R n p)
-  content_sent n p = (tt, place_keyless n)
+  pub place_seen : (γ : ℕ) (κ : Lft) → Keyless (place_shares G γ κ)
+  place_seen γ κ = λ t. ((λ νs. chain-Keyless νs κ t.0), place_sent γ)
 
-  pub content_seen : (n : Name) (p : Ptr) (κ : Lft) → Keyless (content_shares R n p κ)
-  content_seen n p κ = (tt, λ t. ((λ νs. chain-Keyless νs κ t.0), place_keyless n))
+module _ (R : RattleType) (send : IsSend R) (sync : IsSync R) where
+  pub content_sent : (γ : ℕ) (p : Ptr) → Keyless (content_owns R γ p)
+  content_sent γ p = place_sent (value_at R p) (room_sent R p) (λ x. lies_keyless R send p x) (λ x κ. seen R sync p x κ) γ
+
+  pub content_seen : (γ : ℕ) (p : Ptr) (κ : Lft) → Keyless (content_shares R γ p κ)
+  content_seen γ p κ = place_seen (value_at R p) (room_sent R p) (λ x. lies_keyless R send p x) (λ x κ'. seen R sync p x κ') γ κ

@@ -5,6 +5,7 @@ use denote.Ref.{NamedLft}
 use Rattle.seize_content.specs.contracts.loan.Pool as pool
 use Rattle.seize_content.specs.contracts.loan.Sight as sight
 use Rattle.seize_content.specs.contracts.ticket.Held as held
+use Rattle.seize_content.specs.contracts.ticket.Site as site
 use Rattle.seize_content.specs.contracts.ticket.Space as space
 use Rattle.seize_content.specs.contracts.ticket.Ticket as ticket
 use Rattle.seize_content.proofs.Fields.{token, hand}
@@ -14,6 +15,9 @@ no_bytes d = token ∷ []
 
 pub ticket_tells : Tells ticket.the_row (Is ticket.the_row) no_bytes
 ticket_tells d vs is = is.0.1.0 ∙ (λ i. vstruct (of_list (is.0.1.1.0.1.0 i ++ [])) ∷ [])
+
+pub site_tells : Tells site.the_row (Is site.the_row) no_bytes
+site_tells d vs is = is.0.1.0 ∙ (λ i. vstruct (of_list (is.0.1.1.0.1.0 i ++ [])) ∷ [])
 
 pub pool_tells : Tells pool.the_row (Is pool.the_row) no_bytes
 pool_tells d vs is = is.0.1.0 ∙ (λ i. vstruct (of_list (is.0.1.1.0.1.0 i ++ [])) ∷ [])
@@ -26,7 +30,7 @@ module _ (R : RattleType) where
   in_hand_vals d = hand ∷ []
 
   pub held_tells : Tells (held.the_row R) (Is (held.the_row R)) in_hand_vals
-  held_tells d vs is = is.0.1.0 ∙ (λ i. vstruct (of_list (ticket_tells d.ticket is.0.0.0 is.0.1.1.0 i ++ (is.0.1.1.1.0.1.0 i ++ []))) ∷ [])
+  held_tells d vs is = is.0.1.0 ∙ (λ i. vstruct (of_list (ticket_tells d.ticket is.0.0.0 is.0.1.1.0 i ++ (site_tells d.site is.0.0.1.0 is.0.1.1.1.0 i ++ (is.0.1.1.1.1.0.1.0 i ++ [])))) ∷ [])
 
   pub space_tells : Tells (space.the_row R) (Is (space.the_row R)) no_bytes
   space_tells d vs is = is.0.1.0 ∙ (λ i. vstruct (of_list (is.0.1.1.0.1.0 i ++ [])) ∷ [])

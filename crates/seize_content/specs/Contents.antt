@@ -1,13 +1,15 @@
--- What stands beside a content, and who has what of it. R is the row of its value.
---     place R n           the content n's invariant: a quarter of its list of stages, and what lies there at the last of them
---     ticket_owns n s     the other three quarters, of a list whose last stage is s. It knows nothing of R
---     in_hand R n x       a value in its owner's hands, in its place; held_owns is the same beside its ticket, and held_shares by `&`
---     space_owns R n      the same with the place bare
---     stay n a g          the content n was lent under a with a value of code g, and has been so since while a lives. It knows nothing of R
---     pool_owns n a g     the whole token of that lifetime
---     sight_owns 'g n a g     and that 'g ends no later than a
+-- What stands beside a content, and who has what of it. G is what may be lent there, and γ the content's name.
+--     place G γ           the content's invariant: a quarter of its list of stages, and what is there at the last of them
+--     named γ s           that quarter, of a list whose only stage is s
+--     ticket_owns γ s     the other three quarters, of a list whose last stage is s. It knows nothing of G
+--     in_hand G γ x       a thing in its owner's hands, with the ticket;  space G γ   the same while there is none
+--     content_owns R γ p      a content for a value of row R at p, and content_shares by `&`
+--     held_owns R p s x       a value in its owner's hands, in its place, beside the ticket, which says s;  held_shares is the same by `&`
+--     space_owns R γ p        the place of a value, bare, and the ticket
+--     stay γ a g          the content was lent under a with a thing of code g, and has been so since while a lives. It knows nothing of G
+--     pool_owns γ a g     the whole token of that lifetime
+--     sight_owns 'g γ a g     and that 'g ends no later than a
 use Rattle.core.specs.Prelude.{◌≡◌, List, [], ◌∷◌, ℕ}
-use mir.Raw.{raw}
 use base.Fraction.{full_share}
 use base.Share.{quarter, three_quarters}
 use base.Stored.{Gv}
@@ -15,27 +17,23 @@ use base.Growing.{latest, at_least}
 use base.Fml.{Lft, Fml, ftrue, fsep, fex, feq, flft, flent, fbor, fnamed}
 use base.Before.{before}
 use denote.RattleType.{RattleType}
-use denote.Memory.{lone}
-use denote.RawPtr.{Ptr, lies_at, room_for}
+use denote.RawPtr.{Ptr, lies_at}
 use denote.Sharing.{beside, said, one}
 use denote.Struct.Lending.{lent_at}
-use Rattle.seize_content.specs.Stages.{Name, Stage, empty, held, lent, stages, last, goes}
+use Rattle.seize_content.specs.Goods.{Goods, value_at}
+use Rattle.seize_content.specs.Stages.{Stage, empty, held, lent, stages, last, goes}
 
 abbrev pub fact : Type 0 → Fml
 fact φ = fex φ (λ _. ftrue)
 
--- bare memory for one value
-abbrev pub room : RattleType → Ptr → Fml
-room R p = room_for (raw (lone R.mir)) p
-
-module _ (R : RattleType) (p : Ptr) where
-  abbrev pub loan : ℕ → Gv → R.Denot → Fml
-  loan a g x = fsep (fact (R.coded.code x ≡ g)) (fsep (lent_at R p x (a ∷ [])) (flent (a ∷ []) (lies_at R full_share p x)))
+module _ (G : Goods) where
+  abbrev pub loan : ℕ → Gv → G.Thing → Fml
+  loan a g x = fsep (fact (G.code x ≡ g)) (fsep (G.shr x (a ∷ [])) (flent (a ∷ []) (G.own x)))
 
   abbrev pub body : Stage → Fml
-  body empty = room R p
+  body empty = G.bare
   body held = ftrue
-  body (lent a g) = fex R.Denot (loan a g)
+  body (lent a g) = fex G.Thing (loan a g)
 
   abbrev pub onward : Stage → List Stage → Fml
   onward s [] = body s
@@ -45,57 +43,62 @@ module _ (R : RattleType) (p : Ptr) where
   stands γ ms = fsep (latest stages quarter γ ms) (onward held ms)
 
   -- what a reader comes to see
-  abbrev pub shows : ℕ → Gv → R.Denot → Fml
-  shows a g x = fsep (fact (R.coded.code x ≡ g)) (lent_at R p x (a ∷ []))
+  abbrev pub shows : ℕ → Gv → G.Thing → Fml
+  shows a g x = fsep (fact (G.code x ≡ g)) (G.shr x (a ∷ []))
 
-abbrev pub place : RattleType → Name → Fml
-place R n = fex (List Stage) (stands R n.1 n.0)
+  abbrev pub place : ℕ → Fml
+  place γ = fex (List Stage) (stands γ)
 
--- ---- a content, by value and by `&`
-abbrev pub content_owns : RattleType → Name → Ptr → Fml
-content_owns R n p = fsep (feq Ptr n.1 p) (place R n)
+  abbrev pub lent_place : ℕ → Lft → Lft × ℕ → Fml
+  lent_place γ κ t = fsep (before κ t.0) (fnamed t.1 (fbor t.0 (place γ)))
 
-abbrev pub lent_place : (R : RattleType) → Name → Lft → Lft × ℕ → Fml
-lent_place R n κ t = fsep (before κ t.0) (fnamed t.1 (fbor t.0 (place R n)))
+  abbrev pub place_shares : ℕ → Lft → Fml
+  place_shares γ κ = fex (Lft × ℕ) (lent_place γ κ)
 
-abbrev pub place_shares : (R : RattleType) → Name → Lft → Fml
-place_shares R n κ = fex (Lft × ℕ) (lent_place R n κ)
+abbrev pub named : ℕ → Stage → Fml
+named γ s = latest stages quarter γ (s ∷ [])
 
-abbrev pub content_shares : RattleType → Name → Ptr → Lft → Fml
-content_shares R n p = beside (said (feq Ptr n.1 p)) (place_shares R n)
+-- ---- a content of a value, by value and by `&`
+abbrev pub content_owns : RattleType → ℕ → Ptr → Fml
+content_owns R γ p = place (value_at R p) γ
 
--- ---- its ticket, and the value in its owner's hands
-abbrev pub ticket_at : Name → Stage → List Stage → Fml
-ticket_at n s ms = fsep (fact (last held ms ≡ s)) (latest stages three_quarters n.0 ms)
+abbrev pub content_shares : RattleType → ℕ → Ptr → Lft → Fml
+content_shares R γ p = place_shares (value_at R p) γ
 
-abbrev pub ticket_owns : Name → Stage → Fml
-ticket_owns n s = fex (List Stage) (ticket_at n s)
+-- ---- its ticket, and the thing in its owner's hands
+abbrev pub ticket_at : ℕ → Stage → List Stage → Fml
+ticket_at γ s ms = fsep (fact (last held ms ≡ s)) (latest stages three_quarters γ ms)
 
--- in_hand is with the ticket; held_owns is beside a ticket that says s
-abbrev pub in_hand : (R : RattleType) → Name → R.Denot → Fml
-in_hand R n x = fsep (lies_at R full_share n.1 x) (ticket_owns n held)
+abbrev pub ticket_owns : ℕ → Stage → Fml
+ticket_owns γ s = fex (List Stage) (ticket_at γ s)
 
-abbrev pub held_owns : (R : RattleType) → Name → Stage → R.Denot → Fml
-held_owns R n s x = fsep (lies_at R full_share n.1 x) (feq Stage s held)
+abbrev pub in_hand : (G : Goods) → ℕ → G.Thing → Fml
+in_hand G γ x = fsep (G.own x) (ticket_owns γ held)
 
-abbrev pub held_shares : (R : RattleType) → Name → R.Denot → Lft → Fml
-held_shares R n x κ = lent_at R n.1 x κ
+abbrev pub space : Goods → ℕ → Fml
+space G γ = fsep G.bare (ticket_owns γ held)
 
-abbrev pub space_owns : RattleType → Name → Fml
-space_owns R n = fsep (room R n.1) (ticket_owns n held)
+abbrev pub held_owns : (R : RattleType) → Ptr → Stage → R.Denot → Fml
+held_owns R p s x = fsep (lies_at R full_share p x) (feq Stage s held)
+
+abbrev pub held_shares : (R : RattleType) → Ptr → R.Denot → Lft → Fml
+held_shares R p x κ = lent_at R p x κ
+
+abbrev pub space_owns : RattleType → ℕ → Ptr → Fml
+space_owns R γ p = space (value_at R p) γ
 
 -- ---- a loan: its lifetime, and what is known of it
-abbrev pub stay_at : Name → ℕ → Gv → List Stage → Fml
-stay_at n a g ms = fsep (fact (last held ms ≡ lent a g)) (at_least stages n.0 ms)
+abbrev pub stay_at : ℕ → ℕ → Gv → List Stage → Fml
+stay_at γ a g ms = fsep (fact (last held ms ≡ lent a g)) (at_least stages γ ms)
 
-abbrev pub stay : Name → ℕ → Gv → Fml
-stay n a g = fex (List Stage) (stay_at n a g)
+abbrev pub stay : ℕ → ℕ → Gv → Fml
+stay γ a g = fex (List Stage) (stay_at γ a g)
 
-abbrev pub pool_owns : Name → ℕ → Gv → Fml
-pool_owns n a g = fsep (flft (a ∷ []) full_share) (stay n a g)
+abbrev pub pool_owns : ℕ → ℕ → Gv → Fml
+pool_owns γ a g = fsep (flft (a ∷ []) full_share) (stay γ a g)
 
-abbrev pub pool_shares : Name → ℕ → Gv → Lft → Fml
-pool_shares n a g = beside (one (λ q. flft (a ∷ []) q)) (said (stay n a g))
+abbrev pub pool_shares : ℕ → ℕ → Gv → Lft → Fml
+pool_shares γ a g = beside (one (λ q. flft (a ∷ []) q)) (said (stay γ a g))
 
-abbrev pub sight_owns : Lft → Name → ℕ → Gv → Fml
-sight_owns κ n a g = fsep (before κ (a ∷ [])) (stay n a g)
+abbrev pub sight_owns : Lft → ℕ → ℕ → Gv → Fml
+sight_owns κ γ a g = fsep (before κ (a ∷ [])) (stay γ a g)

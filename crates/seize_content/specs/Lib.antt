@@ -1,4 +1,5 @@
 pub mod Stages
+pub mod Goods
 pub mod Contents
 pub mod Lends
 pub mod Loans

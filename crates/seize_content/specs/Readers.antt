@@ -5,9 +5,9 @@
 --     deposit a e d     the right to the escrow d.1, which is lent for d.0 and has the share e
 --     pool a r ds       the share r of a's token, of which each reader of ds in turn took the right half of what was left
 --     all_dead ds       the lifetimes of all of them are over
---     lent_pool n a g ds    the pool of a loan of the content n to the readers ds. With no readers it is what `Pool` owns
+--     lent_pool γ a g ds    the pool of a loan of the content γ to the readers ds. With no readers it is what `Pool` owns
 --     ready γ           the name of an escrow that is empty
---     found n a g γ e   what a reader has of that loan after its step: its share e, still to be laid into the escrow γ
+--     found γ a g ε e   what a reader has of that loan after its step: its share e, still to be laid into the escrow ε
 use Rattle.core.specs.Prelude.{ℕ, List, [], ◌∷◌}
 use mathlib.Core.Option.{Option, none, some}
 use base.Fraction.{full_share}
@@ -18,7 +18,6 @@ use base.SetCodes.{coded, pair}
 use base.Algebras.{shares}
 use base.Fml.{Lft, Share, Fml, ftrue, fsep, fex, flft, fdead, flent}
 use base.Growing.{Order, once, latest, at_least}
-use Rattle.seize_content.specs.Stages.{Name}
 use Rattle.seize_content.specs.Contents.{stay}
 
 abbrev pub Piece : Type 0
@@ -52,11 +51,11 @@ abbrev pub left_of : Share → List (Lft × ℕ) → Share
 left_of r [] = r
 left_of r (d ∷ ds) = left_of (Share.left r) ds
 
-abbrev pub lent_pool : Name → ℕ → Gv → List (Lft × ℕ) → Fml
-lent_pool n a g ds = fsep (pool a full_share ds) (stay n a g)
+abbrev pub lent_pool : ℕ → ℕ → Gv → List (Lft × ℕ) → Fml
+lent_pool γ a g ds = fsep (pool a full_share ds) (stay γ a g)
 
 abbrev pub ready : ℕ → Fml
 ready γ = latest pieces full_share γ none
 
-abbrev pub found : Name → ℕ → Gv → ℕ → Share → Fml
-found n a g γ e = fsep (latest pieces full_share γ (some (a, e))) (fsep (flft (a ∷ []) e) (stay n a g))
+abbrev pub found : ℕ → ℕ → Gv → ℕ → Share → Fml
+found γ a g ε e = fsep (latest pieces full_share ε (some (a, e))) (fsep (flft (a ∷ []) e) (stay γ a g))

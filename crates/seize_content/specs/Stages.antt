@@ -1,6 +1,5 @@
--- The stages of a content, one after the other.
---     Name            a content's name: the name of its list of stages, which has no second holder, and where its value lies
---     Stage           empty; held, the value in its owner's hands; or lent a g, a value of code g lent under the lifetime a
+-- The stages of a content, one after the other. A content's name is that of its list of stages, which has no second holder.
+--     Stage           empty; held, in its owner's hands; or lent a g, a thing of code g lent under the lifetime a
 --     last s ms       the last of ms, and s where there is none
 --     goes s t        t may come after s: after a loan only what comes once its lifetime is over
 --     stages          lists of stages, of which a longer one goes on from a shorter one
@@ -9,14 +8,7 @@ use mathlib.Core.Path.{refl, sym, ap, ◌∙◌}
 use base.Stored.{Gv, Coded, gnil, coded×, coded_ℕ, coded_list, coded_via}
 use base.Growing.{Order, prefixes}
 use base.Fml.{Fml, ftrue, fdead}
-use denote.RawPtr.{Ptr, coded_ptr}
 use denote.Struct.Codes.{itself}
-
-abbrev pub Name : Type 0
-Name = ℕ × Ptr
-
-abbrev pub name_coded : Coded Name
-name_coded = coded× coded_ℕ coded_ptr
 
 pub data Stage : Type 0 where
   empty : Stage

@@ -1,18 +1,18 @@
 //! The place of one value, which threads share by `&`. Whoever has its ticket puts the value there, changes it, lends it and takes it out;
 //! whoever has a sight of it reads it.
-ghost use Rattle.std.specs.Prelude.{◌≡◌};
 ghost use Rattle.seize_content.specs.Contents.{content_owns, content_shares};
-ghost use Rattle.seize_content.specs.Stages.{Name, empty, lent, name_coded};
+ghost use Rattle.std.specs.Prelude.{◌≡◌, ℕ};
+ghost use Rattle.seize_content.specs.Stages.{empty};
 
 use crate::loan::{Pool, Sight};
 use crate::room::Room;
-use crate::ticket::{Held, Space, Ticket};
+use crate::ticket::{Held, Site, Space, Ticket};
 use std::marker::{Model, PhantomData};
 
-/// The place of one value. Its contracts say which place by its name, which it keeps while it is shared.
+/// The place of one value. Its contracts say which content it is by its name, which it keeps while it is shared.
 pub struct Content<T> {
     pub(crate) at: *mut T,
-    pub ghost name: { Name } by { name_coded },
+    pub ghost name: { ℕ },
 }
 
 impl<T> Model for Content<T> {
@@ -22,11 +22,11 @@ impl<T> Model for Content<T> {
 }
 
 impl<T> Content<T> {
-    ghost use Rattle.seize_content.specs.Parts.{room_at};
+    ghost use Rattle.seize_content.specs.Parts.{content_at, room_at};
 
     /// An empty content in that room, and its ticket.
     pub fn new(room: Room<T>) -> (Content<T>, Ticket)
-        ensures place { result.0.name.1 ≡ room_at room }
+        ensures place { content_at result.0 ≡ room_at room }
         ensures ticket { (result.1.name ≡ result.0.name) × (result.1.says ≡ empty) }
     {
         let Room { at } = room;
@@ -38,12 +38,12 @@ impl<T> Content<T> {
 }
 
 impl<T> Content<T> {
-    ghost use Rattle.seize_content.specs.Parts.{content_of, room_at};
+    ghost use Rattle.seize_content.specs.Parts.{IsIn, content_at, room_at};
 
     /// The room again, of an empty content.
     pub fn into_room(self, ticket: Ticket) -> Room<T>
         requires { (ticket.name ≡ self.name) × (ticket.says ≡ empty) }
-        ensures { room_at result ≡ self.name.1 }
+        ensures { room_at result ≡ content_at self }
     {
         let Content { at } = self;
         let Ticket { marker: _ } = ticket;
@@ -54,15 +54,19 @@ impl<T> Content<T> {
     /// that the old ticket is of no content.
     pub fn regain(&mut self, pool: Pool) -> Held<T>
         requires { pool.name ≡ self.old.name }
-        ensures name { (content_of result ≡ self.new.name) × (self.new.name.1 ≡ self.old.name.1) }
+        ensures place { IsIn result self.new × (content_at self.new ≡ content_at self.old) }
         ensures value { T.row.coded.code result.value ≡ pool.value }
     {
         let Pool { marker: _ } = pool;
         let ticket = Ticket {
             marker: PhantomData,
         };
+        let site = Site {
+            marker: PhantomData,
+        };
         Held {
             ticket,
+            site,
             marker: PhantomData,
         }
     }
@@ -70,12 +74,12 @@ impl<T> Content<T> {
 
 impl<T> Content<T> {
     ghost use Rattle.seize_content.specs.Loans.{IsLent};
-    ghost use Rattle.seize_content.specs.Parts.{content_of};
+    ghost use Rattle.seize_content.specs.Parts.{IsIn, IsSpaceOf};
 
     // The place comes into the ticket holder's hands.
     fn claim(&self, ticket: Ticket) -> Space<T>
         requires { (ticket.name ≡ self.now.name) × (ticket.says ≡ empty) }
-        ensures { result.name ≡ self.now.name }
+        ensures { IsSpaceOf result self.now }
     {
         let Ticket { marker: _ } = ticket;
         Space {
@@ -85,7 +89,7 @@ impl<T> Content<T> {
 
     // And goes back.
     fn give_back(&self, space: Space<T>) -> Ticket
-        requires { space.name ≡ self.now.name }
+        requires { IsSpaceOf space self.now }
         ensures { (result.name ≡ self.now.name) × (result.says ≡ empty) }
     {
         let Space { marker: _ } = space;
@@ -96,10 +100,14 @@ impl<T> Content<T> {
 
     /// Lends the value, under a lifetime of its own. It does nothing when the program runs, as `back`.
     pub fn lend(&self, held: Held<T>) -> (Ticket, Pool)
-        requires { content_of held ≡ self.now.name }
+        requires { IsIn held self.now }
         ensures { IsLent result.0 result.1 × (result.0.name ≡ self.now.name) × (result.1.value ≡ T.row.coded.code held.value) }
     {
-        let Held { ticket, marker: _ } = held;
+        let Held {
+            ticket,
+            site: Site { marker: _ },
+            marker: _,
+        } = held;
         let pool = Pool {
             marker: PhantomData,
         };
@@ -109,23 +117,27 @@ impl<T> Content<T> {
     /// Ends the loan: the value is in hand again.
     pub fn back(&self, ticket: Ticket, pool: Pool) -> Held<T>
         requires { (ticket.name ≡ self.now.name) × IsLent ticket pool }
-        ensures { (content_of result ≡ self.now.name) × (T.row.coded.code result.value ≡ pool.value) }
+        ensures { IsIn result self.now × (T.row.coded.code result.value ≡ pool.value) }
     {
         let Pool { marker: _ } = pool;
+        let site = Site {
+            marker: PhantomData,
+        };
         Held {
             ticket,
+            site,
             marker: PhantomData,
         }
     }
 }
 
 impl<T> Content<T> {
-    ghost use Rattle.seize_content.specs.Parts.{content_of};
+    ghost use Rattle.seize_content.specs.Parts.{IsIn, IsSpaceOf};
 
     // Lays a value there.
     fn fill(&self, space: Space<T>, value: T) -> Held<T>
-        requires { space.name ≡ self.now.name }
-        ensures { (content_of result ≡ self.now.name) × (result.value ≡ value) }
+        requires { IsSpaceOf space self.now }
+        ensures { IsIn result self.now × (result.value ≡ value) }
     {
         let Space { marker: _ } = space;
         let at = self.at;
@@ -133,19 +145,24 @@ impl<T> Content<T> {
         let ticket = Ticket {
             marker: PhantomData,
         };
+        let site = Site {
+            marker: PhantomData,
+        };
         Held {
             ticket,
+            site,
             marker: PhantomData,
         }
     }
 
     // Reads the value out.
     fn clear(&self, held: Held<T>) -> (T, Space<T>)
-        requires { content_of held ≡ self.now.name }
-        ensures { (result.0 ≡ held.value) × (result.1.name ≡ self.now.name) }
+        requires { IsIn held self.now }
+        ensures { (result.0 ≡ held.value) × IsSpaceOf result.1 self.now }
     {
         let Held {
             ticket: Ticket { marker: _ },
+            site: Site { marker: _ },
             marker: _,
         } = held;
         let at = self.at;
@@ -159,7 +176,7 @@ impl<T> Content<T> {
     /// Puts a value there.
     pub fn put(&self, ticket: Ticket, value: T) -> Held<T>
         requires { (ticket.name ≡ self.now.name) × (ticket.says ≡ empty) }
-        ensures { (content_of result ≡ self.now.name) × (result.value ≡ value) }
+        ensures { IsIn result self.now × (result.value ≡ value) }
     {
         let space = self.claim(ticket);
         self.fill(space, value)
@@ -167,7 +184,7 @@ impl<T> Content<T> {
 
     /// Takes the value out.
     pub fn take(&self, held: Held<T>) -> (T, Ticket)
-        requires { content_of held ≡ self.now.name }
+        requires { IsIn held self.now }
         ensures { (result.0 ≡ held.value) × (result.1.name ≡ self.now.name) × (result.1.says ≡ empty) }
     {
         let (value, space) = self.clear(held);

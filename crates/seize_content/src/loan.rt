@@ -4,7 +4,6 @@ ghost use Rattle.std.specs.Prelude.{◌≡◌, ℕ};
 ghost use base.Stored.{Gv};
 ghost use denote.Struct.Codes.{itself};
 ghost use Rattle.seize_content.specs.Contents.{pool_owns, pool_shares, sight_owns};
-ghost use Rattle.seize_content.specs.Stages.{Name, name_coded};
 
 use std::marker::{Model, PhantomData};
 
@@ -14,7 +13,7 @@ pub struct Pool {
     /// It has no bytes, as that of a sight.
     pub marker: PhantomData<()>,
     /// Which content is lent.
-    pub ghost name: { Name } by { name_coded },
+    pub ghost name: { ℕ },
     /// The loan's lifetime.
     pub ghost life: { ℕ },
     /// The code of the value.
@@ -33,7 +32,7 @@ pub struct Sight<'g> {
     /// It has no bytes. Who takes a sight apart has nothing of it, and who makes one has to show what it owns.
     pub marker: PhantomData<&'g ()>,
     /// Which content it is.
-    pub ghost name: { Name } by { name_coded },
+    pub ghost name: { ℕ },
     /// The loan's lifetime.
     pub ghost life: { ℕ },
     /// The code of the value.

@@ -1,6 +1,6 @@
 //! Memory for one value each, and the right to give it back. `content` lays a value there.
 ghost use Rattle.std.specs.Prelude.{◌≡◌, IfOk};
-ghost use Rattle.seize_content.specs.Contents.{room};
+ghost use Rattle.seize_content.specs.Goods.{room};
 ghost use Rattle.seize_content.specs.Memory.{grant_owns};
 
 use std::alloc::{AllocError, Global};

@@ -1,8 +1,10 @@
 //! The right to change a content's stage, and the value in its owner's hands. Nothing here has bytes.
-ghost use Rattle.std.specs.Prelude.{◌≡◌};
+ghost use Rattle.std.specs.Prelude.{◌≡◌, ℕ};
+ghost use denote.RawPtr.{Ptr, coded_ptr};
+ghost use base.Fml.{ftrue};
 ghost use denote.Sharing.{nothing};
 ghost use Rattle.seize_content.specs.Contents.{held_owns, held_shares, space_owns, ticket_owns};
-ghost use Rattle.seize_content.specs.Stages.{Name, Stage, name_coded, stage_coded};
+ghost use Rattle.seize_content.specs.Stages.{Stage, stage_coded};
 
 use crate::content::Content;
 use std::marker::{Model, PhantomData};
@@ -13,7 +15,7 @@ pub struct Ticket {
     /// It has no bytes, as that of a sight.
     pub marker: PhantomData<()>,
     /// Which content it is of.
-    pub ghost name: { Name } by { name_coded },
+    pub ghost name: { ℕ },
     /// The stage that the content is at.
     pub ghost says: { Stage } by { stage_coded },
 }
@@ -24,27 +26,41 @@ impl Model for Ticket {
     ghost also_shares = { λ _ _ κ. nothing κ };
 }
 
+/// Where a value in hand lies. It has no bytes.
+#[derive(Drop)]
+pub(crate) struct Site {
+    pub(crate) marker: PhantomData<()>,
+    pub(crate) ghost at: { Ptr } by { coded_ptr },
+}
+
+impl Model for Site {
+    ghost also_owns = { λ _. ftrue };
+
+    ghost also_shares = { λ _ _ κ. nothing κ };
+}
+
 /// A content's value in its owner's hands, with the ticket. It has no end of its own: the value is taken out, or lent.
 pub struct Held<T> {
     pub(crate) ticket: Ticket,
+    pub(crate) site: Site,
     pub(crate) marker: PhantomData<T>,
     pub ghost value: { T },
 }
 
 impl<T> Model for Held<T> {
-    ghost also_owns = { λ h. held_owns T.row h.ticket.name h.ticket.says h.value };
+    ghost also_owns = { λ h. held_owns T.row h.site.at h.ticket.says h.value };
 
-    ghost also_shares = { λ h _ κ. held_shares T.row h.ticket.name h.value κ };
+    ghost also_shares = { λ h _ κ. held_shares T.row h.site.at h.value κ };
 }
 
 impl<T> Held<T> {
     ghost use Rattle.seize_content.specs.Lends.{lends_value};
-    ghost use Rattle.seize_content.specs.Parts.{content_of};
+    ghost use Rattle.seize_content.specs.Parts.{IsIn};
     ghost use Rattle.std.specs.Borrow.{sem};
 
     /// The value. Its content says where it lies.
     pub fn get(&self, content: &Content<T>) -> &T
-        requires { content_of self.now ≡ content.now.name }
+        requires { IsIn self.now content.now }
         ensures { result.now ≡ self.now.value }
     {
         unsafe { &*content.at }
@@ -52,7 +68,7 @@ impl<T> Held<T> {
 
     /// The value, to be changed. All else of what is in hand stays.
     pub fn get_mut(&mut self, content: &Content<T>) -> &mut T
-        requires { content_of self.old ≡ content.now.name }
+        requires { IsIn self.old content.now }
         ensures* writes_back { sem 𝓛 (lends_value T.row self.entry result) }
         ensures value { result.now ≡ self.old.value }
     {
@@ -63,16 +79,21 @@ impl<T> Held<T> {
 /// The place of a value that was not put there yet, or was taken out, with the ticket.
 pub(crate) struct Space<T> {
     pub(crate) marker: PhantomData<T>,
-    pub(crate) ghost name: { Name } by { name_coded },
+    pub(crate) ghost name: { ℕ },
+    pub(crate) ghost at: { Ptr } by { coded_ptr },
 }
 
 impl<T> Model for Space<T> {
-    ghost also_owns = { λ s. space_owns T.row s.name };
+    ghost also_owns = { λ s. space_owns T.row s.name s.at };
 }
 
 unsafe impl Send for Ticket {}
 
 unsafe impl Sync for Ticket {}
+
+unsafe impl Send for Site {}
+
+unsafe impl Sync for Site {}
 
 unsafe impl<T: Send> Send for Held<T> {}
 

@@ -1,6 +1,6 @@
 //! What becomes of a value in a content, in safe code.
 ghost use Rattle.std.specs.Prelude.{◌≡◌};
-ghost use Rattle.seize_content.specs.Parts.{content_of, room_at};
+ghost use Rattle.seize_content.specs.Parts.{IsIn, room_at};
 
 use crate::seen::see;
 use seize_content::{Content, Held, Room};
@@ -32,8 +32,8 @@ pub fn lent_and_regained<T>(room: Room<T>, value: T) -> (T, Room<T>)
 
 /// Sets what is in hand.
 pub fn set(content: &Content<u64>, held: &mut Held<u64>, value: u64)
-    requires { content_of held.old ≡ content.now.name }
-    ensures { (content_of held.new ≡ content.now.name) × (held.new.value ≡ value) }
+    requires { IsIn held.old content.now }
+    ensures { IsIn held.new content.now × (held.new.value ≡ value) }
 {
     let place = held.get_mut(content);
     *place = value;

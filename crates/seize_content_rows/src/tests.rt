@@ -1,6 +1,6 @@
 //! Contents on one thread and on several. Contents and rooms have no end of their own, so each test ends them before it compares.
 ghost use Rattle.std.specs.Prelude.{◌≡◌};
-ghost use Rattle.seize_content.specs.Parts.{content_of, room_at};
+ghost use Rattle.seize_content.specs.Parts.{IsIn, room_at};
 ghost use Rattle.seize_content.specs.Stages.{empty};
 
 use crate::life::{changed, lent_and_back, lent_and_regained, two_seen, used_again};
@@ -108,7 +108,7 @@ fn handed_over<R: Threads + Sync>(rt: &R, room: Room<u64>, value: u64) -> (u64, 
         rt,
         move || -> Held<u64>
             requires { (ticket.name ≡ place.now.name) × (ticket.says ≡ empty) }
-            ensures { content_of result ≡ place.entry.now.name }
+            ensures { IsIn result place.entry.now }
         { place.put(ticket, value) },
         || (),
     );

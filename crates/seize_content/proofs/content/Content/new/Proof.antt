@@ -8,7 +8,8 @@ use denote.Param.{param, layouts, layout}
 use denote.RawPtr.{Ptr}
 use denote.Struct.Tuple.{Tuple}
 use Rattle.std_alloc.proofs.Pairs.{pair_val, pair_Typed, pair_of}
-use Rattle.seize_content.specs.Stages.{Name, empty}
+use Rattle.seize_content.specs.Goods.{value_at}
+use Rattle.seize_content.specs.Stages.{empty}
 use Rattle.seize_content.specs.Contents.{place, ticket_owns}
 use Rattle.seize_content.specs.contracts.content.Content as content
 use Rattle.seize_content.specs.contracts.room.Room as room
@@ -36,9 +37,9 @@ new_spec 𝓤 𝓛 𝓜 𝓡 wired X L =
     sets ! (of_opd ! (get_in ! (fld ! refl (stop !)) (sub ! 0 refl (whole !)))) refl (tt, tt) $ sets ! (agg ! (no_more !)) refl (tt, tt) $ sets ! (agg ! (and_then ! (get ! refl) (no_more !))) refl (tt, (tt, tt)) $
     sets ! (agg ! (and_then ! (get ! refl) (no_more !))) refl (single_good b o) $ let pair : Val = pair_val w token in
     sets ! (agg ! (and_then ! (get ! refl) (and_then ! (get ! refl) (no_more !)))) refl (pair_Typed (layout C) (layout T) w token (single_good b o) (tt, (tt, tt))) $
-    use1 𝓛 (later (some (λ (γ : ℕ). ‵ (place R (γ, p)) ⊛ ‵ (ticket_owns (γ, p) empty)))) (begins 𝓛 R p empty) $ await ! tt $ pick ! (λ γ. split ! $ let n : Name = (γ, p) in
-    content_in R ! p n refl $ move ! (1 ∷ []) $ use0 𝓛 (‵ ((Marked unit).own_val (record {}, tt) (token ∷ []))) (marked_made unit 𝓛) $ fjoin ! $ let r : C.Denot = record { at = p; name = n } in let t : T.Denot = record { marker = record {}; name = n; says = empty } in
+    use1 𝓛 (later (some (λ (γ : ℕ). ‵ (place (value_at R p) γ) ⊛ ‵ (ticket_owns γ empty)))) (begins 𝓛 (value_at R p) empty) $ await ! tt $ pick ! (λ γ. split ! $
+    content_in R ! p γ $ move ! (1 ∷ []) $ use0 𝓛 (‵ ((Marked unit).own_val (record {}, tt) (token ∷ []))) (marked_made unit 𝓛) $ fjoin ! $ let r : C.Denot = record { at = p; name = γ } in let t : T.Denot = record { marker = record {}; name = γ; says = empty } in
     move ! (1 ∷ 0 ∷ []) $ use2 𝓛 (‵ (Two.own_val (r, t) (pair ∷ []))) (pair_of 𝓛 C T r t w token) $
-    let First : Type 0 = p ≡ d.at in let Second : Type 0 = (n ≡ n) × (empty ≡ empty) in
+    let First : Type 0 = p ≡ d.at in let Second : Type 0 = (γ ≡ γ) × (empty ≡ empty) in
     use0 𝓛 (raw (fact 𝓤 Second)) (fact_i 𝓤 Second (emp 𝓤) (refl, refl)) $ use0 𝓛 (raw (fact 𝓤 First)) (fact_i 𝓤 First (emp 𝓤) (sym e)) $ types.Kit.join ! $ nothing ! $ nothing ! $ fjoin ! $
     returns ! (look_at ! 0 refl) $ free_all ! refl $ keep ! (4 ∷ 0 ∷ 2 ∷ 1 ∷ []) $ by ! (leaves 𝓛 En hs c z pair (r, t) (tt, tt) (tt, tt))))))

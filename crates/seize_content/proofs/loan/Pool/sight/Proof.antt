@@ -11,7 +11,6 @@ use denote.Ref.{ShrRef}
 use denote.Signature.{named_lft}
 use denote.Struct.Lending.{lent_out}
 use Rattle.core.specs.contracts.marker.PhantomData as marker
-use Rattle.seize_content.specs.Stages.{Name}
 use Rattle.seize_content.specs.Contents.{pool_shares}
 use Rattle.seize_content.specs.contracts.loan.Pool as pool
 use Rattle.seize_content.specs.contracts.loan.Sight as sight
@@ -26,7 +25,7 @@ sight_spec 𝓤 𝓛 𝓜 𝓡 wired =
     let H = 𝓛.H in let 𝓣 = tables 𝓤 H 𝓜 𝓡 𝓡.env in let fn = code.function in let Row : RattleType = pool.the_row in let c = clauses 𝓛 𝓜.mem 𝓡.returns in
     let self = RefOf (0 ∷ []) tt (plain (λ _. Row)) (λ _. tt) in let hs : Stays ended.signature.params ended.kept = (stay_dropped self yes, tt) in
     proved 𝓛 ended hs c 𝓜 𝓡 (Goes-dropped 𝓛 1 self yes (λ κs x f. refl), tt) #self fn (code.unfolded 𝓤 H 𝓜 𝓡 wired) (λ κs. (shr_vals, tt)) (λ κs. (shr_Tells (named 0) κs.0 Row, tt)) (λ κs qs bounds a gh are.
-    let rb : ℕ = a.0.ref_ptr.0 in let ro : ℕ = a.0.ref_ptr.1 in let κ : Lft = κs.0 in let d : Row.Denot = a.0.now in let n : Name = d.name in let α : Lft = d.life ∷ [] in let g : Gv = d.value in let S : RattleType = sight.the_row (named_lft 1 0 tt κs) in let mark : RattleType = ShrRef (named 0) κ unit in
+    let rb : ℕ = a.0.ref_ptr.0 in let ro : ℕ = a.0.ref_ptr.1 in let κ : Lft = κs.0 in let d : Row.Denot = a.0.now in let n : ℕ = d.name in let α : Lft = d.life ∷ [] in let g : Gv = d.value in let S : RattleType = sight.the_row (named_lft 1 0 tt κs) in let mark : RattleType = ShrRef (named 0) κ unit in
     let y : (walk_of 𝓛 ended hs c).Ghost = ((κs, qs, bounds, a, (vptr rb ro ∷ [], tt)), gh) in let Post : Val → SProp 𝓤 = (walk_of 𝓛 ended hs c).post y in
     qed 𝓛 ((‵ (fsep (flft κ qs.0) ftrue) ⊛ ‵ (owns (types_at ended.signature.params κs) a y.0.4)) ∷ raw ((c κs a).requires gh) ∷ []) ∵ split ! $ move ! (1 ∷ []) $ fsplit ! $ fsplit ! $
     -- [the reference; the pool; nothing; the token; what was asked]
