@@ -12,7 +12,7 @@ use types.Kit.{‵, ◌⊛◌, some, given, later, updating, await, now, ◌$◌
 use denote.Steps.{nothing}
 use Rattle.seize_content.specs.Contents.{pool_owns, ticket_owns}
 use Rattle.seize_content.specs.Readers.{all_dead, lent_pool}
-use Rattle.seize_content.specs.Stages.{lent, Name as Content}
+use Rattle.seize_content.specs.Stages.{lent}
 use Rattle.seize_content.proofs.Readers.{whole}
 use Rattle.seize_machine.specs.Machine.State.{State, has}
 use Rattle.seize_book.specs.Blocks.{block_of}
@@ -62,12 +62,12 @@ module _ {M : Type 1} {𝓤 : Ura M} (𝓛 : Logic 𝓤) (n : Name) where
 
   -- ---- a loan goes with a key
 
-  lent_new : (k v a : ℕ) (c : Content) (g : Gv) → k ≡ loan_number g → Carries v c g → ⟦ ticket_owns c (lent a g) ⟧ ∗ ⟦ pool_owns c a g ⟧ ⊢ ⟦ loan_if k st n.log v ⟧
+  lent_new : (k v a : ℕ) (c : ℕ) (g : Gv) → k ≡ loan_number g → Carries v c g → ⟦ ticket_owns c (lent a g) ⟧ ∗ ⟦ pool_owns c a g ⟧ ⊢ ⟦ loan_if k st n.log v ⟧
   lent_new zero v a c g is carries = absurd (let e : zero ≡ loan_number g = is in omega (arith, e))
   lent_new (suc k) v a c g is carries = let l : Loan = record { content = c; life = a; code = g; readers = [] } in qed 𝓛 (‵ (ticket_owns c (lent a g)) ∷ ‵ (lent_pool c a g []) ∷ []) ∵
       nothing ! $ move ! (2 ∷ 0 ∷ []) $ fjoin ! $ move ! (1 ∷ 0 ∷ []) $ fjoin ! $ nothing ! $ fpack ! (Carries v c g) (λ _. ftrue) carries $ move ! (0 ∷ 1 ∷ []) $ fjoin ! $ fpack ! Loan (lent_as st n.log v) l $ done !
 
-  pub lends_key : (held : List (Held Entry)) (v a : ℕ) (c : Content) (g : Gv) → is_one blocks held ≡ true → home_of (label_of held) ≡ home_of v → block_of (label_of held) ≡ block_of v → Carries v c g
+  pub lends_key : (held : List (Held Entry)) (v a : ℕ) (c : ℕ) (g : Gv) → is_one blocks held ≡ true → home_of (label_of held) ≡ home_of v → block_of (label_of held) ≡ block_of v → Carries v c g
       → ⟦ keys_own n held ⟧ ∗ ⟦ ticket_owns c (lent a g) ⟧ ∗ ⟦ pool_owns c a g ⟧ ⊢ ⟦ keys_own n (labelled v held) ⟧
   lends_key [] v a c g one home block carries = absurd (cc)
   lends_key (x ∷ y ∷ held) v a c g one home block carries = absurd (cc)
@@ -117,7 +117,7 @@ module _ {M : Type 1} {𝓤 : Ura M} (𝓛 : Logic 𝓤) (n : Name) where
         now ! $ move ! (2 ∷ 1 ∷ []) $ fjoin ! $ move ! (1 ∷ 0 ∷ []) $ done !
 
     -- of which content, under which lifetime, and of which code
-    abbrev pub Back : Content × (ℕ × Gv) → Pr
+    abbrev pub Back : ℕ × (ℕ × Gv) → Pr
     Back t = guard 𝓤 (Carries v t.0 t.1.1) (⟦ P ⟧ ∗ ⟦ ticket_owns t.0 (lent t.1.0 t.1.1) ⟧ ∗ ⟦ pool_owns t.0 t.1.0 t.1.1 ⟧)
 
     loan_back : (k : ℕ) → ¬ (k ≡ 0) → ⟦ P ⟧ ∗ ⟦ loan_if k st n.log v ⟧ ⊢ H.⇛ (ex 𝓤 Back)
@@ -129,7 +129,7 @@ module _ {M : Type 1} {𝓤 : Ura M} (𝓛 : Logic 𝓤) (n : Name) where
         -- [the pool; the pass; the ticket]
         now ! $ show ! Back (l.content, (l.life, l.code)) $ check ! carries $ move ! (1 ∷ 2 ∷ 0 ∷ []) $ done !))
 
-    abbrev pub Redeemed : List (Held Entry) → Content × (ℕ × Gv) → Pr
+    abbrev pub Redeemed : List (Held Entry) → ℕ × (ℕ × Gv) → Pr
     Redeemed held t = guard 𝓤 (Carries v t.0 t.1.1) (⟦ P ⟧ ∗ ⟦ keys_own n held ⟧ ∗ ⟦ ticket_owns t.0 (lent t.1.0 t.1.1) ⟧ ∗ ⟦ pool_owns t.0 t.1.0 t.1.1 ⟧)
 
     pub redeems : (held : List (Held Entry)) (w : ℕ) → is_one blocks held ≡ true → label_of held ≡ v → ¬ (CarriesNone v) → home_of (label_of held) ≡ home_of w → block_of (label_of held) ≡ block_of w → CarriesNone w
@@ -140,7 +140,7 @@ module _ {M : Type 1} {𝓤 : Ura M} (𝓛 : Logic 𝓤) (n : Name) where
         qed 𝓛 (‵ P ∷ ‵ (keys_own n (h ∷ [])) ∷ []) ∵ updating ! $ move ! (1 ∷ []) $ fsplit ! $ fsplit ! $ move ! (1 ∷ []) $ use1 𝓛 (‵ (fsep (leads n h.label) (loan st n.log h.label))) (way_opens 𝓛 n h one) $ fsplit ! $
         -- [where it leads; the loan; the right; nothing; the pass]
         move ! (1 ∷ []) $ rewrite ! 0 (λ (u : ℕ). ‵ (loan st n.log u)) label refl $ move ! (4 ∷ 0 ∷ []) $
-        use2 𝓛 (later (some (λ (t : Content × (ℕ × Gv)). given (Carries v t.0 t.1.1) (‵ P ⊛ ‵ (ticket_owns t.0 (lent t.1.0 t.1.1)) ⊛ ‵ (pool_owns t.0 t.1.0 t.1.1))))) (loan_back (loan_of v) lent_) $ await ! tt $ pick ! (λ t. learn ! (λ carries. split3 ! $
+        use2 𝓛 (later (some (λ (t : ℕ × (ℕ × Gv)). given (Carries v t.0 t.1.1) (‵ P ⊛ ‵ (ticket_owns t.0 (lent t.1.0 t.1.1)) ⊛ ‵ (pool_owns t.0 t.1.0 t.1.1))))) (loan_back (loan_of v) lent_) $ await ! tt $ pick ! (λ t. learn ! (λ carries. split3 ! $
         -- [the pass; the ticket; the pool; where it leads; the right; nothing]
         move ! (3 ∷ []) $ rewrite ! 0 (λ (F : Fml). ‵ F) (same_lead 𝓛 n h.label w home block) refl $ use1 𝓛 (‵ (way n h')) (bare_way 𝓛 n h' none one) $
         move ! (4 ∷ 0 ∷ []) $ fjoin ! $ move ! (0 ∷ 4 ∷ []) $ fjoin ! $ now ! $ show ! (Redeemed (labelled w (h ∷ []))) t $ check ! carries $ move ! (1 ∷ 0 ∷ 2 ∷ 3 ∷ []) $ done !))

@@ -8,7 +8,6 @@ use types.Logic.{Logic, sem}
 use types.Kit.{‵, ◌$◌, ◌∵◌, !, qed, move, drop, fsplit, fjoin, rewrite, use1, done}
 use native.Mathlib.Decide.{ℕ_discrete}
 use base.Stored.{Gv}
-use Rattle.seize_content.specs.Stages.{Name as Content}
 use Rattle.seize_content.specs.declared.loan.Pool.{Pool}
 use Rattle.seize_machine.specs.Machine.State.{State, has}
 use Rattle.seize_book.specs.Bare.{Numbers}
@@ -20,7 +19,7 @@ use Rattle.seize_book.specs.Homes.{IsVacant, home_of}
 use Rattle.seize_book.specs.Ledger.{AllKept, Held, renewed}
 use Rattle.seize_book.specs.Lending.{GoesWith, IsLentKey, Lends, MayRedeem}
 use Rattle.seize_book.specs.Passes.{IsSame}
-use Rattle.seize_book.specs.Loans.{Carries, CarriesNone, loan, loan_number, loan_of, place_number, place_of}
+use Rattle.seize_book.specs.Loans.{Carries, CarriesNone, loan, loan_number, loan_of, place_of}
 use Rattle.seize_book.specs.Books.{IsNextIn}
 use Rattle.seize_book.specs.Others.{HasGone, IsLast, Renames, labelled, state_of, value_of}
 use Rattle.seize_book.specs.Private.{is_one, key_of, label_of, own_of}
@@ -82,22 +81,22 @@ numbers marker n held number fits =
     record { value = v.0; book = refl; held = refl; home = v.1; numbered = v.2; unnamed = bound.1 v.0 v.3; place = v.4; free = v.5 }
 
 -- one with which a content is lent
-pub fresh_lent : Name → List (Held Entry) → Content → Gv → ℕ
+pub fresh_lent : Name → List (Held Entry) → ℕ → Gv → ℕ
 fresh_lent n held c g =
-    (another_with (home_of (label_of held)) (place_number c) (loan_number g) (block_of (label_of held)) (past (after (start n) (own_of held)).named).0 (small (label_of held))).0
+    (another_with (home_of (label_of held)) c (loan_number g) (block_of (label_of held)) (past (after (start n) (own_of held)).named).0 (small (label_of held))).0
 
-pub fresh_lent_is : (n : Name) (held : List (Held Entry)) (c : Content) (g : Gv)
+pub fresh_lent_is : (n : Name) (held : List (Held Entry)) (c : ℕ) (g : Gv)
     → (home_of (label_of held) ≡ home_of (fresh_lent n held c g)) × (block_of (label_of held) ≡ block_of (fresh_lent n held c g)) × Carries (fresh_lent n held c g) c g
 unfolding fresh_lent
 fresh_lent_is n held c g =
-    let v = another_with (home_of (label_of held)) (place_number c) (loan_number g) (block_of (label_of held)) (past (after (start n) (own_of held)).named).0 (small (label_of held)) in
+    let v = another_with (home_of (label_of held)) c (loan_number g) (block_of (label_of held)) (past (after (start n) (own_of held)).named).0 (small (label_of held)) in
     (sym v.1, sym v.2, (v.4, v.5))
 
 pub lends : (marker : _) (n : Name) (held : List (Held Entry)) (pool : Pool)
     → Lends (record { marker = marker; name = n; held = held }) pool (record { marker = marker; name = n; held = labelled (fresh_lent n held pool.name pool.value) held })
 unfolding fresh_lent
 lends marker n held pool =
-    let named = past (after (start n) (own_of held)).named in let v = another_with (home_of (label_of held)) (place_number pool.name) (loan_number pool.value) (block_of (label_of held)) named.0 (small (label_of held)) in
+    let named = past (after (start n) (own_of held)).named in let v = another_with (home_of (label_of held)) pool.name (loan_number pool.value) (block_of (label_of held)) named.0 (small (label_of held)) in
     record { value = v.0; book = refl; held = refl; home = v.1; numbered = v.2; unnamed = named.1 v.0 v.3; carries = (v.4, v.5) }
 
 own_labelled : (v : ℕ) (held : List (Held Entry)) → own_of (labelled v held) ≡ own_of held

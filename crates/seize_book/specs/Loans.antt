@@ -1,9 +1,9 @@
--- Contents that are lent while their values stand in links. The name of a value says which content it stands for, beside its block: where
--- the content lies, and the code of what is lent there. The loan goes with the key of the value's block, wherever that goes.
+-- Contents that are lent while their values stand in links. The name of a value says which content it stands for, beside its block: which
+-- one it is, and the code of what is lent there. The loan goes with the key of the value's block, wherever that goes.
 --     number_of g            a number for each code, of which no other has it
 --     rest_of v              what the name says beside the block: a pair of its place and of what it carries
---     place_of v             the number of the name of the content that its block has, and loan_of v    that of the code that is lent
---                            there, and one more; or 0, where nothing is lent with the value
+--     place_of v             the name of the content that its block has, and loan_of v    the number of the code that is lent there, and
+--                            one more; or 0, where nothing is lent with the value
 --     Carries v c g          a content c is lent with the value, of code g;  CarriesNone v    nothing is
 --     reader n v d           the escrow of d is lent for the time of an activation in which v was found in a link
 --     loan n v               the ticket of the content that is lent with v, and the pool of the loan; each reader found v
@@ -12,7 +12,7 @@ use base.Stored.{Gv, gnil, gnum, gcons}
 use base.Fml.{Lft, Fml, ftrue, fsep, fex}
 use Rattle.seize_content.specs.Contents.{ticket_owns}
 use Rattle.seize_content.specs.Readers.{lent_pool}
-use Rattle.seize_content.specs.Stages.{lent, name_coded, Name as Content}
+use Rattle.seize_content.specs.Stages.{lent}
 use Rattle.seize_machine.specs.Machine.State.{State}
 use Rattle.seize_table.specs.Pairs.{left_of, pair, right_of}
 use Rattle.seize_book.specs.Entry.{Entry, entry_coded}
@@ -33,14 +33,11 @@ place_of v = left_of (rest_of v)
 abbrev pub loan_of : ℕ → ℕ
 loan_of v = left_of (right_of (rest_of v))
 
-abbrev pub place_number : Content → ℕ
-place_number c = number_of (name_coded.code c)
-
 abbrev pub loan_number : Gv → ℕ
 loan_number g = suc (number_of g)
 
-abbrev pub Carries : ℕ → Content → Gv → Type 0
-Carries v c g = (place_of v ≡ place_number c) × (loan_of v ≡ loan_number g)
+abbrev pub Carries : ℕ → ℕ → Gv → Type 0
+Carries v c g = (place_of v ≡ c) × (loan_of v ≡ loan_number g)
 
 abbrev pub CarriesNone : ℕ → Type 0
 CarriesNone v = loan_of v ≡ 0
@@ -61,7 +58,7 @@ readers st η v (d ∷ ds) = fsep (reader st η v d.0) (readers st η v ds)
 
 -- what is lent: the content, the loan's lifetime, the code, and who reads it
 pub record Loan : Type 0 where
-  pub content : Content
+  pub content : ℕ
   pub life : ℕ
   pub code : Gv
   pub readers : List (Lft × ℕ)

@@ -1,7 +1,6 @@
 -- The name of a value says one content and one code: what a sight shows by a value's name is what was lent with the value.
 use Rattle.std.proofs.Common.{◌≡◌, ℕ, suc, refl, sym, ◌∙◌, ap, arith}
 use base.Stored.{Gv, gnil, gnum, gcons}
-use Rattle.seize_content.specs.Stages.{name_coded, Name as Content}
 use Rattle.seize_table.specs.Pairs.{left_of, pair, right_of}
 use Rattle.seize_table.proofs.Pairs.{left_pair, right_pair}
 use Rattle.seize_book.specs.Loans.{Carries, number_of}
@@ -27,8 +26,8 @@ same_code (gnum n) (gcons c d) e = absurd (let k : 1 ≡ 2 = kinds 1 n 2 (pair (
 same_code (gcons a b) gnil e = absurd (let k : 2 ≡ 0 = kinds 2 (pair (number_of a) (number_of b)) 0 0 e in omega (arith, k))
 same_code (gcons a b) (gnum m) e = absurd (let k : 2 ≡ 1 = kinds 2 (pair (number_of a) (number_of b)) 1 m e in omega (arith, k))
 
-pub same_content : (v : ℕ) (c d : Content) (g h : Gv) → Carries v c g → Carries v d h → (c ≡ d) × (g ≡ h)
+pub same_content : (v : ℕ) (c d : ℕ) (g h : Gv) → Carries v c g → Carries v d h → (c ≡ d) × (g ≡ h)
 same_content v c d g h one two = (
-  name_coded.inj c d (same_code (name_coded.code c) (name_coded.code d) (sym one.0 ∙ two.0)),
+  sym one.0 ∙ two.0,
   same_code g h (let e : suc (number_of g) ≡ suc (number_of h) = sym one.1 ∙ two.1 in omega (arith, e)),
 )

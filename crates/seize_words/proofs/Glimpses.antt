@@ -9,7 +9,6 @@ use types.Logic.{Logic, sem}
 use denote.Steps.{nothing}
 use Rattle.seize_content.specs.Contents.{sight_owns}
 use Rattle.seize_content.specs.Readers.{escrow, found, ready}
-use Rattle.seize_content.specs.Stages.{Name as Content}
 use Rattle.seize_content.proofs.Readers.{left_empty, settled}
 use Rattle.seize_machine.specs.Machine.State.{link_at}
 use Rattle.seize_words.specs.Atomic.{FindsFor}
@@ -104,7 +103,7 @@ module _ {M : Type 1} {𝓤 : Ura M} (𝓛 : Logic 𝓤) where
     closes_of zero v = qed 𝓛 (‵ (ready γ) ∷ ‵ (fobor β q (escrow γ)) ∷ ‵ (fshr_bor κ (λ s. flft β s)) ∷ []) ∵ updating ! $ use2 𝓛 (later (‵ (flft β q))) (left_empty 𝓛 β q γ) $ await ! tt $ now ! $ nothing ! $ keep ! (0 ∷ 1 ∷ []) $ done !
     closes_of (suc k) v = qed 𝓛 (‵ (taken_if (suc k) γ v) ∷ ‵ (fobor β q (escrow γ)) ∷ ‵ (fshr_bor κ (λ s. flft β s)) ∷ []) ∵ updating ! $ fpick ! (λ t. fsplit ! $ fpick ! (λ carries. drop ! $
         let C : Type 0 = Carries v t.content t.code in use3 𝓛 (later (‵ (sight_owns κ t.content t.life t.code) ⊛ ‵ (flft β q))) (settled 𝓛 t.content t.life t.code β κ q γ t.share) $ await ! tt $ split ! $
-        nothing ! $ fpack ! C (λ _. ftrue) carries $ move ! (0 ∷ 1 ∷ []) $ fjoin ! $ fpack ! (Content × (ℕ × _)) (sight_of κ v) (t.content, (t.life, t.code)) $ now ! $ keep ! (0 ∷ 1 ∷ []) $ done !))
+        nothing ! $ fpack ! C (λ _. ftrue) carries $ move ! (0 ∷ 1 ∷ []) $ fjoin ! $ fpack ! (ℕ × (ℕ × _)) (sight_of κ v) (t.content, (t.life, t.code)) $ now ! $ keep ! (0 ∷ 1 ∷ []) $ done !))
 
     pub closes_glimpse : (o : Option ℕ) → ⟦ taken γ o ⟧ ∗ A.obor β q (escrow γ) ∗ A.shr_bor κ (λ s. flft β s) ⊢ H.⇛ (⟦ glimpse κ o ⟧ ∗ A.lft β q)
     closes_glimpse None = closes_of zero 0

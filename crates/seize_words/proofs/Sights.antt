@@ -10,7 +10,6 @@ use types.Logic.{Logic, sem}
 use denote.Steps.{nothing}
 use Rattle.seize_content.specs.Contents.{sight_owns}
 use Rattle.seize_content.specs.Readers.{escrow, found, lent_pool, ready}
-use Rattle.seize_content.specs.Stages.{Name as Content}
 use Rattle.seize_content.proofs.Readers.{reads, share_of}
 use Rattle.seize_machine.specs.Machine.State.{State}
 use Rattle.seize_book.specs.Entry.{Entry, entry_coded}
@@ -75,7 +74,7 @@ module _ {M : Type 1} {𝓤 : Ura M} (𝓛 : Logic 𝓤) (n : Name) where
     loan_reads : (k v : ℕ) → Reader st log v a → ⟦ had log ⟧ ∗ ⟦ lends k v ⟧ ∗ ⟦ ready γ ⟧ ∗ ⟦ right_to ⟧ ⊢ upd 𝓤 (⟦ lends k v ⟧ ∗ ⟦ taken_if k γ v ⟧)
     loan_reads zero v r = let Z : Pr = ⟦ ftrue ⟧ ∗ ⟦ ready γ ⟧ in qed 𝓛 (‵ (had log) ∷ ‵ ftrue ∷ ‵ (ready γ) ∷ ‵ right_to ∷ []) ∵ suffices ! _ (upd_i 𝓤 Z) $ keep ! (1 ∷ 2 ∷ []) $ done !
     loan_reads (suc k) v r = let Z : Pr = ⟦ lends (suc k) v ⟧ ∗ ⟦ taken_if (suc k) γ v ⟧ in qed 𝓛 (‵ (had log) ∷ ‵ (lends (suc k) v) ∷ ‵ (ready γ) ∷ ‵ right_to ∷ []) ∵ move ! (1 ∷ []) $ fpick ! (λ l. fsplit ! $ fpick ! (λ carries. drop ! $
-        let c : Content = l.content in let g : Gv = l.code in let ds : List (Lft × ℕ) = l.readers in let d : Lft × ℕ = (β, γ) in let e : Share = share_of 𝓛 c l.life g ds β γ in let l' : Loan = record { content = c; life = l.life; code = g; readers = ds ++ d ∷ [] } in
+        let c : ℕ = l.content in let g : Gv = l.code in let ds : List (Lft × ℕ) = l.readers in let d : Lft × ℕ = (β, γ) in let e : Share = share_of 𝓛 c l.life g ds β γ in let l' : Loan = record { content = c; life = l.life; code = g; readers = ds ++ d ∷ [] } in
         fsplit ! $ move ! (1 ∷ []) $ fsplit ! $
         -- [the pool; its readers; the ticket; the list; the escrow; the right to it]
         move ! (0 ∷ 4 ∷ 5 ∷ []) $ use3 𝓛 (raw (upd 𝓤 (⟦ lent_pool c l.life g (ds ++ d ∷ []) ⟧ ∗ ⟦ found c l.life g γ e ⟧))) (reads 𝓛 c l.life g ds β γ) $
@@ -113,11 +112,11 @@ module _ {M : Type 1} {𝓤 : Ura M} (𝓛 : Logic 𝓤) (n : Name) where
 
 -- A glimpse is a sight of what is lent with the value that was found.
 
-abbrev pub IsOf : Option ℕ → Content × (ℕ × Gv) → Type 0
+abbrev pub IsOf : Option ℕ → ℕ × (ℕ × Gv) → Type 0
 IsOf o t = SightFor o (record { marker = record {}; name = t.0; life = t.1.0; value = t.1.1 })
 
 module _ {M : Type 1} {𝓤 : Ura M} (𝓛 : Logic 𝓤) (κ : Lft) where
-  abbrev Seen : Option ℕ → Content × (ℕ × Gv) → SProp 𝓤
+  abbrev Seen : Option ℕ → ℕ × (ℕ × Gv) → SProp 𝓤
   Seen o t = guard 𝓤 (IsOf o t) (sem 𝓛 (sight_owns κ t.0 t.1.0 t.1.1))
 
   lent_one : (k v : ℕ) → ¬ (k ≡ 0) → ent 𝓤 (sem 𝓛 (sight_if k κ v)) (ex 𝓤 (Seen (Some v)))

@@ -11,7 +11,6 @@ use base.Fml.{Lft, Share, Fml, ftrue, fsep, fex}
 use base.Stored.{Gv}
 use Rattle.seize_content.specs.Contents.{sight_owns}
 use Rattle.seize_content.specs.Readers.{found, ready}
-use Rattle.seize_content.specs.Stages.{Name as Content}
 use Rattle.seize_content.specs.declared.loan.Sight.{Sight}
 use Rattle.seize_book.specs.Ledger.{fact}
 use Rattle.seize_book.specs.Loans.{Carries, CarriesNone, loan_of}
@@ -22,7 +21,7 @@ shown false o = o
 
 -- of which content, under which lifetime, of which code, and which share of that lifetime's token
 pub record Piece : Type 0 where
-  pub content : Content
+  pub content : ℕ
   pub life : ℕ
   pub code : Gv
   pub share : Share
@@ -38,12 +37,12 @@ abbrev pub taken : ℕ → Option ℕ → Fml
 taken γ None = ready γ
 taken γ (Some v) = taken_if (loan_of v) γ v
 
-abbrev pub sight_of : Lft → ℕ → Content × (ℕ × Gv) → Fml
+abbrev pub sight_of : Lft → ℕ → ℕ × (ℕ × Gv) → Fml
 sight_of κ v t = fsep (fact (Carries v t.0 t.1.1)) (sight_owns κ t.0 t.1.0 t.1.1)
 
 abbrev pub sight_if : ℕ → Lft → ℕ → Fml
 sight_if zero κ v = ftrue
-sight_if (suc k) κ v = fex (Content × (ℕ × Gv)) (sight_of κ v)
+sight_if (suc k) κ v = fex (ℕ × (ℕ × Gv)) (sight_of κ v)
 
 abbrev pub glimpse : Lft → Option ℕ → Fml
 glimpse κ None = ftrue

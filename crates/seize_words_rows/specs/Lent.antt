@@ -9,7 +9,6 @@
 --     both_in .. out v                 the stages, in order: both slots have entered, v is in the link, and v is out again
 use Rattle.std.specs.Prelude.{◌≡◌, ℕ, ◌<◌, List, [], ◌∷◌, length, Option, Some, None}
 use base.Stored.{Gv}
-use Rattle.seize_content.specs.Stages.{Name as Content}
 use Rattle.seize_content.specs.declared.loan.Pool.{Pool}
 use Rattle.seize_machine.specs.Machine.State.{Active}
 use Rattle.seize_book.specs.Books.{IsNextIn}
@@ -66,7 +65,7 @@ linked v = while_in (Some v) [] (v ∷ [])
 abbrev pub out : ℕ → Stage
 out v = while_in None (v ∷ []) (v ∷ [])
 
-pub record LendsWith (content : Content) (link : Link) (pass : Pass) : Type 0 where
+pub record LendsWith (content : ℕ) (link : Link) (pass : Pass) : Type 0 where
   pub value : ℕ
   pub code : Gv
   pub sees : Sees (link_book link) pass (linked value)

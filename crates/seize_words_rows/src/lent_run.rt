@@ -3,10 +3,9 @@
 //! content comes back.
 //!
 //! As in the worked run, the book is open to one pass alone, so its holder knows which value the link holds, and so what is lent there.
-ghost use Rattle.std.specs.Prelude.{◌≡◌};
+ghost use Rattle.std.specs.Prelude.{◌≡◌, ℕ};
 ghost use Rattle.seize_content.specs.Loans.{IsLent};
-ghost use Rattle.seize_content.specs.Parts.{content_of};
-ghost use Rattle.seize_content.specs.Stages.{Name as Place};
+ghost use Rattle.seize_content.specs.Parts.{IsIn};
 ghost use Rattle.seize_content.specs.declared.loan.Pool.{Pool as Loan};
 ghost use Rattle.seize_words.specs.Named.{link_book};
 ghost use Rattle.seize_book.specs.Others.{value_of};
@@ -115,9 +114,9 @@ pub fn see<'g, T>(
 /// The other slot takes the value out, with its key.
 pub fn take_out(link: &Link, activation: &Activation, pass: &mut Pass) -> ValueKey
     requires link { IsTheLink (link_book link.now) link.now × HasBegun link.now activation.now pass.old 1 }
-    requires lends { (content : Place) × LendsWith content link.now pass.old }
+    requires lends { (content : ℕ) × LendsWith content link.now pass.old }
     ensures begun { Stay link.now pass.old pass.new }
-    ensures value { (content : Place) (lends : LendsWith content link.now pass.old) →
+    ensures value { (content : ℕ) (lends : LendsWith content link.now pass.old) →
         IsOfValue (link_book link.now) lends.value result × Sees (link_book link.now) pass.new (out lends.value) }
 {
     let mut key = MaybeKey::none(pass);
@@ -128,7 +127,7 @@ pub fn take_out(link: &Link, activation: &Activation, pass: &mut Pass) -> ValueK
 /// What is in hand is lent, and its value goes into the link and comes out again. It gives what the slot that reads saw meanwhile. The
 /// content stays lent, since the value was not retired.
 pub fn seen_in_link(content: &Content<u64>, held: Held<u64>) -> u64
-    requires held { content_of held ≡ content.now.name }
+    requires held { IsIn held content.now }
     ensures seen { result ≡ held.value }
 {
     let (ticket, pool) = content.lend(held);

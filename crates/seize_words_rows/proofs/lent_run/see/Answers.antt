@@ -1,5 +1,4 @@
 use Rattle.std.proofs.Common.{◌≡◌, ℕ, Option, Some, sym, ◌∙◌, subst}
-use Rattle.seize_content.specs.Stages.{Name as Content}
 use Rattle.seize_machine.specs.Machine.Event.{ReadLink}
 use Rattle.seize_machine.specs.declared.machine.event.Answer.TheVariants.{Link as Held_}
 use Rattle.seize_words.specs.Glimpses.{SightFor}
@@ -16,7 +15,7 @@ use Rattle.seize_words_rows.proofs.Lent.{held_is, is_read, stays, steps_on}
 use Rattle.seize_words_rows.proofs.lent_run.see.Goals as goal
 
 -- the glimpse is of the value that is known to be there
-glimpsed : (link : Link) (a : Activation) (pass pass' : Pass) (w : ℕ) (glimpse : Glimpse) (content : Content) → number link ≡ 0 → Seen link a pass pass' w glimpse → (lends : LendsWith content link pass) → glimpse.value ≡ Some lends.value
+glimpsed : (link : Link) (a : Activation) (pass pass' : Pass) (w : ℕ) (glimpse : Glimpse) (content : ℕ) → number link ≡ 0 → Seen link a pass pass' w glimpse → (lends : LendsWith content link pass) → glimpse.value ≡ Some lends.value
 glimpsed link a pass pass' w glimpse content first seen lends =
     seen.1 ∙ held_is (link_book link) link a pass pass' (λ _. ReadLink a.slot (number link)) w seen.0 first (linked lends.value) lends.sees
 

@@ -1,6 +1,5 @@
-use Rattle.std.proofs.Common.{◌<◌, length, refl, sym, ◌∙◌, subst}
+use Rattle.std.proofs.Common.{ℕ, ◌<◌, length, refl, sym, ◌∙◌, subst}
 use denote.Builtin.{u64}
-use Rattle.seize_content.specs.Stages.{Name as Content}
 use Rattle.seize_book.specs.Loans.{Carries}
 use Rattle.seize_words.specs.Named.{link_book}
 use Rattle.seize_book.specs.Others.{value_of}
@@ -24,7 +23,7 @@ see-seen-requires-clause-lends c =
       value = v;
       code = lent.result.1.value;
       sees = c.put_in.ensures.sees;
-      carries = subst (λ (k : Content). Carries v k lent.result.1.value) (sym lent.ensures.0.0 ∙ lent.ensures.1) one.ensures.value.2;
+      carries = subst (λ (k : ℕ). Carries v k lent.result.1.value) (sym lent.ensures.0.0 ∙ lent.ensures.1) one.ensures.value.2;
     }
 
 pub take_out-value-requires-clause-link : goal.take_out-value-requires-clause-link
@@ -35,13 +34,13 @@ take_out-value-requires-clause-link c =
 pub take_out-value-requires-clause-lends : goal.take_out-value-requires-clause-lends
 take_out-value-requires-clause-lends c =
     let lent = c.lend-ticket in let one = c.begin-opening in let v = value_of one.result.0.value in let content = c.args.content.now.name in
-    let carries = subst (λ (k : Content). Carries v k lent.result.1.value) (sym lent.ensures.0.0 ∙ lent.ensures.1) one.ensures.value.2 in
+    let carries = subst (λ (k : ℕ). Carries v k lent.result.1.value) (sym lent.ensures.0.0 ∙ lent.ensures.1) one.ensures.value.2 in
     let lends : LendsWith c.args.content.now.name one.result.0.link c.put_in.new.pass = record { value = v; code = lent.result.1.value; sees = c.put_in.ensures.sees; carries = carries } in
     (content, record { value = v; code = lent.result.1.value; sees = (c.see-seen.ensures.sees lends).0; carries = carries })
 
 pub returns : goal.returns
 returns c =
     let lent = c.lend-ticket in let one = c.begin-opening in let v = value_of one.result.0.value in
-    let carries = subst (λ (k : Content). Carries v k lent.result.1.value) (sym lent.ensures.0.0 ∙ lent.ensures.1) one.ensures.value.2 in
+    let carries = subst (λ (k : ℕ). Carries v k lent.result.1.value) (sym lent.ensures.0.0 ∙ lent.ensures.1) one.ensures.value.2 in
     let lends : LendsWith c.args.content.now.name one.result.0.link c.put_in.new.pass = record { value = v; code = lent.result.1.value; sees = c.put_in.ensures.sees; carries = carries } in
     record { seen = u64.coded.inj c.see-seen.result.now c.args.held.value ((c.see-seen.ensures.sees lends).1 ∙ lent.ensures.2) }

@@ -7,7 +7,6 @@ use denote.Exit.{no}
 use denote.Ref.{ShrRef}
 use denote.Signature.{named_lft}
 use Rattle.seize_content.specs.Contents.{sight_owns}
-use Rattle.seize_content.specs.Stages.{Name as Content}
 use Rattle.seize_content.specs.contracts.loan.Sight as Sight
 use Rattle.seize_content.proofs.Fields.{token, Marked, marked_made}
 use Rattle.seize_words.specs.Glimpses.{IsLentWith}
@@ -30,7 +29,7 @@ sight_spec 𝓤 𝓛 𝓜 𝓡 wired =
     -- [its marker; what it owns; nothing; the token]
     keep ! (1 ∷ 3 ∷ []) $
     enter ! 𝓣.C 𝓣.Λ fn (token ∷ []) Post $ alloc_all ! (λ l. pass_all ! refl ((tt, (tt, tt)), tt) $
-    use1 𝓛 (some (λ (t : Content × (ℕ × Gv)). given (IsOf d.value t) (‵ (sight_owns κ t.0 t.1.0 t.1.1)))) (glimpsed 𝓛 κ d.value asked) $ pick ! (λ t. learn ! (λ its.
+    use1 𝓛 (some (λ (t : ℕ × (ℕ × Gv)). given (IsOf d.value t) (‵ (sight_owns κ t.0 t.1.0 t.1.1)))) (glimpsed 𝓛 κ d.value asked) $ pick ! (λ t. learn ! (λ its.
     sets ! (agg ! (no_more !)) refl (tt, tt) $ sets ! (agg ! (and_then ! (get ! refl) (no_more !))) refl (tt, (tt, tt)) $
     use0 𝓛 (‵ ((Marked mark).own_val (record {}, tt) (token ∷ []))) (marked_made mark 𝓛) $ fjoin ! $ let r : S.Denot = record { marker = record {}; name = t.0; life = t.1.0; value = t.1.1 } in
     -- [the result; the token]
