@@ -18,7 +18,7 @@ use mir.Raw.{raw}
 use denote.Memory.{lone}
 use Rattle.seize_content.specs.Goods.{Goods, room, value_at}
 use Rattle.seize_content.specs.Stages.{Stage, empty, held, lent, goes}
-use Rattle.seize_content.specs.Contents.{body, onward, place, place_shares, content_owns, content_shares, ticket_owns, held_owns, stay, pool_owns, pool_shares, sight_owns}
+use Rattle.seize_content.specs.Contents.{body, onward, named, place, place_shares, content_owns, content_shares, ticket_owns, held_owns, stay, pool_owns, pool_shares, sight_owns}
 use Rattle.seize_content.specs.Memory.{grant_owns}
 use Rattle.seize_content.specs.Readers.{Piece, deposit, holds, lent_pool, pool}
 
@@ -32,6 +32,10 @@ grant_sent R h p = frees.frees h (raw (lone R.mir)) p
 pub ticket_sent : (γ : ℕ) (s : Stage) → Keyless (ticket_owns γ s)
 unfolding latest
 ticket_sent γ s = λ ms. ((λ _. tt), tt)
+
+pub named_sent : (γ : ℕ) (s : Stage) → Keyless (named γ s)
+unfolding latest
+named_sent γ s = tt
 
 pub stay_sent : (γ : ℕ) (a : ℕ) (g : Gv) → Keyless (stay γ a g)
 unfolding at_least

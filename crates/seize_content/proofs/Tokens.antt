@@ -7,6 +7,7 @@ use Rattle.seize_content.specs.contracts.loan.Sight as sight
 use Rattle.seize_content.specs.contracts.ticket.Held as held
 use Rattle.seize_content.specs.contracts.ticket.Site as site
 use Rattle.seize_content.specs.contracts.ticket.Space as space
+use Rattle.seize_content.specs.contracts.ticket.Start as start
 use Rattle.seize_content.specs.contracts.ticket.Ticket as ticket
 use Rattle.seize_content.proofs.Fields.{token, hand}
 
@@ -18,6 +19,9 @@ ticket_tells d vs is = is.0.1.0 ∙ (λ i. vstruct (of_list (is.0.1.1.0.1.0 i ++
 
 pub site_tells : Tells site.the_row (Is site.the_row) no_bytes
 site_tells d vs is = is.0.1.0 ∙ (λ i. vstruct (of_list (is.0.1.1.0.1.0 i ++ [])) ∷ [])
+
+pub start_tells : Tells start.the_row (Is start.the_row) no_bytes
+start_tells d vs is = is.0.1.0 ∙ (λ i. vstruct (of_list (is.0.1.1.0.1.0 i ++ [])) ∷ [])
 
 pub pool_tells : Tells pool.the_row (Is pool.the_row) no_bytes
 pool_tells d vs is = is.0.1.0 ∙ (λ i. vstruct (of_list (is.0.1.1.0.1.0 i ++ [])) ∷ [])

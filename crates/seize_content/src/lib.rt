@@ -13,4 +13,4 @@ mod ticket;
 pub use content::Content;
 pub use loan::{Pool, Sight};
 pub use room::{Grant, Room};
-pub use ticket::{Held, Ticket};
+pub use ticket::{Held, Start, Ticket};

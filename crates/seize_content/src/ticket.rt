@@ -1,10 +1,10 @@
-//! The right to change a content's stage, and the value in its owner's hands. Nothing here has bytes.
+//! The right to change a content's stage, what a content begins with, and the value in its owner's hands. Nothing here has bytes.
 ghost use Rattle.std.specs.Prelude.{◌≡◌, ℕ};
 ghost use denote.RawPtr.{Ptr, coded_ptr};
 ghost use base.Fml.{ftrue};
 ghost use denote.Sharing.{nothing};
-ghost use Rattle.seize_content.specs.Contents.{held_owns, held_shares, space_owns, ticket_owns};
-ghost use Rattle.seize_content.specs.Stages.{Stage, stage_coded};
+ghost use Rattle.seize_content.specs.Contents.{held_owns, held_shares, named, space_owns, ticket_owns};
+ghost use Rattle.seize_content.specs.Stages.{Stage, held, stage_coded};
 
 use crate::content::Content;
 use std::marker::{Model, PhantomData};
@@ -24,6 +24,34 @@ impl Model for Ticket {
     ghost also_owns = { λ t. ticket_owns t.name t.says };
 
     ghost also_shares = { λ _ _ κ. nothing κ };
+}
+
+/// What a content begins with beside its ticket. Whoever has it shows what is lent there, as a store does for each of its chunks.
+#[derive(Drop)]
+pub struct Start {
+    /// It has no bytes, as a ticket.
+    pub marker: PhantomData<()>,
+    /// Which content will begin with it.
+    pub ghost name: { ℕ },
+}
+
+impl Model for Start {
+    ghost also_owns = { λ s. named s.name held };
+}
+
+impl Start {
+    /// One of a name that nothing else has, and its ticket, which says that what is lent there is in its owner's hands.
+    pub fn new() -> (Start, Ticket)
+        ensures { (result.1.name ≡ result.0.name) × (result.1.says ≡ held) }
+    {
+        let ticket = Ticket {
+            marker: PhantomData,
+        };
+        let start = Start {
+            marker: PhantomData,
+        };
+        (start, ticket)
+    }
 }
 
 /// Where a value in hand lies. It has no bytes.
@@ -90,6 +118,10 @@ impl<T> Model for Space<T> {
 unsafe impl Send for Ticket {}
 
 unsafe impl Sync for Ticket {}
+
+unsafe impl Send for Start {}
+
+unsafe impl Sync for Start {}
 
 unsafe impl Send for Site {}
 

@@ -15,4 +15,5 @@ pub mod Leads
 pub mod Tokened
 pub mod Identities
 pub mod Sends
+pub mod Lenders
 pub mod Unique

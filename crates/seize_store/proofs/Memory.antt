@@ -47,4 +47,4 @@ module _ (X U R : RattleType) {M : Type 1} {𝓤 : Ura M} (𝓛 : Logic 𝓤) (b
   -- a chunk with no more sides
   pub gathers : (f : U.Denot → ℕ) (k n : ℕ) → ent 𝓤 (sep 𝓤 (sem 𝓛 (word b (o + 0) n)) (sem 𝓛 (fsep (held X U R b o f k) (others X U R b o)))) (sem 𝓛 (remains X U R b o))
   gathers f k n = qed 𝓛 (‵ (word b (o + 0) n) ∷ ‵ (fsep (held X U R b o f k) (others X U R b o)) ∷ []) ∵ use1 𝓛 (‵ (froom (ty_int w64) b (o + 0))) (𝓛.laws.at_room (ty_int w64) b (o + 0) (vint w64 n)) $
-      move ! (1 ∷ []) $ fsplit ! $ fpick ! (λ u. fsplit ! $ drop ! $ fpack ! U.Denot (part_of X U R b o) u $ fjoin ! $ move ! (1 ∷ 0 ∷ []) $ fjoin ! $ done !)
+      move ! (1 ∷ []) $ fsplit ! $ fpick ! (λ u. fsplit ! $ drop ! $ fsplit ! $ move ! (1 ∷ []) $ drop ! $ fpack ! U.Denot (part_of X U R b o) u $ fjoin ! $ move ! (1 ∷ 0 ∷ []) $ fjoin ! $ done !)

@@ -7,12 +7,15 @@ use denote.RattleType.{RattleType}
 use denote.RawPtr.{Ptr, block_ptr, null_ptr}
 use denote.Param.Send.{IsSend, IsSync, part_keyless}
 use Rattle.std.proofs.Crossing.{frees}
+use Rattle.seize_content.specs.Stages.{held as unlent}
+use Rattle.seize_content.proofs.Sends.{ticket_sent}
+use Rattle.seize_table.specs.Pairs.{right_of}
 use Rattle.seize_store.specs.Freeable.{heap}
 use Rattle.std_alloc.proofs.SendSync.{seen}
 use Rattle.seize_store.specs.Body.{row_ty, stride, rim, header_at, owner_at, room_at}
 use Rattle.seize_store.specs.Row.{Deed, Marks, Stage, stands, gone, held_all, laid_one, laid, stage, due}
 use Rattle.seize_store.specs.Chunk.{Phase, free, taken, left, spent, dues, held, part_of, state, piece_owns, chunk_owns, chunk_shares}
-use Rattle.seize_store.specs.Block.{out_owns, block_owns, block_shares, hull_owns, hull_shares}
+use Rattle.seize_store.specs.Block.{out_owns, block_owns, block_shares, hull_owns, hull_shares, lain_owns}
 
 held_keyless : (γs : List ℕ) → Keyless (held_all γs)
 held_keyless [] = tt
@@ -54,7 +57,7 @@ module _ (X U R : RattleType) (b o : ℕ) where
   owner_keyless s u = part_keyless U s full_share u b (owner_at X U R o)
 
   owned_keyless : IsSend U → (f : U.Denot → ℕ) (k : ℕ) → Keyless (held X U R b o f k)
-  owned_keyless s f k = λ u. ((λ _. tt), owner_keyless s u)
+  owned_keyless s f k = λ u. ((λ _. tt), (owner_keyless s u, ticket_sent (right_of k) unlent))
 
   state_keyless : IsSend U → (f : U.Denot → ℕ) (k a δ η : ℕ) (p : Phase) → Keyless (state X U R b o f k a δ η p)
   state_keyless s f k a δ η free = (tt, ((tt, tt), (owned_keyless s f k, (tt, tt))))
@@ -86,9 +89,12 @@ module _ (X U R : RattleType) (f : U.Denot → ℕ) where
   block_seen v y k (block_ptr b o) x κ = ((λ u. ((λ _. tt), seen U v (block_ptr b (owner_at X U R o)) u κ)), seen R y (block_ptr b (room_at X U R o)) x κ)
   block_seen v y k null_ptr x κ = tt
 
+  pub lain_owned : IsSend U → IsSend R → (p : Ptr) (k : ℕ) (x : R.Denot) → Keyless (lain_owns X U R f p k x)
+  lain_owned u s (block_ptr b o) k x = λ t. (((tt, tt), (tt, (part_keyless R s full_share x b (room_at X U R o), tt))), state_keyless X U R b o u f k t.0 t.1.0 t.1.1)
+  lain_owned u s null_ptr k x = tt
+
   pub hull_owned : IsSend U → IsSend R → (p : Ptr) (k : ℕ) (x : R.Denot) → Keyless (hull_owns X U R f p k x)
-  hull_owned u s (block_ptr b o) k x = λ t. (((tt, tt), (tt, (part_keyless R s full_share x b (room_at X U R o), tt))), state_keyless X U R b o u f k t.0 t.1.0 t.1.1)
-  hull_owned u s null_ptr k x = tt
+  hull_owned u s p k x = (lain_owned u s p k x, ticket_sent (right_of k) unlent)
 
   pub hull_seen : IsSync R → (p : Ptr) (x : R.Denot) (κ : Lft) → Keyless (hull_shares X U R f p x κ)
   hull_seen y (block_ptr b o) x κ = seen R y (block_ptr b (room_at X U R o)) x κ

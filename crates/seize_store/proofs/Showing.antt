@@ -14,16 +14,19 @@ use denote.RawPtr.{Ptr, block_ptr, null_ptr, lies_at}
 use denote.Sharing.{ShrLaws, said, beside}
 use denote.SharingLaws.{said_shr_laws, some_shr_laws, beside_shr_laws}
 use denote.Struct.Lending.{Lends, Lends-first, Lends-both, Lends-said, Lends-false, lent_at, lent_at_shr_laws}
+use Rattle.seize_content.specs.Contents.{ticket_owns}
+use Rattle.seize_content.specs.Stages.{held as unlent}
+use Rattle.seize_table.specs.Pairs.{left_of, right_of}
 use Rattle.seize_store.specs.Body.{owner_at, owner_room, rest, room_at}
 use Rattle.seize_store.specs.Row.{fact}
 use Rattle.seize_store.specs.Chunk.{held, labelled, Inv}
-use Rattle.seize_store.specs.Block.{bare, full, lent_held, lent_part, block_owns, block_shares, hull_owns, hull_shares}
+use Rattle.seize_store.specs.Block.{bare, full, lent_held, lent_part, block_owns, block_shares, hull_owns, hull_shares, lain_owns}
 
 module _ (X U R : RattleType) (f : U.Denot → ℕ) (k : ℕ) where
   pub block_laws : RowLaws U → RowLaws R → (p : Ptr) (x : R.Denot) → ShrLaws (block_shares X U R f k p x)
   block_laws LU L (block_ptr b o) x = let r : Ptr = block_ptr b (owner_at X U R o) in
       beside_shr_laws (lent_held X U R b o f k) (lent_at R (block_ptr b (room_at X U R o)) x)
-      (some_shr_laws U.Denot (lent_part X U R b o f k) (λ u. beside_shr_laws (said (fact (f u ≡ k))) (lent_at U r u) (said_shr_laws (fact (f u ≡ k)) (λ _. tt)) (lent_at_shr_laws U LU r u)))
+      (some_shr_laws U.Denot (lent_part X U R b o f k) (λ u. beside_shr_laws (said (fact (f u ≡ left_of k))) (lent_at U r u) (said_shr_laws (fact (f u ≡ left_of k)) (λ _. tt)) (lent_at_shr_laws U LU r u)))
       (lent_at_shr_laws R L (block_ptr b (room_at X U R o)) x)
   block_laws LU L null_ptr x = said_shr_laws ffalse tt
 
@@ -42,8 +45,8 @@ module _ (X U R : RattleType) (f : U.Denot → ℕ) (k : ℕ) where
 
     lends_held : (b o : ℕ) (l : Lft) → LiesPart b o l → Lends 𝓛 (held X U R b o f k) (lent_held X U R b o f k) l
     lends_held b o l lies = Lends-some 𝓛 U.Denot (labelled X U R b o f k) (lent_part X U R b o f k) l (λ u.
-        Lends-both 𝓛 (fact (f u ≡ k)) (part_at U full_share u b (owner_at X U R o)) (said (fact (f u ≡ k))) (lent_at U (block_ptr b (owner_at X U R o)) u) l
-        (Lends-said 𝓛 (fact (f u ≡ k)) (λ _. tt) l) (lies u))
+        let P : Fml = part_at U full_share u b (owner_at X U R o) in let F : Fml = ticket_owns (right_of k) unlent in let t : Lft → Fml = lent_at U (block_ptr b (owner_at X U R o)) u in
+        Lends-both 𝓛 (fact (f u ≡ left_of k)) (fsep P F) (said (fact (f u ≡ left_of k))) t l (Lends-said 𝓛 (fact (f u ≡ left_of k)) (λ _. tt) l) (Lends-first 𝓛 P F t l (lies u)))
 
     -- the names are let go for the time of the loan: what comes back is opened afresh
     lends_full : (b o : ℕ) (x : R.Denot) (l : Lft) → LiesPart b o l → Lends 𝓛 (part_at R full_share x b (room_at X U R o)) (lent_at R (block_ptr b (room_at X U R o)) x) l
@@ -71,6 +74,9 @@ module _ (X U R : RattleType) (f : U.Denot → ℕ) (k : ℕ) where
         (Lends-second F (fsep P (rest X U R b o)) t l (Lends-first 𝓛 P (rest X U R b o) t l lies)))) κ ts inc sp) $
         await ! tt $ split ! $ fpick ! (λ u. now ! $ done !))
 
+    pub lain_lends : (p : Ptr) (x : R.Denot) (l : Lft) → ((r : Ptr) → Lends 𝓛 (lies_at R full_share r x) (lent_at R r x) l) → Lends 𝓛 (lain_owns X U R f p k x) (hull_shares X U R f p x) l
+    lain_lends (block_ptr b o) x l lies = lends_bare b o x l (lies (block_ptr b (room_at X U R o)))
+    lain_lends null_ptr x l lies = Lends-false 𝓛 (said ffalse) l
+
     pub hull_lends : (p : Ptr) (x : R.Denot) (l : Lft) → ((r : Ptr) → Lends 𝓛 (lies_at R full_share r x) (lent_at R r x) l) → Lends 𝓛 (hull_owns X U R f p k x) (hull_shares X U R f p x) l
-    hull_lends (block_ptr b o) x l lies = lends_bare b o x l (lies (block_ptr b (room_at X U R o)))
-    hull_lends null_ptr x l lies = Lends-false 𝓛 (said ffalse) l
+    hull_lends p x l lies = Lends-first 𝓛 (lain_owns X U R f p k x) (ticket_owns (right_of k) unlent) (hull_shares X U R f p x) l (lain_lends p x l lies)

@@ -1,5 +1,5 @@
--- What the holder of a chunk's room has: the place is its title's, the owner's part has the title's label k by f, and the room is empty,
--- or x lies in it. A hull has x without the owner's part.
+-- What the holder of a chunk's room has: the place is its title's, the owner's part and its ticket are as the title's tag k says, and the
+-- room is empty, or x lies in it. A hull has x and the ticket without the owner's part.
 use Rattle.core.specs.Prelude.{◌≡◌, ℕ}
 use base.Fraction.{full_share}
 use base.Fml.{Lft, Fml, fsep, fex, feq, finv}
@@ -9,6 +9,9 @@ use denote.Memory.{part_at}
 use denote.RawPtr.{Ptr, block_ptr}
 use denote.Sharing.{said, some, beside}
 use denote.Struct.Lending.{lent_at}
+use Rattle.seize_content.specs.Contents.{ticket_owns}
+use Rattle.seize_content.specs.Stages.{held as unlent}
+use Rattle.seize_table.specs.Pairs.{left_of, right_of}
 use Rattle.seize_store.specs.Body.{owner_at, owner_room, rest, room_at}
 use Rattle.seize_store.specs.Row.{fact}
 use Rattle.seize_store.specs.Chunk.{held, right, Inv, placed}
@@ -30,7 +33,7 @@ module _ (X U R : RattleType) (b o : ℕ) (f : U.Denot → ℕ) (k : ℕ) where
   bare x = full_with (owner_room X U R b o) x
 
   abbrev pub lent_part : U.Denot → Lft → Fml
-  lent_part u = beside (said (fact (f u ≡ k))) (lent_at U (block_ptr b (owner_at X U R o)) u)
+  lent_part u = beside (said (fact (f u ≡ left_of k))) (lent_at U (block_ptr b (owner_at X U R o)) u)
 
   abbrev pub lent_held : Lft → Fml
   lent_held = some U.Denot lent_part
@@ -42,8 +45,12 @@ module _ (X U R : RattleType) (f : U.Denot → ℕ) where
   abbrev pub block_owns : Ptr → ℕ → Ptr → R.Denot → Fml
   block_owns place k p x = fsep (feq Ptr place p) (placed p (λ b o. fex (ℕ × (ℕ × ℕ)) (full X U R b o f k x)))
 
+  -- what is lent of a hull: all but the ticket
+  abbrev pub lain_owns : Ptr → ℕ → R.Denot → Fml
+  lain_owns p k x = placed p (λ b o. fex (ℕ × (ℕ × ℕ)) (bare X U R b o f k x))
+
   abbrev pub hull_owns : Ptr → ℕ → R.Denot → Fml
-  hull_owns p k x = placed p (λ b o. fex (ℕ × (ℕ × ℕ)) (bare X U R b o f k x))
+  hull_owns p k x = fsep (lain_owns p k x) (ticket_owns (right_of k) unlent)
 
   abbrev pub block_shares : ℕ → Ptr → R.Denot → Lft → Fml
   block_shares k p x κ = placed p (λ b o. beside (lent_held X U R b o f k) (lent_at R (block_ptr b (room_at X U R o)) x) κ)

@@ -1,5 +1,5 @@
 -- What the two sides of a chunk own. It lies at b, o, with a header of row X, the owner's part of row U and room for a content of row R.
--- The part's label, by f, is k.
+-- With the part goes the ticket of the chunk's content. The tag k is a pair of the part's label, by f, and of the content's name.
 --     the word is 0 while the room is in, 1 while it is out, and 2 while it is out and the store is gone. Whoever comes second has all
 --     of the chunk's memory, with the owner's part in it, and lays it back into its row when the part is out: then it is spent
 --     δ is the right to put the room back, η the right to close the chunk, and a is the lifetime for which it is open
@@ -15,6 +15,9 @@ use denote.Sharing.{said, beside, one, always}
 use denote.Struct.Lending.{lent_at}
 use Rattle.core.specs.Sync.RawAtomic.{word}
 use Rattle.seize_store.specs.Body.{header_at, owner_at, header_room, owner_room, room, rest}
+use Rattle.seize_content.specs.Contents.{ticket_owns}
+use Rattle.seize_content.specs.Stages.{held as unlent}
+use Rattle.seize_table.specs.Pairs.{left_of, right_of}
 use Rattle.seize_store.specs.Row.{due, fact}
 
 pub data Phase : Type 0 where
@@ -43,9 +46,9 @@ module _ (X U R : RattleType) where
     abbrev pub remains : Fml
     remains = fsep (froom (ty_int w64) b (o + 0)) (fsep (fex U.Denot part_of) others)
 
-    -- the owner's part, of the label k
+    -- the owner's part, and the ticket of the chunk's content, as the tag k says
     abbrev pub labelled : (U.Denot → ℕ) → ℕ → U.Denot → Fml
-    labelled f k u = fsep (fact (f u ≡ k)) (part_of u)
+    labelled f k u = fsep (fact (f u ≡ left_of k)) (fsep (part_of u) (ticket_owns (right_of k) unlent))
 
     abbrev pub held : (U.Denot → ℕ) → ℕ → Fml
     held f k = fex U.Denot (labelled f k)

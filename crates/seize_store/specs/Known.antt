@@ -1,15 +1,18 @@
--- What a token shows of a row: its cell has one value for good, and that is the list of its chunks' places and labels. No type of a store
--- stands in these words, so a crate above can state what they say for good.
+-- What a token shows of a row: its cell has one value for good, and that is the list of its chunks' places and tags. A tag is a pair of the
+-- label of a chunk's header and of the name of the chunk's content. No type of a store stands in these words, so a crate above can state
+-- what they say for good.
 --     known_row store r chunks     row r of that store has these chunks, for good
---     chunk_in chunks e            where the chunk at entry e lies, and the label of its header;  place_in and label_in are the two
+--     chunk_in chunks e            where the chunk at entry e lies, and its tag;  place_in, label_in and content_in are what these say
 --     family_in store              the family of the store's chunks;  AreKin f chunks   their labels are of the family f
 --     IsRowIn store row chunks     there is such a row, these are as many chunks as it has, and they are of the store's family
---     leads_to store n k           the number n leads to the label k in that store, for good;  Way store n k is a row that shows it
+--     Way store n φ                a row of that store, of which the chunk of the number n has a tag with φ;  leads store n φ   there is one
+--     leads_to store n k           the number n leads to the label k in that store, for good
+--     lends_by store n γ           what is lent in the chunk of the number n is lent by the content γ, for good
 use Rattle.std.specs.Prelude.{◌≡◌, ℕ, suc, ◌+◌, ◌-◌, ◌^◌, ◌<◌, All, List, get_or, length}
 use base.Stored.{gnil, gcons, coded_list, coded×, coded_ℕ}
 use base.Fml.{Fml, fres, fex}
 use denote.RawPtr.{Ptr, null_ptr, coded_ptr}
-use Rattle.seize_table.specs.Pairs.{of_family}
+use Rattle.seize_table.specs.Pairs.{left_of, of_family, right_of}
 use Rattle.seize_table.specs.Place.{IsPlace}
 
 -- what is carried of a store: its own name, the family of its chunks, and then the names of its rows' cells
@@ -33,21 +36,30 @@ abbrev pub place_in : List (Ptr × ℕ) → ℕ → Ptr
 place_in chunks entry = (chunk_in chunks entry).0
 
 abbrev pub label_in : List (Ptr × ℕ) → ℕ → ℕ
-label_in chunks entry = (chunk_in chunks entry).1
+label_in chunks entry = left_of (chunk_in chunks entry).1
+
+abbrev pub content_in : List (Ptr × ℕ) → ℕ → ℕ
+content_in chunks entry = right_of (chunk_in chunks entry).1
 
 abbrev pub AreKin : ℕ → List (Ptr × ℕ) → Type 0
-AreKin family chunks = All (λ chunk. of_family family chunk.1) chunks
+AreKin family chunks = All (λ chunk. of_family family (left_of chunk.1)) chunks
 
 abbrev pub IsRowIn : List ℕ → ℕ → List (Ptr × ℕ) → Type 0
 IsRowIn store row chunks = (row < 59) × (length chunks ≡ 2 ^ (row + 5)) × AreKin (family_in store) chunks
 
--- a row of the store and its chunks, where the number has the label
-pub record Way (store : List ℕ) (number label : ℕ) : Type 0 where
+-- a row of the store and its chunks, which is that of the number
+pub record Way (store : List ℕ) (number : ℕ) (φ : ℕ → Type 0) : Type 0 where
   pub row : ℕ
   pub chunks : List (Ptr × ℕ)
   pub made : IsRowIn store row chunks
   pub placed : IsPlace number row (entry_of row number)
-  pub labelled : label_in chunks (entry_of row number) ≡ label
+  pub tagged : φ (chunk_in chunks (entry_of row number)).1
+
+abbrev pub leads : List ℕ → ℕ → (ℕ → Type 0) → Fml
+leads store number φ = fex (Way store number φ) (λ way. known_row store way.row way.chunks)
 
 abbrev pub leads_to : List ℕ → ℕ → ℕ → Fml
-leads_to store number label = fex (Way store number label) (λ way. known_row store way.row way.chunks)
+leads_to store number label = leads store number (λ tag. left_of tag ≡ label)
+
+abbrev pub lends_by : List ℕ → ℕ → ℕ → Fml
+lends_by store number content = leads store number (λ tag. right_of tag ≡ content)

@@ -2,6 +2,7 @@ pub mod Freeable
 pub mod Body
 pub mod Row
 pub mod Block
+pub mod Lending
 pub mod Chunk
 pub mod Known
 pub mod Lends

@@ -1,6 +1,7 @@
 -- The words in which the contracts of a store's own parts speak.
 --     room_at o, chunk_at c, piece_at p     where the room o, the chunk c and the chunk's memory p lie
---     room_with o, lies_with c, hull_with h   where the room o, the chunk c and the hull h lie, with the label of the owner's part
+--     room_with o, lies_with c, hull_with h, lent_from l   where the room o, the chunk c, the hull h and what the lender l lends lie, with
+--                     the chunk's tag
 --     room_count r    for how many chunks the memory r is
 --     block_title b   the title of the block b
 --     spot_title s    the title of the spot s;  spot_number s and spot_store s are its number and its store
@@ -11,6 +12,7 @@ use Rattle.seize_store.specs.declared.block.Hull.{Hull}
 use Rattle.seize_store.specs.declared.block.Out.{Out}
 use Rattle.seize_store.specs.declared.chunk.Chunk.{Chunk}
 use Rattle.seize_store.specs.declared.known.Title.{Title}
+use Rattle.seize_store.specs.declared.lender.Lender.{Lender}
 use Rattle.seize_store.specs.declared.spot.Spot.{Spot}
 use Rattle.seize_store.specs.declared.strip.Piece.{Piece}
 use Rattle.seize_store.specs.declared.strip.Rooms.{Rooms}
@@ -22,13 +24,16 @@ abbrev pub chunk_at : {H P T : Type 0} → Chunk H P T → Ptr
 chunk_at chunk = chunk.at
 
 abbrev pub room_with : {H P T : Type 0} → Out H P T → Ptr × ℕ
-room_with out = (out.at, out.label)
+room_with out = (out.at, out.tag)
 
 abbrev pub lies_with : {H P T : Type 0} → Chunk H P T → Ptr × ℕ
-lies_with chunk = (chunk.at, chunk.label)
+lies_with chunk = (chunk.at, chunk.tag)
 
 abbrev pub hull_with : {H P T : Type 0} → Hull H P T → Ptr × ℕ
-hull_with hull = (hull.at, hull.label)
+hull_with hull = (hull.at, hull.tag)
+
+abbrev pub lent_from : {H P T : Type 0} → Lender H P T → Ptr × ℕ
+lent_from lender = (lender.at, lender.tag)
 
 abbrev pub piece_at : {H P T : Type 0} → Piece H P T → Ptr
 piece_at piece = piece.at

@@ -1,5 +1,6 @@
 -- Where the chunk of a title lies, and what a token of a row was made of.
---     chunk_of t                  the place and the label that the title t's row has at its entry;  place_of t and label_of t are the two
+--     chunk_of t                  the place and the tag that the title t's row has at its entry;  place_of t and tag_of t are the two
+--     label_of t, content_of t    the label and the name of the content that the tag is a pair of
 --     names_of rows               the store of these rows: its own name, which it alone has, its family, and then the names of its rows
 --     family_of rows              that family
 --     IsMade store row chunks n   the note n is of that row's cell in the store, and knows its chunks, which are of the store's family
@@ -13,7 +14,7 @@ use Rattle.seize_store.specs.declared.known.Known.{Known}
 use Rattle.seize_store.specs.declared.known.Title.{Title}
 use Rattle.seize_table.specs.declared.labelled.Labelled.{Ghosts}
 use Rattle.seize_store.specs.declared.row.Rows.{Rows}
-use Rattle.seize_store.specs.Known.{AreKin, IsRowIn, chunk_in, entry_of, family_in, label_in, name_in, place_in}
+use Rattle.seize_store.specs.Known.{AreKin, IsRowIn, chunk_in, content_in, entry_of, family_in, label_in, name_in, place_in}
 
 abbrev pub chunk_of : Title → Ptr × ℕ
 chunk_of t = chunk_in t.known.chunks (entry_of t.known.row t.number)
@@ -21,8 +22,14 @@ chunk_of t = chunk_in t.known.chunks (entry_of t.known.row t.number)
 abbrev pub place_of : Title → Ptr
 place_of t = place_in t.known.chunks (entry_of t.known.row t.number)
 
+abbrev pub tag_of : Title → ℕ
+tag_of t = (chunk_in t.known.chunks (entry_of t.known.row t.number)).1
+
 abbrev pub label_of : Title → ℕ
 label_of t = label_in t.known.chunks (entry_of t.known.row t.number)
+
+abbrev pub content_of : Title → ℕ
+content_of t = content_in t.known.chunks (entry_of t.known.row t.number)
 
 abbrev pub names_of : {H P T : Type 0} {g : Ghosts H} → Rows H P T g → List ℕ
 names_of rows = rows.identity.name ∷ rows.family.number ∷ map (λ c. c.1.1) rows.cells

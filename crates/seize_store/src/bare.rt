@@ -15,7 +15,7 @@ use std::ops::Deref;
 pub struct Bare<H, P: Labelled + Drop, T: Drop> {
     pub(crate) hull: Hull<H, P, T>,
     pub(crate) title: Title,
-    ghost titled: { chunk_of title ≡ (hull.at, hull.label) },
+    ghost titled: { chunk_of title ≡ (hull.at, hull.tag) },
 }
 
 impl<H, P: Labelled + Drop, T: Drop> Bare<H, P, T> {

@@ -1,9 +1,10 @@
 //! A chunk's room in its holder's hands: an empty room, a block, which is a value in a room, and a hull, which is a block without the
-//! owner's part. It uses `chunk` for the memory and `known` for titles; `spot`, `owned` and `bare` wrap these for who holds them.
+//! owner's part. Each has the ticket of the chunk's content. It uses `chunk` for the memory and `known` for titles; `spot`, `owned` and `bare` wrap these for who holds them.
 ghost use Rattle.std.specs.Prelude.{◌≡◌, ◌≢◌, ℕ};
 ghost use Rattle.std.specs.Borrow.{sem};
 ghost use Rattle.seize_store.specs.Block.{out_owns, block_owns, block_shares, hull_owns, hull_shares};
-ghost use Rattle.seize_store.specs.Titled.{label_of, place_of};
+ghost use Rattle.seize_store.specs.Titled.{place_of, tag_of};
+ghost use Rattle.seize_table.specs.Pairs.{left_of};
 
 use crate::chunk::{Body, Remains};
 use crate::known::Title;
@@ -15,11 +16,11 @@ use std::sync::atomic::raw;
 /// The room of a chunk that is out, and empty, with the owner's part.
 pub(crate) struct Out<H, P: Labelled, T> {
     pub(crate) at: *mut Body<H, P, T>,
-    pub(crate) ghost label: { ℕ },
+    pub(crate) ghost tag: { ℕ },
 }
 
 impl<H, P: Labelled, T> Model for Out<H, P, T> {
-    ghost also_owns = { λ o. out_owns H.row P.row T.row P.label o.at o.label };
+    ghost also_owns = { λ o. out_owns H.row P.row T.row P.label o.at o.tag };
 }
 
 /// A value in the room of a chunk, with the owner's part.
@@ -30,9 +31,9 @@ pub(crate) struct Block<H, P: Labelled, T> {
 }
 
 impl<H, P: Labelled, T> Model for Block<H, P, T> {
-    ghost also_owns = { λ o. block_owns H.row P.row T.row P.label (place_of o.title) (label_of o.title) o.at o.value };
+    ghost also_owns = { λ o. block_owns H.row P.row T.row P.label (place_of o.title) (tag_of o.title) o.at o.value };
 
-    ghost also_shares = { λ o _ κ. block_shares H.row P.row T.row P.label (label_of o.title) o.at o.value κ };
+    ghost also_shares = { λ o _ κ. block_shares H.row P.row T.row P.label (tag_of o.title) o.at o.value κ };
 }
 
 impl<H, P: Labelled, T> Out<H, P, T> {
@@ -92,7 +93,7 @@ impl<H, P: Labelled, T> Block<H, P, T> {
 
     /// The owner's part, for as long as the block is borrowed.
     pub(crate) fn part(&self) -> &P
-        ensures { P.label result.now ≡ label_of (block_title self.now) }
+        ensures { P.label result.now ≡ left_of (tag_of (block_title self.now)) }
     {
         unsafe { &(*self.at).part }
     }
@@ -113,7 +114,7 @@ impl<H, P: Labelled, T> Block<H, P, T> {
     }
     /// The owner's part by value, and the block without it.
     pub(crate) fn split(self) -> (P, Hull<H, P, T>, Title)
-        ensures { (P.label result.0 ≡ label_of (block_title self)) × (result.1.value ≡ self.value)
+        ensures { (P.label result.0 ≡ left_of (tag_of (block_title self))) × (result.1.value ≡ self.value)
             × (chunk_of result.2 ≡ hull_with result.1) × (result.2 ≡ block_title self) }
     {
         let Block { at, title } = self;
@@ -122,15 +123,15 @@ impl<H, P: Labelled, T> Block<H, P, T> {
     }
 }
 
-/// A value in the room of a chunk that is out, while the owner's part is elsewhere.
+/// A value in the room of a chunk that is out, while the owner's part is elsewhere, with the ticket of the chunk's content.
 pub(crate) struct Hull<H, P: Labelled, T> {
     pub(crate) at: *mut Body<H, P, T>,
-    pub(crate) ghost label: { ℕ },
+    pub(crate) ghost tag: { ℕ },
     pub(crate) ghost value: { T },
 }
 
 impl<H, P: Labelled, T> Model for Hull<H, P, T> {
-    ghost also_owns = { λ o. hull_owns H.row P.row T.row P.label o.at o.label o.value };
+    ghost also_owns = { λ o. hull_owns H.row P.row T.row P.label o.at o.tag o.value };
 
     ghost also_shares = { λ o _ κ. hull_shares H.row P.row T.row P.label o.at o.value κ };
 }
@@ -141,7 +142,7 @@ impl<H, P: Labelled, T> Hull<H, P, T> {
 
     /// The block, with the owner's part in it. It takes no memory and no atomic step.
     pub(crate) fn with(self, title: Title, part: P) -> Block<H, P, T>
-        requires { (chunk_of title ≡ hull_with self) × (P.label part ≡ label_of title) }
+        requires { (chunk_of title ≡ hull_with self) × (P.label part ≡ left_of (tag_of title)) }
         ensures { (result.value ≡ self.value) × (block_title result ≡ title) }
     {
         let Hull { at } = self;

@@ -4,11 +4,14 @@ ghost use Rattle.std.specs.Prelude.{◌≡◌, ℕ, ◌<◌, List, length, IfSom
 ghost use base.Stored.{coded_list};
 ghost use denote.RawPtr.{Ptr, coded_ptr};
 ghost use denote.Sharing.{said};
+ghost use Rattle.seize_content.specs.Stages.{held};
 ghost use Rattle.seize_store.specs.Row.{IsRow, at_entry, fact};
+ghost use Rattle.seize_table.specs.Pairs.{left_of, right_of};
 ghost use Rattle.seize_store.specs.Chunk.{chunk_owns, chunk_shares, remains_own};
 
 use crate::block::Out;
 use crate::strip::Piece;
+use seize_content::Ticket;
 use seize_table::Labelled;
 use std::marker::{Brand, Model};
 use std::sync::atomic::Ordering::SeqCst;
@@ -51,24 +54,27 @@ pub(crate) struct Chunk<H, P: Labelled, T> {
     pub(crate) ghost life: { ℕ },
     pub(crate) ghost out: { ℕ },
     pub(crate) ghost home: { ℕ },
-    pub(crate) ghost label: { ℕ },
+    pub(crate) ghost tag: { ℕ },
     pub(crate) ghost header: { H },
 }
 
 impl<H, P: Labelled, T> Model for Chunk<H, P, T> {
-    ghost also_owns = { λ c. chunk_owns H.row P.row T.row P.label c.label c.life c.out c.home c.at c.header };
+    ghost also_owns = { λ c. chunk_owns H.row P.row T.row P.label c.tag c.life c.out c.home c.at c.header };
 
-    ghost also_shares = { λ c _ κ. chunk_shares H.row P.row T.row P.label c.label c.life c.out c.home c.at c.header κ };
+    ghost also_shares = { λ c _ κ. chunk_shares H.row P.row T.row P.label c.tag c.life c.out c.home c.at c.header κ };
 }
 
 impl<H, P: Labelled, T> Chunk<H, P, T> {
     ghost use Rattle.seize_store.specs.Parts.{chunk_at, lies_with, piece_at, room_with};
 
     /// A chunk that is in.
-    pub(crate) fn of(piece: Piece<H, P, T>, header: H, part: P) -> Chunk<H, P, T>
-        ensures { (chunk_at result ≡ piece_at piece) × (result.header ≡ header) × (result.label ≡ P.label part) }
+    pub(crate) fn of(piece: Piece<H, P, T>, header: H, part: P, ticket: Ticket) -> Chunk<H, P, T>
+        requires { ticket.says ≡ held }
+        ensures { (chunk_at result ≡ piece_at piece) × (result.header ≡ header)
+            × ((left_of result.tag ≡ P.label part) × (right_of result.tag ≡ ticket.name)) }
     {
         let Piece { at } = piece;
+        let Ticket { marker: _ } = ticket;
         unsafe {
             (&raw mut (*at).state).write(0);
             (&raw mut (*at).header).write(header);

@@ -23,7 +23,7 @@ pub struct Known {
     pub ghost store: { List ℕ },
     /// Which row it is.
     pub ghost row: { ℕ },
-    /// Where its chunks lie, and the labels of their headers.
+    /// Where its chunks lie, and their tags: which label the header has, and which content the chunk has.
     pub ghost chunks: { List (Ptr × ℕ) } by { coded_list (coded× coded_ptr coded_ℕ) },
     /// The row has these chunks and no others, and they are of the store's family.
     pub ghost made: { IsRowIn store row chunks },

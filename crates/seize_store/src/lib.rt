@@ -9,6 +9,7 @@ mod family;
 mod identity;
 mod kin;
 mod known;
+mod lender;
 mod maker;
 mod once_of;
 mod owned;

@@ -1,6 +1,7 @@
 //! A row of chunks, and the cells that the rows stand in. It cuts the memory of `strip` into chunks of `chunk`; `store` keeps the rows.
 ghost use Rattle.std.specs.Prelude.{◌≡◌, ◌+◌, ◌^◌, ◌<◌, All, IfOk, IfSome, length};
-ghost use Rattle.seize_store.specs.Known.{AreKin, chunk_in};
+ghost use Rattle.seize_store.specs.Known.{AreKin, label_in, place_in};
+ghost use Rattle.seize_table.specs.Pairs.{left_of, right_of};
 ghost use Rattle.seize_table.specs.Place.{IsPlace};
 ghost use Rattle.seize_table.specs.Table.{number_at};
 
@@ -8,10 +9,12 @@ use crate::chunk::{Base, Body, Chunk};
 use crate::family::Family;
 use crate::identity::Identity;
 use crate::kin::{Kin, NoteOf};
+use crate::lender::Lender;
 use crate::maker::Maker;
 use crate::once_of::OnceOf;
 use crate::seen::Place;
 use crate::strip::{Rooms, Strip};
+use seize_content::Start;
 use seize_table::Labelled;
 use seize_table::thread_id::{BUCKETS, Thread};
 use std::alloc::{AllocError, Global};
@@ -19,16 +22,24 @@ use std::array;
 use std::marker::Model;
 use std_alloc::room::may_hold;
 
-/// A chunk that is closed when its store lets it go.
+/// A chunk that is closed when its store lets it go, and its content.
 pub(crate) struct Kept<H: Labelled + Drop, P: Labelled + Drop, T> {
     pub(crate) chunk: Chunk<H, P, T>,
+    pub(crate) lender: Lender<H, P, T>,
     alloc: Global,
-    ghost labelled: { chunk.label ≡ H.label chunk.header },
+    ghost labelled: { left_of chunk.tag ≡ H.label chunk.header },
+    ghost named: { right_of chunk.tag ≡ lender.name },
+    ghost place: { lender.at ≡ chunk.at },
+    ghost tag: { lender.tag ≡ chunk.tag },
 }
 
 impl<H: Labelled + Drop, P: Labelled + Drop, T> Drop for Kept<H, P, T> {
     fn drop(self) {
-        let Self { chunk, alloc } = self;
+        let Self {
+            chunk,
+            lender: _,
+            alloc,
+        } = self;
         let (header, remains) = chunk.close();
         if let Some(remains) = remains {
             let (part, piece) = remains.take();
@@ -39,7 +50,7 @@ impl<H: Labelled + Drop, P: Labelled + Drop, T> Drop for Kept<H, P, T> {
     }
 }
 
-/// The chunks of a row, seen as the list of where they lie, one after the other from `base` on, with the labels of their headers.
+/// The chunks of a row, seen as the list of where they lie, one after the other from `base` on, with their tags.
 #[derive(Drop)]
 pub(crate) struct Row<H: Labelled + Drop, P: Labelled + Drop, T> {
     pub(crate) base: Base<H, P, T>,
@@ -55,7 +66,7 @@ impl<H: Labelled + Drop, P: Labelled + Drop, T> Model for Row<H, P, T> {
 
     ghost coded = { coded_list (coded× coded_ptr coded_ℕ) };
 
-    ghost view = { λ r. map (λ k. (k.chunk.at, H.label k.chunk.header)) r.chunks.items };
+    ghost view = { λ r. map (λ k. (k.chunk.at, k.chunk.tag)) r.chunks.items };
 
     ghost invariant = { λ r. r.base.places ≡ map (λ k. k.chunk.at) r.chunks.items };
 }
@@ -96,8 +107,14 @@ impl<H: Labelled + Drop, P: Labelled + Drop, T> Row<H, P, T> {
             let (piece, rest) = strip.cut();
             strip = rest;
             let (header, part) = maker.make(number_at_place(bucket, entry));
-            let chunk = Chunk::of(piece, header, part);
-            chunks.push_reserved(Kept { chunk, alloc });
+            let (start, ticket) = Start::new();
+            let chunk = Chunk::of(piece, header, part, ticket);
+            let lender = Lender::of(&chunk, start);
+            chunks.push_reserved(Kept {
+                chunk,
+                lender,
+                alloc,
+            });
         }
         Ok(Row { base, chunks })
     }
@@ -112,7 +129,7 @@ impl<H: Labelled + Drop, P: Labelled + Drop, T> Row<H, P, T> {
     /// The chunk at that entry, and its header.
     pub(crate) fn chunk(&self, entry: usize) -> Place<'_, H, P, T>
         requires { entry < length self.now }
-        ensures { (lies_of result, H.label (header_of result)) ≡ chunk_in self.now entry }
+        ensures { (lies_of result ≡ place_in self.now entry) × (H.label (header_of result) ≡ label_in self.now entry) }
     {
         let chunk = &self.chunks[entry].chunk;
         let header = chunk.header_by(&self.base, entry);

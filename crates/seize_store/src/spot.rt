@@ -14,7 +14,7 @@ use seize_table::Labelled;
 pub(crate) struct Spot<H, P: Labelled + Drop, T> {
     pub(crate) out: Out<H, P, T>,
     pub(crate) title: Title,
-    pub(crate) ghost titled: { chunk_of title ≡ (out.at, out.label) },
+    pub(crate) ghost titled: { chunk_of title ≡ (out.at, out.tag) },
 }
 
 impl<H, P: Labelled + Drop, T> Spot<H, P, T> {

@@ -17,7 +17,7 @@ use denote.Triple.Walked.{Goes-spent_ref}
 use Rattle.seize_store.specs.Body.{room_at, rest}
 use Rattle.seize_store.specs.Chunk.{held, Inv}
 use Rattle.seize_store.specs.Lends.{with_value}
-use Rattle.seize_store.specs.Titled.{label_of, place_of}
+use Rattle.seize_store.specs.Titled.{tag_of, place_of}
 use Rattle.seize_table.specs.declared.labelled.Labelled.{Ghosts}
 use Rattle.seize_store.specs.contracts.block.Block as block
 use Rattle.seize_store.specs.contracts.known.Title as title
@@ -33,7 +33,7 @@ module _ (X U R : RattleType) (gp : Ghosts U.Denot) (d : (block.the_row X U R gp
 
   -- all of the block but its value
   abbrev Besides : Fml
-  Besides = fsep (fsep (out t.1.0) (fsep (held X U R b o gp.label (label_of d.title)) (rest X U R b o))) (fsep (finv (Inv X U R b o gp.label (label_of d.title) t.0 t.1.0 t.1.1))
+  Besides = fsep (fsep (out t.1.0) (fsep (held X U R b o gp.label (tag_of d.title)) (rest X U R b o))) (fsep (finv (Inv X U R b o gp.label (tag_of d.title) t.0 t.1.0 t.1.1))
       (fsep (title.the_row.own_val d.title (h ∷ [])) (cell_at full_share Row.mir (both (vptr b o) h ∷ []) rb ro)))
 
   back : {M : Type 1} {𝓤 : Ura M} (𝓛 : Logic 𝓤) → d.at ≡ block_ptr b o → place_of d.title ≡ block_ptr b o → (w : R.Denot)

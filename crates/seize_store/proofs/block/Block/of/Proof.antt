@@ -35,7 +35,7 @@ of_spec 𝓤 𝓛 𝓜 𝓡 wired Y W Z LY LW LZ gp dp met =
     proved_at 𝓛 En hs c 𝓜 𝓡 (Goes-dropped 𝓛 3 (plain (λ _. Row)) no (λ κs x f. refl), (Goes-blank 𝓛 3 (plain (λ _. N)) yes (λ κs x f. tt), (Goes-dropped 𝓛 3 (plain (λ _. R)) no (λ κs x f. refl), tt))) (#self inst) fn (code.unfolded 𝓤 H 𝓜 𝓡 wired (Y, (W, (Z, tt))) dp) (λ z are.
     let κs = z.0.0 in let qs = z.0.1 in let d = z.0.3.0 in let n = z.0.3.1.0 in let x : Z.Denot = z.0.3.1.1.0 in let Post : Val → SProp 𝓤 = (walk_of 𝓛 En hs c).post z in let Run : List Val → SProp 𝓤 = λ ws. WpFn 𝓤 H 𝓣.C 𝓣.Λ fn ws Post in
     let toks = ‵ (flft κs.0 qs.0) ⊛ ‵ (flft κs.1.0 qs.1.0) ⊛ ‵ (flft κs.1.1.0 qs.1.1.0) ⊛ ‵ ftrue in let got = one T z.0.4.1.1.0 (((param_laws 2 Z LZ).lawful 𝓛).typed x z.0.4.1.1.0 are.1.1.0) in let v : Val = got.0 in
-    let was = one (layout N) z.0.4.1.0 ((title_laws.the_row_laws.lawful 𝓛).typed n z.0.4.1.0 are.1.0) in let h : Val = was.0 in let Asked : Type 0 = chunk_of n ≡ (d.at, d.label) in
+    let was = one (layout N) z.0.4.1.0 ((title_laws.the_row_laws.lawful 𝓛).typed n z.0.4.1.0 are.1.0) in let h : Val = was.0 in let Asked : Type 0 = chunk_of n ≡ (d.at, d.tag) in
     qed 𝓛 ((toks ⊛ ‵ (owns (types_at En.signature.params κs) z.0.3 z.0.4)) ∷ raw (fact 𝓤 _) ∷ raw (fact 𝓤 _) ∷ raw (fact 𝓤 _) ∷ raw (fact 𝓤 Asked) ∷ []) ∵ move ! (4 ∷ []) $ heard ! Asked (λ asked. keep ! (0 ∷ []) $ split ! $ move ! (1 ∷ []) $ fsplit ! $ room_out X U R gp ! d z.0.4.0 (λ b o t e ws. move ! (1 ∷ []) $ fsplit3 ! $
     rewrite ! 0 (λ (vs : List Val). ‵ (N.own_val n vs)) was.1 refl $ rewrite ! 1 (λ (vs : List Val). ‵ (R.own_val x vs)) got.1 refl $ move ! (3 ∷ []) $ rewrite ! 0 (λ (k : ℕ). ‵ (empty X U R b o gp.label k t)) (sym (ap (λ (c : Ptr × ℕ). c.1) asked)) refl $ fsplit ! $ fsplit3 ! $ move ! (2 ∷ []) $ fsplit ! $ let at : ℕ = room_at X U R o in use1 𝓛 (‵ (froom T b at)) (𝓛.laws.raw-room T b at) $
     -- [the content's room; the rest; the right's name; the owner's part; the invariant; the title; the value; nothing; the tokens]

@@ -20,8 +20,9 @@ use Rattle.once_cell.proofs.Values.{both_tt}
 use mir.Val.{has_ty}
 use types.Kit.{drop, fpick, learn}
 use types.Run.{look}
+use Rattle.seize_table.specs.Pairs.{left_of}
 use Rattle.seize_store.specs.Body.{owner_at, owner_room}
-use Rattle.seize_store.specs.Titled.{chunk_of, label_of}
+use Rattle.seize_store.specs.Titled.{chunk_of, tag_of}
 use Rattle.seize_store.specs.contracts.block.Hull as hull
 use Rattle.seize_store.specs.contracts.block.Block as block
 use Rattle.seize_store.specs.contracts.known.Title as title
@@ -39,9 +40,9 @@ split_spec 𝓤 𝓛 𝓜 𝓡 wired Y W Z LY LW LZ gp dp met =
     proved_at 𝓛 En hs c 𝓜 𝓡 (Goes-blank 𝓛 3 (plain (λ _. Row)) no (λ κs x f. tt), tt) (#self inst) fn (code.unfolded 𝓤 H 𝓜 𝓡 wired (Y, (W, (Z, tt))) dp) (λ z are.
     let κs = z.0.0 in let qs = z.0.1 in let d = z.0.3.0 in let n = d.title in let x : Z.Denot = d.value in let Post : Val → SProp 𝓤 = (walk_of 𝓛 En hs c).post z in let Run : List Val → SProp 𝓤 = λ ws. WpFn 𝓤 H 𝓣.C 𝓣.Λ fn ws Post in
     let toks = ‵ (flft κs.0 qs.0) ⊛ ‵ (flft κs.1.0 qs.1.0) ⊛ ‵ (flft κs.1.1.0 qs.1.1.0) ⊛ ‵ ftrue in
-    qed 𝓛 ((toks ⊛ ‵ (owns (types_at En.signature.params κs) z.0.3 z.0.4)) ∷ raw ((c κs z.0.3).requires z.1) ∷ []) ∵ split ! $ move ! (1 ∷ []) $ fsplit ! $ block_out X U R gp ! d z.0.4.0 (λ b o t h e en ws fits. fsplit ! $ fsplit3 ! $ move ! (1 ∷ []) $ fpick ! (λ u. fsplit ! $ fpick ! (λ so. drop ! $ let at : ℕ = owner_at X U R o in
+    qed 𝓛 ((toks ⊛ ‵ (owns (types_at En.signature.params κs) z.0.3 z.0.4)) ∷ raw ((c κs z.0.3).requires z.1) ∷ []) ∵ split ! $ move ! (1 ∷ []) $ fsplit ! $ block_out X U R gp ! d z.0.4.0 (λ b o t h e en ws fits. fsplit ! $ fsplit3 ! $ move ! (1 ∷ []) $ fpick ! (λ u. fsplit ! $ fpick ! (λ so. drop ! $ fsplit ! $ move ! (0 ∷ 2 ∷ 3 ∷ 4 ∷ 1 ∷ []) $ let at : ℕ = owner_at X U R o in
     use1 𝓛 (some (λ (y : Val). ‵ (fat full_share T b at y) ⊛ ‵ (U.own_val u (y ∷ [])))) (part_out 𝓛 U refl full_share u b at) $ pick ! (λ v. split ! $ use1 𝓛 (given (Good T v) (‵ (fat full_share T b at v))) (𝓛.laws.at_wt full_share T b at v) $ learn ! (λ fv.
-    -- [the part's cell; the part; the right's name; the value with the rest; the invariant; the title; nothing; the tokens; a fact]
+    -- [the part's cell; the part; the right's name; the value with the rest; the invariant; the ticket; the title; nothing; the tokens; a fact]
     let w : Val = both (vptr b o) h in let p : Ptr = block_ptr b o in
     suffices ! (Run (w ∷ [])) (subst (λ (us : List Val). ent 𝓤 (Run (w ∷ [])) (Run us)) (sym (λ i. ws i ++ [])) (id⊢ 𝓤 (Run (w ∷ [])))) $
     enter ! 𝓣.C 𝓣.Λ fn (w ∷ []) Post $ alloc_all ! (λ l. pass_all ! refl (block_good b o h fits, tt) $ let Ev = env fn.locals l in
@@ -50,10 +51,10 @@ split_spec 𝓤 𝓛 𝓜 𝓡 wired Y W Z LY LW LZ gp dp met =
     sets ! (agg ! (and_then ! (get ! refl) (no_more !))) refl (single_good b o) $ sets ! (of_opd ! (get ! refl)) refl fits $ let k : Val = single (vptr b o) in let all : Val = vstruct (vcons v (vcons k (vcons h vnil))) in
     sets ! (agg ! (and_then ! (get ! refl) (and_then ! (get ! refl) (and_then ! (get ! refl) (no_more !))))) refl (both_tt (has_ty T v) (has_ty (layout N) h) fv.0 fits.0, (fv.1, ((tt, tt), (fits.1, tt)))) $
     use1 𝓛 (‵ (froom T b at)) (𝓛.laws.at_room T b at v) $ use1 𝓛 (‵ (owner_room X U R b o)) (𝓛.laws.room-raw T b at) $
-    move ! (0 ∷ 3 ∷ []) $ fjoin ! $ move ! (2 ∷ 0 ∷ []) $ fjoin ! $ move ! (0 ∷ 2 ∷ []) $ fjoin ! $ hull_in X U R gp ! b o (label_of n) x t $ let r : C.Denot = record { at = p; label = label_of n; value = x } in
+    move ! (0 ∷ 3 ∷ []) $ fjoin ! $ move ! (2 ∷ 0 ∷ []) $ fjoin ! $ move ! (0 ∷ 2 ∷ []) $ fjoin ! $ move ! (0 ∷ 2 ∷ []) $ hull_in X U R gp ! b o (tag_of n) x t $ let r : C.Denot = record { at = p; tag = tag_of n; value = x } in
     -- [the hull; the part; the title; nothing; the tokens; a fact]
     nothing ! $ move ! (3 ∷ 0 ∷ []) $ fjoin ! $ move ! (1 ∷ 0 ∷ []) $ fjoin ! $ move ! (1 ∷ 0 ∷ []) $ fjoin ! $ feq_i ! (List Val) (all ∷ []) (all ∷ []) refl $ fjoin ! $
     fpack ! (Valss (U ∷ C ∷ N ∷ [])) (within (declared.shape (tuple_type (U ∷ C ∷ N ∷ []))) (u, (r, (n, tt))) (all ∷ [])) (v ∷ [], (k ∷ [], (h ∷ [], tt))) $
-    let Told : Type 0 = (gp.label u ≡ label_of n) × (x ≡ x) × (chunk_of n ≡ (p, label_of n)) × (n ≡ n) in use0 𝓛 (raw (fact 𝓤 Told)) (fact_i 𝓤 Told (emp 𝓤) (so, refl, ap (λ (q : Ptr). (q, label_of n)) en, refl)) $
+    let Told : Type 0 = (gp.label u ≡ left_of (tag_of n)) × (x ≡ x) × (chunk_of n ≡ (p, tag_of n)) × (n ≡ n) in use0 𝓛 (raw (fact 𝓤 Told)) (fact_i 𝓤 Told (emp 𝓤) (so, refl, ap (λ (q : Ptr). (q, tag_of n)) en, refl)) $
     nothing ! $ nothing ! $ fjoin ! $
     returns ! (look_at ! 0 refl) $ free_all ! refl $ keep ! (4 ∷ 0 ∷ 2 ∷ 1 ∷ []) $ by ! (leaves 𝓛 En hs c z all (u, r, n) ((tt, ((tt, (tt, (tt, tt))), tt)), tt) (tt, tt)))))))))

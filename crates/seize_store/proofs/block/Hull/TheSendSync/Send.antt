@@ -9,5 +9,5 @@ use Rattle.seize_store.specs.contracts.block.Hull.{the_row, the_type}
 use Rattle.seize_store.proofs.Sends.{hull_owned}
 
 pub send : (X U T : RattleType) (g : Ghosts U.Denot) → IsSend U → IsSend T → IsSend (the_row X U T g)
-send X U T g u s = let O = the_type X U T g in let ps : IsSend RawPtr = search sendable in owning_send O (ps, tt) (λ d. hull_owned X U T g.label u s d.at d.label d.value)
+send X U T g u s = let O = the_type X U T g in let ps : IsSend RawPtr = search sendable in owning_send O (ps, tt) (λ d. hull_owned X U T g.label u s d.at d.tag d.value)
     (λ k. quiet (to O) (exits_of k (fields O)) ((struct_send (shape O) (ps, tt)).leaving k))

@@ -9,5 +9,5 @@ use Rattle.seize_store.specs.contracts.block.Out.{the_row, the_type}
 use Rattle.seize_store.proofs.Sends.{out_owned}
 
 pub send : (X U T : RattleType) (g : Ghosts U.Denot) → IsSend U → IsSend (the_row X U T g)
-send X U T g u = let O = the_type X U T g in let ps : IsSend RawPtr = search sendable in owning_send O (ps, tt) (λ d. out_owned X U T g.label u d.at d.label)
+send X U T g u = let O = the_type X U T g in let ps : IsSend RawPtr = search sendable in owning_send O (ps, tt) (λ d. out_owned X U T g.label u d.at d.tag)
     (λ k. quiet (to O) (exits_of k (fields O)) ((struct_send (shape O) (ps, tt)).leaving k))

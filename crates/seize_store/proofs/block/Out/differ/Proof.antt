@@ -30,13 +30,13 @@ differ_spec 𝓤 𝓛 𝓜 𝓡 wired Y W Z LY LW LZ gp dp met =
     let toks = ‵ (flft κs.0 qs.0) ⊛ ‵ (flft κs.1.0 qs.1.0) ⊛ ‵ (flft κs.1.1.0 qs.1.1.0) ⊛ ‵ ftrue in
     qed 𝓛 ((toks ⊛ ‵ (owns (types_at En.signature.params κs) z.0.3 z.0.4)) ∷ raw ((c κs z.0.3).requires z.1) ∷ []) ∵ split ! $ move ! (1 ∷ []) $ fsplit ! $ room_out X U R gp ! d z.0.4.0 (λ b o t e ws. move ! (1 ∷ []) $ fsplit ! $ room_out X U R gp ! d' z.0.4.1.0 (λ b' o' u e' ws'.
     -- [the second; nothing; the first; the tokens; a fact]
-    let w : Val = single (vptr b o) in let v : Val = single (vptr b' o') in let Vs : List Val = w ∷ v ∷ [] in let So : Type 0 = block_ptr b o ≡ block_ptr b' o' → ⊥ in let r : Row.Denot = record { at = block_ptr b o; label = d.label } in let r' : Row.Denot = record { at = block_ptr b' o'; label = d'.label } in
-    move ! (2 ∷ 0 ∷ []) $ use2 𝓛 (given So (‵ (empty X U R b o gp.label d.label t) ⊛ ‵ (empty X U R b' o' gp.label d'.label u))) (fact_use 𝓤 So (apart X U R gp.label 𝓛 𝓜 b o (d.label, t) b' o' (d'.label, u)) (λ so. guard_i 𝓤 So _ so)) $ learn ! (λ so. split ! $
+    let w : Val = single (vptr b o) in let v : Val = single (vptr b' o') in let Vs : List Val = w ∷ v ∷ [] in let So : Type 0 = block_ptr b o ≡ block_ptr b' o' → ⊥ in let r : Row.Denot = record { at = block_ptr b o; tag = d.tag } in let r' : Row.Denot = record { at = block_ptr b' o'; tag = d'.tag } in
+    move ! (2 ∷ 0 ∷ []) $ use2 𝓛 (given So (‵ (empty X U R b o gp.label d.tag t) ⊛ ‵ (empty X U R b' o' gp.label d'.tag u))) (fact_use 𝓤 So (apart X U R gp.label 𝓛 𝓜 b o (d.tag, t) b' o' (d'.tag, u)) (λ so. guard_i 𝓤 So _ so)) $ learn ! (λ so. split ! $
     suffices ! (Run Vs) (subst (λ (us : List Val). ent 𝓤 (Run Vs) (Run us)) (sym (λ i. ws i ++ (ws' i ++ []))) (id⊢ 𝓤 (Run Vs))) $
     enter ! 𝓣.C 𝓣.Λ fn Vs Post $ alloc_all ! (λ l. pass_all ! refl (single_good b o, (single_good b' o', tt)) $ let pair : Val = pair_val w v in
     sets ! (of_opd ! (get_in ! (fld ! refl (stop !)) (sub ! 0 refl (whole !)))) refl (tt, tt) $ sets ! (of_opd ! (get_in ! (fld ! refl (stop !)) (sub ! 0 refl (whole !)))) refl (tt, tt) $
     sets ! (agg ! (and_then ! (get ! refl) (no_more !))) refl (single_good b o) $ sets ! (agg ! (and_then ! (get ! refl) (no_more !))) refl (single_good b' o') $
     sets ! (agg ! (and_then ! (get ! refl) (and_then ! (get ! refl) (no_more !)))) refl (pair_Typed (layout Row) (layout Row) w v (single_good b o) (single_good b' o')) $
-    room_in X U R gp ! b o d.label t $ move ! (1 ∷ []) $ room_in X U R gp ! b' o' d'.label u $ move ! (1 ∷ 0 ∷ []) $ use2 𝓛 (‵ (Two.own_val (r, r') (pair ∷ []))) (pair_of 𝓛 Row Row r r' w v) $
-    let Told : Type 0 = ((block_ptr b o, d.label) ≡ (d.at, d.label)) × ((block_ptr b' o', d'.label) ≡ (d'.at, d'.label)) × (d.at ≡ d'.at → ⊥) in use0 𝓛 (raw (fact 𝓤 Told)) (fact_i 𝓤 Told (emp 𝓤) (ap (λ (s : Ptr). (s, d.label)) (sym e), ap (λ (s : Ptr). (s, d'.label)) (sym e'), λ q. so (sym e ∙ (q ∙ e')))) $ nothing ! $ nothing ! $ fjoin ! $ nothing ! $ fjoin ! $
+    room_in X U R gp ! b o d.tag t $ move ! (1 ∷ []) $ room_in X U R gp ! b' o' d'.tag u $ move ! (1 ∷ 0 ∷ []) $ use2 𝓛 (‵ (Two.own_val (r, r') (pair ∷ []))) (pair_of 𝓛 Row Row r r' w v) $
+    let Told : Type 0 = ((block_ptr b o, d.tag) ≡ (d.at, d.tag)) × ((block_ptr b' o', d'.tag) ≡ (d'.at, d'.tag)) × (d.at ≡ d'.at → ⊥) in use0 𝓛 (raw (fact 𝓤 Told)) (fact_i 𝓤 Told (emp 𝓤) (ap (λ (s : Ptr). (s, d.tag)) (sym e), ap (λ (s : Ptr). (s, d'.tag)) (sym e'), λ q. so (sym e ∙ (q ∙ e')))) $ nothing ! $ nothing ! $ fjoin ! $ nothing ! $ fjoin ! $
     returns ! (look_at ! 0 refl) $ free_all ! refl $ keep ! (4 ∷ 0 ∷ 2 ∷ 1 ∷ []) $ by ! (leaves 𝓛 En hs c z pair (r, r') (tt, (tt, tt)) (tt, (tt, tt))))))))

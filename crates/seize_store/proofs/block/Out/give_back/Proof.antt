@@ -35,20 +35,20 @@ give_back_spec 𝓤 𝓛 𝓜 𝓡 wired Y W Z LY LW LZ gp dp met =
     let toks = ‵ (flft κs.0 qs.0) ⊛ ‵ (flft κs.1.0 qs.1.0) ⊛ ‵ (flft κs.1.1.0 qs.1.1.0) ⊛ ‵ ftrue in
     qed 𝓛 ((toks ⊛ ‵ (owns (types_at En.signature.params κs) z.0.3 z.0.4)) ∷ raw ((c κs z.0.3).requires z.1) ∷ []) ∵ split ! $ move ! (1 ∷ []) $ fsplit ! $ room_out X U R gp ! d z.0.4.0 (λ b o t e ws. fsplit ! $
     -- [the right; the invariant; nothing; the tokens; a fact]
-    let a = t.0 in let δ = t.1.0 in let η = t.1.1 in let w : Val = single (vptr b o) in let out : ℕ → Fml = steps.after_give 𝓛 X U R b o gp.label d.label a δ η in
+    let a = t.0 in let δ = t.1.0 in let η = t.1.1 in let w : Val = single (vptr b o) in let out : ℕ → Fml = steps.after_give 𝓛 X U R b o gp.label d.tag a δ η in
     suffices ! (Run (w ∷ [])) (subst (λ (us : List Val). ent 𝓤 (Run (w ∷ [])) (Run us)) (sym (λ i. ws i ++ [])) (id⊢ 𝓤 (Run (w ∷ [])))) $
     enter ! 𝓣.C 𝓣.Λ fn (w ∷ []) Post $ alloc_all ! (λ l. pass_all ! refl (single_good b o, tt) $ let Ev = env fn.locals l in
     sets ! (of_opd ! (get_in ! (fld ! refl (stop !)) (sub ! 0 refl (whole !)))) refl (tt, tt) $ first ! $ blocks ! $ sets ! (addr ! (through ! refl (fld ! refl (stop !)))) refl (tt, tt) $
     move ! (1 ∷ 0 ∷ []) $ use2 𝓛 (raw (𝓣.C _ (vptr b (o + 0) ∷ vint w64 0 ∷ seq_cst ∷ []) (λ u. mean 𝓛 (found out u))))
-    (via 𝓤 _ (steps.gives 𝓛 X U R b o gp.label d.label a δ η) (swaps 𝓛 𝓜 𝓡 (code.calls-core::raw_atomic::swap 𝓡.env wired) (block_ptr b (o + 0)) 0 (lit< tt) out)) $
+    (via 𝓤 _ (steps.gives 𝓛 X U R b o gp.label d.tag a δ η) (swaps 𝓛 𝓜 𝓡 (code.calls-core::raw_atomic::swap 𝓡.env wired) (block_ptr b (o + 0)) 0 (lit< tt) out)) $
     sets ! (agg ! (and_then ! (lit ! tt) (no_more !))) refl (tt, (record { fits = lit< tt }, tt)) $
     Calls-last ! (fm 𝓛 𝓜 𝓡) (found out) (and_then ! (get ! refl) (and_then ! (lit ! tt) (and_then ! (get ! refl) (no_more !)))) (λ u. finds ! out (λ n fits. lands_last ! refl (tt, record { fits = fits }) $ exec ! 𝓣.C 𝓣.Λ Ev (after 2 fn.body) (at_ret Ev Post) $
     -- [what was gained; nothing; the tokens; a fact]
     sets ! (of_opd ! (get ! refl)) refl (tt, record { fits = fits }) $ sets ! (bin ! (get ! refl) (lit ! tt) tt) refl (tt, tt) $ first ! $ branches ! (get ! refl)
     (λ hit. let v : Val = single (vptr b o) in let val : Val = live 1 (vcons v vnil) in let r : C.Denot = record { at = block_ptr b o } in
     let good : Good (layout (OptionOf C)) val = (tt, (record { fits = lit< tt }, ((tt, tt), tt))) in
-    rewrite ! 0 (λ (m : ℕ). ‵ (steps.after_give 𝓛 X U R b o gp.label d.label a δ η m)) (eqb→eq n 2 hit) refl $ fsplit ! $
-    use2 𝓛 (‵ (remains X U R b o)) (memory.gathers X U R 𝓛 b o gp.label d.label 0) $ remains_in X U R ! b o $
+    rewrite ! 0 (λ (m : ℕ). ‵ (steps.after_give 𝓛 X U R b o gp.label d.tag a δ η m)) (eqb→eq n 2 hit) refl $ fsplit ! $
+    use2 𝓛 (‵ (remains X U R b o)) (memory.gathers X U R 𝓛 b o gp.label d.tag 0) $ remains_in X U R ! b o $
     sets ! (of_opd ! (get ! refl)) refl (tt, tt) $ sets ! (agg ! (and_then ! (get ! refl) (no_more !))) refl (single_good b o) $
     sets_last ! (agg ! (and_then ! (lit ! tt) (and_then ! (get ! refl) (no_more !)))) refl good $ exec ! 𝓣.C 𝓣.Λ Ev (after 5 fn.body) (at_ret Ev Post) $ sets ! (of_opd ! (get ! refl)) refl good $
     use1 𝓛 (‵ ((OptionOf C).own_val (Some r) (val ∷ []))) (Some-of 𝓛 C r v) $ nothing ! $ nothing ! $ nothing ! $ fjoin ! $

@@ -9,5 +9,5 @@ use Rattle.seize_store.specs.contracts.chunk.Chunk.{the_row, the_type}
 use Rattle.seize_store.proofs.Sends.{chunk_owned}
 
 pub send : (X U T : RattleType) (g : Ghosts U.Denot) → IsSend X → IsSend U → IsSend (the_row X U T g)
-send X U T g s u = let O = the_type X U T g in let ps : IsSend RawPtr = search sendable in owning_send O (ps, tt) (λ d. chunk_owned X U T g.label s u d.label d.life d.out d.home d.at d.header)
+send X U T g s u = let O = the_type X U T g in let ps : IsSend RawPtr = search sendable in owning_send O (ps, tt) (λ d. chunk_owned X U T g.label s u d.tag d.life d.out d.home d.at d.header)
     (λ k. quiet (to O) (exits_of k (fields O)) ((struct_send (shape O) (ps, tt)).leaving k))

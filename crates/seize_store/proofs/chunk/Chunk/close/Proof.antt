@@ -44,23 +44,23 @@ close_spec 𝓤 𝓛 𝓜 𝓡 wired Y W Z LY LW LZ gp dp met =
     qed 𝓛 ((toks ⊛ ‵ (owns (types_at En.signature.params κs) z.0.3 z.0.4)) ∷ raw ((c κs z.0.3).requires z.1) ∷ []) ∵ split ! $ move ! (1 ∷ []) $ fsplit ! $ chunk_out X U R gp ! d z.0.4.0 (λ b o e ws. fsplit ! $ let at : ℕ = header_at X U R o in let T = layout Y in
     use1 𝓛 (some (λ (u : Val). ‵ (fat full_share T b at u) ⊛ ‵ (X.own_val x (u ∷ [])))) (part_out 𝓛 X refl full_share x b at) $ pick ! (λ v. split ! $ use1 𝓛 (given (Good T v) (‵ (fat full_share T b at v))) (𝓛.laws.at_wt full_share T b at v) $ learn ! (λ fv. move ! (2 ∷ []) $ fsplit ! $
     -- [the store's side; the invariant; the header's cell; the header; the handle; nothing; the tokens; a fact]
-    let a = d.life in let δ = d.out in let η = d.home in let w : Val = single (vptr b o) in let out : ℕ → Fml = steps.after_close 𝓛 X U R b o gp.label d.label a δ η in let going : Fml = legacy X U R b o gp.label d.label a δ η in
+    let a = d.life in let δ = d.out in let η = d.home in let w : Val = single (vptr b o) in let out : ℕ → Fml = steps.after_close 𝓛 X U R b o gp.label d.tag a δ η in let going : Fml = legacy X U R b o gp.label d.tag a δ η in
     suffices ! (Run (w ∷ [])) (subst (λ (us : List Val). ent 𝓤 (Run (w ∷ [])) (Run us)) (sym (λ i. ws i ++ [])) (id⊢ 𝓤 (Run (w ∷ [])))) $
     enter ! 𝓣.C 𝓣.Λ fn (w ∷ []) Post $ alloc_all ! (λ l. pass_all ! refl (single_good b o, tt) $ let Ev = env fn.locals l in
     sets ! (of_opd ! (get_in ! (fld ! refl (stop !)) (sub ! 0 refl (whole !)))) refl (tt, tt) $ first ! $ blocks ! $ sets ! (addr ! (through ! refl (fld ! refl (stop !)))) refl (tt, tt) $
     sets_last ! (of_opd ! (load ! (through ! refl (stop !)) (look ! 2 refl))) refl fv $ exec ! 𝓣.C 𝓣.Λ Ev (after 2 fn.body) (at_ret Ev Post) $ sets ! (of_opd ! (get ! refl)) refl fv $
     move ! (2 ∷ []) $ use1 𝓛 (‵ (froom T b at)) (𝓛.laws.at_room T b at v) $ use1 𝓛 (‵ (header_room X U R b o)) (𝓛.laws.room-raw T b at) $ move ! (1 ∷ 0 ∷ []) $
-    use2 𝓛 (later (‵ going)) (steps.ends 𝓛 X U R b o gp.label d.label a δ η) $ await ! tt $ first ! $ blocks ! $ sets ! (addr ! (through ! refl (fld ! refl (stop !)))) refl (tt, tt) $
+    use2 𝓛 (later (‵ going)) (steps.ends 𝓛 X U R b o gp.label d.tag a δ η) $ await ! tt $ first ! $ blocks ! $ sets ! (addr ! (through ! refl (fld ! refl (stop !)))) refl (tt, tt) $
     move ! (1 ∷ 0 ∷ []) $ use2 𝓛 (raw (𝓣.C _ (vptr b (o + 0) ∷ vint w64 2 ∷ seq_cst ∷ []) (λ u. mean 𝓛 (found out u))))
-    (via 𝓤 _ (steps.closes 𝓛 X U R b o gp.label d.label a δ η) (swaps 𝓛 𝓜 𝓡 (code.calls-core::raw_atomic::swap 𝓡.env wired) (block_ptr b (o + 0)) 2 (lit< tt) out)) $
+    (via 𝓤 _ (steps.closes 𝓛 X U R b o gp.label d.tag a δ η) (swaps 𝓛 𝓜 𝓡 (code.calls-core::raw_atomic::swap 𝓡.env wired) (block_ptr b (o + 0)) 2 (lit< tt) out)) $
     sets ! (agg ! (and_then ! (lit ! tt) (no_more !))) refl (tt, (record { fits = lit< tt }, tt)) $
     Calls-last ! (fm 𝓛 𝓜 𝓡) (found out) (and_then ! (get ! refl) (and_then ! (lit ! tt) (and_then ! (get ! refl) (no_more !)))) (λ u. finds ! out (λ n fits. lands_last ! refl (tt, record { fits = fits }) $ exec ! 𝓣.C 𝓣.Λ Ev (after 4 fn.body) (at_ret Ev Post) $
     -- [what was gained; the header; the handle; nothing; the tokens; a fact]
     sets ! (of_opd ! (get ! refl)) refl (tt, record { fits = fits }) $ sets ! (bin ! (get ! refl) (lit ! tt) tt) refl (tt, tt) $ first ! $ branches ! (get ! refl)
     (λ hit. let r : C.Denot = record { at = block_ptr b o } in let k : Val = single (vptr b o) in let val : Val = live 1 (vcons k vnil) in
     let good : Good (layout Opt) val = (tt, (record { fits = lit< tt }, ((tt, tt), tt))) in let pair : Val = pair_val v val in let all = pair_Typed T (layout Opt) v val fv good in
-    rewrite ! 0 (λ (m : ℕ). ‵ (steps.after_close 𝓛 X U R b o gp.label d.label a δ η m)) (eqb→eq n 0 hit) refl $ fsplit ! $
-    use2 𝓛 (‵ (remains X U R b o)) (memory.gathers X U R 𝓛 b o gp.label d.label 2) $ remains_in X U R ! b o $
+    rewrite ! 0 (λ (m : ℕ). ‵ (steps.after_close 𝓛 X U R b o gp.label d.tag a δ η m)) (eqb→eq n 0 hit) refl $ fsplit ! $
+    use2 𝓛 (‵ (remains X U R b o)) (memory.gathers X U R 𝓛 b o gp.label d.tag 2) $ remains_in X U R ! b o $
     use1 𝓛 (‵ (Opt.own_val (Some r) (val ∷ []))) (Some-of 𝓛 C r k) $ move ! (1 ∷ 0 ∷ []) $ use2 𝓛 (‵ (Two.own_val (x, Some r) (pair ∷ []))) (pair_of 𝓛 X Opt x (Some r) v val) $
     sets ! (of_opd ! (get ! refl)) refl fv $ sets ! (of_opd ! (get ! refl)) refl (tt, tt) $ sets ! (agg ! (and_then ! (get ! refl) (no_more !))) refl (single_good b o) $
     sets ! (agg ! (and_then ! (lit ! tt) (and_then ! (get ! refl) (no_more !)))) refl good $ sets_last ! (agg ! (and_then ! (get ! refl) (and_then ! (get ! refl) (no_more !)))) refl all $

@@ -50,8 +50,8 @@ header_by_spec 𝓤 𝓛 𝓜 𝓡 wired Y W Z LY LW LZ gp dp met =
     let y : (walk_of 𝓛 En hs c).Ghost = ((κs, qs, bounds, a, (vptr rb ro ∷ [], (vptr wb wo ∷ [], (vint w64 n ∷ [], tt)))), gh) in let Post : Val → SProp 𝓤 = (walk_of 𝓛 En hs c).post y in let us : List Val = vptr rb ro ∷ vptr wb wo ∷ vint w64 n ∷ [] in
     qed 𝓛 (((‵ (flft κ qs.0) ⊛ ‵ (flft μ qs.1.0) ⊛ ‵ others) ⊛ ‵ (owns (types_at En.signature.params κs) a y.0.4)) ∷ raw (fact 𝓤 _) ∷ raw (fact 𝓤 _) ∷ raw (fact 𝓤 _) ∷ raw (fact 𝓤 Asked) ∷ []) ∵
     move ! (4 ∷ []) $ heard ! Asked (λ asked. keep ! (0 ∷ []) $ split ! $ split3 ! $ move ! (3 ∷ []) $ fsplit ! $ fsplit ! $ move ! (2 ∷ []) $ fsplit ! $ fsplit ! $ keep ! (4 ∷ 1 ∷ 5 ∷ 6 ∷ 7 ∷ []) $
-    use1 𝓛 (‵ (hidden_shr D κ (p, tt) rb ro) ⊛ ‵ (fhide (chunk_shares X U R gp.label d.label d.life d.out d.home p x κ))) (lent_out 𝓛 (chunk.struct X U R gp) (chunk.the_codes Y.Denot W.Denot Z.Denot X.coded U.coded R.coded) (chunk.the_heap X U R gp) (chunk.the_lent X U R gp) κ d rb ro) $
-    split ! $ drop ! $ unhide ! $ in_a_block ! p (λ s. chunk_shares X U R gp.label d.label d.life d.out d.home s x κ) (id⊢ 𝓤 (never 𝓤)) (λ b o e. fsplit ! $ fsplit ! $ move ! (1 ∷ []) $ hide ! $ keep ! (3 ∷ 0 ∷ 4 ∷ 5 ∷ 6 ∷ []) $
+    use1 𝓛 (‵ (hidden_shr D κ (p, tt) rb ro) ⊛ ‵ (fhide (chunk_shares X U R gp.label d.tag d.life d.out d.home p x κ))) (lent_out 𝓛 (chunk.struct X U R gp) (chunk.the_codes Y.Denot W.Denot Z.Denot X.coded U.coded R.coded) (chunk.the_heap X U R gp) (chunk.the_lent X U R gp) κ d rb ro) $
+    split ! $ drop ! $ unhide ! $ in_a_block ! p (λ s. chunk_shares X U R gp.label d.tag d.life d.out d.home s x κ) (id⊢ 𝓤 (never 𝓤)) (λ b o e. fsplit ! $ fsplit ! $ move ! (1 ∷ []) $ hide ! $ keep ! (3 ∷ 0 ∷ 4 ∷ 5 ∷ 6 ∷ []) $
     use1 𝓛 (‵ (hidden_shr E μ (base, tt) wb wo) ⊛ ‵ (fhide (row_fact Row'))) (lent_out 𝓛 (base_row.struct X U R) (base_row.the_codes Y.Denot W.Denot Z.Denot X.coded U.coded R.coded) (base_row.the_heap X U R) (base_row.the_lent X U R) μ gb wb wo) $
     split ! $ move ! (1 ∷ []) $ unhide ! $ fpick ! (λ is_row. drop ! $
     -- [the fields of the base; what a `&` to the header holds; the chunk's token; the base's token; others]

@@ -39,11 +39,11 @@ is_in_spec 𝓤 𝓛 𝓜 𝓡 wired Y W Z LY LW LZ gp dp met =
     qed 𝓛 (((‵ (flft κ q) ⊛ ‵ others) ⊛ ‵ (owns (types_at En.signature.params κs) a y.0.4)) ∷ raw ((c κs a).requires gh) ∷ []) ∵
     split ! $ split ! $ move ! (2 ∷ []) $ fsplit ! $ fsplit ! $ keep ! (1 ∷ 3 ∷ 4 ∷ []) $
     enter ! 𝓣.C 𝓣.Λ fn (vptr rb ro ∷ []) Post $ alloc_all ! (λ l. pass_all ! refl ((tt, tt), tt) $ let Ev = env fn.locals l in
-    use1 𝓛 (‵ (hidden_shr D κ (p, tt) rb ro) ⊛ ‵ (fhide (chunk_shares X U R gp.label d.label d.life d.out d.home p x κ))) (lent_out 𝓛 (chunk.struct X U R gp) (chunk.the_codes Y.Denot W.Denot Z.Denot X.coded U.coded R.coded) (chunk.the_heap X U R gp) (chunk.the_lent X U R gp) κ d rb ro) $
-    split ! $ move ! (1 ∷ []) $ unhide ! $ in_a_block ! p (λ s. chunk_shares X U R gp.label d.label d.life d.out d.home s x κ) (id⊢ 𝓤 (never 𝓤)) (λ b o e. fsplit ! $ drop ! $ fsplit ! $
+    use1 𝓛 (‵ (hidden_shr D κ (p, tt) rb ro) ⊛ ‵ (fhide (chunk_shares X U R gp.label d.tag d.life d.out d.home p x κ))) (lent_out 𝓛 (chunk.struct X U R gp) (chunk.the_codes Y.Denot W.Denot Z.Denot X.coded U.coded R.coded) (chunk.the_heap X U R gp) (chunk.the_lent X U R gp) κ d rb ro) $
+    split ! $ move ! (1 ∷ []) $ unhide ! $ in_a_block ! p (λ s. chunk_shares X U R gp.label d.tag d.life d.out d.home s x κ) (id⊢ 𝓤 (never 𝓤)) (λ b o e. fsplit ! $ drop ! $ fsplit ! $
     -- [the share of the token; the invariant; the fields; κ's token; others]
     move ! (3 ∷ []) $ use1 𝓛 (‵ (flft κ (Share.left q)) ⊛ ‵ (flft κ (Share.right q))) (𝓛.lfts.lft_split κ q) $ split ! $
-    move ! (2 ∷ 0 ∷ []) $ shr_bor-open ! tt (tokens_halve 𝓛 (d.life ∷ [])) (λ s. let I : Fml = Inv X U R b o gp.label d.label d.life d.out d.home in
+    move ! (2 ∷ 0 ∷ []) $ shr_bor-open ! tt (tokens_halve 𝓛 (d.life ∷ [])) (λ s. let I : Fml = Inv X U R b o gp.label d.tag d.life d.out d.home in
     move ! (3 ∷ []) $ use1 𝓛 (‵ (finv I) ⊛ ‵ (finv I)) (𝓛.invs.inv_dup I) $ split ! $
     -- [the invariant, twice; the open share; its token; κ's half; the fields; others]
     move ! (5 ∷ 4 ∷ []) $ looks ! tt D (opened X U R gp 𝓛) (p, tt) rb ro (λ q' vs. move ! (1 ∷ []) $ peeks ! D (Is D) (shows 𝓛 D) (p, tt) vs (λ so.
@@ -53,9 +53,9 @@ is_in_spec 𝓤 𝓛 𝓜 𝓡 wired Y W Z LY LW LZ gp dp met =
     rewrite ! 1 (λ (ws : List Val). ‵ (cell_at q' D.mir ws rb ro)) (sym ev) refl $ move ! (1 ∷ 0 ∷ 2 ∷ []) $ shuts ! tt D q' (p, tt) vs rb ro $
     -- [κ's half; the fields; the invariant, twice; the open share; its token; others]
     first ! $ blocks ! $ sets ! (addr ! (through ! refl (fld ! refl (stop !)))) refl (tt, tt) $
-    let out : ℕ → Fml = steps.after_look 𝓛 X U R b o gp.label d.label d.life d.out d.home s in
+    let out : ℕ → Fml = steps.after_look 𝓛 X U R b o gp.label d.tag d.life d.out d.home s in
     move ! (2 ∷ 5 ∷ []) $ use2 𝓛 (raw (𝓣.C _ (vptr b (o + 0) ∷ seq_cst ∷ []) (λ u. mean 𝓛 (found out u))))
-    (via 𝓤 _ (steps.looks 𝓛 X U R b o gp.label d.label d.life d.out d.home s) (loads 𝓛 𝓜 𝓡 (code.calls-core::raw_atomic::load 𝓡.env wired) (block_ptr b (o + 0)) out)) $
+    (via 𝓤 _ (steps.looks 𝓛 X U R b o gp.label d.tag d.life d.out d.home s) (loads 𝓛 𝓜 𝓡 (code.calls-core::raw_atomic::load 𝓡.env wired) (block_ptr b (o + 0)) out)) $
     sets ! (agg ! (and_then ! (lit ! tt) (no_more !))) refl (tt, (record { fits = lit< tt }, tt)) $
     Calls-last ! (fm 𝓛 𝓜 𝓡) (found out) (and_then ! (get ! refl) (and_then ! (get ! refl) (no_more !))) (λ u. finds ! out (λ n fits. lands_last ! refl (tt, record { fits = fits }) $ exec ! 𝓣.C 𝓣.Λ Ev (after 2 fn.body) (at_ret Ev Post) $
     move ! (4 ∷ 0 ∷ []) $ obor_close ! tt $ drop ! $ use2 𝓛 (‵ (flft κ q)) (𝓛.lfts.lft_join κ q) $ move ! (0 ∷ 3 ∷ []) $ join ! $

@@ -1,6 +1,7 @@
 use Rattle.std.proofs.Common.{◌≡◌, ℕ, List, sym, ap, ◌∙◌}
 use denote.RawPtr.{Ptr}
 use Rattle.seize_table.proofs.Places.{one_bucket}
+use Rattle.seize_table.specs.Pairs.{left_of}
 use Rattle.seize_store.specs.Known.{chunk_in, entry_of}
 use Rattle.seize_store.specs.declared.known.Title.{Title}
 use Rattle.seize_store.proofs.seen.Seen.leads_to.Goals as goal
@@ -18,4 +19,4 @@ returns g c = let s = c.args.self.now.known in let t = c.args.owned.now.block.ti
     let one : chunk_in s.chunks (entry_of s.row n) ≡ chunk_in t.known.chunks (entry_of t.known.row n) =
     ap (λ (ps : List (Ptr × ℕ)). chunk_in ps (entry_of s.row n)) (c.agree.ensures ∙ ap (λ (u : Title). u.known.chunks) c.title.ensures)
     ∙ ap (λ (r : ℕ). chunk_in t.known.chunks (entry_of r n)) (one_bucket n s.row (entry_of s.row n) t.known.row (entry_of t.known.row n) c.requires.1 t.placed) in
-    record { place = ap (λ (x : Ptr × ℕ). x.0) one; label = ap (λ (x : Ptr × ℕ). x.1) one }
+    record { place = ap (λ (x : Ptr × ℕ). x.0) one; label = ap (λ (x : Ptr × ℕ). left_of x.1) one }

@@ -1,6 +1,7 @@
 use Rattle.std.proofs.Common.{◌≡◌, ℕ, ◌+◌, ◌^◌, ◌<◌, List, length, sym, ap, ◌∙◌, subst, arith, lit<}
 use denote.RawPtr.{Ptr}
 use Rattle.seize_table.proofs.Places.{one_place}
+use Rattle.seize_table.specs.Pairs.{left_of}
 use Rattle.seize_store.specs.Known.{chunk_in, entry_of}
 use Rattle.seize_store.proofs.store.Store.at.Goals as goal
 
@@ -22,5 +23,5 @@ chunk-requires g c = let seen = c.args.seen.now in let r = seen.known.row in let
 pub returns : goal.returns
 returns g c = let r = c.args.seen.now.known.row in let n = c.args.number in let at = c.in-Some.place in let ps = c.args.seen.now.known.chunks in
     let same = (one_place n r (entry_of r n) at.bucket at.entry c.requires.row c.in-Some.ensures.place).1 in
-    let one = c.chunk.ensures ∙ (ap (λ (qs : List (Ptr × ℕ)). chunk_in qs at.entry) c.row-row.ensures.1 ∙ ap (λ (e : ℕ). chunk_in ps e) (sym same)) in
-    record { token = c.row-row.ensures.0; place = ap (λ (x : Ptr × ℕ). x.0) one; label = ap (λ (x : Ptr × ℕ). x.1) one }
+    let one : chunk_in c.row-row.result.now at.entry ≡ chunk_in ps (entry_of r n) = ap (λ (qs : List (Ptr × ℕ)). chunk_in qs at.entry) c.row-row.ensures.1 ∙ ap (λ (e : ℕ). chunk_in ps e) (sym same) in
+    record { token = c.row-row.ensures.0; place = c.chunk.ensures.0 ∙ ap (λ (x : Ptr × ℕ). x.0) one; label = c.chunk.ensures.1 ∙ ap (λ (x : Ptr × ℕ). left_of x.1) one }

@@ -1,6 +1,7 @@
 use Rattle.std.proofs.Common.{◌≡◌, ℕ, ◌+◌, ◌^◌, ◌<◌, List, length, sym, ap, ◌∙◌, subst, arith, lit<}
 use denote.RawPtr.{Ptr}
 use Rattle.seize_table.proofs.Places.{one_place}
+use Rattle.seize_table.specs.Pairs.{left_of}
 use Rattle.seize_store.specs.Known.{chunk_in, entry_of}
 use Rattle.seize_store.proofs.store.Store.place.Goals as goal
 
@@ -19,5 +20,5 @@ chunk-requires g c = let known = c.args.known.now in let r = known.row in let n 
 pub returns : goal.returns
 returns g c = let r = c.args.known.now.row in let n = c.args.number in let at = c.in-Some.place in let ps = c.args.known.now.chunks in
     let same = (one_place n r (entry_of r n) at.bucket at.entry c.requires.row c.in-Some.ensures.place).1 in
-    let one = c.chunk.ensures ∙ (ap (λ (qs : List (Ptr × ℕ)). chunk_in qs at.entry) c.known_row-row.ensures ∙ ap (λ (e : ℕ). chunk_in ps e) (sym same)) in
-    record { place = ap (λ (x : Ptr × ℕ). x.0) one; label = ap (λ (x : Ptr × ℕ). x.1) one }
+    let one : chunk_in c.known_row-row.result.now at.entry ≡ chunk_in ps (entry_of r n) = ap (λ (qs : List (Ptr × ℕ)). chunk_in qs at.entry) c.known_row-row.ensures ∙ ap (λ (e : ℕ). chunk_in ps e) (sym same) in
+    record { place = c.chunk.ensures.0 ∙ ap (λ (x : Ptr × ℕ). x.0) one; label = c.chunk.ensures.1 ∙ ap (λ (x : Ptr × ℕ). left_of x.1) one }
