@@ -12,7 +12,7 @@ use Rattle.seize_machine.specs.Machine.State.{State, has, linked, are_distinct}
 use Rattle.seize_book.specs.Ledger.{Held, WithKinds, Known, logs, reached, renewed}
 use Rattle.seize_book.specs.Entry.{Entry, entry_coded}
 use denote.RawPtr.{Ptr}
-use Rattle.seize_store.specs.Known.{IsRowIn, known_row, leads_to}
+use Rattle.seize_store.specs.Known.{IsRowIn, known_row, tells as chunk_tells}
 use Rattle.seize_book.specs.Blocks.{block_of}
 use Rattle.seize_book.specs.Homes.{home_of}
 use Rattle.seize_book.proofs.Sound.{named_later}
@@ -21,7 +21,7 @@ use Rattle.seize_book.specs.Fair.{Before, pass_key}
 use Rattle.seize_book.specs.Laws.{ended, IsIn}
 use Rattle.seize_book.specs.Passes.{LooksOn}
 use Rattle.seize_table.specs.Filled.{all_filled}
-use Rattle.seize_book.specs.Tokens.{leads, label_at, leads_in, Name, rows, start, beside, inside, knows, all_lead, all_lie, all_lie_in, slot_labels, found, keys_own, rights_own, over, IsSole, gate_keeps, gate_gives, pass_at, pass_holds, pass_owns}
+use Rattle.seize_book.specs.Tokens.{leads, leads_in, told_of, Name, rows, start, beside, inside, knows, all_lead, all_lie, all_lie_in, slot_labels, found, keys_own, rights_own, over, IsSole, gate_keeps, gate_gives, pass_at, pass_holds, pass_owns}
 use Rattle.seize_book.proofs.Append.{Renewed, looks_beside, renews}
 use Rattle.seize_book.proofs.Gates.{agrees, gives_as}
 use Rattle.seize_book.proofs.Goes.{kept_now}
@@ -212,20 +212,20 @@ module _ {M : Type 1} {𝓤 : Ura M} (𝓛 : Logic 𝓤) (n : Name) (p : ℕ) wh
 
   -- where the number of a value leads that was named
   abbrev pub FoundRow : List Entry → List ℕ → ℕ → List Entry → Pr
-  FoundRow seen store v log = guard 𝓤 (Before n p seen [] log × IsDistinct 𝓛 n) (⟦ pass_owns n p log ⟧ ∗ ⟦ leads_to store (block_of v) (label_at n (home_of v)) ⟧)
+  FoundRow seen store v log = guard 𝓤 (Before n p seen [] log × IsDistinct 𝓛 n) (⟦ pass_owns n p log ⟧ ∗ ⟦ chunk_tells store (block_of v) (told_of n v) ⟧)
 
   pub finds_row : (seen : List Entry) (store : List ℕ) (v : ℕ) → n.store ≡ Some store → has v (after st seen).named ≡ true → ⟦ pass_owns n p seen ⟧ ⊢ H.⇛ (ex 𝓤 (FoundRow seen store v))
-  finds_row seen store v is named = let L : Fml = leads_to store (block_of v) (label_at n (home_of v)) in qed 𝓛 ((‵ (knows n) ⊛ ‵ (pass_holds n p seen)) ∷ []) ∵ updating ! $ split ! $
+  finds_row seen store v is named = let L : Fml = chunk_tells store (block_of v) (told_of n v) in qed 𝓛 ((‵ (knows n) ⊛ ‵ (pass_holds n p seen)) ∷ []) ∵ updating ! $ split ! $
       use1 𝓛 (given (IsDistinct 𝓛 n) (‵ (knows n))) (distinct_links 𝓛 n) $ learn ! (λ distinct. fjoin ! $ nothing ! $ nothing ! $ move ! (2 ∷ 0 ∷ 1 ∷ []) $
       use3 𝓛 (later (some (λ (log : List Entry). given (Before n p seen [] log × Unit {0}) (‵ (pass_owns n p log) ⊛ ‵ ftrue ⊛ ‵ L))))
       (looks_with seen [] (λ _. Unit {0}) ⟦ ftrue ⟧ (λ _. ⟦ L ⟧) (of_values seen [] (λ _. Unit {0}) ⟦ ftrue ⟧ (λ _. ⟦ L ⟧) leads_there) tt) $
       await ! tt $ pick ! (λ log. learn ! (λ so. split3 ! $ now ! $ show ! (FoundRow seen store v) log $ check ! (so.0, distinct) $ keep ! (0 ∷ 2 ∷ []) $ done !)))
     where
-      leads_there : (log : List Entry) → IsPrefix seen log → IsLegalList st log → ⟦ all_lead n (after st log).named ⟧ ∗ ⟦ ftrue ⟧ ⊢ guard 𝓤 (Unit {0}) (⟦ all_lead n (after st log).named ⟧ ∗ ⟦ leads_to store (block_of v) (label_at n (home_of v)) ⟧)
+      leads_there : (log : List Entry) → IsPrefix seen log → IsLegalList st log → ⟦ all_lead n (after st log).named ⟧ ∗ ⟦ ftrue ⟧ ⊢ guard 𝓤 (Unit {0}) (⟦ all_lead n (after st log).named ⟧ ∗ ⟦ chunk_tells store (block_of v) (told_of n v) ⟧)
       leads_there log grows legal = let vs : List ℕ = (after st log).named in qed 𝓛 (‵ (all_lead n vs) ∷ ‵ ftrue ∷ []) ∵ keep ! (0 ∷ []) $
           use1 𝓛 (‵ (all_lead n vs) ⊛ ‵ (all_lead n vs)) (all_twice 𝓛 n vs) $ split ! $
           use1 𝓛 (‵ (leads n v)) (one_leads 𝓛 n vs v (named_later st seen log v grows legal named)) $
-          rewrite ! 0 (λ (s : Option (List ℕ)). ‵ (leads_in s (block_of v) (label_at n (home_of v)))) is refl $ check ! tt $ move ! (1 ∷ 0 ∷ []) $ done !
+          rewrite ! 0 (λ (s : Option (List ℕ)). ‵ (leads_in s (block_of v) (told_of n v))) is refl $ check ! tt $ move ! (1 ∷ 0 ∷ []) $ done !
 
   -- where the heads lie of all slots that there are
   abbrev pub FoundSlots : List Entry → List ℕ → List Entry → Pr

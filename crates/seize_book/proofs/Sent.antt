@@ -38,9 +38,9 @@ unfolding latest
 gives_keyless many seen = tt
 gives_keyless (sole η) seen = tt
 
-lead_keyless : (store : Option (List ℕ)) (b label : ℕ) → Keyless (leads_in store b label)
-lead_keyless None b label = tt
-lead_keyless (Some store) b label = λ way. tt
+lead_keyless : (store : Option (List ℕ)) (b : ℕ) (t : ℕ × ℕ) → Keyless (leads_in store b t)
+lead_keyless None b t = tt
+lead_keyless (Some store) b t = λ way. tt
 
 leads_keyless : (n : Name) (vs : List ℕ) → Keyless (all_lead n vs)
 leads_keyless n [] = tt

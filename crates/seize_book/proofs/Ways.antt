@@ -13,8 +13,8 @@ use Rattle.seize_machine.proofs.Facts.{eq_true, is_true}
 use denote.RawPtr.{Ptr}
 use Rattle.seize_table.specs.Filled.{filled_at}
 use Rattle.seize_table.specs.Place.{IsPlace}
-use Rattle.seize_store.specs.Known.{IsRowIn, entry_of, known_row, label_in, leads_to}
-use Rattle.seize_store.proofs.Leads.{known_leads, leads_agree, leads_twice}
+use Rattle.seize_store.specs.Known.{IsRowIn, content_in, entry_of, known_row, label_in, tells}
+use Rattle.seize_store.proofs.Leads.{known_tells, tells_agree, tells_twice}
 use Rattle.seize_store.proofs.Tokens.{row_twice}
 use native.Mathlib.Decide.{ℕ_discrete}
 use contract.Monad.{fact}
@@ -26,8 +26,8 @@ use Rattle.seize_book.specs.Homes.{home_of}
 use Rattle.seize_book.specs.Ledger.{Held, born, renewed}
 use Rattle.seize_book.specs.Others.{labelled}
 use Rattle.seize_book.specs.Private.{is_one, key_of, label_of}
-use Rattle.seize_book.specs.Loans.{CarriesNone, loan, loan_if, loan_of}
-use Rattle.seize_book.specs.Tokens.{Name, start, leads, label_at, leads_in, all_lead, lies, lies_in, lies_if, all_lie, found, is_placed, rights_own, keys_own, one_key, key, way, way_if}
+use Rattle.seize_book.specs.Loans.{CarriesNone, loan, loan_if, loan_of, place_of}
+use Rattle.seize_book.specs.Tokens.{Name, start, leads, label_at, leads_in, told_of, all_lead, lies, lies_in, lies_if, all_lie, found, is_placed, rights_own, keys_own, one_key, key, way, way_if}
 use Rattle.seize_book.proofs.Goes.{AllFree}
 use Rattle.seize_book.proofs.Tables.{lies_twice, one_more}
 
@@ -59,7 +59,8 @@ is_place b row e = go (ℕ_discrete (2 ^ (row + 5) + e) (b + 32)) (is_true (nat_
 
 -- its block has the label there
 abbrev pub IsIn : Name → ℕ → List (Ptr × ℕ) → ℕ → Type 0
-IsIn n row chunks v = IsPlace (block_of v) row (entry_of row (block_of v)) → label_in chunks (entry_of row (block_of v)) ≡ label_at n (home_of v)
+IsIn n row chunks v =
+    IsPlace (block_of v) row (entry_of row (block_of v)) → (label_in chunks (entry_of row (block_of v)) ≡ label_at n (home_of v)) × (content_in chunks (entry_of row (block_of v)) ≡ place_of v)
 
 abbrev pub AreIn : Name → ℕ → List (Ptr × ℕ) → List ℕ → Type 0
 AreIn n row chunks vs = (v : ℕ) → has v vs ≡ true → IsIn n row chunks v
@@ -123,12 +124,12 @@ module _ {M : Type 1} {𝓤 : Ura M} (𝓛 : Logic 𝓤) (n : Name) where
   first_parted (suc m) [] = qed 𝓛 (‵ ftrue ∷ []) ∵ nothing ! $ done !
   first_parted (suc m) (x ∷ held) = qed 𝓛 ((‵ (one_key n x) ⊛ ‵ (keys_own n held)) ∷ []) ∵ split ! $ move ! (1 ∷ []) $ use1 𝓛 (‵ (keys_own n (take m held)) ⊛ ‵ (keys_own n (past m held))) (first_parted m held) $ split ! $ move ! (2 ∷ 0 ∷ []) $ fjoin ! $ done !
 
-  lead_twice_in : (store : Option (List ℕ)) (b label : ℕ) → ⟦ leads_in store b label ⟧ ⊢ ⟦ leads_in store b label ⟧ ∗ ⟦ leads_in store b label ⟧
-  lead_twice_in None b label = qed 𝓛 (‵ ftrue ∷ []) ∵ nothing ! $ done !
-  lead_twice_in (Some store) b label = leads_twice 𝓛 store b label
+  lead_twice_in : (store : Option (List ℕ)) (b : ℕ) (t : ℕ × ℕ) → ⟦ leads_in store b t ⟧ ⊢ ⟦ leads_in store b t ⟧ ∗ ⟦ leads_in store b t ⟧
+  lead_twice_in None b t = qed 𝓛 (‵ ftrue ∷ []) ∵ nothing ! $ done !
+  lead_twice_in (Some store) b t = tells_twice 𝓛 store b t
 
   pub lead_twice : (v : ℕ) → ⟦ leads n v ⟧ ⊢ ⟦ leads n v ⟧ ∗ ⟦ leads n v ⟧
-  lead_twice v = lead_twice_in n.store (block_of v) (label_at n (home_of v))
+  lead_twice v = lead_twice_in n.store (block_of v) (told_of n v)
 
   -- of what goes with a key, what lasts for good: where the number leads of the value that it is labelled with, and that a slot's head lies in
   -- the table
@@ -273,7 +274,7 @@ module _ {M : Type 1} {𝓤 : Ura M} (𝓛 : Logic 𝓤) (n : Name) where
       move ! (1 ∷ []) $ fsplit ! $ fsplit ! $ move ! (0 ∷ 3 ∷ []) $ fjoin ! $ move ! (0 ∷ 2 ∷ []) $ fjoin ! $ keep ! (0 ∷ []) $ done !
 
   leads_anywhere : n.store ≡ None → (v : ℕ) (P : Fml) → ⟦ P ⟧ ⊢ ⟦ leads n v ⟧ ∗ ⟦ P ⟧
-  leads_anywhere none v P = qed 𝓛 (‵ P ∷ []) ∵ nothing ! $ rewrite ! 0 (λ (store : Option (List ℕ)). ‵ (leads_in store (block_of v) (label_at n (home_of v)))) (sym none) refl $ done !
+  leads_anywhere none v P = qed 𝓛 (‵ P ∷ []) ∵ nothing ! $ rewrite ! 0 (λ (store : Option (List ℕ)). ‵ (leads_in store (block_of v) (told_of n v))) (sym none) refl $ done !
 
   -- where blocks lie in no store
   pub all_anywhere : n.store ≡ None → (held : Keys) → is_one blocks held ≡ true → CarriesNone (label_of held) → ⟦ rights_own n held ⟧ ⊢ ⟦ keys_own n held ⟧
@@ -312,16 +313,17 @@ module _ {M : Type 1} {𝓤 : Ura M} (𝓛 : Logic 𝓤) (n : Name) where
       rewrite ! 0 (λ (t : Option (List ℕ)). ‵ (lies_in t h.key (label_at n h.key))) (sym none) refl $ move ! (1 ∷ 0 ∷ []) $ by ! (relabelled h one)
 
   -- a key whose value's number leads to its home, as a token of the number's row shows
-  pub placed : (store : List ℕ) (row : ℕ) (chunks : List (Ptr × ℕ)) (held : Keys) → is_one blocks held ≡ true → n.store ≡ Some store
-      → IsRowIn store row chunks → IsPlace (block_of (label_of held)) row (entry_of row (block_of (label_of held))) → label_in chunks (entry_of row (block_of (label_of held))) ≡ label_at n (home_of (label_of held)) → CarriesNone (label_of held)
-      → ⟦ rights_own n held ⟧ ∗ ⟦ known_row store row chunks ⟧ ⊢ ⟦ keys_own n held ⟧
-  placed store row chunks [] one is made place home free = absurd (cc)
-  placed store row chunks (h ∷ g ∷ held) one is made place home free = absurd (cc)
-  placed store row chunks (h ∷ []) one is made place home free = let v : ℕ = h.label in let b : ℕ = block_of v in let k : ℕ = label_in chunks (entry_of row b) in
-      qed 𝓛 (‵ (rights_own n (h ∷ [])) ∷ ‵ (known_row store row chunks) ∷ []) ∵ move ! (1 ∷ []) $ use1 𝓛 (‵ (leads_to store b k)) (known_leads 𝓛 store b row chunks made place) $
-      rewrite ! 0 (λ (j : ℕ). ‵ (leads_to store b j)) home refl $ rewrite ! 0 (λ (s : Option (List ℕ)). ‵ (leads_in s (block_of v) (label_at n (home_of v)))) (sym is) refl $
+  pub placed : (store : List ℕ) (row : ℕ) (chunks : List (Ptr × ℕ)) (held : Keys) (v : ℕ) → is_one blocks held ≡ true → n.store ≡ Some store → IsRowIn store row chunks
+      → IsPlace (block_of v) row (entry_of row (block_of v)) → (label_in chunks (entry_of row (block_of v)) ≡ label_at n (home_of v)) × (content_in chunks (entry_of row (block_of v)) ≡ place_of v) → CarriesNone v
+      → ⟦ rights_own n held ⟧ ∗ ⟦ known_row store row chunks ⟧ ⊢ ⟦ keys_own n (labelled v held) ⟧
+  placed store row chunks [] v one is made place there free = absurd (cc)
+  placed store row chunks (h ∷ g ∷ held) v one is made place there free = absurd (cc)
+  placed store row chunks (h ∷ []) v one is made place there free = let b : ℕ = block_of v in let h' : Held Entry = record { kind = h.kind; key = h.key; own = h.own; label = v } in
+      let t : ℕ × ℕ = (label_in chunks (entry_of row b), content_in chunks (entry_of row b)) in let same : t ≡ told_of n v = λ j. (there.0 j, there.1 j) in
+      qed 𝓛 (‵ (rights_own n (h ∷ [])) ∷ ‵ (known_row store row chunks) ∷ []) ∵ move ! (1 ∷ []) $ use1 𝓛 (‵ (tells store b t)) (known_tells 𝓛 store b row chunks made place) $
+      rewrite ! 0 (λ (u : ℕ × ℕ). ‵ (tells store b u)) same refl $ rewrite ! 0 (λ (s : Option (List ℕ)). ‵ (leads_in s b (told_of n v))) (sym is) refl $
       -- [where it leads; the right]
-      move ! (1 ∷ []) $ fsplit ! $ keep ! (0 ∷ 2 ∷ []) $ by ! (way_placed h one free)
+      move ! (1 ∷ []) $ fsplit ! $ keep ! (0 ∷ 2 ∷ []) $ by ! (way_placed h' one free)
 
   -- that of a value among others
   pub one_leads : (vs : List ℕ) (v : ℕ) → has v vs ≡ true → ⟦ all_lead n vs ⟧ ⊢ ⟦ leads n v ⟧
@@ -340,11 +342,11 @@ module _ {M : Type 1} {𝓤 : Ura M} (𝓛 : Logic 𝓤) (n : Name) where
     where
       go : Dec (IsPlace (block_of v) row (entry_of row (block_of v))) → ⟦ leads n v ⟧ ∗ ⟦ known_row store row chunks ⟧ ⊢ guard 𝓤 (IsIn n row chunks v) (⟦ leads n v ⟧ ∗ ⟦ known_row store row chunks ⟧)
       go (no out) = qed 𝓛 (‵ (leads n v) ∷ ‵ (known_row store row chunks) ∷ []) ∵ check ! (λ place. absurd (out place)) $ done !
-      go (yes place) = let b : ℕ = block_of v in let k : ℕ = label_in chunks (entry_of row b) in let K : Fml = known_row store row chunks in let Same : Type 0 = k ≡ label_at n (home_of v) in
-          qed 𝓛 (‵ (leads n v) ∷ ‵ K ∷ []) ∵ use1 𝓛 (‵ (leads n v) ⊛ ‵ (leads n v)) (lead_twice v) $ split ! $ rewrite ! 0 (λ (s : Option (List ℕ)). ‵ (leads_in s (block_of v) (label_at n (home_of v)))) is refl $
-          move ! (2 ∷ []) $ use1 𝓛 (‵ K ⊛ ‵ K) (row_twice 𝓛 store row chunks) $ split ! $ use1 𝓛 (‵ (leads_to store b k)) (known_leads 𝓛 store b row chunks made place) $
+      go (yes place) = let b : ℕ = block_of v in let K : Fml = known_row store row chunks in let t : ℕ × ℕ = (label_in chunks (entry_of row b), content_in chunks (entry_of row b)) in let Same : Type 0 = t ≡ told_of n v in
+          qed 𝓛 (‵ (leads n v) ∷ ‵ K ∷ []) ∵ use1 𝓛 (‵ (leads n v) ⊛ ‵ (leads n v)) (lead_twice v) $ split ! $ rewrite ! 0 (λ (s : Option (List ℕ)). ‵ (leads_in s b (told_of n v))) is refl $
+          move ! (2 ∷ []) $ use1 𝓛 (‵ K ⊛ ‵ K) (row_twice 𝓛 store row chunks) $ split ! $ use1 𝓛 (‵ (tells store b t)) (known_tells 𝓛 store b row chunks made place) $
           -- [where the number leads by the row; the row; where it leads by the book; that once more]
-          move ! (0 ∷ 2 ∷ []) $ use2 𝓛 (raw (fact 𝓤 Same)) (leads_agree 𝓛 store b k (label_at n (home_of v))) $ heard ! Same (λ same. check ! (λ _. same) $ move ! (1 ∷ 0 ∷ []) $ done !)
+          move ! (0 ∷ 2 ∷ []) $ use2 𝓛 (raw (fact 𝓤 Same)) (tells_agree 𝓛 store b t (told_of n v)) $ heard ! Same (λ same. check ! (λ _. (ap (λ (u : ℕ × ℕ). u.0) same, ap (λ (u : ℕ × ℕ). u.1) same)) $ move ! (1 ∷ 0 ∷ []) $ done !)
 
   pub all_in : (store : List ℕ) (row : ℕ) (chunks : List (Ptr × ℕ)) → IsRowIn store row chunks → n.store ≡ Some store → (vs : List ℕ) → ⟦ all_lead n vs ⟧ ∗ ⟦ known_row store row chunks ⟧ ⊢ guard 𝓤 (AreIn n row chunks vs) ⟦ all_lead n vs ⟧
   all_in store row chunks made is [] = qed 𝓛 (‵ ftrue ∷ ‵ (known_row store row chunks) ∷ []) ∵ check ! (λ v named. absurd (cc)) $ keep ! (0 ∷ []) $ done !

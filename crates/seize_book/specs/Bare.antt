@@ -1,9 +1,10 @@
 -- The words in which the contracts of bare keys speak: keys of blocks before it is said by which number words hold the block.
 --     state_in rights                what the rights know of the machine
 --     Numbers rights rights' number  the first key's label is a value of its block, with this number, that was never named, as it knows
---     IsWay rights known             there is one key, and the number of its value leads to its block in the store of their book; and
---                                    nothing is lent with the value
---     Places rights keys             the keys are these
+--     IsWay rights number known      there is one key, and the number leads to its block in the store of their book
+--     Gives rights keys              the keys are these
+--     Places rights number known keys    so they are, but for the label: that is a value of the block, with this number and with the place
+--                                    of the content that the block has in the store; it was never named, and nothing is lent with it
 --     bare_book key, bare_home key   the book of a bare key, and the home that its values have;  bare_label key   the label of that
 --     Becomes key value number       it is the key of a value of this block now, with this number, as IsNextIn says; and it knows no more
 --     IsLaid value key               it is the key of the value's block
@@ -11,7 +12,7 @@
 --     IsChunkOf book keys            they are the keys of a new block of the book
 use Rattle.std.specs.Prelude.{◌≡◌, ℕ, pos, true, false, List, [], ◌∷◌, Some}
 use Rattle.seize_machine.specs.Machine.State.{State, has}
-use Rattle.seize_store.specs.Known.{label_in}
+use Rattle.seize_store.specs.Known.{content_in, entry_of, label_in}
 use Rattle.seize_store.specs.declared.known.Known.{Known}
 use Rattle.seize_table.specs.Place.{IsPlace}
 use Rattle.seize_book.specs.Blocks.{block_of}
@@ -21,7 +22,6 @@ use Rattle.seize_book.specs.Chains.{first_field, next_field, told}
 use Rattle.seize_book.specs.Deposits.{deposit}
 use Rattle.seize_book.specs.Entry.{Entry}
 use Rattle.seize_book.specs.Homes.{count_in, home_of}
-use Rattle.seize_book.specs.Homesteads.{entry_in}
 use Rattle.seize_book.specs.Ledger.{Held}
 use Rattle.seize_book.specs.Loans.{CarriesNone, place_of}
 use Rattle.seize_book.specs.Others.{book_of, labelled, state_of, value_of}
@@ -47,19 +47,28 @@ pub record Numbers (rights rights' : Rights) (number : ℕ) : Type 0 where
   pub place : place_of value ≡ place_of (label_of rights.held)
   pub free : CarriesNone value
 
-pub record IsWay (rights : Rights) (known : Known) : Type 0 where
+pub record IsWay (rights : Rights) (number : ℕ) (known : Known) : Type 0 where
   pub one : is_one blocks rights.held ≡ true
   pub store : rights.name.store ≡ Some known.store
-  pub placed : IsPlace (block_of (label_of rights.held)) known.row (entry_in known (label_of rights.held))
-  pub home : label_in known.chunks (entry_in known (label_of rights.held)) ≡ label_at rights.name (home_of (label_of rights.held))
-  pub free : CarriesNone (label_of rights.held)
+  pub placed : IsPlace number known.row (entry_of known.row number)
+  pub home : label_in known.chunks (entry_of known.row number) ≡ label_at rights.name (key_of rights.held)
 
 -- there is one key, and nothing is lent with its value
 abbrev pub IsFree : Rights → Type 0
 IsFree rights = (is_one blocks rights.held ≡ true) × CarriesNone (label_of rights.held)
 
-abbrev pub Places : Rights → Keys → Type 0
-Places rights keys = (keys.name ≡ rights.name) × (keys.held ≡ rights.held)
+abbrev pub Gives : Rights → Keys → Type 0
+Gives rights keys = (keys.name ≡ rights.name) × (keys.held ≡ rights.held)
+
+pub record Places (rights : Rights) (number : ℕ) (known : Known) (keys : Keys) : Type 0 where
+  pub value : ℕ
+  pub book : keys.name ≡ rights.name
+  pub held : keys.held ≡ labelled value rights.held
+  pub home : home_of value ≡ key_of rights.held
+  pub numbered : block_of value ≡ number
+  pub unnamed : has value (state_in rights).named ≡ false
+  pub place : place_of value ≡ content_in known.chunks (entry_of known.row number)
+  pub free : CarriesNone value
 
 abbrev pub bare_book : BareKey → Name
 bare_book key = key.rights.name

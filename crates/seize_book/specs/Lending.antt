@@ -1,5 +1,6 @@
 -- The words in which contracts speak of contents that are lent with values: before a value is named, and when it was reclaimed.
 --     MayLend keys ticket pool          there is one key of a block, with whose value nothing is lent; and the ticket is that of the pool
+--     IsOfPlace n v ticket              the ticket is of the content that the block of the value v has in the store of book n, if it has one
 --     Lends keys pool keys'             the first key's label is another value of its block, which was never named, as it knows, and with
 --                                       which the pool's content is lent
 --     MayRedeem keys pass               there is one key of a block, of the pass's book; something is lent with its value, which was
@@ -8,7 +9,7 @@
 --     IsInBlockOf value value'          it is of a value in the same block of the same book
 --     GoesWith value pool               the pool's content is lent with the value
 --     IsFreeKey value, IsLentKey value  nothing is lent with it;  something is
-use Rattle.std.specs.Prelude.{◌≡◌, ℕ, true, false}
+use Rattle.std.specs.Prelude.{◌≡◌, ℕ, ◌⊎◌, None, true, false}
 use Rattle.seize_content.specs.Loans.{IsLent}
 use Rattle.seize_content.specs.declared.loan.Pool.{Pool}
 use Rattle.seize_content.specs.declared.ticket.Ticket.{Ticket}
@@ -16,16 +17,21 @@ use Rattle.seize_machine.specs.Machine.State.{has}
 use Rattle.seize_book.specs.Blocks.{block_of}
 use Rattle.seize_book.specs.Book.{after, blocks}
 use Rattle.seize_book.specs.Homes.{home_of}
-use Rattle.seize_book.specs.Loans.{Carries, CarriesNone}
+use Rattle.seize_book.specs.Loans.{Carries, CarriesNone, place_of}
 use Rattle.seize_book.specs.Others.{Renames, book_of, labelled, state_of, value_of}
 use Rattle.seize_book.specs.Private.{is_one, label_of}
-use Rattle.seize_book.specs.Tokens.{start}
+use Rattle.seize_book.specs.Tokens.{Name, start}
 use Rattle.seize_book.specs.declared.book.keys.Keys.{Keys}
 use Rattle.seize_book.specs.declared.book.pass.Pass.{Pass}
 use Rattle.seize_book.specs.declared.book.value_key.ValueKey.{ValueKey}
 
+-- where the blocks of the book lie in a store, its block has this content
+abbrev pub IsOfPlace : Name → ℕ → Ticket → Type 0
+IsOfPlace n v ticket = (n.store ≡ None) ⊎ (place_of v ≡ ticket.name)
+
 abbrev pub MayLend : Keys → Ticket → Pool → Type 0
-MayLend keys ticket pool = (is_one blocks keys.held ≡ true) × CarriesNone (label_of keys.held) × IsLent ticket pool
+MayLend keys ticket pool =
+    (is_one blocks keys.held ≡ true) × CarriesNone (label_of keys.held) × IsLent ticket pool × IsOfPlace keys.name (label_of keys.held) ticket
 
 pub record Lends (keys : Keys) (pool : Pool) (keys' : Keys) : Type 0 where
   pub value : ℕ

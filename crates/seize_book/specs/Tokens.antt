@@ -27,7 +27,7 @@ use base.Stored.{gnil, gcons}
 use base.Fml.{Fml, ftrue, fsep, fex, fdead, fnamed, fobs, fauth, fres}
 use Rattle.seize_machine.specs.Machine.State.{State, opening, linked, are_distinct}
 use Rattle.seize_machine.specs.declared.machine.event.Answer.{Answer}
-use Rattle.seize_store.specs.Known.{leads_to}
+use Rattle.seize_store.specs.Known.{tells}
 use Rattle.seize_table.specs.Filled.{all_filled, filled_at}
 use Rattle.seize_table.specs.Pairs.{pair}
 use Rattle.seize_book.specs.Ledger.{Held, fact, logs, right, rights, reached, contents}
@@ -37,7 +37,7 @@ use Rattle.seize_book.specs.Blocks.{block_of, plans}
 use Rattle.seize_book.specs.Chains.{Chained, told}
 use Rattle.seize_book.specs.Homes.{IsSound, home_of}
 use Rattle.seize_book.specs.Laws.{ended}
-use Rattle.seize_book.specs.Loans.{loan}
+use Rattle.seize_book.specs.Loans.{loan, place_of}
 
 -- Who may append: whoever has a pass; or one pass alone, whose copy of the list has this name.
 pub data Gate : Type 0 where
@@ -151,13 +151,17 @@ abbrev pub gate_gives : Gate → List Entry → Fml
 gate_gives many seen = ftrue
 gate_gives (sole η) seen = latest (logs entry_coded) three_quarters η seen
 
--- a number leads to one label for good, since a chunk of a store keeps its header
-abbrev pub leads_in : Option (List ℕ) → ℕ → ℕ → Fml
-leads_in Option.None b label = ftrue
-leads_in (Option.Some store) b label = leads_to store b label
+-- a number leads to one label and one content for good, since a chunk of a store keeps its header and its content
+abbrev pub leads_in : Option (List ℕ) → ℕ → ℕ × ℕ → Fml
+leads_in Option.None b t = ftrue
+leads_in (Option.Some store) b t = tells store b t
+
+-- what the chunk of a value's block says
+abbrev pub told_of : Name → ℕ → ℕ × ℕ
+told_of n v = (label_at n (home_of v), place_of v)
 
 abbrev pub leads : Name → ℕ → Fml
-leads n v = leads_in n.store (block_of v) (label_at n (home_of v))
+leads n v = leads_in n.store (block_of v) (told_of n v)
 
 abbrev pub all_lead : Name → List ℕ → Fml
 all_lead n [] = ftrue

@@ -10,7 +10,7 @@ use denote.Steps.{heard}
 use Rattle.seize_table.specs.Pairs.{left_of, right_of}
 use Rattle.seize_table.specs.Place.{IsPlace}
 use Rattle.seize_table.proofs.Places.{one_bucket}
-use Rattle.seize_store.specs.Known.{IsRowIn, Way, chunk_in, content_in, entry_of, known_row, label_in, leads, leads_to, lends_by}
+use Rattle.seize_store.specs.Known.{IsRowIn, Way, chunk_in, content_in, entry_of, known_row, label_in, leads, leads_to, lends_by, tells}
 use Rattle.seize_store.proofs.Tokens.{row_twice, known_agree}
 
 module _ {M : Type 1} {𝓤 : Ura M} (𝓛 : Logic 𝓤) (store : List ℕ) (n : ℕ) where
@@ -25,8 +25,8 @@ module _ {M : Type 1} {𝓤 : Ura M} (𝓛 : Logic 𝓤) (store : List ℕ) (n :
       fpack ! (Way store n φ) (λ w. known_row store w.row w.chunks) way $ move ! (1 ∷ 0 ∷ []) $ fpack ! (Way store n φ) (λ w. known_row store w.row w.chunks) way $ done !)
 
   -- two of one number are of one tag
-  module _ (of : ℕ → ℕ) (k j : ℕ) where
-    abbrev Says : ℕ → ℕ → Type 0
+  module _ {A : Type 0} (of : ℕ → A) (k j : A) where
+    abbrev Says : A → ℕ → Type 0
     Says m tag = of tag ≡ m
 
     agree : ent 𝓤 (sep 𝓤 (sem 𝓛 (leads store n (Says k))) (sem 𝓛 (leads store n (Says j)))) (fact 𝓤 (k ≡ j))
@@ -52,3 +52,14 @@ module _ {M : Type 1} {𝓤 : Ura M} (𝓛 : Logic 𝓤) (store : List ℕ) (n :
 
   pub lends_agree : (γ δ : ℕ) → ent 𝓤 (sep 𝓤 (sem 𝓛 (lends_by store n γ)) (sem 𝓛 (lends_by store n δ))) (fact 𝓤 (γ ≡ δ))
   lends_agree = agree right_of
+
+  pub known_tells : (row : ℕ) (chunks : List (Ptr × ℕ)) → IsRowIn store row chunks → IsPlace n row (entry_of row n)
+      → ent 𝓤 (sem 𝓛 (known_row store row chunks)) (sem 𝓛 (tells store n (label_in chunks (entry_of row n), content_in chunks (entry_of row n))))
+  known_tells row chunks made placed =
+      known_shows (λ tag. (left_of tag, right_of tag) ≡ (label_in chunks (entry_of row n), content_in chunks (entry_of row n))) row chunks made placed refl
+
+  pub tells_twice : (t : ℕ × ℕ) → ent 𝓤 (sem 𝓛 (tells store n t)) (sep 𝓤 (sem 𝓛 (tells store n t)) (sem 𝓛 (tells store n t)))
+  tells_twice t = twice (λ tag. (left_of tag, right_of tag) ≡ t)
+
+  pub tells_agree : (t u : ℕ × ℕ) → ent 𝓤 (sep 𝓤 (sem 𝓛 (tells store n t)) (sem 𝓛 (tells store n u))) (fact 𝓤 (t ≡ u))
+  tells_agree = agree (λ tag. (left_of tag, right_of tag))

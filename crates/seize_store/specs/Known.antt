@@ -8,6 +8,7 @@
 --     Way store n φ                a row of that store, of which the chunk of the number n has a tag with φ;  leads store n φ   there is one
 --     leads_to store n k           the number n leads to the label k in that store, for good
 --     lends_by store n γ           what is lent in the chunk of the number n is lent by the content γ, for good
+--     tells store n t              both, for the label t.0 and the content t.1
 use Rattle.std.specs.Prelude.{◌≡◌, ℕ, suc, ◌+◌, ◌-◌, ◌^◌, ◌<◌, All, List, get_or, length}
 use base.Stored.{gnil, gcons, coded_list, coded×, coded_ℕ}
 use base.Fml.{Fml, fres, fex}
@@ -63,3 +64,6 @@ leads_to store number label = leads store number (λ tag. left_of tag ≡ label)
 
 abbrev pub lends_by : List ℕ → ℕ → ℕ → Fml
 lends_by store number content = leads store number (λ tag. right_of tag ≡ content)
+
+abbrev pub tells : List ℕ → ℕ → ℕ × ℕ → Fml
+tells store number t = leads store number (λ tag. (left_of tag, right_of tag) ≡ t)

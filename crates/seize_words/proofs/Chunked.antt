@@ -3,7 +3,7 @@ use Rattle.std.proofs.Common.{◌≡◌, ℕ, ◌<◌, true, length, sym, ◌∙
 use Rattle.std.proofs.lemmas.List.Elements.{All-get_or}
 use denote.RawPtr.{Ptr, null_ptr}
 use Rattle.seize_machine.specs.Machine.State.{has}
-use Rattle.seize_store.specs.Known.{entry_of, family_in, label_in}
+use Rattle.seize_store.specs.Known.{content_in, entry_of, family_in, label_in}
 use Rattle.seize_store.specs.declared.known.Known.{Known}
 use Rattle.seize_table.specs.Pairs.{left_of, of_family, right_of}
 use Rattle.seize_table.specs.Place.{IsPlace}
@@ -12,6 +12,7 @@ use Rattle.seize_book.specs.Blocks.{block_of}
 use Rattle.seize_book.specs.Book.{after}
 use Rattle.seize_book.specs.Homes.{home_of}
 use Rattle.seize_book.specs.Homesteads.{AreAt, state_seen}
+use Rattle.seize_book.specs.Loans.{place_of}
 use Rattle.seize_book.specs.Passes.{LooksOn}
 use Rattle.seize_book.specs.Tokens.{Name, label_at, start}
 use Rattle.seize_book.specs.declared.book.pass.Pass.{Pass}
@@ -29,7 +30,7 @@ same_home n m k j same = sym (right_pair n.family k) ∙ (ap right_of same ∙ r
 pub label_kin : (known : Known) (number : ℕ) → IsPlace number known.row (entry_of known.row number)
     → left_of (label_in known.chunks (entry_of known.row number)) ≡ family_in known.store
 label_kin known number placed = let e : ℕ = entry_of known.row number in let within = placed.within in let long = known.made.1 in let less : e < length known.chunks = omega (arith, within, long) in
-    All-get_or (λ (chunk : Ptr × ℕ). of_family (family_in known.store) chunk.1) known.chunks e (null_ptr, 0) less known.made.2
+    All-get_or (λ (chunk : Ptr × ℕ). of_family (family_in known.store) (left_of chunk.1)) known.chunks e (null_ptr, 0) less known.made.2
 
 -- what a pass has seen named stays so
 pub named_seen : (pass pass' : Pass) (v : ℕ) → LooksOn pass pass' → has v (state_seen pass).named ≡ true → has v (state_seen pass').named ≡ true
@@ -43,4 +44,11 @@ pub found_label : (known : Known) (pass : Pass) (label number : ℕ) → AreAt p
     → (v : ℕ) → has v (state_seen pass).named ≡ true → block_of v ≡ number → label ≡ label_at pass.name (home_of v)
 found_label known pass label number homes placed its v named is =
     its ∙ (ap (λ (k : ℕ). label_in known.chunks (entry_of known.row k)) (sym is)
-    ∙ homes v named (subst (λ (k : ℕ). IsPlace k known.row (entry_of known.row k)) (sym is) placed))
+    ∙ (homes v named (subst (λ (k : ℕ). IsPlace k known.row (entry_of known.row k)) (sym is) placed)).0)
+
+-- and the content of that chunk is the place of each
+pub found_content : (known : Known) (pass : Pass) (number : ℕ) → AreAt pass.name known (state_seen pass) → IsPlace number known.row (entry_of known.row number)
+    → (v : ℕ) → has v (state_seen pass).named ≡ true → block_of v ≡ number → content_in known.chunks (entry_of known.row number) ≡ place_of v
+found_content known pass number homes placed v named is =
+    ap (λ (k : ℕ). content_in known.chunks (entry_of known.row k)) (sym is)
+    ∙ (homes v named (subst (λ (k : ℕ). IsPlace k known.row (entry_of known.row k)) (sym is) placed)).1

@@ -78,7 +78,7 @@ module _ (known : Known) (key : SlotKey) (pass : Pass) (book : IsOf key pass) (g
   living_home v number is living placed =
       let named : has v (state_seen pass).named ≡ true = named_later st own pass.seen v grows legal living.0 in
       ap (λ (k : ℕ). label_in known.chunks (entry_of known.row k)) is
-      ∙ homes v named (subst (λ (k : ℕ). IsPlace k known.row (entry_of known.row k)) is placed)
+      ∙ (homes v named (subst (λ (k : ℕ). IsPlace k known.row (entry_of known.row k)) is placed)).0
 
   -- the block with which the batch waited for the slot
   pub next_home : IsPlace (block_for (start_of key) own b (number_of key)) known.row (entry_of known.row (block_for (start_of key) own b (number_of key)))

@@ -24,7 +24,7 @@ impl Model for Rights {
 }
 
 impl Rights {
-    ghost use Rattle.seize_book.specs.Bare.{IsFree, IsWay, Numbers, Places};
+    ghost use Rattle.seize_book.specs.Bare.{Gives, IsFree, IsWay, Numbers, Places};
 
     /// The first key's label is a value of its block then, with this number, which was never named.
     pub(crate) fn number(&mut self, number: u64)
@@ -34,17 +34,18 @@ impl Rights {
     /// The key of a block's values, where blocks lie in no store.
     pub(crate) fn anywhere(&mut self) -> Keys
         requires { (self.old.name.store ≡ None) × IsFree self.old }
-        ensures { Places self.old result }
+        ensures { Gives self.old result }
     {
         Keys {
             marker: PhantomData,
         }
     }
 
-    /// All of them, where the number of the first key's label leads to its home.
-    pub(crate) fn place(&mut self, known: &Known) -> Keys
-        requires { IsWay self.old known.now }
-        ensures { Places self.old result }
+    /// The key of a block's values, where the number leads to the block, as the token shows. Its label is a value with this number then, of
+    /// the block and of its content, which was never named.
+    pub(crate) fn place(&mut self, number: u64, known: &Known) -> Keys
+        requires { IsWay self.old number known.now }
+        ensures { Places self.old number known.now result }
     {
         Keys {
             marker: PhantomData,

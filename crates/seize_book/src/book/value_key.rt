@@ -24,8 +24,8 @@ impl ValueKey {
     ghost use Rattle.seize_book.specs.Bare.{IsLaid};
     ghost use Rattle.seize_book.specs.Books.{IsNextIn, MakesNext};
     ghost use Rattle.seize_content.specs.Loans.{IsLent};
-    ghost use Rattle.seize_book.specs.Lending.{GoesWith, IsFreeKey, IsInBlockOf, IsLentKey};
-    ghost use Rattle.seize_book.specs.Others.{HasGone, IsLast, IsVacated, IsValueOf, value_of};
+    ghost use Rattle.seize_book.specs.Lending.{GoesWith, IsFreeKey, IsInBlockOf, IsLentKey, IsOfPlace};
+    ghost use Rattle.seize_book.specs.Others.{HasGone, IsLast, IsVacated, IsValueOf, book_of, value_of};
 
     /// The key is for the next value of its block then, which words hold by the same number. The last one was reclaimed, as the pass has
     /// seen. The pass and the key look at the list with no event.
@@ -42,9 +42,10 @@ impl ValueKey {
 
     /// A content that is lent goes with the key from then on, into a link and out of it, and whoever finds the value in a link can see the
     /// content (`Link::see`). The key is for another value of its block then, which stands for this content. The value before was never
-    /// named, and nothing is lent with it.
+    /// named, and nothing is lent with it. Where the blocks of the book lie in a store, it is the content of this block there.
     pub fn lend(&mut self, ticket: Ticket, pool: Pool)
         requires lent { IsLent ticket pool }
+        requires place { IsOfPlace (book_of self.old) (value_of self.old) ticket }
         requires next { IsNextIn self.old (block_of (value_of self.old)) × IsFreeKey self.old }
         ensures next { IsNextIn self.new (block_of (value_of self.old)) × IsInBlockOf self.old self.new }
         ensures goes { GoesWith self.new pool }

@@ -1,15 +1,14 @@
 -- `row_of` gives what the book keeps of where the number leads.
 use Rattle.seize_book.proofs.Kit.{ℕ, List, [], ◌∷◌, ◌≡◌, refl, sym, subst, proved, named, w64, u64, vint, uint_vals, uint_Tells, Val, vptr, SProp, emp, Fml, ftrue, fsep, flft, ‵, raw, ◌⊛◌, some, given, later, await, ◌$◌, ◌∵◌, !, qed, by, move, keep, split, fsplit, fsplit3, fjoin, fjoin3, fpick, pick, learn, use0, use1, feq_i, no_more, and_then, get, agg, returns, enter, alloc_all, pass_all, free_all, look_at, sets, fact, fact_i, heard, tables, yes, owns, types_at, plain, mut_vals, mut_Tells, nothing, opens, closes, Stays, stay_ref, stay_dropped, walk_of, Goes-ref, Goes-dropped}
 use Rattle.std.specs.Prelude.{Option, Some, None, is_some, true}
-use Rattle.seize_store.specs.Known.{leads_to}
+use Rattle.seize_store.specs.Known.{tells}
 use Rattle.seize_store.specs.Named.{IsRowOf}
 use Rattle.seize_store.specs.contracts.known.Known as Known
 use Rattle.seize_book.specs.Blocks.{block_of}
-use Rattle.seize_book.specs.Homes.{home_of}
 use Rattle.seize_book.specs.Entry.{Entry}
 use Rattle.seize_book.specs.Fair.{Before}
 use Rattle.seize_book.specs.Homesteads.{HasNumber, state_seen}
-use Rattle.seize_book.specs.Tokens.{label_at, pass_owns}
+use Rattle.seize_book.specs.Tokens.{pass_owns, told_of}
 use Rattle.seize_book.specs.contracts.book.pass.Pass as Pass
 use Rattle.seize_book.proofs.Fields.{Token, token, token_made, ends}
 use Rattle.seize_book.proofs.Looks.{finds_row, looked}
@@ -39,7 +38,7 @@ row_of_spec 𝓤 𝓛 𝓜 𝓡 wired =
     enter ! 𝓣.C 𝓣.Λ fn (vptr pb po ∷ vint w64 number ∷ []) Post $ alloc_all ! (λ l. pass_all ! refl ((tt, tt), ((tt, record { fits = are.1.0.1 }), tt)) $
     opens ! tt Pass.the_row pb po (λ vs. move ! (1 ∷ []) $ fsplit ! $ move ! (1 ∷ []) $
     -- [what the pass owns; the pass; its cell, in four entries]
-    let store = the_store b.name.store asked.0 in let v : ℕ = asked.1.0 in let L : Fml = leads_to store.0 (block_of v) (label_at b.name (home_of v)) in
+    let store = the_store b.name.store asked.0 in let v : ℕ = asked.1.0 in let L : Fml = tells store.0 (block_of v) (told_of b.name v) in
     use1 𝓛 (later (some (λ (log : List Entry). given (Before b.name b.id b.seen [] log × IsDistinct 𝓛 b.name) (‵ (pass_owns b.name b.id log) ⊛ ‵ L)))) (finds_row 𝓛 b.name b.id b.seen store.0 v store.1 asked.1.1) $ await ! tt $ pick ! (λ log. learn ! (λ so. split ! $
     -- [what the pass owns; where the number leads; the pass; its cell, in four entries]
     move ! (1 ∷ []) $ fpick ! (λ way. let b' : Pass.the_row.Denot = record b { seen = log } in let r : Known.the_row.Denot = record { marker = record {}; store = store.0; row = way.row; chunks = way.chunks; made = way.made } in

@@ -1,6 +1,8 @@
 -- `number` labels a right, which is the same.
 use Rattle.seize_book.proofs.Kit.{vint, w64, u64, uint_vals, uint_Tells, yes, stay_dropped, Goes-dropped, ℕ, List, [], ◌∷◌, refl, proved, named, Val, vptr, vunit, SProp, emp, Fml, ftrue, fsep, flft, ‵, raw, ◌⊛◌, ◌$◌, ◌∵◌, !, qed, by, move, keep, split, fsplit, fsplit3, fjoin, fjoin3, use1, feq_i, unit_lit, of_opd, returns, enter, alloc_all, pass_all, free_all, look_at, sets, fact_i, tables, owns, types_at, plain, mut_vals, mut_Tells, nothing, opens, closes, Stays, stay_ref, walk_of, Goes-ref}
 use Rattle.seize_book.specs.Others.{labelled}
+use Rattle.seize_book.specs.Loans.{place_of}
+use Rattle.seize_book.specs.Private.{label_of}
 use Rattle.seize_book.specs.Tokens.{rights_own}
 use Rattle.seize_book.specs.contracts.book.rights.Rights as Rights
 use Rattle.seize_book.proofs.Fields.{ends}
@@ -25,7 +27,7 @@ number_spec 𝓤 𝓛 𝓜 𝓡 wired =
     enter ! 𝓣.C 𝓣.Λ fn (vptr pb po ∷ vint w64 number ∷ []) Post $ alloc_all ! (λ l. pass_all ! refl ((tt, tt), ((tt, record { fits = are.1.0.1 }), tt)) $
     opens ! tt Rights.the_row pb po (λ vs. move ! (1 ∷ []) $ fsplit ! $ move ! (1 ∷ []) $
     -- [what the keys own; the keys; their cell, in four entries]
-    let v : ℕ = fresh_at k.name k.held number are.1.0.1 in let k' : Rights.the_row.Denot = record k { held = labelled v k.held } in
+    let v : ℕ = fresh_at k.name k.held (place_of (label_of k.held)) number are.1.0.1 in let k' : Rights.the_row.Denot = record k { held = labelled v k.held } in
     use1 𝓛 (‵ (rights_own k.name (labelled v k.held))) (right_labelled 𝓛 k.name k.held v) $
     move ! (1 ∷ 0 ∷ []) $ fjoin ! $ move ! (1 ∷ 0 ∷ 2 ∷ 3 ∷ 4 ∷ []) $ closes ! tt Rights.the_row k' vs pb po $
     -- [the keys, in two; their token]
