@@ -14,6 +14,7 @@ use Rattle.std.proofs.Common.{List}
 use Rattle.seize_content.specs.Goods.{Lendable}
 use Rattle.seize_content.proofs.Sends.{place_sent, place_seen}
 use Rattle.seize_table.specs.declared.labelled.Labelled.{Ghosts}
+use Rattle.seize_table.specs.Pairs.{right_of}
 use Rattle.seize_store.specs.Lending.{block_at, lender_owns, lender_shares}
 use Rattle.seize_store.specs.contracts.lender.Lender as lender
 use Rattle.seize_store.proofs.Fields.{single, Hull}
@@ -27,12 +28,12 @@ module _ (X U R : RattleType) (f : U.Denot → ℕ) (p : Ptr) (k : ℕ) where
     lends = λ 𝓛 x l inc. lain_lends X U R f k 𝓛 p x l (λ r. Lends-lies 𝓛 R l r x (Shares-less 𝓛 R R.lives l inc (L.shares 𝓛) x));
   }
 
-  module _ (u : IsSend U) (s : IsSend R) (y : IsSync R) (γ : ℕ) where
-    pub lender_sent : Keyless (lender_owns X U R f p k γ)
-    lender_sent = place_sent (block_at X U R f p k) tt (λ x. lain_owned X U R f u s p k x) (λ x κ. hull_seen X U R f y p x κ) γ
+  module _ (u : IsSend U) (s : IsSend R) (y : IsSync R) where
+    pub lender_sent : Keyless (lender_owns X U R f p k)
+    lender_sent = place_sent (block_at X U R f p k) tt (λ x. lain_owned X U R f u s p k x) (λ x κ. hull_seen X U R f y p x κ) (right_of k)
 
-    pub lender_seen : (κ : Lft) → Keyless (lender_shares X U R f p k γ κ)
-    lender_seen κ = place_seen (block_at X U R f p k) tt (λ x. lain_owned X U R f u s p k x) (λ x κ'. hull_seen X U R f y p x κ') γ κ
+    pub lender_seen : (κ : Lft) → Keyless (lender_shares X U R f p k κ)
+    lender_seen κ = place_seen (block_at X U R f p k) tt (λ x. lain_owned X U R f u s p k x) (λ x κ'. hull_seen X U R f y p x κ') (right_of k) κ
 
 -- the machine values of a hull, and of any pointer
 module _ (X U R : RattleType) (g : Ghosts U.Denot) where

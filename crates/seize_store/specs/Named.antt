@@ -15,7 +15,7 @@
 --     lies_of p, header_of p   where the chunk p lies, and its header
 --     lies o, label_of o     where the chunk of the block o lies, and the label of its header
 --     bare_value b, bare_title b, bare_store b, bare_number b, bare_label b     the same of a block b without its owner's part
---     bare_content b         the name of the content of its chunk
+--     bare_known b, bare_content b     the token of its row, and the name of the content of its chunk
 use Rattle.std.specs.Prelude.{◌≡◌, ℕ, ◌+◌, ◌==◌, if◌then◌else◌, List, [], ◌∷◌, ◌++◌, All, map, length, take, vec_len}
 use denote.RawPtr.{Ptr}
 use Rattle.seize_table.specs.Place.{IsPlace}
@@ -118,6 +118,9 @@ bare_store bare = bare.title.known.store
 
 abbrev pub bare_label : {H P T : Type 0} → Bare H P T → ℕ
 bare_label bare = titled.label_of bare.title
+
+abbrev pub bare_known : {H P T : Type 0} → Bare H P T → Known
+bare_known bare = bare.title.known
 
 abbrev pub bare_content : {H P T : Type 0} → Bare H P T → ℕ
 bare_content bare = titled.content_of bare.title

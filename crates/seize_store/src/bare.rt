@@ -19,8 +19,8 @@ pub struct Bare<H, P: Labelled + Drop, T: Drop> {
 }
 
 impl<H, P: Labelled + Drop, T: Drop> Bare<H, P, T> {
-    ghost use Rattle.seize_store.specs.Known.{entry_of, label_in};
-    ghost use Rattle.seize_store.specs.Named.{IsRowOf, bare_label, bare_number, bare_store, bare_title, bare_value, title_of, value_of};
+    ghost use Rattle.seize_store.specs.Known.{content_in, entry_of, label_in};
+    ghost use Rattle.seize_store.specs.Named.{IsRowOf, bare_content, bare_label, bare_number, bare_store, bare_title, bare_value, title_of, value_of};
 
     /// The block's number. No other block of its store has it while this one stands.
     pub fn number(&self) -> usize
@@ -33,6 +33,7 @@ impl<H, P: Labelled + Drop, T: Drop> Bare<H, P, T> {
     pub fn known(&self) -> &Known
         ensures row { (result.now.store ≡ bare_store self.now) × IsRowOf result.now (bare_number self.now) }
         ensures label { bare_label self.now ≡ label_in result.now.chunks (entry_of result.now.row (bare_number self.now)) }
+        ensures content { bare_content self.now ≡ content_in result.now.chunks (entry_of result.now.row (bare_number self.now)) }
     {
         &self.title.known
     }
@@ -46,6 +47,19 @@ impl<H, P: Labelled + Drop, T: Drop> Bare<H, P, T> {
         Owned {
             block: hull.with(title, part),
         }
+    }
+}
+
+impl<H, P: Labelled + Drop, T: Drop> Bare<H, P, T> {
+    ghost use Rattle.seize_store.specs.Named.{bare_title, bare_value};
+    ghost use Rattle.seize_store.specs.Parts.{hull_with};
+
+    // What it wraps.
+    pub(crate) fn into_hull(self) -> (Hull<H, P, T>, Title)
+        ensures { (result.0.value ≡ bare_value self) × (chunk_of result.1 ≡ hull_with result.0) × (result.1 ≡ bare_title self) }
+    {
+        let Bare { hull, title } = self;
+        (hull, title)
     }
 }
 

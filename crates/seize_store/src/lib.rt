@@ -10,6 +10,7 @@ mod identity;
 mod kin;
 mod known;
 mod lender;
+mod loans;
 mod maker;
 mod once_of;
 mod owned;

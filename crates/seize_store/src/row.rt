@@ -1,10 +1,11 @@
 //! A row of chunks, and the cells that the rows stand in. It cuts the memory of `strip` into chunks of `chunk`; `store` keeps the rows.
 ghost use Rattle.std.specs.Prelude.{◌≡◌, ◌+◌, ◌^◌, ◌<◌, All, IfOk, IfSome, length};
 ghost use Rattle.seize_store.specs.Known.{AreKin, label_in, place_in};
-ghost use Rattle.seize_table.specs.Pairs.{left_of, right_of};
+ghost use Rattle.seize_table.specs.Pairs.{left_of};
 ghost use Rattle.seize_table.specs.Place.{IsPlace};
 ghost use Rattle.seize_table.specs.Table.{number_at};
 
+use crate::block::Hull;
 use crate::chunk::{Base, Body, Chunk};
 use crate::family::Family;
 use crate::identity::Identity;
@@ -14,7 +15,7 @@ use crate::maker::Maker;
 use crate::once_of::OnceOf;
 use crate::seen::Place;
 use crate::strip::{Rooms, Strip};
-use seize_content::Start;
+use seize_content::{Pool, Sight, Start, Ticket};
 use seize_table::Labelled;
 use seize_table::thread_id::{BUCKETS, Thread};
 use std::alloc::{AllocError, Global};
@@ -28,7 +29,6 @@ pub(crate) struct Kept<H: Labelled + Drop, P: Labelled + Drop, T> {
     pub(crate) lender: Lender<H, P, T>,
     alloc: Global,
     ghost labelled: { left_of chunk.tag ≡ H.label chunk.header },
-    ghost named: { right_of chunk.tag ≡ lender.name },
     ghost place: { lender.at ≡ chunk.at },
     ghost tag: { lender.tag ≡ chunk.tag },
 }
@@ -134,6 +134,38 @@ impl<H: Labelled + Drop, P: Labelled + Drop, T> Row<H, P, T> {
         let chunk = &self.chunks[entry].chunk;
         let header = chunk.header_by(&self.base, entry);
         Place { chunk, header }
+    }
+}
+
+impl<H: Labelled + Drop, P: Labelled + Drop, T> Row<H, P, T> {
+    ghost use Rattle.seize_content.specs.Loans.{IsLent};
+    ghost use Rattle.seize_store.specs.Known.{chunk_in, content_in};
+    ghost use Rattle.seize_store.specs.Parts.{hull_with};
+
+    /// Lends the block of the chunk at that entry.
+    pub(crate) fn lend(&self, entry: usize, hull: Hull<H, P, T>) -> (Ticket, Pool)
+        requires { (entry < length self.now) × (hull_with hull ≡ chunk_in self.now entry) }
+        ensures loan { IsLent result.0 result.1 × (result.0.name ≡ content_in self.now entry) }
+        ensures value { result.1.value ≡ T.row.coded.code hull.value }
+    {
+        self.chunks[entry].lender.lend(hull)
+    }
+
+    /// The block of the chunk at that entry, where it was lent.
+    pub(crate) fn back(&self, entry: usize, ticket: Ticket, pool: Pool) -> Hull<H, P, T>
+        requires { (entry < length self.now) × IsLent ticket pool × (ticket.name ≡ content_in self.now entry) }
+        ensures { (hull_with result ≡ chunk_in self.now entry) × (T.row.coded.code result.value ≡ pool.value) }
+    {
+        let kept = &self.chunks[entry];
+        kept.lender.back(&kept.chunk, ticket, pool)
+    }
+
+    /// The value of the block that is lent from the chunk at that entry.
+    pub(crate) fn see<'g>(&'g self, entry: usize, sight: Sight<'g>) -> &'g T
+        requires { (entry < length self.now) × (sight.name ≡ content_in self.now entry) }
+        ensures { T.row.coded.code result.now ≡ sight.entry.value }
+    {
+        self.chunks[entry].lender.view_by(&self.base, entry, sight)
     }
 }
 

@@ -28,7 +28,7 @@ const BEHIND: usize = 8;
 pub struct Store<H: Labelled + Drop, P: Labelled + Drop, T> {
     pub(crate) rows: Rows<H, P, T>,
     hint: AtomicUsize,
-    alloc: Global,
+    pub(crate) alloc: Global,
 }
 
 /// Takes the first chunk of the row that is in, from an entry on and before another.

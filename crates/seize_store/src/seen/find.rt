@@ -1,6 +1,6 @@
 //! Look-ups: from a number to its chunk, in a store that made the number's row. `seen` says what they answer.
 ghost use Rattle.std.specs.Prelude.{◌≡◌, ◌<◌, ◌≤◌, ◌+◌, ◌^◌, length, IfSome};
-ghost use Rattle.seize_store.specs.Known.{entry_of, label_in, place_in};
+ghost use Rattle.seize_store.specs.Known.{chunk_in, entry_of, label_in, place_in};
 ghost use Rattle.seize_store.specs.Named.{IsRowOf, chunks_by, header_of, known_by, label_by, label_of, lies, lies_of, name_of, number_of, place_by, row_by, row_is, store_by, store_of};
 
 use super::{Place, Seen};
@@ -107,11 +107,20 @@ impl<H: Labelled + Drop, P: Labelled + Drop, T> Store<H, P, T> {
         ensures place { lies_of result ≡ place_in known.now.chunks (entry_of known.now.row number) }
         ensures label { H.label (header_of result) ≡ label_in known.now.chunks (entry_of known.now.row number) }
     {
+        let (row, entry) = self.row_of(number, known);
+        row.chunk(entry)
+    }
+
+    // The number's row, which the token shows, and its entry there.
+    pub(crate) fn row_of(&self, number: usize, known: &Known) -> (&Row<H, P, T>, usize)
+        requires { (known.now.store ≡ name_of self.now) × IsRowOf known.now number }
+        ensures { (result.1 < length result.0.now) × (chunk_in result.0.now result.1 ≡ chunk_in known.now.chunks (entry_of known.now.row number)) }
+    {
         let Some(place) = Thread::new(number) else {
             unreachable!();
         };
         let row = self.known_row(place.bucket, known);
-        row.chunk(place.entry)
+        (row, place.entry)
     }
 
     // The row that the token shows.

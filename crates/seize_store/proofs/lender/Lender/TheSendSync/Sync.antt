@@ -9,4 +9,4 @@ use Rattle.seize_store.proofs.Lenders.{lender_seen}
 
 pub sync : (X U T : RattleType) (g : Ghosts U.Denot) → IsSend U → IsSend T → IsSync T → IsSync (the_row X U T g)
 sync X U T g u s y = let my : IsSync (marker.the_field RawPtr).row = search sendable depth 30 in
-    record { shared = λ d b o κ. ((struct_sync (shape (the_type X U T g)) (my, tt)).shared (to (the_type X U T g) d) b o κ, lender_seen X U T g.label d.at d.tag u s y d.name κ) }
+    record { shared = λ d b o κ. ((struct_sync (shape (the_type X U T g)) (my, tt)).shared (to (the_type X U T g) d) b o κ, lender_seen X U T g.label d.at d.tag u s y κ) }

@@ -1,24 +1,10 @@
-use Rattle.std.proofs.Common.{◌≡◌, ℕ, ◌+◌, ◌^◌, ◌<◌, List, length, sym, ap, ◌∙◌, subst, arith, lit<}
+use Rattle.std.proofs.Common.{ℕ, ap, ◌∙◌}
 use denote.RawPtr.{Ptr}
-use Rattle.seize_table.proofs.Places.{one_place}
 use Rattle.seize_table.specs.Pairs.{left_of}
-use Rattle.seize_store.specs.Known.{chunk_in, entry_of}
 use Rattle.seize_store.proofs.store.Store.place.Goals as goal
 
-pub known_row-row-requires : goal.known_row-row-requires
-known_row-row-requires g c = let r = c.args.known.now.row in let n = c.args.number in let at = c.in-Some.place in
-    (lit< tt, (sym c.requires.store, sym (one_place n r (entry_of r n) at.bucket at.entry c.requires.row c.in-Some.ensures.place).0, at.in_table))
-
-pub chunk-requires : goal.chunk-requires
-chunk-requires g c = let known = c.args.known.now in let r = known.row in let n = c.args.number in let at = c.in-Some.place in
-    let same = (one_place n r (entry_of r n) at.bucket at.entry c.requires.row c.in-Some.ensures.place).0 in
-    let full : length known.chunks ≡ 2 ^ (at.bucket + 5) = known.made.1 ∙ ap (λ (k : ℕ). 2 ^ (k + 5)) same in
-    let within = c.in-Some.ensures.place.within in
-    let inside : at.entry < length known.chunks = omega arith in
-    subst (λ (ps : List (Ptr × ℕ)). at.entry < length ps) (sym c.known_row-row.ensures) inside
-
 pub returns : goal.returns
-returns g c = let r = c.args.known.now.row in let n = c.args.number in let at = c.in-Some.place in let ps = c.args.known.now.chunks in
-    let same = (one_place n r (entry_of r n) at.bucket at.entry c.requires.row c.in-Some.ensures.place).1 in
-    let one : chunk_in c.known_row-row.result.now at.entry ≡ chunk_in ps (entry_of r n) = ap (λ (qs : List (Ptr × ℕ)). chunk_in qs at.entry) c.known_row-row.ensures ∙ ap (λ (e : ℕ). chunk_in ps e) (sym same) in
-    record { place = c.chunk.ensures.0 ∙ ap (λ (x : Ptr × ℕ). x.0) one; label = c.chunk.ensures.1 ∙ ap (λ (x : Ptr × ℕ). left_of x.1) one }
+returns g c = record {
+  place = c.chunk.ensures.0 ∙ ap (λ (x : Ptr × ℕ). x.0) c.row_of-entry.ensures.1;
+  label = c.chunk.ensures.1 ∙ ap (λ (x : Ptr × ℕ). left_of x.1) c.row_of-entry.ensures.1;
+}
