@@ -185,6 +185,9 @@ module _ (value : ValueKey) (pass : Pass) (seen' : List Entry) (looked renamed :
   pub next_home : home_of (label_of renamed.held) ≡ home_of u
   next_home = ap home_of its_value ∙ its_home
 
+  pub next_place : place_of (label_of renamed.held) ≡ place_of u
+  next_place = ap place_of its_value ∙ (is.place ∙ ap place_of same_label)
+
   pub next_free : CarriesNone (label_of renamed.held)
   next_free = ap loan_of its_value ∙ is.free
 

@@ -1,5 +1,6 @@
 -- What the label of a chunk says, which a pass has found by the number of a value. These facts are for callers.
-use Rattle.std.proofs.Common.{◌≡◌, ℕ, ◌<◌, true, length, sym, ◌∙◌, ap, subst, arith}
+use Rattle.std.proofs.Math.Pow.{pow_mono}
+use Rattle.std.proofs.Common.{◌≡◌, ℕ, ◌+◌, ◌<◌, ◌≤◌, ◌^◌, true, length, sym, ◌∙◌, ap, subst, arith}
 use Rattle.std.proofs.lemmas.List.Elements.{All-get_or}
 use denote.RawPtr.{Ptr, null_ptr}
 use Rattle.seize_machine.specs.Machine.State.{has}
@@ -16,7 +17,9 @@ use Rattle.seize_book.specs.Loans.{place_of}
 use Rattle.seize_book.specs.Passes.{LooksOn}
 use Rattle.seize_book.specs.Tokens.{Name, label_at, start}
 use Rattle.seize_book.specs.declared.book.pass.Pass.{Pass}
-use Rattle.seize_book.proofs.Sound.{named_later}
+use Rattle.seize_machine.proofs.Facts.{gone_named}
+use Rattle.seize_book.proofs.Lists.{reached_after}
+use Rattle.seize_book.proofs.Sound.{gone_later, named_later}
 
 -- labels that are equal say one family and one home
 
@@ -52,3 +55,16 @@ pub found_content : (known : Known) (pass : Pass) (number : ℕ) → AreAt pass.
 found_content known pass number homes placed v named is =
     ap (λ (k : ℕ). content_in known.chunks (entry_of known.row k)) (sym is)
     ∙ (homes v named (subst (λ (k : ℕ). IsPlace k known.row (entry_of known.row k)) (sym is) placed)).1
+
+-- a value that was reclaimed was named
+pub gone_seen : (pass pass' : Pass) (v : ℕ) → LooksOn pass pass' → has v (state_seen pass).gone ≡ true → has v (state_seen pass').named ≡ true
+gone_seen pass pass' v looks gone =
+    subst (λ (n : Name). has v (after (start n) pass'.seen).named ≡ true) (sym looks.same.0)
+    (gone_named (after (start pass.name) pass'.seen) (reached_after pass.name pass'.seen looks.distinct looks.legal) v
+    (gone_later (start pass.name) pass.seen pass'.seen v looks.grows looks.legal gone))
+
+-- a number of the store fits into a word beside 2
+pub number_fits : (known : Known) (number : ℕ) → IsPlace number known.row (entry_of known.row number) → number + 2 < 2 ^ 64
+number_fits known number placed =
+    let row : known.row < 59 = known.made.0 in let below : 2 ^ (known.row + 5) ≤ 2 ^ 63 = pow_mono {i = known.row + 5} {j = 63} (omega (arith, row)) in
+    let is = placed.place in let within = placed.within in omega (arith, below, is, within)

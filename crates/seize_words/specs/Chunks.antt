@@ -4,17 +4,25 @@
 --     OpensIn blocks keys links size    a new book, to which many may append, with so many links, which are empty, and its keys;  see Opens
 --     OpensAloneIn blocks pass keys links size     the same of a book to which this pass alone may append
 --     LiesIn key block                  the key is that of the values of this block
---     IsBlockIn blocks value key block  it is one of these blocks and has the value, and the key is for this value, by the block's number
+--     IsBlockIn blocks value key block  it is one of these blocks and has the value, and the key is for this value, by the block's number,
+--                                       and for the content of its chunk; nothing is lent with it
+--     IsLentAs v g                      a value of code g is lent with v
+--     IsLentIn blocks key number g      the key is for a value that was never named, by this number, and a value of code g is lent with it
+--     IsFoundAt o number pass           it is a value, which was named, as the pass has seen, by this number, and something is lent with it
+--     IsFoundAs o g                     it is a value, and one of code g is lent with it
 --     IsHeaderOf header number pass     it is of the pass's book, and each value with this number that was ever named lies in its block
-use Rattle.std.specs.Prelude.{◌≡◌, ℕ, ◌+◌, ◌<◌, ◌^◌, Some, None, true}
+use Rattle.std.specs.Prelude.{◌≡◌, ℕ, ◌+◌, ◌<◌, ◌^◌, Option, Some, None, true}
+use base.Stored.{Gv}
 use Rattle.seize_machine.specs.Machine.State.{has}
-use Rattle.seize_store.specs.Named.{bare_label, bare_number, bare_store, bare_value}
+use Rattle.seize_store.specs.Named.{bare_content, bare_label, bare_number, bare_store, bare_value}
 use Rattle.seize_store.specs.declared.bare.Bare.{Bare}
 use Rattle.seize_book.specs.Blocks.{block_of}
 use Rattle.seize_book.specs.Books.{IsNextIn, Opens, OpensAlone}
 use Rattle.seize_words.specs.Counts.{home}
 use Rattle.seize_book.specs.Homes.{home_of}
 use Rattle.seize_book.specs.Homesteads.{state_seen}
+use Rattle.seize_book.specs.Lending.{IsFreeKey}
+use Rattle.seize_book.specs.Loans.{CarriesNone, loan_number, loan_of, place_of}
 use Rattle.seize_book.specs.Others.{book_of, value_of}
 use Rattle.seize_book.specs.Tokens.{Name, label_at}
 use Rattle.seize_words.specs.declared.blocks.Blocks.{Blocks}
@@ -48,8 +56,32 @@ pub record IsBlockIn {T : Type 0} (blocks : Blocks T) (value : T) (key : ValueKe
   pub book : book_of key ≡ book_in blocks
   pub next : IsNextIn key (bare_number block)
   pub lies : LiesIn key block
+  -- the value's name says the content that its chunk has, and nothing is lent with it
+  pub content : place_of (value_of key) ≡ bare_content block
+  pub free : IsFreeKey key
   -- words hold the number beside 2
   pub fits : bare_number block + 2 < 2 ^ 64
+
+-- a value of the code g is lent with v
+abbrev pub IsLentAs : ℕ → Gv → Type 0
+IsLentAs v g = loan_of v ≡ loan_number g
+
+pub record IsLentIn {T : Type 0} (blocks : Blocks T) (key : ValueKey) (number : ℕ) (g : Gv) : Type 0 where
+  pub book : book_of key ≡ book_in blocks
+  pub next : IsNextIn key number
+  pub code : IsLentAs (value_of key) g
+  pub fits : number + 2 < 2 ^ 64
+
+-- who found it in a link knows that it was named, and that something is lent with it
+pub record IsFoundAt (o : Option ℕ) (number : ℕ) (pass : Pass) : Type 0 where
+  pub value : ℕ
+  pub is : o ≡ Some value
+  pub named : has value (state_seen pass).named ≡ true
+  pub numbered : block_of value ≡ number
+  pub lent : ¬ (CarriesNone value)
+
+abbrev pub IsFoundAs : Option ℕ → Gv → Type 0
+IsFoundAs o g = (v : ℕ) × (o ≡ Some v) × IsLentAs v g
 
 abbrev pub IsHeaderOf : Header → ℕ → Pass → Type 0
 IsHeaderOf header number pass =

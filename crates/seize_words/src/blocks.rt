@@ -4,6 +4,7 @@ ghost use Rattle.seize_store.specs.Known.{family_in};
 ghost use Rattle.seize_store.specs.Named.{name_of};
 
 use crate::chunk::{Header, Part};
+use crate::glimpse::Glimpse;
 use seize_book::book::{Book, BookKeys, Keeps, Pass, SlotKey, Unopened, ValueKey, ValueKeys};
 use seize_store::{Bare, Store};
 use seize_table::Refusal;
@@ -21,11 +22,13 @@ pub struct Blocks<T> {
 }
 
 impl<T: Drop> Blocks<T> {
-    ghost use Rattle.seize_book.specs.Books.{Opens, OpensAlone};
-    ghost use Rattle.seize_store.specs.Named.{bare_value};
+    ghost use Rattle.seize_book.specs.Books.{MakesNext, Opens, OpensAlone};
+    ghost use Rattle.seize_store.specs.Named.{bare_number, bare_value};
     ghost use Rattle.seize_table.specs.declared.refusal.Refusal.TheVariants.{NoMemory};
-    ghost use Rattle.seize_words.specs.Chunks.{IsBlockIn, IsHeaderOf, LiesIn, OpensAloneIn, OpensIn, book_in};
-    ghost use Rattle.seize_book.specs.Others.{IsVacated, book_of};
+    ghost use Rattle.seize_words.specs.Chunks.{IsBlockIn, IsFoundAs, IsFoundAt, IsHeaderOf, IsLentAs, IsLentIn, LiesIn, OpensAloneIn, OpensIn, book_in};
+    ghost use Rattle.seize_book.specs.Others.{HasGone, IsLast, IsVacated, IsValueOf, book_of, value_of};
+    ghost use Rattle.seize_book.specs.Blocks.{block_of};
+    ghost use Rattle.seize_book.specs.Lending.{IsInBlockOf, IsLentKey};
     ghost use Rattle.seize_book.specs.Homesteads.{HasNumber, state_seen};
     ghost use Rattle.seize_book.specs.Passes.{LooksOn};
     ghost use Rattle.seize_book.specs.Slots.{IsOf};
@@ -111,6 +114,47 @@ impl<T: Drop> Blocks<T> {
         pass.agree(&book);
         let key = key.place(block.number() as u64, known);
         Ok((key, block))
+    }
+
+    /// The block is lent: who finds its value in a link sees what lies there, by its number (`see`), and it comes back by its number when
+    /// the value was reclaimed (`redeem`). The key is for another value of the block then, which stands for what is lent. The block is in
+    /// nobody's hands until then. It does nothing when the program runs but for a look-up, and takes no memory.
+    pub fn lend(&self, key: &mut ValueKey, block: Bare<Header, Part, T>)
+        requires block { IsBlockIn self.now (bare_value block) key.old block }
+        ensures block { IsInBlockOf key.old key.new }
+        ensures lent { IsLentIn self.now key.new (bare_number block) (T.row.coded.code (bare_value block)) }
+    {
+        let (ticket, pool) = self.store.lend(block);
+        key.lend(ticket, pool);
+    }
+
+    /// What is lent with the value that was found in a link, for as long as the store and the reader's activation are borrowed: a value of
+    /// the code that the value's name says. The number is that of the link's word, less 1. The pass looks at the list.
+    ///
+    /// It takes no memory: three loads, each of which waits for the one before, with that of what is read in the value.
+    pub fn see<'g>(&'g self, number: u64, glimpse: Glimpse<'g>, pass: &mut Pass) -> &'g T
+        requires book { book_in self.now ≡ pass.old.name }
+        requires found { IsFoundAt glimpse.value number pass.old }
+        ensures looks { LooksOn pass.old pass.new }
+        ensures code { IsFoundAs glimpse.entry.value (T.row.coded.code result.now) }
+    {
+        let known = pass.seek(number);
+        self.store.see(number as usize, &known, glimpse.sight())
+    }
+
+    /// The block whose value was reclaimed, as the pass has seen, in hand again: nobody sees it any more. It has a value of the code that was
+    /// lent. The key is for the next value of the block then. The pass looks at the list. It takes no memory and no atomic step.
+    pub fn redeem(&self, number: u64, key: &mut ValueKey, pass: &mut Pass) -> Bare<Header, Part, T>
+        requires book { IsValueOf key.old pass.old × (book_in self.now ≡ pass.old.name) }
+        requires last { IsLast key.old × HasGone key.old pass.old }
+        requires lent { IsLentKey key.old × (block_of (value_of key.old) ≡ number) }
+        ensures next { MakesNext key.old pass.old key.new pass.new }
+        ensures block { IsBlockIn self.now (bare_value result) key.new result × (bare_number result ≡ number) }
+        ensures code { IsLentAs (value_of key.old) (T.row.coded.code (bare_value result)) }
+    {
+        let (ticket, pool) = key.redeem(pass);
+        let known = pass.seek(number);
+        self.store.back(number as usize, &known, ticket, pool)
     }
 
     /// The value of a block whose values were all reclaimed. Its chunk is in again, with the block's key, by one swap; where the store is

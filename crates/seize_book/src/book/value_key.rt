@@ -24,6 +24,7 @@ impl ValueKey {
     ghost use Rattle.seize_book.specs.Bare.{IsLaid};
     ghost use Rattle.seize_book.specs.Books.{IsNextIn, MakesNext};
     ghost use Rattle.seize_content.specs.Loans.{IsLent};
+    ghost use Rattle.seize_book.specs.Loans.{place_of};
     ghost use Rattle.seize_book.specs.Lending.{GoesWith, IsFreeKey, IsInBlockOf, IsLentKey, IsOfPlace};
     ghost use Rattle.seize_book.specs.Others.{HasGone, IsLast, IsVacated, IsValueOf, book_of, value_of};
 
@@ -34,6 +35,7 @@ impl ValueKey {
         requires last { IsLast self.old × HasGone self.old pass.old }
         ensures value { IsNextIn self.new (block_of (value_of self.old)) }
         ensures free { IsFreeKey self.new }
+        ensures place { place_of (value_of self.new) ≡ place_of (value_of self.old) }
         ensures next { MakesNext self.old pass.old self.new pass.new }
     {
         self.keys.look(pass);
@@ -61,6 +63,7 @@ impl ValueKey {
         requires lent { IsLentKey self.old }
         ensures value { IsNextIn self.new (block_of (value_of self.old)) }
         ensures free { IsFreeKey self.new }
+        ensures place { place_of (value_of self.new) ≡ place_of (value_of self.old) }
         ensures next { MakesNext self.old pass.old self.new pass.new }
         ensures content { IsLent result.0 result.1 × GoesWith self.old result.1 }
     {

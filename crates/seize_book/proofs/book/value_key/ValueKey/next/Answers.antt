@@ -5,7 +5,7 @@ use Rattle.seize_book.specs.Ledger.{Held}
 use Rattle.seize_book.specs.Private.{is_one}
 use Rattle.seize_book.proofs.Moves.{looks_on}
 use Rattle.seize_book.proofs.Private.{same_kind}
-use Rattle.seize_book.proofs.Renames.{next_free, next_in, next_home}
+use Rattle.seize_book.proofs.Renames.{next_free, next_in, next_home, next_place}
 use Rattle.seize_book.proofs.book.value_key.ValueKey.next.Goals as goal
 
 pub rename-requires : goal.rename-requires
@@ -19,3 +19,6 @@ returns-clause-free c = let pass' = c.look.new.pass in let told = c.look.ensures
 
 pub returns-clause-next : goal.returns-clause-next
 returns-clause-next c = let value = c.args.self.now in let pass = c.args.pass.now in let pass' = c.look.new.pass in let told = c.look.ensures in (looks_on value.keys c.look.new.self pass pass' told, c.rename.ensures.book ∙ told.1.0, next_home value pass pass'.seen c.look.new.self c.rename.new.self c.requires.book told.2 told.1.0 told.1.1 c.rename.ensures)
+
+pub returns-clause-place : goal.returns-clause-place
+returns-clause-place c = let pass' = c.look.new.pass in let told = c.look.ensures in next_place c.args.self.now c.args.pass.now pass'.seen c.look.new.self c.rename.new.self c.requires.book told.2 told.1.0 told.1.1 c.rename.ensures

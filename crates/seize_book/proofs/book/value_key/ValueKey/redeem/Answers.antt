@@ -1,4 +1,4 @@
-use Rattle.seize_book.proofs.Renames.{may_redeem, next_free, next_in}
+use Rattle.seize_book.proofs.Renames.{may_redeem, next_free, next_in, next_place}
 use Rattle.seize_book.proofs.book.value_key.ValueKey.redeem.Goals as goal
 
 pub redeem-requires : goal.redeem-requires
@@ -13,3 +13,7 @@ returns-clause-value c =
 pub returns-clause-free : goal.returns-clause-free
 returns-clause-free c =
     let pass' = c.look.new.pass in let told = c.look.ensures in next_free c.args.self.now c.args.pass.now pass'.seen c.look.new.self c.redeem.new.self c.requires.book told.2 told.1.0 told.1.1 c.redeem.ensures.1.0
+
+pub returns-clause-place : goal.returns-clause-place
+returns-clause-place c =
+    let pass' = c.look.new.pass in let told = c.look.ensures in next_place c.args.self.now c.args.pass.now pass'.seen c.look.new.self c.redeem.new.self c.requires.book told.2 told.1.0 told.1.1 c.redeem.ensures.1.0
