@@ -20,7 +20,7 @@ pub struct Bare<H, P: Labelled + Drop, T: Drop> {
 
 impl<H, P: Labelled + Drop, T: Drop> Bare<H, P, T> {
     ghost use Rattle.seize_store.specs.Known.{content_in, entry_of, label_in};
-    ghost use Rattle.seize_store.specs.Named.{IsRowOf, bare_content, bare_label, bare_number, bare_store, bare_title, bare_value, title_of, value_of};
+    ghost use Rattle.seize_store.specs.Named.{IsRowOf, bare_content, bare_known, bare_label, bare_number, bare_store, bare_title, bare_value, title_of, value_of};
 
     /// The block's number. No other block of its store has it while this one stands.
     pub fn number(&self) -> usize
@@ -31,6 +31,7 @@ impl<H, P: Labelled + Drop, T: Drop> Bare<H, P, T> {
 
     /// What shows the row in which the block's chunk lies, and that it lies there.
     pub fn known(&self) -> &Known
+        ensures known { result.now ≡ bare_known self.now }
         ensures row { (result.now.store ≡ bare_store self.now) × IsRowOf result.now (bare_number self.now) }
         ensures label { bare_label self.now ≡ label_in result.now.chunks (entry_of result.now.row (bare_number self.now)) }
         ensures content { bare_content self.now ≡ content_in result.now.chunks (entry_of result.now.row (bare_number self.now)) }

@@ -3,6 +3,9 @@
 #![tactic(auto)]
 
 #[cfg(test)]
+mod lent;
+mod loans;
+#[cfg(test)]
 mod lookups;
 mod node;
 #[cfg(test)]

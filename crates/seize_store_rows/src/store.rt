@@ -453,9 +453,9 @@ fn is_shared<T: Sync>(value: &T) -> &T
     value
 }
 
-// A store is `Send` as its headers and owners' parts are, and `Sync` where its headers are and these parts are `Send`, whatever its
-// values; a block is as its value and its part are.
-fn store_sends<H: Labelled + Drop + Send, P: Labelled + Drop + Send, T>(
+// A store is `Send` as its headers and owners' parts are, and `Sync` where its headers are and these parts are `Send`. Either asks that its
+// values be both, since it lends them. A block is as its value and its part are.
+fn store_sends<H: Labelled + Drop + Send, P: Labelled + Drop + Send, T: Send + Sync>(
     store: Store<H, P, T>,
 ) -> Store<H, P, T>
     ensures { name_of result ≡ name_of store }
@@ -463,7 +463,7 @@ fn store_sends<H: Labelled + Drop + Send, P: Labelled + Drop + Send, T>(
     is_sent(store)
 }
 
-fn store_shares<H: Labelled + Drop + Send + Sync, P: Labelled + Drop + Send, T>(
+fn store_shares<H: Labelled + Drop + Send + Sync, P: Labelled + Drop + Send, T: Send + Sync>(
     store: &Store<H, P, T>,
 ) -> &Store<H, P, T>
     ensures { name_of result.now ≡ name_of store.now }
