@@ -13,5 +13,6 @@ pub mod Rows
 pub mod Stages
 pub mod Tries
 pub mod Runs
+pub mod Shared
 pub mod Lent
 pub mod Puts

@@ -6,6 +6,7 @@
 pub mod attempts;
 pub mod block_run;
 pub mod calls;
+pub mod entrants;
 pub mod exchanges;
 pub mod flushing;
 pub mod further;

@@ -29,6 +29,8 @@ use std::test::*;
 use std::thread;
 use std::thread::Threads;
 
+mod joined;
+
 // How many slots a thread makes: the last of them lie in the table's third bucket.
 const MADE: u64 = 100;
 

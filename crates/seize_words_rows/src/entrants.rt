@@ -1,0 +1,286 @@
+//! Slots over all words of one book, as each of several threads has one: it enters, swaps the values of new blocks into links, reads links,
+//! and leaves. All words are found by their numbers.
+ghost use Rattle.std.specs.Prelude.{◌≡◌, ◌<◌, IfSome, length, true};
+ghost use Rattle.seize_words.specs.Joined.{IsHolder, IsInAt, words_book};
+ghost use Rattle.seize_words.specs.Reservations.{IsLastOf};
+ghost use Rattle.seize_words_rows.specs.Entrants.{CanMake, GoesOn, HasLinks, HasOneMore, IsOutOrOver, MayCross, MayEnter, MayRead, MayReadAll, made_by};
+ghost use Rattle.seize_words_rows.specs.Leaves.{IsInside, IsOutside};
+
+use crate::exchanges::TURNS;
+use seize_words::activation::Activation;
+use seize_words::book::{NumbersKey, Pass, SlotKey};
+use seize_words::link::MaybeKey;
+use seize_words::slots::NextSlot;
+use seize_words::words::Words;
+use std::alloc::Global;
+use std::thread;
+
+/// How many links the book has.
+pub const LINKS: u64 = 8;
+
+/// What the slots of a book are made with, and how many there are.
+#[derive(Drop)]
+pub struct Source {
+    pub numbers: NumbersKey,
+    pub next: NextSlot,
+    pub made: usize,
+}
+
+/// What a thread has: a slot of its own, and a pass.
+#[derive(Drop)]
+pub struct Entrant {
+    pub slot: usize,
+    pub key: SlotKey,
+    pub pass: Pass,
+}
+
+/// A slot that has entered, and the pass with which it did.
+#[derive(Drop)]
+pub struct Entered {
+    pub activation: Activation,
+    pub pass: Pass,
+}
+
+/// The words of a new book, and what its slots are made with. Nothing comes where memory was refused.
+pub fn open(alloc: Global) -> Option<(Words<u64>, Source)>
+    ensures { IfSome result (λ opened. CanMake opened.1 opened.0 × (made_by opened.1 ≡ 0)) }
+{
+    let Ok((words, numbers, next)) = Words::new(alloc, 0, LINKS as usize, 32) else {
+        return None;
+    };
+    let source = Source {
+        numbers,
+        next,
+        made: 0,
+    };
+    Some((words, source))
+}
+
+/// Swaps the value of a new block into the link. It gives the word that it put in and that of what came out. Nothing comes where a growth of
+/// the store was refused, and then nothing was put in.
+///
+/// What came out was not retired, so its block can't go back, and its chunk stays out.
+pub fn put_in(
+    words: &Words<u64>,
+    link: usize,
+    value: u64,
+    activation: &Activation,
+    pass: &mut Pass,
+) -> Option<(u64, u64)>
+    requires within { (words_book words.now ≡ pass.old.name) × IsInAt activation.now pass.old link }
+    ensures goes_on { GoesOn pass.old pass.new }
+{
+    let Ok((key, block)) = words.blocks.add(value, pass) else {
+        return None;
+    };
+    let word = block.number() as u64 + 1;
+    let mut value = MaybeKey::some(key);
+    let old = words.swap_link(link, word, &mut value, activation, pass);
+    Some((word, old))
+}
+
+/// Takes out what the link holds. It gives its word.
+pub fn take_out(words: &Words<u64>, link: usize, activation: &Activation, pass: &mut Pass) -> u64
+    requires within { (words_book words.now ≡ pass.old.name) × IsInAt activation.now pass.old link }
+    ensures goes_on { GoesOn pass.old pass.new }
+{
+    let mut none = MaybeKey::none(pass);
+    words.swap_link(link, 0, &mut none, activation, pass)
+}
+
+/// Leaves. It says whether nothing was waiting: then the call is over.
+pub fn leave(
+    words: &Words<u64>,
+    slot: usize,
+    activation: Activation,
+    key: &mut SlotKey,
+    pass: &mut Pass,
+) -> bool
+    requires holder { (words_book words.now ≡ pass.old.name) × IsHolder key.old pass.old slot }
+    requires inside { IsInside key.old × IsLastOf key.old activation }
+    ensures goes_on { GoesOn pass.old pass.new }
+    ensures outside { result ≡ true → IsHolder key.new pass.new slot × IsOutside key.new }
+{
+    if swap_out(words, slot, activation, key, pass) != 1 {
+        return false;
+    }
+    key.finish(pass);
+    true
+}
+
+// Begins to leave, and swaps the head out. It gives the head's word.
+fn swap_out(
+    words: &Words<u64>,
+    slot: usize,
+    activation: Activation,
+    key: &mut SlotKey,
+    pass: &mut Pass,
+) -> u64
+    requires holder { (words_book words.now ≡ pass.old.name) × IsHolder key.old pass.old slot }
+    requires inside { IsInside key.old × IsLastOf key.old activation }
+    ensures goes_on { GoesOn pass.old pass.new }
+    ensures holder { IsHolder key.new pass.new slot }
+    ensures out { IsOutOrOver key.new result }
+{
+    key.begin_leave(pass);
+    words.swap_out(slot, activation, key, pass)
+}
+
+// Enters, swaps the value of a new block into the link, and leaves. It gives the word that it put in and that of what came out. Nothing
+// comes where memory was refused, or where something waited.
+fn swap_once(
+    words: &Words<u64>,
+    link: usize,
+    value: u64,
+    slot: usize,
+    key: &mut SlotKey,
+    pass: &mut Pass,
+) -> Option<(u64, u64)>
+    requires link { (words_book words.now ≡ pass.old.name) × (link < length pass.old.name.links) }
+    requires outside { IsHolder key.old pass.old slot × IsOutside key.old }
+    ensures goes_on { GoesOn pass.old pass.new }
+    ensures outside { IfSome result (λ found. IsHolder key.new pass.new slot × IsOutside key.new) }
+{
+    let activation = words.enter_head(slot, key, pass);
+    let found = put_in(words, link, value, &activation, pass);
+    if !leave(words, slot, activation, key, pass) {
+        return None;
+    }
+    found
+}
+
+// Reads the link until it holds something. It says whether it ever did.
+fn wait_for(words: &Words<u64>, link: usize, activation: &Activation, pass: &mut Pass) -> bool
+    requires within { (words_book words.now ≡ pass.old.name) × IsInAt activation.now pass.old link }
+    ensures goes_on { GoesOn pass.old pass.new }
+{
+    for _ in 0..TURNS {
+        if words.read_link(link, activation, pass).0 != 0 {
+            return true;
+        }
+        thread::yield_now();
+    }
+    false
+}
+
+impl Source {
+    /// Makes the next slot. Nothing comes where the growth of the table was refused.
+    pub fn make(self, words: &Words<u64>) -> Option<(Entrant, Source)>
+        requires can { CanMake self words.now }
+        ensures may { IfSome result (λ made. MayEnter words.now made.0) }
+        ensures made { IfSome result (λ made. HasOneMore self made.1 words.now) }
+    {
+        let Source {
+            mut numbers,
+            next,
+            made,
+        } = self;
+        let mut pass = words.blocks.book.pass();
+        let Ok((key, next)) = words.make_slot(next, &mut numbers, &mut pass) else {
+            return None;
+        };
+        let entrant = Entrant {
+            slot: made,
+            key,
+            pass,
+        };
+        let source = Source {
+            numbers,
+            next,
+            made: made + 1,
+        };
+        Some((entrant, source))
+    }
+}
+
+impl Entrant {
+    /// Enters, swaps the value of a new block into a link, and leaves, so often, with one link after the other. It gives the sum of the
+    /// words that it put in, less those that came out, modulo 2^64. Nothing comes where memory was refused, or something waited.
+    pub fn swap_many(self, words: &Words<u64>, turns: u64) -> Option<u64>
+        requires may { MayEnter words.now self }
+    {
+        let Entrant {
+            slot,
+            mut key,
+            mut pass,
+        } = self;
+        let mut left: u64 = 0;
+        for turn in 0..turns {
+            let link = (turn % LINKS) as usize;
+            let (put, out) = swap_once(words, link, turn, slot, &mut key, &mut pass)?;
+            left = left.wrapping_add(put).wrapping_sub(out);
+        }
+        Some(left)
+    }
+
+    /// Enters, and takes out what each link holds. It gives the sum of the words, modulo 2^64, and how many links held something.
+    pub fn empty_links(self, words: &Words<u64>) -> (u64, u64)
+        requires may { MayEnter words.now self }
+    {
+        let Entrant {
+            slot,
+            mut key,
+            mut pass,
+        } = self;
+        let activation = words.enter_head(slot, &mut key, &mut pass);
+        let (mut sum, mut held): (u64, u64) = (0, 0);
+        for link in 0..LINKS {
+            let word = take_out(words, link as usize, &activation, &mut pass);
+            sum = sum.wrapping_add(word);
+            held = held.wrapping_add(word.min(1));
+        }
+        (sum, held)
+    }
+
+    /// Enters, swaps a value into one link, reads the other until that holds something, and leaves. It says whether it ever did.
+    pub fn swap_and_wait(self, words: &Words<u64>, into: usize, from: usize) -> bool
+        requires may { MayEnter words.now self }
+        requires links { (into < 8) × (from < 8) }
+    {
+        let Entrant {
+            slot,
+            mut key,
+            mut pass,
+        } = self;
+        let activation = words.enter_head(slot, &mut key, &mut pass);
+        let put = put_in(words, into, 0, &activation, &mut pass).is_some();
+        let saw = put && wait_for(words, from, &activation, &mut pass);
+        saw && leave(words, slot, activation, &mut key, &mut pass)
+    }
+
+    /// Enters, and swaps a value into the link. It gives the word that it put in, and 0 where memory was refused.
+    pub fn enter_and_put(self, words: &Words<u64>, link: usize) -> (Entered, u64)
+        requires may { MayEnter words.now self }
+        requires link { link < 8 }
+        ensures may { MayReadAll words.now result.0 }
+    {
+        let Entrant {
+            slot,
+            mut key,
+            mut pass,
+        } = self;
+        let activation = words.enter_head(slot, &mut key, &mut pass);
+        let word = match put_in(words, link, 0, &activation, &mut pass) {
+            Some((word, _)) => word,
+            None => 0,
+        };
+        (Entered { activation, pass }, word)
+    }
+}
+
+/// The passes of two slots meet: each has seen the other's activation begin then.
+pub fn meet(one: &mut Entered, two: &mut Entered)
+    requires same { two.old.pass.name ≡ one.old.pass.name }
+    ensures crossed { MayCross one.old two.old one.new two.new }
+{
+    one.pass.meet(&mut two.pass);
+}
+
+/// Reads the link under another slot's activation, with a pass that has seen that begin. It gives the word.
+pub fn read_under(words: &Words<u64>, link: usize, activation: &Activation, pass: Pass) -> u64
+    requires may { HasLinks words.now × MayRead words.now activation.now pass }
+    requires link { link < 8 }
+{
+    let mut pass = pass;
+    words.read_link(link, activation, &mut pass).0
+}

@@ -1,0 +1,178 @@
+//! All words of one book, by number, shared by threads.
+ghost use Rattle.seize_words_rows.specs.Entrants.{HasLinks, MayEnter, MayRead, MayReadAll};
+
+use crate::entrants::{Entered, Entrant, LINKS, meet, open, read_under};
+use seize_words::words::Words;
+use std::sync::Wait;
+use std::test::*;
+use std::thread;
+use std::thread::Threads;
+
+// How often each thread swaps.
+const SWAPS: u64 = 5_000;
+
+// Each of two threads swaps a value into one link and then waits for that of the other: it holds only where both run.
+#[test]
+fn each_thread_sees_what_the_other_put_in(rt: HostRuntime) {
+    let Some((words, source)) = open(rt.alloc()) else {
+        panic!(rt; "no memory");
+    };
+    let Some((one, source)) = source.make(&words) else {
+        panic!(rt; "no memory");
+    };
+    let Some((two, _)) = source.make(&words) else {
+        panic!(rt; "no memory");
+    };
+    let words = &words;
+    let (saw_1, saw_2) = thread::join(
+        &rt,
+        move || -> bool
+            requires { MayEnter words.now one }
+        { one.swap_and_wait(words, 0, 1) },
+        move || -> bool
+            requires { MayEnter words.now two }
+        { two.swap_and_wait(words, 1, 0) },
+    );
+    assert!(rt; saw_1 && saw_2);
+}
+
+// Two threads swap. It gives the sum of the words put in, less those that came out.
+fn swap_both<R: Threads + Wait + Sync>(
+    rt: &R,
+    words: &Words<u64>,
+    a: Entrant,
+    b: Entrant,
+) -> Option<u64>
+    requires { MayEnter words.now a × MayEnter words.now b }
+{
+    let (one, two) = thread::join(
+        rt,
+        move || -> Option<u64>
+            requires { MayEnter words.now a }
+        { a.swap_many(words, SWAPS) },
+        move || -> Option<u64>
+            requires { MayEnter words.now b }
+        { b.swap_many(words, SWAPS) },
+    );
+    Some(one?.wrapping_add(two?))
+}
+
+fn swap_all<R: Threads + Wait + Sync>(
+    rt: &R,
+    words: &Words<u64>,
+    first: (Entrant, Entrant),
+    last: (Entrant, Entrant),
+) -> Option<u64>
+    requires { MayEnter words.now first.0 × MayEnter words.now first.1 × MayEnter words.now last.0 × MayEnter words.now last.1 }
+{
+    let (a, b) = first;
+    let (c, d) = last;
+    let (one, two) = thread::join(
+        rt,
+        move || -> Option<u64>
+            requires { MayEnter words.now a × MayEnter words.now b }
+        { swap_both(rt, words, a, b) },
+        move || -> Option<u64>
+            requires { MayEnter words.now c × MayEnter words.now d }
+        { swap_both(rt, words, c, d) },
+    );
+    Some(one?.wrapping_add(two?))
+}
+
+// Four threads swap the values of new blocks into eight links. Each block's number comes out once, or is in a link in the end.
+#[test]
+fn four_threads_lose_and_invent_no_block(rt: HostRuntime) {
+    let Some((words, source)) = open(rt.alloc()) else {
+        panic!(rt; "no memory");
+    };
+    let Some((a, source)) = source.make(&words) else {
+        panic!(rt; "no memory");
+    };
+    let Some((b, source)) = source.make(&words) else {
+        panic!(rt; "no memory");
+    };
+    let Some((c, source)) = source.make(&words) else {
+        panic!(rt; "no memory");
+    };
+    let Some((d, source)) = source.make(&words) else {
+        panic!(rt; "no memory");
+    };
+    let Some((last, _)) = source.make(&words) else {
+        panic!(rt; "no memory");
+    };
+    let Some(left) = swap_all(&rt, &words, (a, b), (c, d)) else {
+        panic!(rt; "no memory");
+    };
+    assert_eq!(rt; last.empty_links(&words), (left, LINKS));
+}
+
+// Two threads enter, and put a value into a link each. It gives the words too.
+fn enter_both<R: Threads + Wait + Sync>(
+    rt: &R,
+    words: &Words<u64>,
+    a: Entrant,
+    b: Entrant,
+) -> ((Entered, u64), (Entered, u64))
+    requires { MayEnter words.now a × MayEnter words.now b }
+    ensures { MayReadAll words.now result.0.0 × MayReadAll words.now result.1.0 }
+{
+    thread::join(
+        rt,
+        move || -> (Entered, u64)
+            requires { MayEnter words.now a }
+            ensures { MayReadAll words.entry.now result.0 }
+        { a.enter_and_put(words, 0) },
+        move || -> (Entered, u64)
+            requires { MayEnter words.now b }
+            ensures { MayReadAll words.entry.now result.0 }
+        { b.enter_and_put(words, 1) },
+    )
+}
+
+// Their passes meet, and then each of two threads reads with the pass of one of them, under the activation of the other, what that put in.
+fn read_both<R: Threads + Wait + Sync>(
+    rt: &R,
+    words: &Words<u64>,
+    one: Entered,
+    two: Entered,
+) -> (u64, u64)
+    requires { MayReadAll words.now one × MayReadAll words.now two }
+{
+    let (mut one, mut two) = (one, two);
+    meet(&mut one, &mut two);
+    let Entered {
+        activation: first,
+        pass,
+    } = one;
+    let Entered {
+        activation: second,
+        pass: other,
+    } = two;
+    let (first, second) = (&first, &second);
+    thread::join(
+        rt,
+        move || -> u64
+            requires { HasLinks words.now × MayRead words.now second.now pass }
+        { read_under(words, 1, second, pass) },
+        move || -> u64
+            requires { HasLinks words.now × MayRead words.now first.now other }
+        { read_under(words, 0, first, other) },
+    )
+}
+
+// Passes come back from two threads, meet, and go to two threads again.
+#[test]
+fn passes_that_met_know_both_activations(rt: HostRuntime) {
+    let Some((words, source)) = open(rt.alloc()) else {
+        panic!(rt; "no memory");
+    };
+    let Some((a, source)) = source.make(&words) else {
+        panic!(rt; "no memory");
+    };
+    let Some((b, _)) = source.make(&words) else {
+        panic!(rt; "no memory");
+    };
+    let ((one, put_1), (two, put_2)) = enter_both(&rt, &words, a, b);
+    assert!(rt; put_1 != put_2);
+    assert_eq!(rt; read_both(&rt, &words, one, two), (put_2, put_1));
+}
