@@ -4,6 +4,7 @@ pub mod Kit
 pub mod Fields
 pub mod Lists
 pub mod Homes
+pub mod Inserts
 pub mod Sound
 pub mod Counts
 pub mod Deposits

@@ -1,0 +1,6 @@
+pub mod Attempts
+pub mod Inserts
+pub mod Keeps
+pub mod Marks
+pub mod Tries
+pub mod Turns

@@ -1,0 +1,4 @@
+pub mod Attempts
+pub mod Entries
+pub mod Inserts
+pub mod Marks
