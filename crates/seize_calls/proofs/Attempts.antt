@@ -98,7 +98,7 @@ planned_all (entry ∷ entries) (v ∷ values) seen are distinct below =
     itself n = grind arith
 
 -- the first entry has the number of the batch's first block
-first_block : (entries : List Entry) (values : List ℕ) (d : Entry) → AreOf entries values → 1 ≤ length values → (v : ℕ) × (first_of values ≡ Some v) × ((get_or entries 0 d).block ≡ block_of v)
+pub first_block : (entries : List Entry) (values : List ℕ) (d : Entry) → AreOf entries values → 1 ≤ length values → (v : ℕ) × (first_of values ≡ Some v) × ((get_or entries 0 d).block ≡ block_of v)
 first_block [] [] d are full = absurd (omega (arith, full))
 first_block [] (v ∷ values) d are full = absurd are
 first_block (entry ∷ entries) [] d are full = absurd are

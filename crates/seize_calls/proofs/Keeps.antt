@@ -2,6 +2,8 @@
 use Rattle.std.proofs.Common.{◌≡◌, ℕ, ◌<◌, ◌≤◌, List, [], ◌∷◌, ◌++◌, length, get_or, set, Some, refl, sym, ap, subst, ◌∙◌, ◌⊎◌, inl, inr, arith}
 use Rattle.std.proofs.lemmas.List.{get_or-set_same, get_or-set_other, get_or_past}
 use Rattle.std.proofs.lemmas.Bool.{cases_lt}
+use base.Growing.{prefix_trans}
+use mathlib.Core.List.{IsPrefix}
 use native.Mathlib.Decide.{ℕ_discrete}
 use Rattle.seize_machine.specs.Machine.State.{State, Slot, Call, Head, Inactive, Active, Place, Look, Mark, no_slot, slot_at, head_at, is_active}
 use Rattle.seize_machine.specs.Machine.Event.{Event, Insert, ReadHead}
@@ -12,9 +14,10 @@ use Rattle.seize_machine.specs.declared.machine.event.Try.TheVariants.{Won, Lost
 use Rattle.seize_machine.proofs.Facts.{Step, some_is, step_of}
 use Rattle.seize_words.specs.Adding.{private}
 use Rattle.seize_words.specs.Book.{after}
+use Rattle.seize_words.specs.Entry.{Made}
 use Rattle.seize_words.specs.Headers.{Uses}
 use Rattle.seize_words.specs.Passes.{IsSame, LooksOn, events_by, events_in}
-use Rattle.seize_words.specs.Slots.{IsOf, Notes, number_of, size_of, slot_of, start_of}
+use Rattle.seize_words.specs.Slots.{IsOf, Notes, number_of, own_list, size_of, slot_of, start_of}
 use Rattle.seize_words.specs.Tokens.{Name, start}
 use Rattle.seize_words.specs.declared.book.pass.Pass.{Pass}
 use Rattle.seize_words.specs.declared.book.slot_key.SlotKey.{SlotKey}
@@ -92,18 +95,26 @@ module _ (key key' : SlotKey) (pass pass' : Pass) (event : Event) (notes : Notes
   pub call_before : (call : Call) → (slot_of key).call ≡ Some call → (slot_at state_before (number_of key)).call ≡ Some call
   call_before call is = ap (λ (z : Slot). z.call) notes.2.1.was ∙ is
 
+  pub keeps_from : ((slot_at outcome.0 (number_of key)).batch ≡ (slot_at state_before (number_of key)).batch) → ((slot_at outcome.0 (number_of key)).used ≡ (slot_at state_before (number_of key)).used)
+      → (is_active (head_at outcome.0 (number_of key)) ≡ is_active (head_at state_before (number_of key))) → Keeps key pass key' pass'
+  keeps_from batch used active = record {
+    same = notes.0;
+    its = (notes.1.0, notes.1.1);
+    batch = ap (λ (z : Slot). z.batch) notes.2.1.is ∙ batch ∙ ap (λ (z : Slot). z.batch) notes.2.1.was;
+    used = ap (λ (z : Slot). z.used) notes.2.1.is ∙ used ∙ ap (λ (z : Slot). z.used) notes.2.1.was;
+    active = notes.2.1.is_now_active ∙ active ∙ notes.2.1.was_active;
+    seen =
+        subst (λ (z : Name). length (after (start pass.name) pass.seen).slots ≤ length (after (start z) pass'.seen).slots) (sym notes.0.0)
+        (more_slots pass.name pass.seen pass'.seen (seen_grows pass.name pass.id pass.seen pass'.seen _ notes.2.0) notes.2.0.legal);
+  }
+
+  -- it knows all that it knew
+  pub own_grows : IsPrefix (own_list key) (own_list key')
+  own_grows = subst (IsPrefix (own_list key)) (sym notes.1.2) (prefix_trans (own_list key) notes.2.0.before pass'.seen notes.2.1.knew (Made (private pass event) ∷ [], sym notes.2.0.appended))
+
   module _ (call : Call) (on : Place → Place) (answer : Answer) (goes_so : Goes state_before (number_of key) call on outcome answer) where
     pub keeps_noted : Keeps key pass key' pass'
-    keeps_noted = record {
-      same = notes.0;
-      its = (notes.1.0, notes.1.1);
-      batch = ap (λ (z : Slot). z.batch) notes.2.1.is ∙ goes_so.batch ∙ ap (λ (z : Slot). z.batch) notes.2.1.was;
-      used = ap (λ (z : Slot). z.used) notes.2.1.is ∙ goes_so.used ∙ ap (λ (z : Slot). z.used) notes.2.1.was;
-      active = notes.2.1.is_now_active ∙ goes_so.active ∙ notes.2.1.was_active;
-      seen =
-          subst (λ (z : Name). length (after (start pass.name) pass.seen).slots ≤ length (after (start z) pass'.seen).slots) (sym notes.0.0)
-          (more_slots pass.name pass.seen pass'.seen (seen_grows pass.name pass.id pass.seen pass'.seen _ notes.2.0) notes.2.0.legal);
-    }
+    keeps_noted = keeps_from goes_so.batch goes_so.used goes_so.active
 
     pub call_after : (slot_of key').call ≡ Some (goes on call)
     call_after = ap (λ (z : Slot). z.call) notes.2.1.is ∙ goes_so.stands

@@ -1,6 +1,10 @@
 pub mod Attempts
+pub mod Events
 pub mod Inserts
 pub mod Keeps
 pub mod Marks
+pub mod Settled
+pub mod Strolls
 pub mod Tries
 pub mod Turns
+pub mod Walks

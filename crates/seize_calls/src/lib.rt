@@ -6,6 +6,9 @@
 #![tactic(auto)]
 
 pub mod attempt;
+pub mod calls;
 pub mod entry;
+pub mod handing;
 pub mod inserting;
 pub mod marking;
+pub mod walking;
