@@ -29,7 +29,7 @@ use Rattle.seize_words.specs.declared.book.pass.Pass.{Pass}
 use Rattle.seize_words.specs.declared.book.slot_key.SlotKey.{SlotKey}
 use Rattle.seize_words.specs.declared.book.value_keys.ValueKeys.{ValueKeys}
 use Rattle.seize_words.specs.declared.chunk.Header.{Header}
-use Rattle.seize_words.proofs.Facts.{detached_named, events_grew, knows_still, more_slots, own_reached, seen_grows}
+use Rattle.seize_words.proofs.Facts.{detached_named, events_grew, knows_still, life_kept, more_slots, own_reached, seen_grows}
 use Rattle.seize_calls.specs.Attempts.{Retires}
 use Rattle.seize_calls.specs.Entries.{AreOf, slots_of}
 use Rattle.seize_calls.specs.Inserts.{ArePlanned, InsertedAll, IsInserting, plan_in, turns_at}
@@ -326,6 +326,8 @@ module _ (key0 : SlotKey) (at : BeginsToMark key0) (pass0 : Pass) (key : SlotKey
             active =
                 added.2.1.is_now_active ∙ ap (λ (hs : List Head). is_active (get_or hs (number_of key2) Inactive)) kept.2 ∙ added.2.1.was_active ∙ all.keeps.active
                 ∙ notes.2.1.is_now_active ∙ ap (λ (hs : List Head). is_active (get_or hs (number_of key) Inactive)) done.3 ∙ notes.2.1.was_active ∙ ends.active;
+            life =
+                life_kept key2 key' pass3 pass' (private pass3 (AddCount (number_of key2))) added refl ∙ all.keeps.life ∙ life_kept key key1 pass pass1 (private pass (Detach (number_of key))) notes refl ∙ ends.life;
             stands = gives ∙ ap (λ (vs : List ℕ). Some (record { place = Rest (if zero' then vs else []) []; queue = at.queue })) values_are;
             keys = leaves;
           }
@@ -342,4 +344,4 @@ module _ (key0 : SlotKey) (at : BeginsToMark key0) (pass0 : Pass) (key : SlotKey
 
 -- A call that has given up says nothing of its entries.
 pub stays_so : {key : SlotKey} (at : BeginsToMark key) (pass : Pass) (key' : SlotKey) (pass' : Pass) (entries : List Entry) → Ends at pass key' pass' entries TooMany → Ends at pass key' pass' [] TooMany
-stays_so at pass key' pass' entries e = record { finds = e.finds; within = e.within; made = e.made; batch = e.batch; used = e.used; active = e.active; stands = e.stands }
+stays_so at pass key' pass' entries e = record { finds = e.finds; within = e.within; made = e.made; batch = e.batch; used = e.used; active = e.active; life = e.life; stands = e.stands }

@@ -79,7 +79,7 @@ pub record HasTurned {key : SlotKey} {pass : Pass} {entries : List Entry} {front
 
 abbrev pub none_turned : (key : SlotKey) (pass : Pass) (entries : List Entry) (front : ℕ) (at : IsInserting key pass entries front) → HasTurned at 0 0 key pass
 none_turned key pass entries front at = record {
-  keeps = record { same = (refl, refl); its = (refl, refl); batch = refl; used = refl; active = refl; seen = omega arith };
+  keeps = record { same = (refl, refl); its = (refl, refl); batch = refl; used = refl; active = refl; life = refl; seen = omega arith };
   turns = [];
   each = refl;
   within = omega arith;

@@ -1,5 +1,5 @@
 -- What an event of a slot's call leaves as it was, and what it makes.
-use Rattle.std.proofs.Common.{◌≡◌, ℕ, ◌<◌, ◌≤◌, List, [], ◌∷◌, ◌++◌, length, get_or, set, Some, refl, sym, ap, subst, ◌∙◌, ◌⊎◌, inl, inr, arith}
+use Rattle.std.proofs.Common.{◌≡◌, ℕ, ◌<◌, ◌≤◌, false, List, [], ◌∷◌, ◌++◌, length, get_or, set, Some, refl, sym, ap, subst, ◌∙◌, ◌⊎◌, inl, inr, arith}
 use Rattle.std.proofs.lemmas.List.{get_or-set_same, get_or-set_other, get_or_past}
 use Rattle.std.proofs.lemmas.Bool.{cases_lt}
 use base.Growing.{prefix_trans}
@@ -16,12 +16,13 @@ use Rattle.seize_words.specs.Adding.{private}
 use Rattle.seize_words.specs.Book.{after}
 use Rattle.seize_words.specs.Entry.{Made}
 use Rattle.seize_words.specs.Headers.{Uses}
+use Rattle.seize_words.specs.Laws.{starts}
 use Rattle.seize_words.specs.Passes.{IsSame, LooksOn, events_by, events_in}
 use Rattle.seize_words.specs.Slots.{IsOf, Notes, number_of, own_list, size_of, slot_of, start_of}
 use Rattle.seize_words.specs.Tokens.{Name, start}
 use Rattle.seize_words.specs.declared.book.pass.Pass.{Pass}
 use Rattle.seize_words.specs.declared.book.slot_key.SlotKey.{SlotKey}
-use Rattle.seize_words.proofs.Facts.{events_grew, more_seen, more_slots, seen_grows}
+use Rattle.seize_words.proofs.Facts.{events_grew, life_kept, more_seen, more_slots, seen_grows}
 use Rattle.seize_calls.specs.Inserts.{Keeps}
 use Rattle.seize_calls.proofs.Marks.{within}
 
@@ -96,13 +97,14 @@ module _ (key key' : SlotKey) (pass pass' : Pass) (event : Event) (notes : Notes
   call_before call is = ap (λ (z : Slot). z.call) notes.2.1.was ∙ is
 
   pub keeps_from : ((slot_at outcome.0 (number_of key)).batch ≡ (slot_at state_before (number_of key)).batch) → ((slot_at outcome.0 (number_of key)).used ≡ (slot_at state_before (number_of key)).used)
-      → (is_active (head_at outcome.0 (number_of key)) ≡ is_active (head_at state_before (number_of key))) → Keeps key pass key' pass'
-  keeps_from batch used active = record {
+      → (is_active (head_at outcome.0 (number_of key)) ≡ is_active (head_at state_before (number_of key))) → starts (number_of key) event ≡ false → Keeps key pass key' pass'
+  keeps_from batch used active none = record {
     same = notes.0;
     its = (notes.1.0, notes.1.1);
     batch = ap (λ (z : Slot). z.batch) notes.2.1.is ∙ batch ∙ ap (λ (z : Slot). z.batch) notes.2.1.was;
     used = ap (λ (z : Slot). z.used) notes.2.1.is ∙ used ∙ ap (λ (z : Slot). z.used) notes.2.1.was;
     active = notes.2.1.is_now_active ∙ active ∙ notes.2.1.was_active;
+    life = life_kept key key' pass pass' (private pass event) notes none;
     seen =
         subst (λ (z : Name). length (after (start pass.name) pass.seen).slots ≤ length (after (start z) pass'.seen).slots) (sym notes.0.0)
         (more_slots pass.name pass.seen pass'.seen (seen_grows pass.name pass.id pass.seen pass'.seen _ notes.2.0) notes.2.0.legal);
@@ -113,8 +115,8 @@ module _ (key key' : SlotKey) (pass pass' : Pass) (event : Event) (notes : Notes
   own_grows = subst (IsPrefix (own_list key)) (sym notes.1.2) (prefix_trans (own_list key) notes.2.0.before pass'.seen notes.2.1.knew (Made (private pass event) ∷ [], sym notes.2.0.appended))
 
   module _ (call : Call) (on : Place → Place) (answer : Answer) (goes_so : Goes state_before (number_of key) call on outcome answer) where
-    pub keeps_noted : Keeps key pass key' pass'
-    keeps_noted = keeps_from goes_so.batch goes_so.used goes_so.active
+    pub keeps_noted : starts (number_of key) event ≡ false → Keeps key pass key' pass'
+    keeps_noted none = keeps_from goes_so.batch goes_so.used goes_so.active none
 
     pub call_after : (slot_of key').call ≡ Some (goes on call)
     call_after = ap (λ (z : Slot). z.call) notes.2.1.is ∙ goes_so.stands
@@ -129,13 +131,14 @@ keeps_used key key' pass pass' f v uses = record {
   batch = ap (λ (z : Slot). z.batch) uses.slot;
   used = ap (λ (z : Slot). z.used) uses.slot;
   active = uses.active;
+  life = uses.life;
   seen =
       subst (λ (z : Name). length (after (start pass.name) pass.seen).slots ≤ length (after (start z) pass'.seen).slots) (sym uses.same.0)
       (more_slots pass.name pass.seen pass'.seen (seen_grows pass.name pass.id pass.seen pass'.seen _ uses.noted) uses.noted.legal);
 }
 
 pub keeps_looked : (key : SlotKey) (pass pass' : Pass) → LooksOn pass pass' → Keeps key pass key pass'
-keeps_looked key pass pass' looks = record { same = looks.same; its = (refl, refl); batch = refl; used = refl; active = refl; seen = more_seen pass pass' looks }
+keeps_looked key pass pass' looks = record { same = looks.same; its = (refl, refl); batch = refl; used = refl; active = refl; life = refl; seen = more_seen pass pass' looks }
 
 pub keeps_twice : (key one two : SlotKey) (pass pass1 pass2 : Pass) → Keeps key pass one pass1 → Keeps one pass1 two pass2 → Keeps key pass two pass2
 keeps_twice key one two pass pass1 pass2 first second = record {
@@ -144,6 +147,7 @@ keeps_twice key one two pass pass1 pass2 first second = record {
   batch = second.batch ∙ first.batch;
   used = second.used ∙ first.used;
   active = second.active ∙ first.active;
+  life = second.life ∙ first.life;
   seen = let a = first.seen in let b = second.seen in omega (arith, a, b);
 }
 

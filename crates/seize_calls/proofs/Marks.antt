@@ -17,14 +17,14 @@ use Rattle.seize_words.specs.Entry.{Deed}
 use Rattle.seize_words.specs.Heads.{reads_at}
 use Rattle.seize_words.specs.Passes.{IsSame, LooksOn, events_by, events_in}
 use Rattle.seize_words.specs.Reservations.{MayRead, Shows, slot}
-use Rattle.seize_words.specs.Slots.{IsOf, Notes, active_of, number_of, own_list, size_of, slot_of, start_of}
+use Rattle.seize_words.specs.Slots.{IsOf, Notes, active_of, life_of, number_of, own_list, size_of, slot_of, start_of}
 use Rattle.seize_words.specs.Tokens.{Name, start}
 use Rattle.seize_words.specs.Totals.{slots_seen}
 use Rattle.seize_words.specs.Walks.{Knows}
 use Rattle.seize_words.specs.declared.book.pass.Pass.{Pass}
 use Rattle.seize_words.specs.declared.book.slot_key.SlotKey.{SlotKey}
 use Rattle.seize_words.specs.declared.reservation.Head.{Head as Word}
-use Rattle.seize_words.proofs.Facts.{events_grew, knows_noted, more_slots, note_seen, seen_grows}
+use Rattle.seize_words.proofs.Facts.{events_grew, knows_noted, life_kept, more_slots, note_seen, seen_grows}
 use Rattle.seize_calls.specs.Entries.{AreOf, slots_of}
 use Rattle.seize_calls.specs.Marks.{BeginsToMark, Ends, actives, reading, readings}
 use Rattle.seize_calls.specs.declared.entry.Entry.{Entry}
@@ -77,6 +77,7 @@ pub record IsReading {key : SlotKey} (at : BeginsToMark key) (end : ℕ) (pass :
   pub batch : (slot_of key').batch ≡ (slot_of key).batch
   pub used : (slot_of key').used ≡ (slot_of key).used
   pub active : active_of key' ≡ active_of key
+  pub life : life_of key' ≡ life_of key
   pub finds : List Bool
   pub read : length finds ≡ count
   pub many : length (actives 0 finds) ≡ marked
@@ -97,6 +98,7 @@ none_read key at end pass entries knows there are = record {
   batch = refl;
   used = refl;
   active = refl;
+  life = refl;
   finds = [];
   read = refl;
   many = refl;
@@ -198,6 +200,9 @@ module _ (key0 : SlotKey) (at : BeginsToMark key0) (end : ℕ) (pass0 : Pass) (i
     pub same_active : active_of key' ≡ active_of key0
     same_active = noted.2.1.is_now_active ∙ ap (λ (hs : List Head). is_active (get_or hs (number_of key) Inactive)) read.3 ∙ noted.2.1.was_active ∙ r.active
 
+    pub same_life : life_of key' ≡ life_of key0
+    same_life = life_kept key key' pass pass' (private pass (ReadHead (number_of key) (slot head))) noted refl ∙ r.life
+
     goes_on : (active : Bool) → is_active (head_at st (slot head)) ≡ active → (slot_of key').call ≡ Some (record { place = marked_place active i at.note (actives 0 r.finds) batch; queue = at.queue })
     goes_on active e =
         ap (λ (z : Slot). z.call) noted.2.1.is ∙ read.0
@@ -254,6 +259,7 @@ module _ (key0 : SlotKey) (at : BeginsToMark key0) (end : ℕ) (pass0 : Pass) (i
           batch = same_batch;
           used = same_used;
           active = same_active;
+          life = same_life;
           finds = r.finds ++ false ∷ [];
           read = long false;
           many = ap (λ (ms : List ℕ). length ms) marks ∙ r.many;
@@ -285,6 +291,7 @@ module _ (key0 : SlotKey) (at : BeginsToMark key0) (end : ℕ) (pass0 : Pass) (i
           batch = same_batch;
           used = same_used;
           active = same_active;
+          life = same_life;
           finds = r.finds ++ true ∷ [];
           read = long true;
           many = ap (λ (ms : List ℕ). length ms) one_on ∙ length_push (actives 0 r.finds) i ∙ ap (λ (n : ℕ). n + 1) r.many;
@@ -313,6 +320,7 @@ module _ (key0 : SlotKey) (at : BeginsToMark key0) (end : ℕ) (pass0 : Pass) (i
           batch = same_batch;
           used = same_used;
           active = same_active;
+          life = same_life;
           stands = (
             goes_on true (is_on some) ∙ ap after_test (not_short (length (actives 0 r.finds)) (length batch) (omega (arith, r.many, r.few, full, same_many))),
             ap (λ (ms : List ℕ). length ms) one_on ∙ length_push (actives 0 r.finds) i ∙ (let more : length (actives 0 r.finds) + 1 ≡ suc (length batch) = omega (arith, r.many, r.few, full, same_many) in more),
@@ -332,6 +340,7 @@ all_read {key0} at end pass0 i k key pass entries r all le = record {
   batch = r.batch;
   used = r.used;
   active = r.active;
+  life = r.life;
   stands = (
     ap (λ (o : Option Call). unwrap_or (of_call can_detach_at o) false) r.stands ∙ is_le at.note i (omega (arith, all, le)),
     r.stands ∙ ap (λ (n : ℕ). Some (record { place = Mark n at.note (actives 0 r.finds); queue = at.queue })) (sym r.read),
@@ -354,6 +363,7 @@ ends_before {key0} at pass0 pass1 key pass entries ends looks e =
       batch = e.batch;
       used = e.used;
       active = e.active;
+      life = e.life;
       stands = e.stands;
     }
   where

@@ -12,7 +12,7 @@ use Rattle.seize_words.specs.Book.{after}
 use Rattle.seize_words.specs.Entry.{Deed, Entry as Logged}
 use Rattle.seize_words.specs.Ledger.{Held, renewed}
 use Rattle.seize_words.specs.Passes.{IsSame, events_by}
-use Rattle.seize_words.specs.Slots.{IsOf, Notes, active_of, number_of, own_list, slot_of, start_of}
+use Rattle.seize_words.specs.Slots.{IsOf, Notes, active_of, life_of, number_of, own_list, slot_of, start_of}
 use Rattle.seize_words.specs.Values.{IsEmpty, values_of}
 use Rattle.seize_words.specs.Walks.{Knows}
 use Rattle.seize_words.specs.Words.{labels_of}
@@ -56,6 +56,7 @@ module _ (key : SlotKey) (pass : Pass) (values : ValueKeys) (m : Marking key) wh
             batch_is = keeps.batch ∙ ends.batch;
             used = keeps.used ∙ ends.used;
             active = keeps.active ∙ ends.active;
+            life = keeps.life ∙ ends.life;
           };
           finds = ends.finds;
           made = made_returned key1 key2 pass1 pass2 notes ∙ ap (λ (log : List (Deed × Answer)). log ++ done pass1 (Return (number_of key1))) ends.made
@@ -80,7 +81,7 @@ module _ (key : SlotKey) (pass : Pass) (values : ValueKeys) (m : Marking key) wh
         r.stands ∙ ap (λ (z : Bool). Some (record { place = Rest (if z then batch else []) []; queue = at.queue })) off ∙ ap (λ (q : List ℕ). Some (record { place = Rest [] []; queue = q })) m.1
 
     finished : (key2 : SlotKey) (pass2 : Pass) (values2 : ValueKeys) (key3 : SlotKey) (pass3 : Pass) → IsSame pass pass2 → (key2.keys.name ≡ key.keys.name) × (number_of key2 ≡ s)
-        → ((slot_of key2).batch ≡ []) × ((slot_of key2).used ≡ (slot_of key).used) × (active_of key2 ≡ active_of key)
+        → ((slot_of key2).batch ≡ []) × ((slot_of key2).used ≡ (slot_of key).used) × (active_of key2 ≡ active_of key) × (life_of key2 ≡ life_of key)
         → events_by pass2 ≡ before ++ hands pass s (if is_zero r.count then batch else [])
         → (notes : Notes key2 pass2 key3 pass3 (Return (number_of key2))) → IsEmpty values2 pass3 → Goes key pass key3 pass3 values2
     finished key2 pass2 values2 key3 pass3 same2 its2 kept made notes none =
@@ -93,6 +94,7 @@ module _ (key : SlotKey) (pass : Pass) (values : ValueKeys) (m : Marking key) wh
             batch_is = keeps.batch ∙ kept.0;
             used = keeps.used ∙ kept.1;
             active = keeps.active ∙ kept.2;
+            life = keeps.life ∙ kept.3;
           };
           finds = r.finds;
           turns = r.turns;
@@ -106,7 +108,7 @@ module _ (key : SlotKey) (pass : Pass) (values : ValueKeys) (m : Marking key) wh
     pub has_waited : zero ≡ false → (key2 : SlotKey) (pass2 : Pass) → Notes key1 pass1 key2 pass2 (Return (number_of key1)) → Goes key pass key2 pass2 values1
     has_waited off key2 pass2 notes =
         let none = sym r.is_count ∙ off in
-        finished key1 pass1 values1 key2 pass2 same its (r.batch, r.used, r.active)
+        finished key1 pass1 values1 key2 pass2 same its (r.batch, r.used, r.active, r.life)
         (r.made ∙ sym (append-nil before) ∙ ap (λ (vs : List ℕ). before ++ hands pass s vs) (ap (λ (z : Bool). if z then batch else []) (sym none))) notes
         (r.keys.0 ∙ sym (keeps_returned key1 key2 pass1 pass2 notes).same.0, r.keys.1 ∙ ap (λ (z : Bool). renewed (if z then values.keys.held else []) pass1.seen) off)
 
@@ -151,7 +153,7 @@ module _ (key : SlotKey) (pass : Pass) (values : ValueKeys) (m : Marking key) wh
         pub has_handed : (key3 : SlotKey) (pass3 : Pass) → Notes key2 pass2 key3 pass3 (Return (number_of key2)) → Goes key pass key3 pass3 values2
         has_handed key3 pass3 notes =
             let keeps = handed.goes_on.0 in let all = sym r.is_count ∙ on in
-            finished key2 pass2 values2 key3 pass3 (keeps.same.0 ∙ same.0, keeps.same.1 ∙ same.1) (keeps.its.0 ∙ its.0, keeps.its.1 ∙ its.1) (keeps.batch ∙ r.batch, keeps.used ∙ r.used, keeps.active ∙ r.active)
+            finished key2 pass2 values2 key3 pass3 (keeps.same.0 ∙ same.0, keeps.same.1 ∙ same.1) (keeps.its.0 ∙ its.0, keeps.its.1 ∙ its.1) (keeps.batch ∙ r.batch, keeps.used ∙ r.used, keeps.active ∙ r.active, keeps.life ∙ r.life)
             (handed.made ∙ ap (λ (log : List (Deed × Answer)). log ++ hands pass1 (number_of key1) (values_of values1)) r.made
             ∙ ap (λ (log : List (Deed × Answer)). before ++ log)
             (same_hands pass pass1 same (number_of key1) (values_of values1) ∙ ap (λ (k : ℕ). hands pass k (values_of values1)) its.1

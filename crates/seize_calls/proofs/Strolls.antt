@@ -40,6 +40,13 @@ same_hands pass pass' same s [] = refl
 same_hands pass pass' same s (v ∷ values) =
     ap (λ (d : Deed). (d, Handed v) ∷ hands pass' s values) (same_private pass pass' same (Hand s [])) ∙ ap (λ (log : List (Deed × Answer)). (private pass (Hand s []), Handed v) ∷ log) (same_hands pass pass' same s values)
 
+pub same_steps : (pass pass' : Pass) → IsSame pass pass' → (s : ℕ) (walked : List (ℤ × List ℕ)) → steps pass' s walked ≡ steps pass s walked
+same_steps pass pass' same s [] = refl
+same_steps pass pass' same s (step ∷ walked) =
+    ap (λ (x : Deed × Answer). (x ∷ hands pass' s step.1) ++ steps pass' s walked) (same_counting pass pass' same s step.0)
+    ∙ ap (λ (log : List (Deed × Answer)). (counting pass s step.0 ∷ log) ++ steps pass' s walked) (same_hands pass pass' same s step.1)
+    ∙ ap (λ (log : List (Deed × Answer)). (counting pass s step.0 ∷ hands pass s step.1) ++ log) (same_steps pass pass' same s walked)
+
 -- Counts without values, and one with them.
 
 abbrev plain : List ℤ → List (ℤ × List ℕ)
@@ -74,7 +81,7 @@ pub record IsStrolling {key : SlotKey} {word : ℕ} (at : IsAtWalk key word) (pa
 
 abbrev pub none_strolled : (key : SlotKey) (word : ℕ) (at : IsAtWalk key word) (pass : Pass) → IsStrolling at pass key pass word
 none_strolled key word at pass = record {
-  goes_on = (record { same = (refl, refl); its = (refl, refl); batch = refl; used = refl; active = refl; seen = omega arith }, ([], append-nil (own_list key)));
+  goes_on = (record { same = (refl, refl); its = (refl, refl); batch = refl; used = refl; active = refl; life = refl; seen = omega arith }, ([], append-nil (own_list key)));
   walked = [];
   made = sym (append-nil (events_by pass));
   here = at;

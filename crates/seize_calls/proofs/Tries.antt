@@ -1,5 +1,5 @@
 -- One try of an insertion: what is stored before it, and where the call stands after it.
-use Rattle.std.proofs.Common.{◌≡◌, ℕ, ◌+◌, Bool, true, false, if◌then◌else◌, List, [], ◌∷◌, ◌++◌, Option, Some, unwrap_or, sym, ap, ◌∙◌}
+use Rattle.std.proofs.Common.{◌≡◌, ℕ, ◌+◌, Bool, true, false, if◌then◌else◌, List, [], ◌∷◌, ◌++◌, Option, Some, unwrap_or, refl, sym, ap, ◌∙◌}
 use Rattle.seize_machine.specs.Machine.State.{Call, Look, Place, Try}
 use Rattle.seize_machine.specs.Machine.Event.{Event, Insert}
 use Rattle.seize_machine.specs.Machine.History.{first_of}
@@ -98,7 +98,7 @@ module _ (key : SlotKey) (pass : Pass) (head : Head) (header : Header) (seen blo
       pub tried : (won : Bool) → Notes two pass2 key' pass' (event won) → Tried at pass key' pass' won
       tried won notes =
           let so = goes_so won notes in
-          let keeps = keeps_noted two key' pass2 pass' (event won) notes call (on won) Done so in
+          let keeps = keeps_noted two key' pass2 pass' (event won) notes call (on won) Done so refl in
           let e : ℕ → Event = λ s. Insert s m (if won then Won else Lost) in
           record {
             keeps = keeps_twice key two key' pass pass2 pass' keeps_both keeps;

@@ -125,7 +125,7 @@ module _ (key0 : SlotKey) (pass0 : Pass) (head : Head) (block front : ℕ) (at :
     goes_so = looked_again _ st (number_of key) m at.batch at.won at.later at.queue _ (step_noted key key' pass pass' event noted) (call_before key key' pass pass' event noted call r.looking)
 
     pub keeps_read : Keeps key0 pass0 key' pass'
-    keeps_read = keeps_twice key0 key key' pass0 pass pass' r.keeps (keeps_noted key key' pass pass' event noted call (looked_on scheme h) (HeadRead (is_active h)) goes_so)
+    keeps_read = keeps_twice key0 key key' pass0 pass pass' r.keeps (keeps_noted key key' pass pass' event noted call (looked_on scheme h) (HeadRead (is_active h)) goes_so refl)
 
     pub goes_on : (slot_of key').call ≡ Some (record { place = looked h at.batch at.won m at.later; queue = at.queue })
     goes_on = call_after key key' pass pass' event noted call (looked_on scheme h) (HeadRead (is_active h)) goes_so

@@ -54,7 +54,7 @@ pub keeps_counted : (key key' : SlotKey) (pass pass' : Pass) → Notes key pass 
 keeps_counted key key' pass pass' notes =
     let event = SubCount (number_of key) in
     let so = after_sub (size_of key) (state_before key key' pass pass' event notes) (number_of key) (outcome key key' pass pass' event notes) (step_noted key key' pass pass' event notes) in
-    keeps_from key key' pass pass' event notes so.0 so.1 (ap (λ (hs : List Head). is_active (get_or hs (number_of key) Inactive)) so.2)
+    keeps_from key key' pass pass' event notes so.0 so.1 (ap (λ (hs : List Head). is_active (get_or hs (number_of key) Inactive)) so.2) refl
 
 -- some batches were counted down, and none was given up
 pub record IsWalking {key : SlotKey} {word : ℕ} (at : IsAtWalk key word) (pass : Pass) (key' : SlotKey) (pass' : Pass) (values' : ValueKeys) (leads' : ℕ) : Type 0 where
@@ -72,7 +72,7 @@ pub record IsWalking {key : SlotKey} {word : ℕ} (at : IsAtWalk key word) (pass
 
 abbrev pub none_walked : (key : SlotKey) (word : ℕ) (at : IsAtWalk key word) (pass : Pass) (values : ValueKeys) → IsEmpty values pass → IsWalking at pass key pass values word
 none_walked key word at pass values empty = record {
-  goes_on = (record { same = (refl, refl); its = (refl, refl); batch = refl; used = refl; active = refl; seen = omega arith }, ([], append-nil (own_list key)));
+  goes_on = (record { same = (refl, refl); its = (refl, refl); batch = refl; used = refl; active = refl; life = refl; seen = omega arith }, ([], append-nil (own_list key)));
   held = [];
   above = tt;
   done = [];

@@ -13,7 +13,7 @@ use Rattle.seize_machine.specs.declared.machine.event.Answer.TheVariants.{Count,
 use Rattle.seize_words.specs.Adding.{private}
 use Rattle.seize_words.specs.Counts.{Leaves}
 use Rattle.seize_words.specs.Passes.{events_by}
-use Rattle.seize_words.specs.Slots.{active_of, number_of, slot_of}
+use Rattle.seize_words.specs.Slots.{active_of, life_of, number_of, slot_of}
 use Rattle.seize_words.specs.declared.book.pass.Pass.{Pass}
 use Rattle.seize_words.specs.declared.book.slot_key.SlotKey.{SlotKey}
 use Rattle.seize_words.specs.declared.book.value_keys.ValueKeys.{ValueKeys}
@@ -35,6 +35,7 @@ pub record Retires {key : SlotKey} (at : BeginsToMark key) (pass : Pass) (values
   pub batch : (slot_of key').batch ≡ []
   pub used : (slot_of key').used ≡ (slot_of key).used
   pub active : active_of key' ≡ active_of key
+  pub life : life_of key' ≡ life_of key
   pub stands : (slot_of key').call ≡ Some (record { place = Rest (if zero then (slot_of key).batch else []) []; queue = at.queue })
   pub keys : Leaves values pass' values' zero
 

@@ -3,8 +3,8 @@
 --     turn_at pass s m turn      its events, with the pass: before each try slot s read the head of slot m, last it won, or found m inactive
 --     turns_at pass s ms turns   those of a turn at each of these slots, in order;  won_in turns     how many insertions were won
 --     plan_in key b          how batch b was detached, as the slot's key knows
---     Keeps key pass key' pass'  it is the same key and pass, and the slot's batch, and whether it is in use and active, are as they were;
---                            the pass has seen no fewer slots
+--     Keeps key pass key' pass'  it is the same key and pass, and the slot's batch, whether it is in use and active, and its last
+--                            activation, are as they were; the pass has seen no fewer slots
 --     IsAtTry key head header seen block front     the slot's call is about to insert its batch at this head, where it saw this word, with
 --                            the block of this number and header; and this is the number of the batch's first block
 --     Tried at pass key' pass' won   it tried once, and won or lost
@@ -30,7 +30,7 @@ use Rattle.seize_words.specs.Homes.{home_of}
 use Rattle.seize_words.specs.Named.{slot_book}
 use Rattle.seize_words.specs.Passes.{IsSame, events_by}
 use Rattle.seize_words.specs.Reservations.{slot}
-use Rattle.seize_words.specs.Slots.{active_of, number_of, own_list, slot_of, start_of}
+use Rattle.seize_words.specs.Slots.{active_of, life_of, number_of, own_list, slot_of, start_of}
 use Rattle.seize_words.specs.Totals.{slots_seen}
 use Rattle.seize_words.specs.declared.book.pass.Pass.{Pass}
 use Rattle.seize_words.specs.declared.book.slot_key.SlotKey.{SlotKey}
@@ -79,6 +79,7 @@ pub record Keeps (key : SlotKey) (pass : Pass) (key' : SlotKey) (pass' : Pass) :
   pub batch : (slot_of key').batch ≡ (slot_of key).batch
   pub used : (slot_of key').used ≡ (slot_of key).used
   pub active : active_of key' ≡ active_of key
+  pub life : life_of key' ≡ life_of key
   pub seen : slots_seen pass ≤ slots_seen pass'
 
 pub record IsAtTry (key : SlotKey) (head : Head) (header : Header) (seen block front : ℕ) : Type 0 where

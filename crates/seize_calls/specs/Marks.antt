@@ -17,7 +17,7 @@ use Rattle.seize_words.specs.Adding.{private}
 use Rattle.seize_words.specs.Batches.{CanDetach}
 use Rattle.seize_words.specs.Entry.{Deed}
 use Rattle.seize_words.specs.Passes.{events_by}
-use Rattle.seize_words.specs.Slots.{active_of, number_of, slot_of}
+use Rattle.seize_words.specs.Slots.{active_of, life_of, number_of, slot_of}
 use Rattle.seize_words.specs.Totals.{slots_seen}
 use Rattle.seize_words.specs.declared.book.pass.Pass.{Pass}
 use Rattle.seize_words.specs.declared.book.slot_key.SlotKey.{SlotKey}
@@ -60,4 +60,5 @@ pub record Ends {key : SlotKey} (at : BeginsToMark key) (pass : Pass) (key' : Sl
   pub batch : (slot_of key').batch ≡ (slot_of key).batch
   pub used : (slot_of key').used ≡ (slot_of key).used
   pub active : active_of key' ≡ active_of key
+  pub life : life_of key' ≡ life_of key
   pub stands : StandsAfter at finds key' entries' ends

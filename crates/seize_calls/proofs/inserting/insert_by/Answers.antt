@@ -10,7 +10,7 @@ use Rattle.seize_calls.proofs.inserting.insert_by.Goals as goal
 
 pub loop-init : goal.loop-init
 loop-init g c = λ at.
-    turns_begin c.args.key.now at c.args.pass.now (record { same = (refl, refl); its = (refl, refl); batch = refl; used = refl; active = refl; seen = omega arith })
+    turns_begin c.args.key.now at c.args.pass.now (record { same = (refl, refl); its = (refl, refl); batch = refl; used = refl; active = refl; life = refl; seen = omega arith })
 
 pub read-seen-requires-clause-book : goal.read-seen-requires-clause-book
 read-seen-requires-clause-book g c =
