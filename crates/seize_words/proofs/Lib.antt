@@ -1,3 +1,4 @@
+pub mod Inserts
 pub mod Finds
 pub mod Facts
 pub mod Steps

@@ -30,6 +30,7 @@ impl<T: Drop> Blocks<T> {
     ghost use Rattle.seize_book.specs.Blocks.{block_of};
     ghost use Rattle.seize_book.specs.Lending.{IsInBlockOf, IsLentKey};
     ghost use Rattle.seize_book.specs.Homesteads.{HasNumber, state_seen};
+    ghost use Rattle.seize_words.specs.Headers.{IsFrontBlock};
     ghost use Rattle.seize_book.specs.Passes.{LooksOn};
     ghost use Rattle.seize_book.specs.Slots.{IsOf};
     ghost use Rattle.seize_book.specs.Values.{IsEmpty};
@@ -190,7 +191,7 @@ impl<T: Drop> Blocks<T> {
 
     /// Counts down the next batch of a walk, to which this word leads: that of the slot's head as it came out, or what the step before
     /// gave. It gives the word of the rest of the walk, and whether the batch's values are given up to the slot's call then: if they are,
-    /// their keys come out.
+    /// their keys come out. Last, it gives the number of the batch's first block.
     ///
     /// It takes no memory and waits for nobody: two look-ups, two loads and one atomic subtraction.
     pub fn count_down(
@@ -199,17 +200,18 @@ impl<T: Drop> Blocks<T> {
         key: &mut SlotKey,
         values: &mut ValueKeys,
         pass: &mut Pass,
-    ) -> (u64, bool)
+    ) -> (u64, bool, u64)
         requires book { IsOf key.old pass.old × (book_in self.now ≡ pass.old.name) × IsEmpty values.old pass.old }
         requires knows { Knows key.old pass.old }
         requires at { IsAtBatch key.old word }
         ensures knows { Knows key.new pass.new }
         ensures counts { (at : IsAtBatch key.old word) → CountsDown at pass.old key.new values.new pass.new result.0 result.1 }
+        ensures front { (at : IsAtBatch key.old word) → IsFrontBlock key.old at.batch result.2 }
     {
         let header = self.header(word - 2, pass);
         let rest = header.next.load(key, pass);
         let front = header.first.load(key, pass);
         let first = self.header(front, pass);
-        (rest, first.count.subtract(key, values, pass))
+        (rest, first.count.subtract(key, values, pass), front)
     }
 }

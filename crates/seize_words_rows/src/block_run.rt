@@ -270,7 +270,7 @@ pub fn walk_on(
     let Pair { first, second } = pair;
     reader.look(pass);
     let mut values = ValueKeys::new(pass);
-    let (rest, _) = run.blocks.count_down(word, reader, &mut values, pass);
+    let (rest, _, _) = run.blocks.count_down(word, reader, &mut values, pass);
     reader.hand(pass);
     reader.hand(pass);
     let one = lay_back(&run.blocks, &mut values, first, pass);

@@ -100,3 +100,10 @@ returns-clause-counts g c at =
       takes = (subst (λ (k : SlotKey). (w : Walks k first.count) → Takes k w.batch pass' c.subtract.new.values c.subtract.result) same c.subtract.ensures.keys) walks;
       leads = c.load-rest.ensures.shows.0 passes ∙ word_stays key key' pass at.batch at.walk at.queue book knows counts.0.1.0 counts.0.1.1 grows (rest_walks key pass word book knows at);
     }
+
+pub returns-clause-front : goal.returns-clause-front
+returns-clause-front g c at =
+    let key = c.args.key.now in let pass = c.args.pass.now in let header = c.header-header.result.now in
+    let its = at_header key pass c.args.word c.requires.book.0 c.requires.knows at c.header-header.new.pass header c.header-header.ensures.looks c.header-header.ensures.header in
+    let field = at_field key pass c.args.word c.requires.book.0 c.requires.knows at first_field (number header.first) header its header.its_first.1 in
+    front_shown key c.load-rest.new.key c.load-rest.ensures.looks.1 (number header.first) c.load-front.result c.load-front.ensures.shows.1 c.args.word at field

@@ -1,0 +1,347 @@
+-- What a call knows that marks, detaches its batch, inserts it and adds.
+use Rattle.std.proofs.Common.{◌≡◌, ℕ, zero, suc, ◌+◌, ◌<◌, ◌≤◌, ◌^◌, ◌==◌, ◌||◌, Bool, true, false, not, if◌then◌else◌, List, [], ◌∷◌, ◌++◌, length, take, get_or, Option, Some, refl, sym, ap, subst, ◌∙◌, unwrap_or, arith}
+use Rattle.std.specs.List.{Contains}
+use Rattle.std.specs.Prelude.{slice_index_or}
+use Rattle.std.proofs.lemmas.List.{get_or-set_same, length_push}
+use Rattle.seize_machine.specs.Machine.State.{Add, Call, Head, Inactive, Mark, Rest, Slot, State, are_distinct, has, is_active, no_slot, slot_at}
+use Rattle.seize_machine.specs.Machine.Event.{AddCount, Detach, Event}
+use Rattle.seize_machine.specs.Machine.History.{first_of}
+use Rattle.seize_machine.specs.Machine.Laws.{detached_by}
+use Rattle.seize_machine.specs.Machine.Next.{detached_on, look, of_call}
+use Rattle.seize_machine.specs.declared.machine.event.Answer.{Answer}
+use Rattle.seize_machine.specs.declared.machine.event.Answer.TheVariants.{Count as Counted, Done}
+use Rattle.seize_machine.proofs.Facts.{Step, and_true, marking_full, marks_tidy, not_true, some_is, step_of}
+use Rattle.seize_book.specs.Adding.{private}
+use Rattle.seize_book.specs.Batches.{Detaches}
+use Rattle.seize_book.specs.Blocks.{Plan, block_of, marked_at, no_plan, plans, serving}
+use Rattle.seize_book.specs.Book.{after}
+use Rattle.seize_words.specs.Chunks.{IsHeaderOf}
+use Rattle.seize_words.specs.Counts.{AddsTo, Counts, GivesUp, Leaves, values_in}
+use Rattle.seize_book.specs.Entry.{Deed, Entry as Logged}
+use Rattle.seize_words.specs.Headers.{IsFrontBlock}
+use Rattle.seize_book.specs.Homesteads.{HasNumber, state_seen}
+use Rattle.seize_book.specs.Passes.{IsSame, LooksOn, events_by}
+use Rattle.seize_book.specs.Slots.{IsOf, Notes, number_of, own_list, size_of, slot_of, start_of}
+use Rattle.seize_book.specs.Tokens.{Name, start}
+use Rattle.seize_words.specs.Totals.{slots_seen}
+use Rattle.seize_words.specs.Walks.{Knows}
+use Rattle.seize_book.specs.declared.book.pass.Pass.{Pass}
+use Rattle.seize_book.specs.declared.book.slot_key.SlotKey.{SlotKey}
+use Rattle.seize_book.specs.declared.book.value_keys.ValueKeys.{ValueKeys}
+use Rattle.seize_words.specs.declared.chunk.Header.{Header}
+use Rattle.seize_words.proofs.Facts.{detached_named, events_grew, knows_still, life_kept, more_slots, own_reached, seen_grows}
+use Rattle.seize_calls.specs.Attempts.{Retires}
+use Rattle.seize_calls.specs.Entries.{AreOf, slots_of}
+use Rattle.seize_calls.specs.Inserts.{ArePlanned, InsertedAll, IsInserting, plan_in, turns_at}
+use Rattle.seize_calls.specs.Marks.{BeginsToMark, Ends, actives, readings}
+use Rattle.seize_calls.specs.declared.entry.Entry.{Entry}
+use Rattle.seize_calls.specs.declared.marking.Marked.TheVariants.{Ready, TooMany}
+use Rattle.seize_calls.proofs.Keeps.{keeps_book, looked_same, same_private}
+use Rattle.seize_calls.proofs.Marks.{entries_many, within}
+use Rattle.seize_calls.proofs.Tries.{front_same}
+use Rattle.seize_calls.proofs.Turns.{same_turns}
+
+-- The marks, and the entries that stand for them.
+
+abbrev pub AllBelow : ℕ → List ℕ → Type 0
+AllBelow n [] = Unit {0}
+AllBelow n (m ∷ ms) = (m < n) × AllBelow n ms
+
+pub more_below : (n k : ℕ) (ms : List ℕ) → n ≤ k → AllBelow n ms → AllBelow k ms
+more_below n k [] le all = tt
+more_below n k (m ∷ ms) le all = (omega (arith, le, all.0), more_below n k ms le all.1)
+
+pub actives_below : (n : ℕ) (finds : List Bool) → AllBelow (n + length finds) (actives n finds)
+actives_below n [] = tt
+actives_below n (true ∷ finds) = (omega arith, more_below (suc n + length finds) (n + suc (length finds)) (actives (suc n) finds) (omega arith) (actives_below (suc n) finds))
+actives_below n (false ∷ finds) = more_below (suc n + length finds) (n + suc (length finds)) (actives (suc n) finds) (omega arith) (actives_below (suc n) finds)
+
+-- these are the entries of the first of these values
+abbrev pub AreFirst : List Entry → List ℕ → Type 0
+AreFirst [] values = Unit {0}
+AreFirst (entry ∷ entries) [] = ⊥
+AreFirst (entry ∷ entries) (v ∷ values) = ((entry.block ≡ block_of v) × (entry.block + 2 < 2 ^ 64)) × AreFirst entries values
+
+pub are_first : (entries : List Entry) (values : List ℕ) (k : ℕ) → AreOf entries values → AreFirst (take k entries) values
+are_first [] values zero are = tt
+are_first [] values (suc k) are = tt
+are_first (entry ∷ entries) [] k are = absurd are
+are_first (entry ∷ entries) (v ∷ values) zero are = tt
+are_first (entry ∷ entries) (v ∷ values) (suc k) are = (are.0, are_first entries values k are.1)
+
+both_false : (a b : Bool) → (a || b) ≡ false → (a ≡ false) × (b ≡ false)
+both_false false b e = (refl, e)
+both_false true b e = absurd (cc)
+
+planned_later : (k v seen : ℕ) (slots values : List ℕ) (entries : List Entry) → has k (slots_of entries) ≡ false → ArePlanned (record { slots = slots; values = values }) seen entries
+    → ArePlanned (record { slots = k ∷ slots; values = v ∷ values }) seen entries
+planned_later k v seen slots values [] none are = tt
+planned_later k v seen slots values (entry ∷ entries) none are =
+    let other = both_false (entry.slot == k) (has k (slots_of entries)) none in
+    let apart : (k == entry.slot) ≡ false = turned k entry.slot other.0 in
+    ((are.0.0 ∙ ap (λ (b : Bool). block_of (if b then v else serving entry.slot slots values)) (sym apart), are.0.1, are.0.2), planned_later k v seen slots values entries other.1 are.1)
+  where
+    turned : (a b : ℕ) → (b == a) ≡ false → (a == b) ≡ false
+    turned a b e = grind arith
+
+pub planned_all : (entries : List Entry) (values : List ℕ) (seen : ℕ) → AreFirst entries values → are_distinct (slots_of entries) ≡ true → AllBelow seen (slots_of entries)
+    → ArePlanned (record { slots = slots_of entries; values = values }) seen entries
+planned_all [] values seen are distinct below = tt
+planned_all (entry ∷ entries) [] seen are distinct below = absurd are
+planned_all (entry ∷ entries) (v ∷ values) seen are distinct below =
+    let parts = and_true (not (has entry.slot (slots_of entries))) (are_distinct (slots_of entries)) distinct in (
+      (are.0.0 ∙ ap (λ (b : Bool). block_of (if b then v else serving entry.slot (slots_of entries) values)) (sym (itself entry.slot)), are.0.1, below.0),
+      planned_later entry.slot v seen (slots_of entries) values entries (not_true _ parts.0) (planned_all entries values seen are.1 parts.1 below.1),
+    )
+  where
+    itself : (n : ℕ) → (n == n) ≡ true
+    itself n = grind arith
+
+-- the first entry has the number of the batch's first block
+pub first_block : (entries : List Entry) (values : List ℕ) (d : Entry) → AreOf entries values → 1 ≤ length values → (v : ℕ) × (first_of values ≡ Some v) × ((get_or entries 0 d).block ≡ block_of v)
+first_block [] [] d are full = absurd (omega (arith, full))
+first_block [] (v ∷ values) d are full = absurd are
+first_block (entry ∷ entries) [] d are full = absurd are
+first_block (entry ∷ entries) (v ∷ values) d are full = (v, refl, are.0.0)
+
+first_in : (values : List ℕ) (v : ℕ) → first_of values ≡ Some v → Contains values v
+first_in [] v e = absurd (let none : Option.None ≡ Some v = e in cc)
+first_in (x ∷ values) v e = (zero, omega arith, ap (λ (o : Option ℕ). unwrap_or o 0) e)
+
+-- The machine detaches.
+
+after_detach : (size : ℕ) (st : State) (s : ℕ) (d : State × Answer) (next note : ℕ) (marks queue : List ℕ) → Step size st (Detach s) d → (slot_at st s).call ≡ Some (record { place = Mark next note marks; queue = queue })
+    → ((slot_at d.0 s).call ≡ Some (record { place = look (length st.batches) 0 marks; queue = queue })) × ((slot_at d.0 s).batch ≡ []) × ((slot_at d.0 s).used ≡ (slot_at st s).used) × (d.0.heads ≡ st.heads)
+    × (length d.0.batches ≡ length st.batches + 1) × (d.1 ≡ Done)
+after_detach size st _ _ next note marks queue (Step.detached s _ _ _ _ e le) is =
+    let same = get_or-set_same st.slots s _ no_slot (within st s _ is) in (
+      ap (λ (z : Slot). z.call) same ∙ ap (λ (c : Call). Some (record { place = detached_on (length st.batches) c.place; queue = c.queue })) (some_is _ _ (sym e ∙ is)),
+      ap (λ (z : Slot). z.batch) same,
+      ap (λ (z : Slot). z.used) same,
+      refl,
+      length_push st.batches _,
+      refl,
+    )
+
+abbrev answered : Deed → Answer → Deed × Answer
+answered deed answer = (deed, answer)
+
+-- And it adds.
+
+after_add : (size : ℕ) (st : State) (s : ℕ) (d : State × Answer) → Step size st (AddCount s) d → ((slot_at d.0 s).batch ≡ (slot_at st s).batch) × ((slot_at d.0 s).used ≡ (slot_at st s).used) × (d.0.heads ≡ st.heads)
+after_add size st _ d (Step.added s b won queue _ stands is) =
+    let same = get_or-set_same st.slots s _ no_slot (within st s _ stands) in
+    let eq = some_is _ _ is in (
+      ap (λ (x : State × Answer). (slot_at x.0 s).batch) (sym eq) ∙ ap (λ (z : Slot). z.batch) same,
+      ap (λ (x : State × Answer). (slot_at x.0 s).used) (sym eq) ∙ ap (λ (z : Slot). z.used) same,
+      ap (λ (x : State × Answer). x.0.heads) (sym eq),
+    )
+
+-- The batch is detached.
+module _ (key0 : SlotKey) (at : BeginsToMark key0) (pass0 : Pass) (key : SlotKey) (pass : Pass) (entries : List Entry) (marked : ℕ) (ends : Ends at pass0 key pass entries (Ready marked)) (book : IsOf key pass) (knows : Knows key pass)
+    (same : IsSame pass0 pass) (its : (key.keys.name ≡ key0.keys.name) × (number_of key ≡ number_of key0)) (are : AreOf entries (slot_of key0).batch) where
+  abbrev marks : List ℕ
+  marks = actives 0 ends.finds
+
+  abbrev batch : List ℕ
+  batch = (slot_of key0).batch
+
+  abbrev first : List Entry
+  first = take marked entries
+
+  pub full : 1 ≤ length batch
+  full =
+      let some = marking_full (after (start_of key) (own_list key)) (number_of key) (length ends.finds) at.note marks at.queue (own_reached key pass book knows) ends.stands.1 in
+      subst (λ (vs : List ℕ). 1 ≤ length vs) ends.batch some
+
+  pub some_entry : 0 < length entries
+  some_entry = let same_many = entries_many entries batch are in omega (arith, same_many, full)
+
+  pub distinct : are_distinct marks ≡ true
+  distinct = (marks_tidy (after (start_of key) (own_list key)) (number_of key) (length ends.finds) at.note marks at.queue (own_reached key pass book knows) ends.stands.1).0
+
+  module _ (key1 : SlotKey) (pass1 : Pass) (notes : Notes key pass key1 pass1 (Detach (number_of key))) (detaches : Detaches key pass1) where
+    abbrev st : State
+    st = after (start_of key) notes.2.0.before
+
+    abbrev d : State × Answer
+    d = (notes.2.0.later, notes.2.0.answer)
+
+    abbrev b : ℕ
+    b = detaches.0
+
+    pub done : ((slot_at d.0 (number_of key)).call ≡ Some (record { place = look (length st.batches) 0 marks; queue = at.queue })) × ((slot_at d.0 (number_of key)).batch ≡ [])
+        × ((slot_at d.0 (number_of key)).used ≡ (slot_at st (number_of key)).used) × (d.0.heads ≡ st.heads) × (length d.0.batches ≡ length st.batches + 1) × (d.1 ≡ Done)
+    done =
+        after_detach (size_of key) st (number_of key) d (length ends.finds) at.note marks at.queue (step_of (size_of key) st (Detach (number_of key)) d notes.2.1.legal)
+        (ap (λ (z : Slot). z.call) notes.2.1.was ∙ ends.stands.1)
+
+    pub is_newest : length st.batches ≡ b
+    is_newest =
+        let later : length (after (start_of key) pass1.seen).batches ≡ length d.0.batches = ap (λ (n : Name). length (after (start n) pass1.seen).batches) book ∙ ap (λ (x : State). length x.batches) notes.2.0.leads in
+        omega (arith, detaches.1, later, done.4)
+
+    pub plan_is : plan_in key1 b ≡ record { slots = marks; values = batch }
+    plan_is =
+        ap (λ (t : Name × List Logged). slice_index_or (plans (start t.0) t.1) b no_plan) (λ i. (notes.1.0 i, notes.1.2 i))
+        ∙ detaches.3
+        ∙ ap (λ (o : Option Call). record { slots = unwrap_or (of_call marked_at o) []; values = (slot_of key).batch }) ends.stands.1
+        ∙ ap (λ (vs : List ℕ). record { slots = marks; values = vs }) ends.batch
+
+    pub seen_one : slots_seen pass ≤ slots_seen pass1
+    seen_one =
+        subst (λ (z : Name). slots_seen pass ≤ length (after (start z) pass1.seen).slots) (sym notes.0.0)
+        (more_slots pass.name pass.seen pass1.seen (seen_grows pass.name pass.id pass.seen pass1.seen _ notes.2.0) notes.2.0.legal)
+
+    pub same_one : IsSame pass0 pass1
+    same_one = (notes.0.0 ∙ same.0, notes.0.1 ∙ same.1)
+
+    pub its_one : (key1.keys.name ≡ key0.keys.name) × (number_of key1 ≡ number_of key0)
+    its_one = (notes.1.0 ∙ its.0, notes.1.1 ∙ its.1)
+
+    pub book_one : IsOf key1 pass1
+    book_one = notes.1.0 ∙ book ∙ sym notes.0.0
+
+    pub front_one : (d0 : Entry) → IsFrontBlock key1 b (get_or entries 0 d0).block
+    front_one d0 = let its_first = first_block entries batch d0 are full in (its_first.0, ap (λ (plan : Plan). first_of plan.values) plan_is ∙ its_first.1, its_first.2)
+
+    abbrev pub inserts : (d0 : Entry) → IsInserting key1 pass1 first (get_or entries 0 d0).block
+    inserts d0 = record {
+      batch = b;
+      won = 0;
+      queue = at.queue;
+      stands =
+          ap (λ (z : Slot). z.call) notes.2.1.is ∙ done.0 ∙ ap (λ (n : ℕ). Some (record { place = look n 0 marks; queue = at.queue })) is_newest
+          ∙ ap (λ (ms : List ℕ). Some (record { place = look b 0 ms; queue = at.queue })) (sym ends.stands.3);
+      planned =
+          subst (λ (plan : Plan). ArePlanned plan (slots_seen pass1) first) (ap (λ (ms : List ℕ). record { slots = ms; values = batch }) ends.stands.3 ∙ sym plan_is)
+          (planned_all first batch (slots_seen pass1) (are_first entries batch marked are) (subst (λ (ms : List ℕ). are_distinct ms ≡ true) (sym ends.stands.3) distinct)
+          (subst (AllBelow (slots_seen pass1)) (sym ends.stands.3)
+          (more_below (0 + length ends.finds) (slots_seen pass1) marks (let within = ends.within in let more = seen_one in omega (arith, within, more)) (actives_below 0 ends.finds))));
+      its_front = front_one d0;
+    }
+
+    -- The insertions were made.
+    module _ (d0 : Entry) (key2 : SlotKey) (pass2 : Pass) (won : ℕ) (all : InsertedAll (inserts d0) key2 pass2 won) (knows2 : Knows key2 pass2) where
+      abbrev front : ℕ
+      front = (get_or entries 0 d0).block
+
+      pub book_two : IsOf key2 pass2
+      book_two = keeps_book key1 key2 pass1 pass2 all.keeps book_one
+
+      abbrev stands_two : (slot_of key2).call ≡ Some (record { place = Add b (0 + won); queue = at.queue })
+      stands_two = all.stands
+
+      pub front_two : IsFrontBlock key2 b front
+      front_two = front_same key1 key2 b front all.planned (front_one d0)
+
+      -- the first block is found by its number
+      pub named_two : (pass' : Pass) → IsOf key2 pass' → Knows key2 pass' → has front_two.0 (state_seen pass').named ≡ true
+      named_two pass' book' knows' =
+          detached_named key2 pass' book' knows' b front_two.0 (ap detached_by stands_two) (first_in (plan_in key2 b).values front_two.0 front_two.1)
+
+      pub has_front : HasNumber front (state_seen pass2)
+      has_front = (front_two.0, named_two pass2 book_two knows2, sym front_two.2)
+
+      module _ (pass3 : Pass) (header : Header) (looks : LooksOn pass2 pass3) (is : IsHeaderOf header front pass3) where
+        pub book_three : IsOf key2 pass3
+        book_three = book_two ∙ sym looks.same.0
+
+        abbrev pub adds : AddsTo key2 header.count won
+        adds = record {
+          batch = b;
+          front = front_two.0;
+          queue = at.queue;
+          adding = stands_two ∙ ap (λ (n : ℕ). Some (record { place = Add b n; queue = at.queue })) (let none : 0 + won ≡ won = omega arith in none);
+          its_front = front_two.1;
+          its_home = is.1 front_two.0 (named_two pass3 book_three (knows_still key2 pass2 pass3 knows2 looks)) (sym front_two.2);
+        }
+
+        pub values_are : values_in key2 b ≡ batch
+        values_are = ap (λ (plan : Plan). plan.values) (all.planned ∙ plan_is)
+
+        -- The insertions were added.
+        module _ (values values' : ValueKeys) (key' : SlotKey) (pass' : Pass) (zero' : Bool) (counts : Counts key2 pass3 key' pass' (AddCount (number_of key2)) zero')
+            (gives : GivesUp key2 key' b [] at.queue zero') (leaves : Leaves values pass' values' zero') where
+          abbrev added : Notes key2 pass3 key' pass' (AddCount (number_of key2))
+          added = counts.0
+
+          abbrev here : State
+          here = after (start_of key2) added.2.0.before
+
+          kept : ((slot_at added.2.0.later (number_of key2)).batch ≡ (slot_at here (number_of key2)).batch) × ((slot_at added.2.0.later (number_of key2)).used ≡ (slot_at here (number_of key2)).used) × (added.2.0.later.heads ≡ here.heads)
+          kept = after_add (size_of key2) here (number_of key2) (added.2.0.later, added.2.0.answer) (step_of (size_of key2) here (AddCount (number_of key2)) (added.2.0.later, added.2.0.answer) added.2.1.legal)
+
+          abbrev s : ℕ
+          s = number_of key0
+
+          one_deed : (event : ℕ → Event) (key'' : SlotKey) (pass'' : Pass) (answer : Answer) → IsSame pass0 pass'' → number_of key'' ≡ s → answered (private pass'' (event (number_of key''))) answer ≡ answered (private pass0 (event s)) answer
+          one_deed event key'' pass'' answer same'' its'' =
+              ap (λ (x : Deed). (x, answer)) (same_private pass0 pass'' same'' (event (number_of key''))) ∙ ap (λ (k : ℕ). (private pass0 (event k), answer)) its''
+
+          same_two : IsSame pass0 pass2
+          same_two = (all.keeps.same.0 ∙ same_one.0, all.keeps.same.1 ∙ same_one.1)
+
+          same_three : IsSame pass0 pass3
+          same_three = (looks.same.0 ∙ same_two.0, looks.same.1 ∙ same_two.1)
+
+          abbrev events : List (Deed × Answer)
+          events = events_by pass0 ++ readings pass0 s 0 ends.finds
+
+          made_one : events_by pass1 ≡ events ++ (private pass0 (Detach s), Done) ∷ []
+          made_one =
+              events_grew pass pass1 (Detach (number_of key)) notes.0 notes.2.0
+              ∙ ap (λ (log : List (Deed × Answer)). log ++ (private pass (Detach (number_of key)), notes.2.0.answer) ∷ []) ends.made
+              ∙ ap (λ (a : Answer). events ++ (private pass (Detach (number_of key)), a) ∷ []) done.5
+              ∙ ap (λ (x : Deed × Answer). events ++ x ∷ []) (one_deed Detach key pass Done same its.1)
+
+          made_two : events_by pass2 ≡ (events ++ (private pass0 (Detach s), Done) ∷ []) ++ turns_at pass0 s marks all.turns
+          made_two =
+              all.made
+              ∙ ap (λ (log : List (Deed × Answer)). log ++ turns_at pass1 (number_of key1) (slots_of first) all.turns) made_one
+              ∙ ap (λ (log : List (Deed × Answer)). (events ++ (private pass0 (Detach s), Done) ∷ []) ++ log)
+              (same_turns pass0 pass1 same_one (number_of key1) (slots_of first) all.turns ∙ ap (λ (k : ℕ). turns_at pass0 k (slots_of first) all.turns) its_one.1
+              ∙ ap (λ (ms : List ℕ). turns_at pass0 s ms all.turns) ends.stands.3)
+
+          made_all : events_by pass' ≡ ((events ++ (private pass0 (Detach s), Done) ∷ []) ++ turns_at pass0 s marks all.turns) ++ (private pass0 (AddCount s), Counted counts.1.0) ∷ []
+          made_all =
+              events_grew pass3 pass' (AddCount (number_of key2)) added.0 added.2.0
+              ∙ ap (λ (log : List (Deed × Answer)). log ++ (private pass3 (AddCount (number_of key2)), added.2.0.answer) ∷ []) (looked_same pass2 pass3 looks ∙ made_two)
+              ∙ ap (λ (a : Answer). ((events ++ (private pass0 (Detach s), Done) ∷ []) ++ turns_at pass0 s marks all.turns) ++ (private pass3 (AddCount (number_of key2)), a) ∷ []) counts.1.1
+              ∙ ap (λ (x : Deed × Answer). ((events ++ (private pass0 (Detach s), Done) ∷ []) ++ turns_at pass0 s marks all.turns) ++ x ∷ [])
+              (one_deed AddCount key2 pass3 (Counted counts.1.0) same_three (all.keeps.its.1 ∙ its_one.1))
+
+          pub retires : Retires at pass0 values key' pass' values' zero'
+          retires = record {
+            finds = ends.finds;
+            turns = all.turns;
+            each = all.each ∙ sym (many_slots first) ∙ ap (λ (ms : List ℕ). length ms) ends.stands.3;
+            count = counts.1.0;
+            is_count = counts.1.2;
+            made = made_all;
+            batch = ap (λ (z : Slot). z.batch) added.2.1.is ∙ kept.0 ∙ ap (λ (z : Slot). z.batch) added.2.1.was ∙ all.keeps.batch ∙ ap (λ (z : Slot). z.batch) notes.2.1.is ∙ done.1;
+            used =
+                ap (λ (z : Slot). z.used) added.2.1.is ∙ kept.1 ∙ ap (λ (z : Slot). z.used) added.2.1.was ∙ all.keeps.used ∙ ap (λ (z : Slot). z.used) notes.2.1.is ∙ done.2 ∙ ap (λ (z : Slot). z.used) notes.2.1.was
+                ∙ ends.used;
+            active =
+                added.2.1.is_now_active ∙ ap (λ (hs : List Head). is_active (get_or hs (number_of key2) Inactive)) kept.2 ∙ added.2.1.was_active ∙ all.keeps.active
+                ∙ notes.2.1.is_now_active ∙ ap (λ (hs : List Head). is_active (get_or hs (number_of key) Inactive)) done.3 ∙ notes.2.1.was_active ∙ ends.active;
+            life =
+                life_kept key2 key' pass3 pass' (private pass3 (AddCount (number_of key2))) added refl ∙ all.keeps.life ∙ life_kept key key1 pass pass1 (private pass (Detach (number_of key))) notes refl ∙ ends.life;
+            stands = gives ∙ ap (λ (vs : List ℕ). Some (record { place = Rest (if zero' then vs else []) []; queue = at.queue })) values_are;
+            keys = leaves;
+          }
+            where
+              many_slots : (es : List Entry) → length (slots_of es) ≡ length es
+              many_slots [] = refl
+              many_slots (e ∷ es) = ap suc (many_slots es)
+
+          pub same_last : IsSame pass0 pass'
+          same_last = (added.0.0 ∙ same_three.0, added.0.1 ∙ same_three.1)
+
+          pub its_last : (key'.keys.name ≡ key0.keys.name) × (number_of key' ≡ number_of key0)
+          its_last = (added.1.0 ∙ all.keeps.its.0 ∙ its_one.0, added.1.1 ∙ all.keeps.its.1 ∙ its_one.1)
+
+-- A call that has given up says nothing of its entries.
+pub stays_so : {key : SlotKey} (at : BeginsToMark key) (pass : Pass) (key' : SlotKey) (pass' : Pass) (entries : List Entry) → Ends at pass key' pass' entries TooMany → Ends at pass key' pass' [] TooMany
+stays_so at pass key' pass' entries e = record { finds = e.finds; within = e.within; made = e.made; batch = e.batch; used = e.used; active = e.active; life = e.life; stands = e.stands }

@@ -1,0 +1,153 @@
+-- What the events make at which a call begins and returns, and what they leave.
+use Rattle.std.proofs.Common.{◌≡◌, ℕ, ◌<◌, ◌≤◌, Bool, true, false, List, [], ◌∷◌, ◌++◌, length, get_or, Option, Some, None, refl, sym, ap, ◌∙◌, ◌⊎◌, inl, inr}
+use Rattle.std.proofs.lemmas.List.{get_or-set_same, get_or_past}
+use Rattle.std.proofs.lemmas.Bool.{cases_lt}
+use Rattle.seize_machine.specs.Machine.State.{Append, Call, Head, Inactive, Out, Place, Slot, State, head_at, is_active, is_idle, no_slot, slot_at}
+use Rattle.seize_machine.specs.Machine.Event.{Begin, Event, Put, Return}
+use Rattle.seize_machine.specs.Machine.Next.{begun_at, flushing_at, set_slot}
+use Rattle.seize_machine.specs.declared.machine.event.Answer.{Answer}
+use Rattle.seize_machine.specs.declared.machine.event.Answer.TheVariants.{Done}
+use Rattle.seize_machine.specs.declared.machine.event.Job.{Job}
+use Rattle.seize_machine.specs.declared.machine.event.Job.TheVariants.{Flush, Leave, Refresh, Retire}
+use Rattle.seize_machine.proofs.Facts.{Step, after_put, beginning, next_of, some_is, step_put}
+use Rattle.seize_book.specs.Adding.{private}
+use Rattle.seize_book.specs.Entry.{Deed}
+use Rattle.seize_book.specs.Passes.{IsSame, events_by}
+use Rattle.seize_book.specs.Slots.{Notes, number_of, size_of, slot_of}
+use Rattle.seize_book.specs.declared.book.pass.Pass.{Pass}
+use Rattle.seize_book.specs.declared.book.slot_key.SlotKey.{SlotKey}
+use Rattle.seize_words.proofs.Facts.{events_grew, life_kept}
+use Rattle.seize_calls.specs.Calls.{Begins, Puts, done}
+use Rattle.seize_calls.specs.Inserts.{Keeps}
+use Rattle.seize_calls.proofs.Keeps.{keeps_from, outcome, same_private, state_before, step_noted}
+use Rattle.seize_calls.proofs.Marks.{within}
+
+-- a call returns
+after_return : (size : ℕ) (st : State) (s : ℕ) (d : State × Answer) → Step size st (Return s) d
+    → ((slot_at d.0 s).call ≡ None) × ((slot_at d.0 s).batch ≡ (slot_at st s).batch) × ((slot_at d.0 s).used ≡ (slot_at st s).used) × (d.0.heads ≡ st.heads) × (d.1 ≡ Done)
+after_return size st _ _ (Step.returned s stands) =
+    let same = get_or-set_same st.slots s _ no_slot (within st s _ stands) in (ap (λ (z : Slot). z.call) same, ap (λ (z : Slot). z.batch) same, ap (λ (z : Slot). z.used) same, refl, refl)
+
+module _ (key key' : SlotKey) (pass pass' : Pass) (notes : Notes key pass key' pass' (Return (number_of key))) where
+  abbrev event : Event
+  event = Return (number_of key)
+
+  so : ((slot_at (outcome key key' pass pass' event notes).0 (number_of key)).call ≡ None) × ((slot_at (outcome key key' pass pass' event notes).0 (number_of key)).batch ≡ (slot_at (state_before key key' pass pass' event notes) (number_of key)).batch)
+      × ((slot_at (outcome key key' pass pass' event notes).0 (number_of key)).used ≡ (slot_at (state_before key key' pass pass' event notes) (number_of key)).used)
+      × ((outcome key key' pass pass' event notes).0.heads ≡ (state_before key key' pass pass' event notes).heads) × ((outcome key key' pass pass' event notes).1 ≡ Done)
+  so = after_return (size_of key) (state_before key key' pass pass' event notes) (number_of key) (outcome key key' pass pass' event notes) (step_noted key key' pass pass' event notes)
+
+  pub keeps_returned : Keeps key pass key' pass'
+  keeps_returned = keeps_from key key' pass pass' event notes so.1 so.2 (ap (λ (hs : List Head). is_active (get_or hs (number_of key) Inactive)) so.3) refl
+
+  pub call_returned : (slot_of key').call ≡ None
+  call_returned = ap (λ (z : Slot). z.call) notes.2.1.is ∙ so.0
+
+  pub made_returned : events_by pass' ≡ events_by pass ++ done pass event
+  made_returned = events_grew pass pass' event notes.0 notes.2.0 ∙ ap (λ (a : Answer). events_by pass ++ (private pass event, a) ∷ []) so.4
+
+-- an event by itself is the same with a pass as it was before, of a slot by the same number
+pub same_done : (pass pass' : Pass) → IsSame pass pass' → (event : ℕ → Event) (s s' : ℕ) → s' ≡ s → done pass' (event s') ≡ done pass (event s)
+same_done pass pass' same event s s' is = ap (λ (d : Deed). (d, Done) ∷ []) (same_private pass pass' same (event s')) ∙ ap (λ (k : ℕ). done pass (event k)) is
+
+-- A call begins.
+
+there : (st : State) (s : ℕ) → is_idle (slot_at st s) ≡ true → s < length st.slots
+there st s idle = go (cases_lt s (length st.slots))
+  where
+    go : (s < length st.slots) ⊎ (length st.slots ≤ s) → s < length st.slots
+    go (inl less) = less
+    go (inr past) = absurd (let none : is_idle no_slot ≡ true = sym (ap is_idle (get_or_past st.slots s no_slot past)) ∙ idle in cc)
+
+abbrev Kept : State → ℕ → State × Answer → Call → Type 0
+Kept st s d call =
+    ((slot_at d.0 s).call ≡ Some call) × ((slot_at d.0 s).batch ≡ (slot_at st s).batch) × ((slot_at d.0 s).used ≡ (slot_at st s).used) × (d.0.heads ≡ st.heads) × (d.1 ≡ Done)
+
+begun_so : (size : ℕ) (st : State) (s : ℕ) (job : Job) (d : State × Answer) (place : Place) → Step size st (Begin s job) d → beginning st s job ≡ Some place → Kept st s d (record { place = place; queue = [] })
+begun_so size st _ _ _ place (Step.begun_retire s v idle may) is = absurd (let none : Option.None ≡ Some place = is in cc)
+begun_so size st _ _ _ place (Step.begun_other s job other idle which may) is =
+    let same = get_or-set_same st.slots s (begun_at (slot_at st s) other) no_slot (there st s idle) in (
+      ap (λ (z : Slot). z.call) same ∙ ap (λ (p : Place). Some (record { place = p; queue = [] })) (some_is _ _ (sym may.1 ∙ is)),
+      ap (λ (z : Slot). z.batch) same,
+      ap (λ (z : Slot). z.used) same,
+      refl,
+      refl,
+    )
+
+retire_so : (size : ℕ) (st : State) (s v : ℕ) (d : State × Answer) → Step size st (Begin s (Retire v)) d → Kept st s d (record { place = Append v; queue = [] })
+retire_so size st _ _ _ (Step.begun_retire s v idle may) =
+    let same = get_or-set_same st.slots s (begun_at (slot_at st s) (Append v)) no_slot (there st s idle) in
+    (ap (λ (z : Slot). z.call) same, ap (λ (z : Slot). z.batch) same, ap (λ (z : Slot). z.used) same, refl, refl)
+retire_so size st _ _ _ (Step.begun_other s (Retire v) place idle which may) = absurd (let none : Option.None ≡ Some place = may.1 in cc)
+
+module _ (key key' : SlotKey) (pass pass' : Pass) (job : Job) (notes : Notes key pass key' pass' (Begin (number_of key) job)) (call : Call)
+    (so : Kept (state_before key key' pass pass' (Begin (number_of key) job) notes) (number_of key) (outcome key key' pass pass' (Begin (number_of key) job) notes) call) where
+  pub begins_so : Begins key pass job key' pass'
+  begins_so = record {
+    keeps = keeps_from key key' pass pass' (Begin (number_of key) job) notes so.1 so.2 (ap (λ (hs : List Head). is_active (get_or hs (number_of key) Inactive)) so.3) refl;
+    made = events_grew pass pass' (Begin (number_of key) job) notes.0 notes.2.0 ∙ ap (λ (a : Answer). events_by pass ++ (private pass (Begin (number_of key) job), a) ∷ []) so.4;
+  }
+
+  pub call_begun : (slot_of key').call ≡ Some call
+  call_begun = ap (λ (z : Slot). z.call) notes.2.1.is ∙ so.0
+
+-- by its job
+module _ (key key' : SlotKey) (pass pass' : Pass) where
+  abbrev out_call : Bool → Call
+  out_call stays = record { place = Out stays; queue = [] }
+
+  pub leave_so : (notes : Notes key pass key' pass' (Begin (number_of key) Leave)) → Kept (state_before key key' pass pass' (Begin (number_of key) Leave) notes) (number_of key) (outcome key key' pass pass' (Begin (number_of key) Leave) notes) (out_call false)
+  leave_so notes = begun_so (size_of key) (state_before key key' pass pass' (Begin (number_of key) Leave) notes) (number_of key) Leave _ (Out false) (step_noted key key' pass pass' (Begin (number_of key) Leave) notes) refl
+
+  pub refresh_so : (notes : Notes key pass key' pass' (Begin (number_of key) Refresh)) → Kept (state_before key key' pass pass' (Begin (number_of key) Refresh) notes) (number_of key) (outcome key key' pass pass' (Begin (number_of key) Refresh) notes) (out_call true)
+  refresh_so notes = begun_so (size_of key) (state_before key key' pass pass' (Begin (number_of key) Refresh) notes) (number_of key) Refresh _ (Out true) (step_noted key key' pass pass' (Begin (number_of key) Refresh) notes) refl
+
+  abbrev pub flush_call : (notes : Notes key pass key' pass' (Begin (number_of key) Flush)) → Call
+  flush_call notes = record { place = flushing_at (length (state_before key key' pass pass' (Begin (number_of key) Flush) notes).slots) (slot_of key).batch; queue = [] }
+
+  pub flush_so : (notes : Notes key pass key' pass' (Begin (number_of key) Flush)) → Kept (state_before key key' pass pass' (Begin (number_of key) Flush) notes) (number_of key) (outcome key key' pass pass' (Begin (number_of key) Flush) notes) (flush_call notes)
+  flush_so notes =
+      let st = state_before key key' pass pass' (Begin (number_of key) Flush) notes in
+      begun_so (size_of key) st (number_of key) Flush _ (flushing_at (length st.slots) (slot_of key).batch) (step_noted key key' pass pass' (Begin (number_of key) Flush) notes)
+      (ap (λ (z : Slot). Some (flushing_at (length st.slots) z.batch)) notes.2.1.was)
+
+  pub begun_retire_so : (v : ℕ) (notes : Notes key pass key' pass' (Begin (number_of key) (Retire v)))
+      → Kept (state_before key key' pass pass' (Begin (number_of key) (Retire v)) notes) (number_of key) (outcome key key' pass pass' (Begin (number_of key) (Retire v)) notes) (record { place = Append v; queue = [] })
+  begun_retire_so v notes = retire_so (size_of key) _ (number_of key) v _ (step_noted key key' pass pass' (Begin (number_of key) (Retire v)) notes)
+
+-- A value is put.
+module _ (key key' : SlotKey) (pass pass' : Pass) (notes : Notes key pass key' pass' (Put (number_of key))) (v : ℕ) (stands : (slot_of key).call ≡ Some (record { place = Append v; queue = [] })) where
+  abbrev put : Event
+  put = Put (number_of key)
+
+  abbrev pub put_st : State
+  put_st = state_before key key' pass pass' put notes
+
+  abbrev batch : List ℕ
+  batch = (slot_of key).batch
+
+  abbrev new : Slot
+  new = let z = slot_at put_st (number_of key) in record { used = z.used; batch = z.batch ++ v ∷ []; call = Some (record { place = after_put (size_of key) (length put_st.slots) (z.batch ++ v ∷ []); queue = [] }) }
+
+  here : (slot_at put_st (number_of key)).call ≡ Some (record { place = Append v; queue = [] })
+  here = ap (λ (z : Slot). z.call) notes.2.1.was ∙ stands
+
+  is_put : outcome key key' pass pass' put notes ≡ (set_slot put_st (number_of key) new, Done)
+  is_put = some_is _ _ (sym notes.2.1.legal ∙ next_of (size_of key) put_st put _ (step_put (size_of key) put_st (number_of key) v (Append v) [] [] here (inl (refl, refl))))
+
+  slot_put : slot_of key' ≡ new
+  slot_put = notes.2.1.is ∙ ap (λ (x : State × Answer). slot_at x.0 (number_of key)) is_put ∙ get_or-set_same put_st.slots (number_of key) new no_slot (within put_st (number_of key) _ here)
+
+  pub puts_so : Puts key pass v key' pass'
+  puts_so = record {
+    same = notes.0;
+    its = (notes.1.0, notes.1.1);
+    batch = ap (λ (z : Slot). z.batch) slot_put ∙ ap (λ (z : Slot). z.batch ++ v ∷ []) notes.2.1.was;
+    used = ap (λ (z : Slot). z.used) slot_put ∙ ap (λ (z : Slot). z.used) notes.2.1.was;
+    active = notes.2.1.is_now_active ∙ ap (λ (x : State × Answer). is_active (head_at x.0 (number_of key))) is_put ∙ notes.2.1.was_active;
+    life = life_kept key key' pass pass' (private pass put) notes refl;
+    made = events_grew pass pass' put notes.0 notes.2.0 ∙ ap (λ (x : State × Answer). events_by pass ++ (private pass put, x.1) ∷ []) is_put;
+  }
+
+  pub call_put : (slot_of key').call ≡ Some (record { place = after_put (size_of key) (length put_st.slots) (batch ++ v ∷ []); queue = [] })
+  call_put = ap (λ (z : Slot). z.call) slot_put ∙ ap (λ (z : Slot). Some (record { place = after_put (size_of key) (length put_st.slots) (z.batch ++ v ∷ []); queue = [] })) notes.2.1.was

@@ -1,0 +1,125 @@
+-- A slot leaves or refreshes: what swapping its head out makes, and where the call stands then.
+use Rattle.std.proofs.Common.{◌≡◌, ℕ, ◌<◌, ◌≤◌, Bool, true, false, if◌then◌else◌, List, [], ◌∷◌, ◌++◌, length, Some, refl, sym, ap, ◌∙◌, ◌⊎◌, inl, inr}
+use Rattle.std.proofs.lemmas.List.{get_or-set_same, get_or_past}
+use Rattle.std.proofs.lemmas.Bool.{cases_lt}
+use Rattle.seize_machine.specs.Machine.State.{Active, Inactive, Out, Slot, State, head_at, is_active, no_slot, slot_at}
+use Rattle.seize_machine.specs.Machine.Event.{Begin, Event, Return, SwapOut}
+use Rattle.seize_machine.specs.Machine.Next.{leaving_at, of_call}
+use Rattle.seize_machine.specs.declared.machine.event.Answer.{Answer}
+use Rattle.seize_machine.specs.declared.machine.event.Answer.TheVariants.{Done}
+use Rattle.seize_machine.specs.declared.machine.event.Job.{Job}
+use Rattle.seize_machine.proofs.Facts.{Step, some_is, step_of}
+use Rattle.seize_book.specs.Blocks.{block_for, list_word}
+use Rattle.seize_book.specs.Book.{after, mine}
+use Rattle.seize_book.specs.Entry.{Deed, Entry, Made, Used}
+use Rattle.seize_book.specs.Passes.{IsSame, events_by, events_in, mine_of}
+use Rattle.seize_words.specs.Reservations.{WalksOn, beginning, slot}
+use Rattle.seize_book.specs.Slots.{Notes, NotesAs, active_of, number_of, own_list, size_of, slot_of, start_of}
+use Rattle.seize_book.specs.Tokens.{Name, start}
+use Rattle.seize_book.specs.declared.book.pass.Pass.{Pass}
+use Rattle.seize_book.specs.declared.book.slot_key.SlotKey.{SlotKey}
+use Rattle.seize_words.specs.declared.reservation.Head.{Head as Word}
+use Rattle.seize_calls.specs.Calls.{Begins, Leaves, done}
+use Rattle.seize_calls.specs.Walking.{IsAtWalk, WalksAll, steps}
+use Rattle.seize_calls.proofs.Events.{call_returned, keeps_returned, made_returned, same_done}
+use Rattle.seize_calls.proofs.Marks.{within}
+use Rattle.seize_calls.proofs.Strolls.{same_steps}
+
+events_append : (xs ys : List (Entry × Answer)) → events_in (xs ++ ys) ≡ events_in xs ++ events_in ys
+events_append [] ys = refl
+events_append ((Made d, answer) ∷ xs) ys = ap (λ (made : List (Deed × Answer)). (d, answer) ∷ made) (events_append xs ys)
+events_append ((Used u, answer) ∷ xs) ys = events_append xs ys
+
+-- the events made with a pass have grown by this one
+events_deed : (key key' : SlotKey) (pass pass' : Pass) (d : Deed) (notes : NotesAs key pass key' pass' d) → events_by pass' ≡ events_by pass ++ (d, notes.2.0.answer) ∷ []
+events_deed key key' pass pass' d notes =
+    ap (λ (n : Name). events_in (mine (start n) pass'.id pass'.seen)) notes.0.0 ∙ ap (λ (p : ℕ). events_in (mine (start pass.name) p pass'.seen)) notes.0.1
+    ∙ ap events_in notes.2.0.made ∙ events_append (mine_of pass) ((Made d, notes.2.0.answer) ∷ [])
+
+pub same_beginning : (pass pass' : Pass) → IsSame pass pass' → (life : ℕ) (event : Event) → beginning pass' life event ≡ beginning pass life event
+same_beginning pass pass' same life event =
+    ap (λ (p : ℕ). record { pass = p; size = pass'.name.size; event = event; life = life }) same.1 ∙ ap (λ (z : Name). record { pass = pass.id; size = z.size; event = event; life = life }) same.0
+
+-- the machine swaps the head out
+after_swap : (size : ℕ) (st : State) (s : ℕ) (stays : Bool) (queue : List ℕ) (d : State × Answer) → Step size st (SwapOut s) d → (slot_at st s).call ≡ Some (record { place = Out stays; queue = queue }) → is_active (head_at st s) ≡ true
+    → ((slot_at d.0 s).batch ≡ (slot_at st s).batch) × ((slot_at d.0 s).used ≡ (slot_at st s).used) × (is_active (head_at d.0 s) ≡ stays) × (d.1 ≡ Done)
+after_swap size st _ stays queue _ (Step.swapped_out s other q stands) is on =
+    let same = get_or-set_same st.slots s _ no_slot (within st s _ stands) in
+    let its : other ≡ stays = some_is _ _ (ap (of_call leaving_at) (sym stands ∙ is)) in (
+      ap (λ (z : Slot). z.batch) same,
+      ap (λ (z : Slot). z.used) same,
+      ap is_active (get_or-set_same st.heads s (if other then Active [] else Inactive) Inactive (there (cases_lt s (length st.heads)))) ∙ which other ∙ its,
+      refl,
+    )
+  where
+    there : (s < length st.heads) ⊎ (length st.heads ≤ s) → s < length st.heads
+    there (inl less) = less
+    there (inr past) = absurd (let off : false ≡ true = sym (ap is_active (get_or_past st.heads s Inactive past)) ∙ on in cc)
+
+    which : (b : Bool) → is_active (if b then Active [] else Inactive) ≡ b
+    which true = refl
+    which false = refl
+
+module _ (key one two : SlotKey) (pass pass1 pass2 : Pass) (job : Job) (stays : Bool) (life : ℕ) (begins : Begins key pass job one pass1) (on : active_of key ≡ true) (out : (slot_of one).call ≡ Some (record { place = Out stays; queue = [] }))
+    (notes : NotesAs one pass1 two pass2 (beginning pass1 life (SwapOut (number_of one)))) (head : Word) (word : ℕ) (walks : WalksOn head two word []) (own : slot head ≡ number_of key) where
+  abbrev s : ℕ
+  s = number_of key
+
+  abbrev st : State
+  st = after (start_of one) notes.2.0.before
+
+  abbrev d : State × Answer
+  d = (notes.2.0.later, notes.2.0.answer)
+
+  so : ((slot_at d.0 (number_of one)).batch ≡ (slot_at st (number_of one)).batch) × ((slot_at d.0 (number_of one)).used ≡ (slot_at st (number_of one)).used) × (is_active (head_at d.0 (number_of one)) ≡ stays) × (d.1 ≡ Done)
+  so =
+      after_swap (size_of one) st (number_of one) stays [] d (step_of (size_of one) st (SwapOut (number_of one)) d notes.2.1.legal) (ap (λ (z : Slot). z.call) notes.2.1.was ∙ out)
+      (notes.2.1.was_active ∙ begins.keeps.active ∙ on)
+
+  abbrev pub at_walk : IsAtWalk two word
+  at_walk = record {
+    walk = walks.0;
+    queue = [];
+    walking = walks.1;
+    leads = walks.2 ∙ ap (λ (m : ℕ). list_word (λ b. block_for (start_of two) (own_list two) b m) walks.0) (own ∙ sym begins.keeps.its.1 ∙ sym notes.1.1);
+  }
+
+  same_two : IsSame pass pass2
+  same_two = (notes.0.0 ∙ begins.keeps.same.0, notes.0.1 ∙ begins.keeps.same.1)
+
+  its_two : (two.keys.name ≡ key.keys.name) × (number_of two ≡ s)
+  its_two = (notes.1.0 ∙ begins.keeps.its.0, notes.1.1 ∙ begins.keeps.its.1)
+
+  abbrev swap : Deed
+  swap = beginning pass life (SwapOut s)
+
+  made_two : events_by pass2 ≡ (events_by pass ++ done pass (Begin s job)) ++ (swap, Done) ∷ []
+  made_two =
+      events_deed one two pass1 pass2 (beginning pass1 life (SwapOut (number_of one))) notes
+      ∙ ap (λ (log : List (Deed × Answer)). log ++ (beginning pass1 life (SwapOut (number_of one)), notes.2.0.answer) ∷ []) begins.made
+      ∙ ap (λ (a : Answer). (events_by pass ++ done pass (Begin s job)) ++ (beginning pass1 life (SwapOut (number_of one)), a) ∷ []) so.3
+      ∙ ap (λ (x : Deed). (events_by pass ++ done pass (Begin s job)) ++ (x, Done) ∷ []) (same_beginning pass pass1 begins.keeps.same life (SwapOut (number_of one)) ∙ ap (λ (k : ℕ). beginning pass life (SwapOut k)) begins.keeps.its.1)
+
+  module _ (three : SlotKey) (pass3 : Pass) (all : WalksAll at_walk pass2 three pass3) (key' : SlotKey) (pass' : Pass) (last : Notes three pass3 key' pass' (Return (number_of three))) where
+    same_three : IsSame pass pass3
+    same_three = (all.goes_on.0.same.0 ∙ same_two.0, all.goes_on.0.same.1 ∙ same_two.1)
+
+    its_three : (three.keys.name ≡ key.keys.name) × (number_of three ≡ s)
+    its_three = (all.goes_on.0.its.0 ∙ its_two.0, all.goes_on.0.its.1 ∙ its_two.1)
+
+    pub has_left : Leaves job stays swap key pass key' pass'
+    has_left =
+        let keeps = keeps_returned three key' pass3 pass' last in
+        record {
+          same = (keeps.same.0 ∙ same_three.0, keeps.same.1 ∙ same_three.1);
+          its = (keeps.its.0 ∙ its_three.0, keeps.its.1 ∙ its_three.1);
+          call = call_returned three key' pass3 pass' last;
+          batch = keeps.batch ∙ all.goes_on.0.batch ∙ ap (λ (z : Slot). z.batch) notes.2.1.is ∙ so.0 ∙ ap (λ (z : Slot). z.batch) notes.2.1.was ∙ begins.keeps.batch;
+          used = keeps.used ∙ all.goes_on.0.used ∙ ap (λ (z : Slot). z.used) notes.2.1.is ∙ so.1 ∙ ap (λ (z : Slot). z.used) notes.2.1.was ∙ begins.keeps.used;
+          active = keeps.active ∙ all.goes_on.0.active ∙ notes.2.1.is_now_active ∙ so.2;
+          walked = all.walked;
+          made = made_returned three key' pass3 pass' last ∙ ap (λ (log : List (Deed × Answer)). log ++ done pass3 (Return (number_of three))) (all.made ∙ ap (λ (log : List (Deed × Answer)). log ++ steps pass2 (number_of two) all.walked) made_two)
+              ∙ ap (λ (log : List (Deed × Answer)). (((events_by pass ++ done pass (Begin s job)) ++ (swap, Done) ∷ []) ++ log) ++ done pass3 (Return (number_of three)))
+              (same_steps pass pass2 same_two (number_of two) all.walked ∙ ap (λ (k : ℕ). steps pass k all.walked) its_two.1)
+              ∙ ap (λ (log : List (Deed × Answer)). (((events_by pass ++ done pass (Begin s job)) ++ (swap, Done) ∷ []) ++ steps pass s all.walked) ++ log) (same_done pass pass3 same_three Return s (number_of three) its_three.1);
+        }

@@ -1,0 +1,12 @@
+pub mod Attempts
+pub mod Events
+pub mod Inserts
+pub mod Keeps
+pub mod Leaving
+pub mod Marks
+pub mod Settled
+pub mod Strolls
+pub mod Tries
+pub mod Turns
+pub mod Walks
+pub mod Whole

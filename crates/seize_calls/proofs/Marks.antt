@@ -1,0 +1,390 @@
+-- What is known while a call marks, and what one more head read adds to it.
+use Rattle.std.proofs.Common.{◌≡◌, ◌≢◌, ℕ, suc, zero, ◌+◌, ◌^◌, ◌<◌, ◌≤◌, Bool, true, false, if◌then◌else◌, nat_le, nat_lt, List, [], ◌∷◌, ◌++◌, length, get_or, set, take, Option, Some, refl, sym, ap, subst, ◌∙◌, append_assoc, append-nil, unwrap_or, ◌⊎◌, inl, inr, arith}
+use Rattle.std.proofs.lemmas.List.{get_or-set_same, get_or_past, length_push, map-append, take_more_set}
+use Rattle.std.proofs.lemmas.Bool.{cases_lt}
+use base.Growing.{prefix_trans}
+use mathlib.Core.List.{IsPrefix}
+use Rattle.seize_machine.specs.Machine.State.{State, Slot, Call, Head, Inactive, Active, Place, Mark, Look, Rest, no_slot, slot_at, head_at, is_active, are_distinct, linked}
+use Rattle.seize_machine.specs.Machine.Event.{ReadHead}
+use Rattle.seize_machine.specs.Machine.Next.{can_detach_at, in_turn, marked_place, of_call}
+use Rattle.seize_machine.specs.declared.machine.event.Answer.{Answer}
+use Rattle.seize_machine.specs.declared.machine.event.Answer.TheVariants.{Head as HeadRead}
+use Rattle.seize_machine.proofs.Facts.{Step, Stands, some_is, step_of}
+use Rattle.seize_book.specs.Adding.{private}
+use Rattle.seize_book.specs.Blocks.{block_for, word_of}
+use Rattle.seize_book.specs.Book.{IsLegalList, after}
+use Rattle.seize_book.specs.Entry.{Deed}
+use Rattle.seize_words.specs.Heads.{reads_at}
+use Rattle.seize_book.specs.Passes.{IsSame, LooksOn, events_by, events_in}
+use Rattle.seize_words.specs.Reservations.{MayRead, Shows, slot}
+use Rattle.seize_book.specs.Slots.{IsOf, Notes, active_of, life_of, number_of, own_list, size_of, slot_of, start_of}
+use Rattle.seize_book.specs.Tokens.{Name, start}
+use Rattle.seize_words.specs.Totals.{slots_seen}
+use Rattle.seize_words.specs.Walks.{Knows}
+use Rattle.seize_book.specs.declared.book.pass.Pass.{Pass}
+use Rattle.seize_book.specs.declared.book.slot_key.SlotKey.{SlotKey}
+use Rattle.seize_words.specs.declared.reservation.Head.{Head as Word}
+use Rattle.seize_words.proofs.Facts.{events_grew, knows_noted, life_kept, more_slots, note_seen, seen_grows}
+use Rattle.seize_calls.specs.Entries.{AreOf, slots_of}
+use Rattle.seize_calls.specs.Marks.{BeginsToMark, Ends, actives, reading, readings}
+use Rattle.seize_calls.specs.declared.entry.Entry.{Entry}
+use Rattle.seize_calls.specs.declared.marking.Marked.{Marked}
+use Rattle.seize_calls.specs.declared.marking.Marked.TheVariants.{Ready, TooMany}
+
+-- Lists of what was found.
+
+pub readings_push : (pass : Pass) (s n : ℕ) (finds : List Bool) (found : Bool) → readings pass s n (finds ++ found ∷ []) ≡ readings pass s n finds ++ reading pass s (n + length finds) found ∷ []
+readings_push pass s n [] found = ap (λ (k : ℕ). reading pass s k found ∷ []) (let same : n ≡ n + 0 = omega arith in same)
+readings_push pass s n (first ∷ finds) found =
+    ap (λ (made : List (Deed × Answer)). reading pass s n first ∷ made)
+    (readings_push pass s (suc n) finds found ∙ ap (λ (k : ℕ). readings pass s (suc n) finds ++ reading pass s k found ∷ []) (let same : suc n + length finds ≡ n + suc (length finds) = omega arith in same))
+
+pub actives_on : (n : ℕ) (finds : List Bool) → actives n (finds ++ true ∷ []) ≡ actives n finds ++ (n + length finds) ∷ []
+actives_on n [] = ap (λ (k : ℕ). k ∷ []) (let same : n ≡ n + 0 = omega arith in same)
+actives_on n (true ∷ finds) =
+    ap (λ (ms : List ℕ). n ∷ ms) (actives_on (suc n) finds ∙ ap (λ (k : ℕ). actives (suc n) finds ++ k ∷ []) (let same : suc n + length finds ≡ n + suc (length finds) = omega arith in same))
+actives_on n (false ∷ finds) = actives_on (suc n) finds ∙ ap (λ (k : ℕ). actives (suc n) finds ++ k ∷ []) (let same : suc n + length finds ≡ n + suc (length finds) = omega arith in same)
+
+pub actives_off : (n : ℕ) (finds : List Bool) → actives n (finds ++ false ∷ []) ≡ actives n finds
+actives_off n [] = refl
+actives_off n (true ∷ finds) = ap (λ (ms : List ℕ). n ∷ ms) (actives_off (suc n) finds)
+actives_off n (false ∷ finds) = actives_off (suc n) finds
+
+-- An entry is marked: it is the entry of the same value.
+
+pub entries_many : (entries : List Entry) (values : List ℕ) → AreOf entries values → length entries ≡ length values
+entries_many [] [] are = refl
+entries_many [] (v ∷ values) are = absurd are
+entries_many (entry ∷ entries) [] are = absurd are
+entries_many (entry ∷ entries) (v ∷ values) are = ap suc (entries_many entries values are.1)
+
+pub still_of : (entries : List Entry) (values : List ℕ) (i : ℕ) (new d : Entry) → AreOf entries values → new.block ≡ (get_or entries i d).block → AreOf (set entries i new) values
+still_of [] values i new d are same = are
+still_of (entry ∷ entries) [] i new d are same = absurd are
+still_of (entry ∷ entries) (v ∷ values) zero new d are same = ((same ∙ are.0.0, subst (λ (k : ℕ). k + 2 < 2 ^ 64) (sym same) are.0.1), are.1)
+still_of (entry ∷ entries) (v ∷ values) (suc i) new d are same = (are.0, still_of entries values i new d are.1 same)
+
+pub marks_more : (entries : List Entry) (i n : ℕ) (new : Entry) → i < length entries → new.slot ≡ n → slots_of (take (i + 1) (set entries i new)) ≡ slots_of (take i entries) ++ n ∷ []
+marks_more entries i n new less is =
+    ap slots_of (take_more_set entries i new less) ∙ map-append (λ (entry : Entry). entry.slot) (take i entries) (new ∷ []) ∙ ap (λ (k : ℕ). slots_of (take i entries) ++ k ∷ []) is
+
+-- so many heads were read, and so many slots marked
+pub record IsReading {key : SlotKey} (at : BeginsToMark key) (end : ℕ) (pass : Pass) (count marked : ℕ) (key' : SlotKey) (pass' : Pass) (entries' : List Entry) : Type 0 where
+  pub same : IsSame pass pass'
+  pub its : (key'.keys.name ≡ key.keys.name) × (number_of key' ≡ number_of key)
+  pub knows : Knows key' pass'
+  pub there : end ≤ slots_seen pass'
+  pub batch : (slot_of key').batch ≡ (slot_of key).batch
+  pub used : (slot_of key').used ≡ (slot_of key).used
+  pub active : active_of key' ≡ active_of key
+  pub life : life_of key' ≡ life_of key
+  pub finds : List Bool
+  pub read : length finds ≡ count
+  pub many : length (actives 0 finds) ≡ marked
+  pub few : marked ≤ length (slot_of key).batch
+  pub stands : (slot_of key').call ≡ Some (record { place = Mark count at.note (actives 0 finds); queue = at.queue })
+  pub made : events_by pass' ≡ events_by pass ++ readings pass (number_of key) 0 finds
+  pub entries : AreOf entries' (slot_of key).batch
+  pub slots : slots_of (take marked entries') ≡ actives 0 finds
+
+-- none was read
+abbrev pub none_read : (key : SlotKey) (at : BeginsToMark key) (end : ℕ) (pass : Pass) (entries : List Entry) → Knows key pass → end ≤ slots_seen pass → AreOf entries (slot_of key).batch
+    → IsReading at end pass 0 0 key pass entries
+none_read key at end pass entries knows there are = record {
+  same = (refl, refl);
+  its = (refl, refl);
+  knows = knows;
+  there = there;
+  batch = refl;
+  used = refl;
+  active = refl;
+  life = refl;
+  finds = [];
+  read = refl;
+  many = refl;
+  few = omega arith;
+  stands = at.marking;
+  made = sym (append-nil (events_by pass));
+  entries = are;
+  slots = refl;
+}
+
+-- a slot with a call is there
+pub within : (st : State) (s : ℕ) (call : Call) → (slot_at st s).call ≡ Some call → s < length st.slots
+within st s call is = go (cases_lt s (length st.slots))
+  where
+    go : (s < length st.slots) ⊎ (length st.slots ≤ s) → s < length st.slots
+    go (inl less) = less
+    go (inr past) = absurd (let none : Option.None ≡ Some call = sym (ap (λ (z : Slot). z.call) (get_or_past st.slots s no_slot past)) ∙ is in cc)
+
+-- where a call goes on that marks
+abbrev goes : Bool → ℕ → List ℕ → Call → Call
+goes active n batch call = record { place = on call.place; queue = call.queue }
+  where
+    on : Place → Place
+    on (Mark next note marks) = marked_place active n note marks batch
+    on place = place
+
+-- the machine reads a head for a call that marks
+after_read : (size : ℕ) (st : State) (s n : ℕ) (d : State × Answer) (next note : ℕ) (marks queue : List ℕ) → Step size st (ReadHead s n) d → Stands st s (Mark next note marks) queue
+    → Stands d.0 s (marked_place (is_active (head_at st n)) n note marks (slot_at st s).batch) queue × ((slot_at d.0 s).batch ≡ (slot_at st s).batch) × ((slot_at d.0 s).used ≡ (slot_at st s).used)
+    × (d.0.heads ≡ st.heads) × (d.1 ≡ HeadRead (is_active (head_at st n)))
+after_read size st _ _ _ next note marks queue (Step.marked s n _ _ _ _ e r at) is =
+    let same = get_or-set_same st.slots s _ no_slot (within st s _ is) in (
+      ap (λ (z : Slot). z.call) same ∙ ap (λ (c : Call). Some (goes (is_active (head_at st n)) n (slot_at st s).batch c)) (some_is _ _ (sym e ∙ is)),
+      ap (λ (z : Slot). z.batch) same,
+      ap (λ (z : Slot). z.used) same,
+      refl,
+      refl,
+    )
+after_read size st _ _ _ next note marks queue (Step.looked_at s b won m later others e) is =
+    absurd (let other : Look b won m later ≡ Mark next note marks = ap (λ (c : Call). c.place) (some_is _ _ (sym e ∙ is)) in cc)
+
+-- a head is inactive where its word is 0
+pub word_none : (block : ℕ → ℕ) (h : Head) → word_of block h ≡ 0 → is_active h ≡ false
+word_none block Inactive e = refl
+word_none block (Active []) e = absurd (omega (arith, e))
+word_none block (Active (b ∷ waiting)) e = absurd (omega (arith, e))
+
+pub word_some : (block : ℕ → ℕ) (h : Head) → word_of block h ≢ 0 → is_active h ≡ true
+word_some block Inactive n = absurd (n refl)
+word_some block (Active waiting) n = refl
+
+-- The next head is read.
+module _ (key0 : SlotKey) (at : BeginsToMark key0) (end : ℕ) (pass0 : Pass) (i k : ℕ) (key : SlotKey) (pass : Pass) (entries : List Entry) (r : IsReading at end pass0 i k key pass entries) (head : Word)
+    (head_is : (head.word.name ≡ pass0.name) × (slot head ≡ i)) (less : i < end) (book : IsOf key0 pass0) where
+  is_head : head.word.name ≡ pass.name
+  is_head = head_is.0 ∙ sym r.same.0
+
+  pub may_read : IsOf key pass × (head.word.name ≡ pass.name)
+  may_read = (r.its.0 ∙ book ∙ sym r.same.0, is_head)
+
+  pub reads_next : MayRead key head pass
+  reads_next = (
+    ap (λ (o : Option Call). unwrap_or (of_call (reads_at (slot head)) o) false) r.stands ∙ ap (in_turn i at.note) head_is.1 ∙ in_turn_now i at.note,
+    subst (λ (n : Name). slot head < length (after (start n) pass.seen).slots) (sym is_head) (subst (λ (m : ℕ). m < slots_seen pass) (sym head_is.1) (omega (arith, less, r.there))),
+  )
+    where
+      in_turn_now : (i note : ℕ) → in_turn i note i ≡ true
+      in_turn_now i note = grind arith
+
+  module _ (key' : SlotKey) (pass' : Pass) (v : ℕ) (noted : Notes key pass key' pass' (ReadHead (number_of key) (slot head))) (shows : Shows head pass'.seen v) where
+    abbrev st : State
+    st = after (start_of key) noted.2.0.before
+
+    abbrev batch : List ℕ
+    batch = (slot_of key0).batch
+
+    abbrev d : State × Answer
+    d = (noted.2.0.later, noted.2.0.answer)
+
+    read : Stands d.0 (number_of key) (marked_place (is_active (head_at st (slot head))) (slot head) at.note (actives 0 r.finds) (slot_at st (number_of key)).batch) at.queue
+        × ((slot_at d.0 (number_of key)).batch ≡ (slot_at st (number_of key)).batch) × ((slot_at d.0 (number_of key)).used ≡ (slot_at st (number_of key)).used)
+        × (d.0.heads ≡ st.heads) × (d.1 ≡ HeadRead (is_active (head_at st (slot head))))
+    read =
+        after_read (size_of key) st (number_of key) (slot head) d i at.note (actives 0 r.finds) at.queue (step_of (size_of key) st (ReadHead (number_of key) (slot head)) d noted.2.1.legal) (ap (λ (z : Slot). z.call) noted.2.1.was ∙ r.stands)
+
+    -- what the word showed is what the machine read
+    abbrev block : ℕ → ℕ
+    block b = block_for (start head.word.name) pass'.seen b (slot head)
+
+    word : v ≡ word_of block (head_at st (slot head))
+    word = shows ∙ ap (word_of block) (ap (λ (n : Name). head_at (after (start n) pass'.seen) (slot head)) is_head ∙ ap (λ (now : State). head_at now (slot head)) noted.2.0.leads ∙ ap (λ (hs : List Head). get_or hs (slot head) Inactive) read.3)
+
+    pub same_batch : (slot_of key').batch ≡ batch
+    same_batch = ap (λ (z : Slot). z.batch) noted.2.1.is ∙ read.1 ∙ ap (λ (z : Slot). z.batch) noted.2.1.was ∙ r.batch
+
+    pub same_used : (slot_of key').used ≡ (slot_of key0).used
+    same_used = ap (λ (z : Slot). z.used) noted.2.1.is ∙ read.2 ∙ ap (λ (z : Slot). z.used) noted.2.1.was ∙ r.used
+
+    pub same_active : active_of key' ≡ active_of key0
+    same_active = noted.2.1.is_now_active ∙ ap (λ (hs : List Head). is_active (get_or hs (number_of key) Inactive)) read.3 ∙ noted.2.1.was_active ∙ r.active
+
+    pub same_life : life_of key' ≡ life_of key0
+    same_life = life_kept key key' pass pass' (private pass (ReadHead (number_of key) (slot head))) noted refl ∙ r.life
+
+    goes_on : (active : Bool) → is_active (head_at st (slot head)) ≡ active → (slot_of key').call ≡ Some (record { place = marked_place active i at.note (actives 0 r.finds) batch; queue = at.queue })
+    goes_on active e =
+        ap (λ (z : Slot). z.call) noted.2.1.is ∙ read.0
+        ∙ ap (λ (b : Bool). Some (record { place = marked_place b (slot head) at.note (actives 0 r.finds) (slot_at st (number_of key)).batch; queue = at.queue })) e
+        ∙ ap (λ (m : ℕ). Some (record { place = marked_place active m at.note (actives 0 r.finds) (slot_at st (number_of key)).batch; queue = at.queue })) head_is.1
+        ∙ ap (λ (vs : List ℕ). Some (record { place = marked_place active i at.note (actives 0 r.finds) vs; queue = at.queue })) (ap (λ (z : Slot). z.batch) noted.2.1.was ∙ r.batch)
+
+    pub same : IsSame pass0 pass'
+    same = (noted.0.0 ∙ r.same.0, noted.0.1 ∙ r.same.1)
+
+    pub same_key : (key'.keys.name ≡ key0.keys.name) × (number_of key' ≡ number_of key0)
+    same_key = (noted.1.0 ∙ r.its.0, noted.1.1 ∙ r.its.1)
+
+    pub knows : Knows key' pass'
+    knows = knows_noted key key' pass pass' (private pass (ReadHead (number_of key) (slot head))) noted
+
+    pub there : end ≤ slots_seen pass'
+    there =
+        let n = pass.name in
+        subst (λ (z : Name). end ≤ length (after (start z) pass'.seen).slots) (sym noted.0.0)
+        (omega (arith, r.there, more_slots n pass.seen pass'.seen (seen_grows n pass.id pass.seen pass'.seen _ noted.2.0) noted.2.0.legal))
+
+    made : (active : Bool) → is_active (head_at st (slot head)) ≡ active → events_by pass' ≡ events_by pass0 ++ readings pass0 (number_of key0) 0 (r.finds ++ active ∷ [])
+    made active e =
+        let event = ReadHead (number_of key) (slot head) in let before = events_by pass0 in let s0 = number_of key0 in
+        events_grew pass pass' event noted.0 noted.2.0
+        ∙ ap (λ (log : List (Deed × Answer)). log ++ (private pass event, noted.2.0.answer) ∷ []) r.made
+        ∙ append_assoc before (readings pass0 s0 0 r.finds) ((private pass event, noted.2.0.answer) ∷ [])
+        ∙ ap (λ (x : Deed × Answer). before ++ (readings pass0 s0 0 r.finds ++ x ∷ [])) is
+        ∙ ap (λ (log : List (Deed × Answer)). before ++ log) (sym (readings_push pass0 s0 0 r.finds active))
+      where
+        is : (private pass (ReadHead (number_of key) (slot head)), noted.2.0.answer) ≡ reading pass0 (number_of key0) (0 + length r.finds) active
+        is = ap (λ (p : ℕ). (record { pass = p; size = pass.name.size; event = ReadHead (number_of key) (slot head); life = 0 }, noted.2.0.answer)) r.same.1
+            ∙ ap (λ (n : Name). (record { pass = pass0.id; size = n.size; event = ReadHead (number_of key) (slot head); life = 0 }, noted.2.0.answer)) r.same.0
+            ∙ ap (λ (s : ℕ). (private pass0 (ReadHead s (slot head)), noted.2.0.answer)) r.its.1
+            ∙ ap (λ (m : ℕ). (private pass0 (ReadHead (number_of key0) m), noted.2.0.answer)) (head_is.1 ∙ sym r.read ∙ zero_plus (length r.finds))
+            ∙ ap (λ (a : Answer). (private pass0 (ReadHead (number_of key0) (0 + length r.finds)), a)) (read.4 ∙ ap HeadRead e)
+          where
+            zero_plus : (n : ℕ) → n ≡ 0 + n
+            zero_plus n = omega arith
+
+    long : (found : Bool) → length (r.finds ++ found ∷ []) ≡ i + 1
+    long found = omega (arith, length_push r.finds found, r.read)
+
+    -- an inactive slot is passed over
+    pub passed_over : v ≡ 0 → IsReading at end pass0 (i + 1) k key' pass' entries
+    passed_over none =
+        let off = word_none block (head_at st (slot head)) (sym word ∙ none) in let marks = actives_off 0 r.finds in
+        record {
+          same = same;
+          its = same_key;
+          knows = knows;
+          there = there;
+          batch = same_batch;
+          used = same_used;
+          active = same_active;
+          life = same_life;
+          finds = r.finds ++ false ∷ [];
+          read = long false;
+          many = ap (λ (ms : List ℕ). length ms) marks ∙ r.many;
+          few = r.few;
+          stands = goes_on false off ∙ ap (λ (ms : List ℕ). Some (record { place = Mark (i + 1) at.note ms; queue = at.queue })) (sym marks);
+          made = made false off;
+          entries = r.entries;
+          slots = r.slots ∙ sym marks;
+        }
+
+    is_on : v ≢ 0 → is_active (head_at st (slot head)) ≡ true
+    is_on some = word_some block (head_at st (slot head)) (λ e. some (word ∙ e))
+
+    abbrev after_test : Bool → Option Call
+    after_test short = Some (record { place = if short then Mark (i + 1) at.note (actives 0 r.finds ++ i ∷ []) else Rest [] []; queue = at.queue })
+
+    one_on : actives 0 (r.finds ++ true ∷ []) ≡ actives 0 r.finds ++ i ∷ []
+    one_on = actives_on 0 r.finds ∙ ap (λ (k : ℕ). actives 0 r.finds ++ k ∷ []) (let same : 0 + length r.finds ≡ i = omega (arith, r.read) in same)
+
+    -- an active one is marked while there is a value for it
+    pub one_marked : v ≢ 0 → k < length entries → (new d : Entry) → new.slot ≡ i → new.block ≡ (get_or entries k d).block → IsReading at end pass0 (i + 1) (k + 1) key' pass' (set entries k new)
+    one_marked some room new d its_slot its_block =
+        let same_many = entries_many entries batch r.entries in
+        record {
+          same = same;
+          its = same_key;
+          knows = knows;
+          there = there;
+          batch = same_batch;
+          used = same_used;
+          active = same_active;
+          life = same_life;
+          finds = r.finds ++ true ∷ [];
+          read = long true;
+          many = ap (λ (ms : List ℕ). length ms) one_on ∙ length_push (actives 0 r.finds) i ∙ ap (λ (n : ℕ). n + 1) r.many;
+          few = short;
+          stands = goes_on true (is_on some) ∙ ap after_test (is_short (length (actives 0 r.finds)) (length batch) (omega (arith, r.many, short)))
+              ∙ ap (λ (ms : List ℕ). Some (record { place = Mark (i + 1) at.note ms; queue = at.queue })) (sym one_on);
+          made = made true (is_on some);
+          entries = still_of entries batch k new d r.entries its_block;
+          slots = marks_more entries k i new (omega (arith, short, same_many)) its_slot ∙ ap (λ (ms : List ℕ). ms ++ i ∷ []) r.slots ∙ sym one_on;
+        }
+      where
+        short : k + 1 ≤ length batch
+        short = let same_many = entries_many entries batch r.entries in omega (arith, room, same_many)
+
+        is_short : (a b : ℕ) → a < b → nat_lt a b ≡ true
+        is_short a b l = grind arith
+
+    -- and else the call gives up
+    pub stops : v ≢ 0 → length entries ≤ k → (others : List Entry) → Ends at pass0 key' pass' others TooMany
+    stops some full others =
+        let same_many = entries_many entries batch r.entries in
+        record {
+          finds = r.finds ++ true ∷ [];
+          within = omega (arith, less, there, long true);
+          made = made true (is_on some);
+          batch = same_batch;
+          used = same_used;
+          active = same_active;
+          life = same_life;
+          stands = (
+            goes_on true (is_on some) ∙ ap after_test (not_short (length (actives 0 r.finds)) (length batch) (omega (arith, r.many, r.few, full, same_many))),
+            ap (λ (ms : List ℕ). length ms) one_on ∙ length_push (actives 0 r.finds) i ∙ (let more : length (actives 0 r.finds) + 1 ≡ suc (length batch) = omega (arith, r.many, r.few, full, same_many) in more),
+          );
+        }
+      where
+        not_short : (a b : ℕ) → a ≡ b → nat_lt a b ≡ false
+        not_short a b e = grind arith
+
+-- All heads were read.
+pub all_read : {key0 : SlotKey} (at : BeginsToMark key0) (end : ℕ) (pass0 : Pass) (i k : ℕ) (key : SlotKey) (pass : Pass) (entries : List Entry) → IsReading at end pass0 i k key pass entries → i ≡ end → at.note ≤ end
+    → Ends at pass0 key pass entries (Ready k)
+all_read {key0} at end pass0 i k key pass entries r all le = record {
+  finds = r.finds;
+  within = let there = r.there in let read = r.read in omega (arith, all, there, read);
+  made = r.made;
+  batch = r.batch;
+  used = r.used;
+  active = r.active;
+  life = r.life;
+  stands = (
+    ap (λ (o : Option Call). unwrap_or (of_call can_detach_at o) false) r.stands ∙ is_le at.note i (omega (arith, all, le)),
+    r.stands ∙ ap (λ (n : ℕ). Some (record { place = Mark n at.note (actives 0 r.finds); queue = at.queue })) (sym r.read),
+    (let same_many = entries_many entries (slot_of key0).batch r.entries in let few = r.few in omega (arith, few, same_many)),
+    r.slots,
+  );
+}
+  where
+    is_le : (a b : ℕ) → a ≤ b → nat_le a b ≡ true
+    is_le a b l = grind arith
+
+-- The same is so from before a look on.
+pub ends_before : {key0 : SlotKey} (at : BeginsToMark key0) (pass0 pass1 : Pass) (key : SlotKey) (pass : Pass) (entries : List Entry) (ends : Marked) → LooksOn pass0 pass1 → Ends at pass1 key pass entries ends → Ends at pass0 key pass entries ends
+ends_before {key0} at pass0 pass1 key pass entries ends looks e =
+    record {
+      finds = e.finds;
+      within = e.within;
+      made = e.made ∙ ap (λ (log : List (Deed × Answer)). log ++ readings pass1 (number_of key0) 0 e.finds) (ap events_in looks.none_made)
+          ∙ ap (λ (log : List (Deed × Answer)). events_by pass0 ++ log) (same_readings (number_of key0) 0 e.finds);
+      batch = e.batch;
+      used = e.used;
+      active = e.active;
+      life = e.life;
+      stands = e.stands;
+    }
+  where
+    same_readings : (s n : ℕ) (finds : List Bool) → readings pass1 s n finds ≡ readings pass0 s n finds
+    same_readings s n [] = refl
+    same_readings s n (found ∷ finds) =
+        ap (λ (log : List (Deed × Answer)). reading pass1 s n found ∷ log) (same_readings s (suc n) finds)
+        ∙ ap (λ (p : ℕ). (record { pass = p; size = pass1.name.size; event = ReadHead s n; life = 0 }, HeadRead found) ∷ readings pass0 s (suc n) finds) looks.same.1
+        ∙ ap (λ (z : Name). (record { pass = pass0.id; size = z.size; event = ReadHead s n; life = 0 }, HeadRead found) ∷ readings pass0 s (suc n) finds) looks.same.0
+
+-- A pass that has looked knows of no fewer slots than the slot's call has to read.
+pub note_seen_then : (key : SlotKey) (at : BeginsToMark key) (pass pass' : Pass) → IsOf key pass → IsPrefix (own_list key) pass.seen → LooksOn pass pass' → at.note ≤ slots_seen pass'
+note_seen_then key at pass pass' book knows looks =
+    let here = sym looks.same.0 in
+    note_seen key pass' 0 at.note [] at.queue (book ∙ here) (prefix_trans (own_list key) pass.seen pass'.seen knows looks.grows) (subst (λ (n : Name). IsLegalList (start n) pass'.seen) here looks.legal)
+    (subst (λ (n : Name). are_distinct (linked n.links) ≡ true) here looks.distinct) at.marking
+
+-- and has seen what the slot's key knows
+pub knows_looked : (key : SlotKey) (pass pass' : Pass) → IsPrefix (own_list key) pass.seen → LooksOn pass pass' → Knows key pass'
+knows_looked key pass pass' knows looks = record {
+  seen = prefix_trans (own_list key) pass.seen pass'.seen knows looks.grows;
+  legal = subst (λ (n : Name). IsLegalList (start n) pass'.seen) (sym looks.same.0) looks.legal;
+  distinct = subst (λ (n : Name). are_distinct (linked n.links) ≡ true) (sym looks.same.0) looks.distinct;
+}

@@ -1,0 +1,162 @@
+-- A whole walk, with what is handed in it.
+use Rattle.std.proofs.Common.{◌≡◌, ℕ, suc, ◌+◌, ◌<◌, ℤ, List, [], ◌∷◌, ◌++◌, length, map, Option, Some, refl, sym, ap, subst, ◌∙◌, append_assoc, append-nil, arith}
+use Rattle.std.specs.List.{Contains}
+use Rattle.std.proofs.lemmas.List.{length_push, length-append}
+use base.Growing.{prefix_trans}
+use Rattle.seize_machine.specs.Machine.State.{Call, Rest}
+use Rattle.seize_machine.specs.Machine.Event.{Hand, SubCount}
+use Rattle.seize_machine.specs.Machine.Laws.{walk_of}
+use Rattle.seize_machine.specs.declared.machine.event.Answer.{Answer}
+use Rattle.seize_machine.specs.declared.machine.event.Answer.TheVariants.{Count as Counted, Handed}
+use Rattle.seize_book.specs.Adding.{private}
+use Rattle.seize_book.specs.Entry.{Deed}
+use Rattle.seize_book.specs.Passes.{IsSame, events_by}
+use Rattle.seize_book.specs.Slots.{IsOf, number_of, own_list, slot_of}
+use Rattle.seize_book.specs.Values.{values_of}
+use Rattle.seize_words.specs.Walks.{Knows}
+use Rattle.seize_book.specs.declared.book.pass.Pass.{Pass}
+use Rattle.seize_book.specs.declared.book.slot_key.SlotKey.{SlotKey}
+use Rattle.seize_book.specs.declared.book.value_keys.ValueKeys.{ValueKeys}
+use Rattle.seize_words.proofs.Facts.{word_stays}
+use Rattle.seize_calls.specs.Walking.{Ends, GoesOn, HandsAll, IsAtWalk, IsGiven, Stops, WalksAll, WalksTo, counting, countings, hands, steps}
+use Rattle.seize_calls.specs.declared.walking.Walked.TheVariants.{GivesUp, Over}
+use Rattle.seize_calls.proofs.Keeps.{keeps_twice, same_private}
+
+pub goes_twice : (key one two : SlotKey) (pass pass1 pass2 : Pass) → GoesOn key pass one pass1 → GoesOn one pass1 two pass2 → GoesOn key pass two pass2
+goes_twice key one two pass pass1 pass2 first second = (keeps_twice key one two pass pass1 pass2 first.0 second.0, prefix_trans (own_list key) (own_list one) (own_list two) first.1 second.1)
+
+-- The events of a walk are the same with a pass as it was before.
+
+same_counting : (pass pass' : Pass) → IsSame pass pass' → (s : ℕ) (count : ℤ) → counting pass' s count ≡ counting pass s count
+same_counting pass pass' same s count = ap (λ (d : Deed). (d, Counted count)) (same_private pass pass' same (SubCount s))
+
+pub same_countings : (pass pass' : Pass) → IsSame pass pass' → (s : ℕ) (counts : List ℤ) → countings pass' s counts ≡ countings pass s counts
+same_countings pass pass' same s [] = refl
+same_countings pass pass' same s (count ∷ counts) =
+    ap (λ (x : Deed × Answer). x ∷ countings pass' s counts) (same_counting pass pass' same s count) ∙ ap (λ (log : List (Deed × Answer)). counting pass s count ∷ log) (same_countings pass pass' same s counts)
+
+pub same_hands : (pass pass' : Pass) → IsSame pass pass' → (s : ℕ) (values : List ℕ) → hands pass' s values ≡ hands pass s values
+same_hands pass pass' same s [] = refl
+same_hands pass pass' same s (v ∷ values) =
+    ap (λ (d : Deed). (d, Handed v) ∷ hands pass' s values) (same_private pass pass' same (Hand s [])) ∙ ap (λ (log : List (Deed × Answer)). (private pass (Hand s []), Handed v) ∷ log) (same_hands pass pass' same s values)
+
+pub same_steps : (pass pass' : Pass) → IsSame pass pass' → (s : ℕ) (walked : List (ℤ × List ℕ)) → steps pass' s walked ≡ steps pass s walked
+same_steps pass pass' same s [] = refl
+same_steps pass pass' same s (step ∷ walked) =
+    ap (λ (x : Deed × Answer). (x ∷ hands pass' s step.1) ++ steps pass' s walked) (same_counting pass pass' same s step.0)
+    ∙ ap (λ (log : List (Deed × Answer)). (counting pass s step.0 ∷ log) ++ steps pass' s walked) (same_hands pass pass' same s step.1)
+    ∙ ap (λ (log : List (Deed × Answer)). (counting pass s step.0 ∷ hands pass s step.1) ++ log) (same_steps pass pass' same s walked)
+
+-- Counts without values, and one with them.
+
+abbrev plain : List ℤ → List (ℤ × List ℕ)
+plain counts = map (λ (count : ℤ). (count, [])) counts
+
+steps_append : (pass : Pass) (s : ℕ) (one two : List (ℤ × List ℕ)) → steps pass s (one ++ two) ≡ steps pass s one ++ steps pass s two
+steps_append pass s [] two = refl
+steps_append pass s (step ∷ one) two =
+    ap (λ (log : List (Deed × Answer)). (counting pass s step.0 ∷ hands pass s step.1) ++ log) (steps_append pass s one two)
+    ∙ sym (append_assoc (counting pass s step.0 ∷ hands pass s step.1) (steps pass s one) (steps pass s two))
+
+plain_steps : (pass : Pass) (s : ℕ) (counts : List ℤ) → steps pass s (plain counts) ≡ countings pass s counts
+plain_steps pass s [] = refl
+plain_steps pass s (count ∷ counts) = ap (λ (log : List (Deed × Answer)). counting pass s count ∷ log) (plain_steps pass s counts)
+
+plain_many : (counts : List ℤ) → length (plain counts) ≡ length counts
+plain_many [] = refl
+plain_many (count ∷ counts) = ap suc (plain_many counts)
+
+last_step : (pass : Pass) (s : ℕ) (counts : List ℤ) (zero : ℤ) (values : List ℕ) → countings pass s (counts ++ zero ∷ []) ++ hands pass s values ≡ steps pass s (plain counts ++ (zero, values) ∷ [])
+last_step pass s [] zero values = ap (λ (log : List (Deed × Answer)). counting pass s zero ∷ log) (sym (append-nil (hands pass s values)))
+last_step pass s (count ∷ counts) zero values = ap (λ (log : List (Deed × Answer)). counting pass s count ∷ log) (last_step pass s counts zero values)
+
+-- some of the walk is behind
+pub record IsStrolling {key : SlotKey} {word : ℕ} (at : IsAtWalk key word) (pass : Pass) (key' : SlotKey) (pass' : Pass) (leads' : ℕ) : Type 0 where
+  pub goes_on : GoesOn key pass key' pass'
+  pub walked : List (ℤ × List ℕ)
+  pub made : events_by pass' ≡ events_by pass ++ steps pass (number_of key) walked
+  pub here : IsAtWalk key' leads'
+  pub each : length walked + length here.walk ≡ length at.walk
+  pub same_queue : here.queue ≡ at.queue
+
+abbrev pub none_strolled : (key : SlotKey) (word : ℕ) (at : IsAtWalk key word) (pass : Pass) → IsStrolling at pass key pass word
+none_strolled key word at pass = record {
+  goes_on = (record { same = (refl, refl); its = (refl, refl); batch = refl; used = refl; active = refl; life = refl; seen = omega arith }, ([], append-nil (own_list key)));
+  walked = [];
+  made = sym (append-nil (events_by pass));
+  here = at;
+  each = omega arith;
+  same_queue = refl;
+}
+
+module _ (key0 : SlotKey) (word : ℕ) (at : IsAtWalk key0 word) (pass0 : Pass) (key : SlotKey) (pass : Pass) (leads : ℕ) (r : IsStrolling at pass0 key pass leads) (key1 : SlotKey) (pass1 : Pass) (values : ValueKeys) where
+  abbrev s : ℕ
+  s = number_of key0
+
+  abbrev behind : List (Deed × Answer)
+  behind = steps pass0 s r.walked
+
+  goes : (counts : List ℤ) → IsSame pass0 pass → number_of key ≡ s → countings pass (number_of key) counts ≡ countings pass0 s counts
+  goes counts same its = same_countings pass0 pass same (number_of key) counts ∙ ap (λ (k : ℕ). countings pass0 k counts) its
+
+  -- the walk is over
+  pub strolled : WalksTo r.here pass key1 pass1 values Over → WalksAll at pass0 key1 pass1
+  strolled w =
+      let ends : Ends r.here w.held pass key1 pass1 values = w.ends_so in
+      record {
+        goes_on = goes_twice key0 key key1 pass0 pass pass1 r.goes_on w.goes_on;
+        walked = r.walked ++ plain w.held;
+        each = length-append r.walked (plain w.held) ∙ ap (λ (n : ℕ). length r.walked + n) (plain_many w.held ∙ ends.each) ∙ r.each;
+        made = ends.made ∙ ap (λ (log : List (Deed × Answer)). log ++ countings pass (number_of key) w.held) r.made
+            ∙ append_assoc (events_by pass0) behind (countings pass (number_of key) w.held)
+            ∙ ap (λ (log : List (Deed × Answer)). events_by pass0 ++ log)
+            (ap (λ (log : List (Deed × Answer)). behind ++ log) (goes w.held r.goes_on.0.same r.goes_on.0.its.1 ∙ sym (plain_steps pass0 s w.held)) ∙ sym (steps_append pass0 s r.walked (plain w.held)));
+        over = ends.over ∙ ap (λ (q : List ℕ). Some (record { place = Rest [] []; queue = q })) r.same_queue;
+      }
+
+  -- or a batch was given up, and is handed
+  module _ (front rest : ℕ) (w : WalksTo r.here pass key1 pass1 values (GivesUp front rest)) (book : IsOf key1 pass1) (knows : Knows key1 pass1) where
+    abbrev stop : Stops r.here w.held pass key1 pass1 values front rest
+    stop = w.ends_so
+
+    abbrev pub given_now : IsGiven key1 pass1 values front
+    given_now = stop.gives
+
+    module _ (key2 : SlotKey) (pass2 : Pass) (values2 : ValueKeys) (handed : HandsAll given_now key2 pass2 values2) where
+      pub handed_on : IsStrolling at pass0 key2 pass2 rest
+      handed_on =
+          let one = goes_twice key0 key key1 pass0 pass pass1 r.goes_on w.goes_on in let vs = values_of values in
+          record {
+            goes_on = goes_twice key0 key1 key2 pass0 pass1 pass2 one handed.goes_on;
+            walked = r.walked ++ (plain w.held ++ (stop.zero, vs) ∷ []);
+            made = handed.made
+                ∙ ap (λ (log : List (Deed × Answer)). log ++ hands pass1 (number_of key1) vs) (stop.made ∙ ap (λ (log : List (Deed × Answer)). log ++ countings pass (number_of key) (w.held ++ stop.zero ∷ [])) r.made
+                ∙ ap (λ (log : List (Deed × Answer)). (events_by pass0 ++ behind) ++ log) (goes (w.held ++ stop.zero ∷ []) r.goes_on.0.same r.goes_on.0.its.1))
+                ∙ ap (λ (log : List (Deed × Answer)). ((events_by pass0 ++ behind) ++ countings pass0 s (w.held ++ stop.zero ∷ [])) ++ log)
+                (same_hands pass0 pass1 one.0.same (number_of key1) vs ∙ ap (λ (k : ℕ). hands pass0 k vs) one.0.its.1)
+                ∙ append_assoc (events_by pass0 ++ behind) (countings pass0 s (w.held ++ stop.zero ∷ [])) (hands pass0 s vs)
+                ∙ ap (λ (log : List (Deed × Answer)). (events_by pass0 ++ behind) ++ log) (last_step pass0 s w.held stop.zero vs)
+                ∙ append_assoc (events_by pass0) behind (steps pass0 s (plain w.held ++ (stop.zero, vs) ∷ []))
+                ∙ ap (λ (log : List (Deed × Answer)). events_by pass0 ++ log) (sym (steps_append pass0 s r.walked (plain w.held ++ (stop.zero, vs) ∷ [])));
+            here = record {
+              walk = given_now.walk;
+              queue = given_now.queue;
+              walking = handed.walks_on;
+              leads = stop.leads
+                  ∙ word_stays key1 key2 pass1 0 given_now.walk given_now.queue book knows handed.goes_on.0.its.0 handed.goes_on.0.its.1 handed.goes_on.1
+                  (λ b there. subst (λ (o : Option Call). Contains (walk_of o) b) (sym given_now.given_up) there);
+            };
+            each =
+                let a = length-append r.walked (plain w.held ++ (stop.zero, vs) ∷ []) in let b = length_push (plain w.held) (stop.zero, vs) in let c = plain_many w.held in let d = stop.each in
+                let e = length_push w.held stop.zero in let f = ap (λ (bs : List ℕ). length bs) stop.walked ∙ length-append stop.done given_now.walk in let g = r.each in
+                omega (arith, a, b, c, d, e, f, g);
+            same_queue = stop.same_queue ∙ r.same_queue;
+          }
+
+      -- there is less to walk
+      pub shorter : length (walk_of (slot_of key2).call) < length (walk_of (slot_of key).call)
+      shorter =
+          let new : length (walk_of (slot_of key2).call) ≡ length given_now.walk = ap (λ (o : Option Call). length (walk_of o)) handed.walks_on in
+          let old : length (walk_of (slot_of key).call) ≡ length r.here.walk = ap (λ (o : Option Call). length (walk_of o)) r.here.walking in
+          let f = ap (λ (bs : List ℕ). length bs) stop.walked ∙ length-append stop.done given_now.walk in let d = stop.each in let e = length_push w.held stop.zero in
+          omega (arith, new, old, f, d, e)

@@ -1,0 +1,15 @@
+use Rattle.std.specs.Prelude.{length}
+use Rattle.seize_machine.specs.Machine.Laws.{walk_of}
+use Rattle.seize_book.specs.Slots.{IsOf, slot_of}
+use Rattle.seize_book.specs.Values.{IsEmpty}
+use Rattle.seize_words.specs.Walks.{Knows}
+use Rattle.seize_calls.specs.Walking.{IsAtWalk}
+use Rattle.seize_calls.proofs.Strolls.{IsStrolling}
+use Rattle.seize_calls.proofs.walking.walk_all.Given as goal
+
+abbrev pub invariant-loop-values : goal.invariant-loop-values
+invariant-loop-values g l =
+    ((at : IsAtWalk l.initial.key l.fn.word) → IsStrolling at l.initial.pass l.key l.pass l.leads) × IsOf l.key l.pass × Knows l.key l.pass × IsEmpty l.values l.pass
+
+abbrev pub decreases-loop-values : goal.decreases-loop-values
+decreases-loop-values g l = length (walk_of (slot_of l.key).call)

@@ -1,0 +1,45 @@
+-- A whole attempt: the marks, and then the insertions, and their number added to the count.
+--     Attempts at pass values key' pass' values' ends     the call has given up, as after marking (Ends), and the keys of the batch's values
+--                        stay; or the batch was retired: see Retires
+--     Retires at pass values key' pass' values' zero      all that was made with the pass is that the slot read the heads, detached the
+--                        batch, took a turn at each slot whose head was active (`turns_at`), and added the insertions won; the count is 0
+--                        then or isn't. Where it is 0 the batch's values are given up to the call, with their keys. Nothing else of the
+--                        slot has changed but its batch, which is empty
+use Rattle.std.specs.Prelude.{◌≡◌, ℤ, Bool, true, false, if◌then◌else◌, List, [], ◌∷◌, ◌++◌, length, Some}
+use Rattle.seize_machine.specs.Machine.Event.{AddCount, Detach}
+use Rattle.seize_machine.specs.Machine.Next.{is_zero}
+use Rattle.seize_machine.specs.Machine.State.{Rest}
+use Rattle.seize_machine.specs.declared.machine.event.Answer.TheVariants.{Count, Done}
+use Rattle.seize_book.specs.Adding.{private}
+use Rattle.seize_words.specs.Counts.{Leaves}
+use Rattle.seize_book.specs.Passes.{events_by}
+use Rattle.seize_book.specs.Slots.{active_of, life_of, number_of, slot_of}
+use Rattle.seize_book.specs.declared.book.pass.Pass.{Pass}
+use Rattle.seize_book.specs.declared.book.slot_key.SlotKey.{SlotKey}
+use Rattle.seize_book.specs.declared.book.value_keys.ValueKeys.{ValueKeys}
+use Rattle.seize_calls.specs.Inserts.{Turn, turns_at}
+use Rattle.seize_calls.specs.Marks.{BeginsToMark, Ends, actives, readings}
+use Rattle.seize_calls.specs.declared.attempt.Attempted.{Attempted}
+use Rattle.seize_calls.specs.declared.attempt.Attempted.TheVariants.{GivenUp, Stays, Waits}
+use Rattle.seize_calls.specs.declared.marking.Marked.TheVariants.{TooMany}
+
+pub record Retires {key : SlotKey} (at : BeginsToMark key) (pass : Pass) (values : ValueKeys) (key' : SlotKey) (pass' : Pass)
+    (values' : ValueKeys) (zero : Bool) : Type 0 where
+  pub finds : List Bool
+  pub turns : List Turn
+  pub each : length turns ≡ length (actives 0 finds)
+  pub count : ℤ
+  pub is_count : zero ≡ is_zero count
+  pub made : events_by pass' ≡ (((events_by pass ++ readings pass (number_of key) 0 finds) ++ (private pass (Detach (number_of key)), Done) ∷ [])
+      ++ turns_at pass (number_of key) (actives 0 finds) turns) ++ (private pass (AddCount (number_of key)), Count count) ∷ []
+  pub batch : (slot_of key').batch ≡ []
+  pub used : (slot_of key').used ≡ (slot_of key).used
+  pub active : active_of key' ≡ active_of key
+  pub life : life_of key' ≡ life_of key
+  pub stands : (slot_of key').call ≡ Some (record { place = Rest (if zero then (slot_of key).batch else []) []; queue = at.queue })
+  pub keys : Leaves values pass' values' zero
+
+abbrev pub Attempts : {key : SlotKey} → BeginsToMark key → Pass → ValueKeys → SlotKey → Pass → ValueKeys → Attempted → Type 0
+Attempts at pass values key' pass' values' Stays = Ends at pass key' pass' [] TooMany × (values' ≡ values)
+Attempts at pass values key' pass' values' Waits = Retires at pass values key' pass' values' false
+Attempts at pass values key' pass' values' GivenUp = Retires at pass values key' pass' values' true

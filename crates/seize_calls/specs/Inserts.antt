@@ -1,0 +1,140 @@
+-- How a call inserts the batch that it detached, at the slots that it marked, one after the other.
+--     Turn                   what a call did at one slot: the insertions lost there, and whether one was won or the slot was skipped
+--     turn_at pass s m turn      its events, with the pass: before each try slot s read the head of slot m, last it won, or found m inactive
+--     turns_at pass s ms turns   those of a turn at each of these slots, in order;  won_in turns     how many insertions were won
+--     plan_in key b          how batch b was detached, as the slot's key knows
+--     Keeps key pass key' pass'  it is the same key and pass, and the slot's batch, whether it is in use and active, and its last
+--                            activation, are as they were; the pass has seen no fewer slots
+--     IsAtTry key head header seen block front     the slot's call is about to insert its batch at this head, where it saw this word, with
+--                            the block of this number and header; and this is the number of the batch's first block
+--     Tried at pass key' pass' won   it tried once, and won or lost
+--     IsAtSlot key m block front     the slot's call is about to read the head of slot m again, to insert its batch there with this block
+--     Inserted at pass key' pass' won     it took a turn there, and is at the next slot
+--     IsInserting key entries front   the slot's call is about to do so at the slots of these entries
+--     InsertedAll at pass key' pass' won   it took a turn at each, and is about to add this many insertions
+use Rattle.std.specs.Prelude.{◌≡◌, ℕ, zero, suc, ◌+◌, ◌<◌, ◌≤◌, ◌^◌, Bool, true, false, if◌then◌else◌, List, [], ◌∷◌, ◌++◌, length, Some, slice_index_or}
+use Rattle.seize_machine.specs.Machine.Event.{Insert}
+use Rattle.seize_machine.specs.Machine.Next.{look}
+use Rattle.seize_machine.specs.Machine.State.{Add, Look}
+use Rattle.seize_machine.specs.declared.machine.event.Answer.{Answer}
+use Rattle.seize_machine.specs.declared.machine.event.Answer.TheVariants.{Done}
+use Rattle.seize_machine.specs.declared.machine.event.Try.{Try as Insertion}
+use Rattle.seize_machine.specs.declared.machine.event.Try.TheVariants.{Won, Lost}
+use Rattle.seize_book.specs.Adding.{private}
+use Rattle.seize_book.specs.Blocks.{Plan, block_in, no_plan, plans, serving}
+use Rattle.seize_words.specs.Chunks.{header_home}
+use Rattle.seize_book.specs.Entry.{Deed}
+use Rattle.seize_words.specs.Headers.{IsFrontBlock}
+use Rattle.seize_words.specs.Heads.{IsTrying}
+use Rattle.seize_book.specs.Homes.{home_of}
+use Rattle.seize_words.specs.Named.{slot_book}
+use Rattle.seize_book.specs.Passes.{IsSame, events_by}
+use Rattle.seize_words.specs.Reservations.{slot}
+use Rattle.seize_book.specs.Slots.{active_of, life_of, number_of, own_list, slot_of, start_of}
+use Rattle.seize_words.specs.Totals.{slots_seen}
+use Rattle.seize_book.specs.declared.book.pass.Pass.{Pass}
+use Rattle.seize_book.specs.declared.book.slot_key.SlotKey.{SlotKey}
+use Rattle.seize_words.specs.declared.chunk.Header.{Header}
+use Rattle.seize_words.specs.declared.reservation.Head.{Head}
+use Rattle.seize_calls.specs.Entries.{slots_of}
+use Rattle.seize_calls.specs.Marks.{reading}
+use Rattle.seize_calls.specs.declared.entry.Entry.{Entry}
+
+-- Events.
+
+pub record Turn : Type 0 where
+  pub lost : ℕ
+  pub won : Bool
+
+abbrev pub trying : Pass → ℕ → ℕ → Insertion → Deed × Answer
+trying pass s m ends = (private pass (Insert s m ends), Done)
+
+abbrev pub losses : Pass → ℕ → ℕ → ℕ → List (Deed × Answer)
+losses pass s m zero = []
+losses pass s m (suc lost) = losses pass s m lost ++ reading pass s m true ∷ trying pass s m Lost ∷ []
+
+abbrev pub last_at : Pass → ℕ → ℕ → Bool → List (Deed × Answer)
+last_at pass s m true = reading pass s m true ∷ trying pass s m Won ∷ []
+last_at pass s m false = reading pass s m false ∷ []
+
+abbrev pub turn_at : Pass → ℕ → ℕ → Turn → List (Deed × Answer)
+turn_at pass s m turn = losses pass s m turn.lost ++ last_at pass s m turn.won
+
+abbrev pub turns_at : Pass → ℕ → List ℕ → List Turn → List (Deed × Answer)
+turns_at pass s (m ∷ ms) (turn ∷ turns) = turn_at pass s m turn ++ turns_at pass s ms turns
+turns_at pass s _ _ = []
+
+abbrev pub won_in : List Turn → ℕ
+won_in [] = 0
+won_in (turn ∷ turns) = (if turn.won then 1 else 0) + won_in turns
+
+-- Where the call stands.
+
+abbrev pub plan_in : SlotKey → ℕ → Plan
+plan_in key b = slice_index_or (plans (start_of key) (own_list key)) b no_plan
+
+pub record Keeps (key : SlotKey) (pass : Pass) (key' : SlotKey) (pass' : Pass) : Type 0 where
+  pub same : IsSame pass pass'
+  pub its : (slot_book key' ≡ slot_book key) × (number_of key' ≡ number_of key)
+  pub batch : (slot_of key').batch ≡ (slot_of key).batch
+  pub used : (slot_of key').used ≡ (slot_of key).used
+  pub active : active_of key' ≡ active_of key
+  pub life : life_of key' ≡ life_of key
+  pub seen : slots_seen pass ≤ slots_seen pass'
+
+pub record IsAtTry (key : SlotKey) (head : Head) (header : Header) (seen block front : ℕ) : Type 0 where
+  pub tries : IsTrying (start_of key) (number_of key) (own_list key) (slot head) seen block
+  pub fits : block + 2 < 2 ^ 64
+  pub its_home : home_of (let plan = plan_in key tries.batch in serving (slot head) plan.slots plan.values) ≡ header_home header
+  pub its_front : IsFrontBlock key tries.batch front
+
+pub record Tried {key : SlotKey} {head : Head} {header : Header} {seen block front : ℕ} (at : IsAtTry key head header seen block front)
+    (pass : Pass) (key' : SlotKey) (pass' : Pass) (won : Bool) : Type 0 where
+  pub keeps : Keeps key pass key' pass'
+  pub made : events_by pass' ≡ events_by pass ++ trying pass (number_of key) (slot head) (if won then Won else Lost) ∷ []
+  pub planned : plan_in key' at.tries.batch ≡ plan_in key at.tries.batch
+  pub stands : let t = at.tries in
+      let place = if won then look t.batch (t.won + 1) t.later else Look t.batch t.won (slot head) t.later in
+      (slot_of key').call ≡ Some (record { place = place; queue = t.queue })
+
+pub record IsAtSlot (key : SlotKey) (m block front : ℕ) : Type 0 where
+  pub batch : ℕ
+  pub won : ℕ
+  pub later : List ℕ
+  pub queue : List ℕ
+  pub looking : (slot_of key).call ≡ Some (record { place = Look batch won m later; queue = queue })
+  pub its_block : block ≡ block_in (plan_in key batch) m
+  pub fits : block + 2 < 2 ^ 64
+  pub its_front : IsFrontBlock key batch front
+
+pub record Inserted {key : SlotKey} {m block front : ℕ} (at : IsAtSlot key m block front) (pass : Pass) (key' : SlotKey) (pass' : Pass)
+    (won : Bool) : Type 0 where
+  pub keeps : Keeps key pass key' pass'
+  pub lost : ℕ
+  pub made : events_by pass' ≡ events_by pass ++ turn_at pass (number_of key) m (record { lost = lost; won = won })
+  pub planned : plan_in key' at.batch ≡ plan_in key at.batch
+  pub stands : (slot_of key').call ≡ Some (record { place = look at.batch (if won then at.won + 1 else at.won) at.later; queue = at.queue })
+
+-- each entry has the block for its slot, and the slot was seen
+abbrev pub ArePlanned : Plan → ℕ → List Entry → Type 0
+ArePlanned plan seen [] = Unit {0}
+ArePlanned plan seen (entry ∷ entries) =
+    ((entry.block ≡ block_in plan entry.slot) × (entry.block + 2 < 2 ^ 64) × (entry.slot < seen)) × ArePlanned plan seen entries
+
+pub record IsInserting (key : SlotKey) (pass : Pass) (entries : List Entry) (front : ℕ) : Type 0 where
+  pub batch : ℕ
+  pub won : ℕ
+  pub queue : List ℕ
+  pub stands : (slot_of key).call ≡ Some (record { place = look batch won (slots_of entries); queue = queue })
+  pub planned : ArePlanned (plan_in key batch) (slots_seen pass) entries
+  pub its_front : IsFrontBlock key batch front
+
+pub record InsertedAll {key : SlotKey} {pass : Pass} {entries : List Entry} {front : ℕ} (at : IsInserting key pass entries front)
+    (key' : SlotKey) (pass' : Pass) (won : ℕ) : Type 0 where
+  pub keeps : Keeps key pass key' pass'
+  pub turns : List Turn
+  pub each : length turns ≡ length entries
+  pub made : events_by pass' ≡ events_by pass ++ turns_at pass (number_of key) (slots_of entries) turns
+  pub many : won ≡ won_in turns
+  pub planned : plan_in key' at.batch ≡ plan_in key at.batch
+  pub stands : (slot_of key').call ≡ Some (record { place = Add at.batch (at.won + won); queue = at.queue })

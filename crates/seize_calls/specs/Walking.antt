@@ -1,0 +1,122 @@
+-- How a call walks what came out of its own head, and hands what is given up to it.
+--     countings pass s counts    slot s counted batches down with the pass, and these were the counts then;  hands pass s vs     it handed
+--                                these values to their reclaimers, which put none
+--     GoesOn key pass key' pass'     as Keeps, and the key knows all that it knew
+--     IsAtWalk key word          the slot's call has nothing to hand, and walks some batches, to which this word leads;  walk_at   these
+--     IsGiven key pass values front     these values were given up to the slot's call, which is to hand them next: their keys know all
+--                                that the pass has seen, and that all others that lay in their blocks were reclaimed. This is the number
+--                                of the first one's block
+--     WalksTo at pass key' pass' values' ends    it counted batches down: all of the walk, and none was given up; or the last was, and it
+--                                has still to walk the others
+--     HandsAll given key' pass' values'     it handed them all, in order, and nothing else was made
+--     steps pass s walked        it counted batches down, which came to these counts, and after each it handed these values
+--     WalksAll at pass key' pass'     it counted down each batch of the walk once, in order, and after each it handed what was given up
+use Rattle.std.specs.Prelude.{◌≡◌, ℕ, ℤ, true, false, List, [], ◌∷◌, ◌++◌, length, Some}
+use mathlib.Core.List.{IsPrefix}
+use Rattle.seize_machine.specs.Machine.Event.{Hand, SubCount}
+use Rattle.seize_machine.specs.Machine.History.{first_of}
+use Rattle.seize_machine.specs.Machine.Next.{is_zero}
+use Rattle.seize_machine.specs.Machine.State.{Rest}
+use Rattle.seize_machine.specs.declared.machine.event.Answer.{Answer}
+use Rattle.seize_machine.specs.declared.machine.event.Answer.TheVariants.{Count, Handed}
+use Rattle.seize_book.specs.Adding.{private}
+use Rattle.seize_book.specs.Blocks.{block_of}
+use Rattle.seize_book.specs.Values.{AreLast, AreOfBook, IsEmpty, Keep, values_of}
+use Rattle.seize_book.specs.Entry.{Deed}
+use Rattle.seize_book.specs.Passes.{events_by}
+use Rattle.seize_book.specs.Slots.{number_of, own_list, slot_of}
+use Rattle.seize_words.specs.Walks.{word_for}
+use Rattle.seize_book.specs.declared.book.pass.Pass.{Pass}
+use Rattle.seize_book.specs.declared.book.slot_key.SlotKey.{SlotKey}
+use Rattle.seize_book.specs.declared.book.value_keys.ValueKeys.{ValueKeys}
+use Rattle.seize_calls.specs.Inserts.{Keeps}
+use Rattle.seize_calls.specs.declared.walking.Walked.{Walked}
+use Rattle.seize_calls.specs.declared.walking.Walked.TheVariants.{GivesUp, Over}
+
+abbrev pub counting : Pass → ℕ → ℤ → Deed × Answer
+counting pass s count = (private pass (SubCount s), Count count)
+
+abbrev pub countings : Pass → ℕ → List ℤ → List (Deed × Answer)
+countings pass s [] = []
+countings pass s (count ∷ counts) = counting pass s count ∷ countings pass s counts
+
+abbrev pub hands : Pass → ℕ → List ℕ → List (Deed × Answer)
+hands pass s [] = []
+hands pass s (v ∷ vs) = (private pass (Hand s []), Handed v) ∷ hands pass s vs
+
+abbrev pub GoesOn : SlotKey → Pass → SlotKey → Pass → Type 0
+GoesOn key pass key' pass' = Keeps key pass key' pass' × IsPrefix (own_list key) (own_list key')
+
+pub record IsAtWalk (key : SlotKey) (word : ℕ) : Type 0 where
+  pub walk : List ℕ
+  pub queue : List ℕ
+  pub walking : (slot_of key).call ≡ Some (record { place = Rest [] walk; queue = queue })
+  pub leads : word ≡ word_for key walk
+
+pub record IsGiven (key : SlotKey) (pass : Pass) (values : ValueKeys) (front : ℕ) : Type 0 where
+  pub walk : List ℕ
+  pub queue : List ℕ
+  pub given_up : (slot_of key).call ≡ Some (record { place = Rest (values_of values) walk; queue = queue })
+  pub first : ℕ
+  pub is_first : first_of (values_of values) ≡ Some first
+  pub its_block : front ≡ block_of first
+  pub book : AreOfBook values pass
+  pub keys : Keep values pass values
+  pub last : AreLast values pass
+
+-- none of them is 0
+abbrev pub AreHeld : List ℤ → Type 0
+AreHeld [] = Unit {0}
+AreHeld (count ∷ counts) = (is_zero count ≡ false) × AreHeld counts
+
+-- after these counts, none of which was 0
+pub record Ends {key : SlotKey} {word : ℕ} (at : IsAtWalk key word) (held : List ℤ) (pass : Pass) (key' : SlotKey) (pass' : Pass)
+    (values' : ValueKeys) : Type 0 where
+  pub each : length held ≡ length at.walk
+  pub made : events_by pass' ≡ events_by pass ++ countings pass (number_of key) held
+  pub over : (slot_of key').call ≡ Some (record { place = Rest [] []; queue = at.queue })
+  pub none : IsEmpty values' pass'
+
+-- and then one of 0
+pub record Stops {key : SlotKey} {word : ℕ} (at : IsAtWalk key word) (held : List ℤ) (pass : Pass) (key' : SlotKey) (pass' : Pass)
+    (values' : ValueKeys) (front rest : ℕ) : Type 0 where
+  pub zero : ℤ
+  pub is_zero_last : is_zero zero ≡ true
+  pub made : events_by pass' ≡ events_by pass ++ countings pass (number_of key) (held ++ zero ∷ [])
+  pub gives : IsGiven key' pass' values' front
+  pub leads : rest ≡ word_for key' gives.walk
+  pub done : List ℕ
+  pub each : length done ≡ length (held ++ zero ∷ [])
+  pub walked : at.walk ≡ done ++ gives.walk
+  pub same_queue : gives.queue ≡ at.queue
+
+abbrev pub EndsSo : {key : SlotKey} {word : ℕ} → IsAtWalk key word → List ℤ → Pass → SlotKey → Pass → ValueKeys → Walked → Type 0
+EndsSo at held pass key' pass' values' Over = Ends at held pass key' pass' values'
+EndsSo at held pass key' pass' values' (GivesUp front rest) = Stops at held pass key' pass' values' front rest
+
+pub record WalksTo {key : SlotKey} {word : ℕ} (at : IsAtWalk key word) (pass : Pass) (key' : SlotKey) (pass' : Pass) (values' : ValueKeys)
+    (ends : Walked) : Type 0 where
+  pub goes_on : GoesOn key pass key' pass'
+  pub held : List ℤ
+  pub above : AreHeld held
+  pub ends_so : EndsSo at held pass key' pass' values' ends
+
+-- Values are handed.
+
+pub record HandsAll {key : SlotKey} {pass : Pass} {values : ValueKeys} {front : ℕ} (given : IsGiven key pass values front) (key' : SlotKey)
+    (pass' : Pass) (values' : ValueKeys) : Type 0 where
+  pub goes_on : GoesOn key pass key' pass'
+  pub made : events_by pass' ≡ events_by pass ++ hands pass (number_of key) (values_of values)
+  pub walks_on : (slot_of key').call ≡ Some (record { place = Rest [] given.walk; queue = given.queue })
+  pub none : IsEmpty values' pass'
+
+abbrev pub steps : Pass → ℕ → List (ℤ × List ℕ) → List (Deed × Answer)
+steps pass s [] = []
+steps pass s (step ∷ walked) = (counting pass s step.0 ∷ hands pass s step.1) ++ steps pass s walked
+
+pub record WalksAll {key : SlotKey} {word : ℕ} (at : IsAtWalk key word) (pass : Pass) (key' : SlotKey) (pass' : Pass) : Type 0 where
+  pub goes_on : GoesOn key pass key' pass'
+  pub walked : List (ℤ × List ℕ)
+  pub each : length walked ≡ length at.walk
+  pub made : events_by pass' ≡ events_by pass ++ steps pass (number_of key) walked
+  pub over : (slot_of key').call ≡ Some (record { place = Rest [] []; queue = at.queue })

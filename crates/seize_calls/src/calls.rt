@@ -1,0 +1,182 @@
+//! Whole calls of a slot, each from its begin to its return. They make their own events with the pass, in the order of the scheme, beside
+//! whatever others add.
+ghost use Rattle.std.specs.Prelude.{◌≡◌, ◌++◌, ◌∷◌, [], false, true};
+ghost use Rattle.seize_machine.specs.declared.machine.event.Job.TheVariants.{Leave, Refresh};
+ghost use Rattle.seize_machine.specs.Machine.Event.{SwapOut};
+ghost use Rattle.seize_calls.specs.Calls.{Flushes, IsInside, Leaves, Marking, RetiresOne, Settles};
+ghost use Rattle.seize_calls.specs.Entries.{AreOf};
+ghost use Rattle.seize_book.specs.Adding.{private};
+ghost use Rattle.seize_words.specs.Chunks.{book_in};
+ghost use Rattle.seize_book.specs.Values.{AreOfBook, values_of};
+ghost use Rattle.seize_machine.specs.Machine.State.{is_idle};
+ghost use Rattle.seize_book.specs.Others.{MayRetire, book_of, value_of};
+ghost use Rattle.seize_words.specs.Reservations.{IsLastOf, IsOfBook, IsOwn, beginning};
+ghost use Rattle.seize_words.specs.Reserved.{slots_book};
+ghost use Rattle.seize_book.specs.Slots.{IsOf, number_of, size_of, slot_of};
+ghost use Rattle.seize_words.specs.Walks.{Knows};
+
+use crate::attempt::{Attempted, attempt};
+use crate::entry::Entry;
+use crate::handing::Hands;
+use crate::walking::walk_all;
+use seize_words::activation::Activation;
+use seize_words::blocks::Blocks;
+use seize_words::book::{Pass, SlotKey, ValueKey, ValueKeys};
+use seize_words::reservation::Head;
+use seize_words::slots::Slots;
+use std::sync::Wait;
+
+// Attempts the batch, hands its values if they are given up, and returns. It says whether the batch was retired: if it was, no keys are
+// left, and the entries are of no batch.
+fn settle<T: Drop, H: Hands>(
+    slots: &Slots,
+    blocks: &Blocks<T>,
+    entries: &mut [Entry],
+    key: &mut SlotKey,
+    values: &mut ValueKeys,
+    hands: &mut H,
+    pass: &mut Pass,
+    rt: &impl Wait,
+) -> bool
+    requires book { IsOf key.old pass.old × (slots_book slots.now ≡ pass.old.name) × (book_in blocks.now ≡ pass.old.name) }
+    requires knows { Knows key.old pass.old }
+    requires marking { Marking key.old }
+    requires entries { AreOf entries.old (slot_of key.old).batch }
+    requires values { AreOfBook values.old pass.old × (values_of values.old ≡ (slot_of key.old).batch) }
+    ensures knows { Knows key.new pass.new }
+    ensures entries { AreOf entries.new (slot_of key.old).batch }
+    ensures settles { Settles key.old pass.old values.old key.new pass.new values.new result }
+{
+    match attempt(slots, blocks, entries, key, values, pass, rt) {
+        Attempted::Stays => {
+            key.finish(pass);
+            false
+        }
+        Attempted::Waits => {
+            key.finish(pass);
+            true
+        }
+        Attempted::GivenUp => {
+            hands.hand_all(entries[0].block, values, key, pass);
+            key.finish(pass);
+            true
+        }
+    }
+}
+
+/// Attempts the slot's batch at any length, of which these are the entries and the keys of the values. It says whether the batch was
+/// retired: if it was, no keys are left, and the entries are of no batch.
+///
+/// It takes no memory, but for what the handing does. An insertion is tried again as often as others change the head between a look at it
+/// and the try.
+pub fn flush<T: Drop, H: Hands>(
+    slots: &Slots,
+    blocks: &Blocks<T>,
+    entries: &mut [Entry],
+    key: &mut SlotKey,
+    values: &mut ValueKeys,
+    hands: &mut H,
+    pass: &mut Pass,
+    rt: &impl Wait,
+) -> bool
+    requires book { IsOf key.old pass.old × (slots_book slots.now ≡ pass.old.name) × (book_in blocks.now ≡ pass.old.name) }
+    requires inside { IsInside key.old }
+    requires entries { AreOf entries.old (slot_of key.old).batch }
+    requires values { AreOfBook values.old pass.old × (values_of values.old ≡ (slot_of key.old).batch) }
+    ensures knows { Knows key.new pass.new }
+    ensures entries { AreOf entries.new (slot_of key.old).batch }
+    ensures flushes { Flushes key.old pass.old values.old key.new pass.new values.new result }
+{
+    key.begin_flush(pass);
+    if entries.is_empty() {
+        key.finish(pass);
+        return false;
+    }
+    settle(slots, blocks, entries, key, values, hands, pass, rt)
+}
+
+/// Retires the value of this key: it joins the slot's batch, of which these are the entries then, with its own as the last. Where the
+/// batch has `size` values or more, which is the size of the book, it is attempted. It says whether the batch was retired: if it was, no
+/// keys are left, and the entries are of no batch.
+///
+/// It takes no memory, but for what the handing does. An insertion is tried again as often as others change the head between a look at it
+/// and the try.
+pub fn retire<T: Drop, H: Hands>(
+    slots: &Slots,
+    blocks: &Blocks<T>,
+    entries: &mut [Entry],
+    size: usize,
+    value: ValueKey,
+    key: &mut SlotKey,
+    values: &mut ValueKeys,
+    hands: &mut H,
+    pass: &mut Pass,
+    rt: &impl Wait,
+) -> bool
+    requires book { IsOf key.old pass.old × (slots_book slots.now ≡ pass.old.name) × (book_in blocks.now ≡ pass.old.name) }
+    requires idle { is_idle (slot_of key.old) ≡ true }
+    requires value { (book_of value ≡ pass.old.name) × MayRetire value }
+    requires size { size ≡ size_of key.old }
+    requires entries { AreOf entries.old ((slot_of key.old).batch ++ value_of value ∷ []) }
+    requires values { AreOfBook values.old pass.old × (values_of values.old ≡ (slot_of key.old).batch) }
+    ensures knows { Knows key.new pass.new }
+    ensures entries { AreOf entries.new ((slot_of key.old).batch ++ value_of value ∷ []) }
+    ensures retires { RetiresOne key.old pass.old (value_of value) values.old key.new pass.new values.new result }
+{
+    let mut value = value;
+    key.begin_retire(&mut value, pass);
+    key.put(pass);
+    values.push(value);
+    if entries.len() < size {
+        key.finish(pass);
+        return false;
+    }
+    settle(slots, blocks, entries, key, values, hands, pass, rt)
+}
+
+/// The slot leaves, by its own head. It counts down what waited for it, and hands what is given up.
+///
+/// It takes no memory and waits for nobody, but for what the handing does.
+pub fn leave<T: Drop, H: Hands>(
+    head: &Head,
+    blocks: &Blocks<T>,
+    activation: Activation,
+    key: &mut SlotKey,
+    hands: &mut H,
+    pass: &mut Pass,
+)
+    requires book { IsOf key.old pass.old × IsOfBook head.now pass.old × IsOwn head.now key.old × (book_in blocks.now ≡ pass.old.name) }
+    requires inside { IsInside key.old }
+    requires last { IsLastOf key.old activation }
+    ensures knows { Knows key.new pass.new }
+    ensures leaves { Leaves Leave false (private pass.old (SwapOut (number_of key.old))) key.old pass.old key.new pass.new }
+{
+    key.begin_leave(pass);
+    let word = head.leave(activation, key, pass);
+    walk_all(blocks, word, key, hands, pass);
+    key.finish(pass);
+}
+
+/// The slot refreshes, by its own head, and stays active. It counts down what waited for it, and hands what is given up.
+///
+/// It takes no memory and waits for nobody, but for what the handing does.
+pub fn refresh<T: Drop, H: Hands>(
+    head: &Head,
+    blocks: &Blocks<T>,
+    activation: &mut Activation,
+    key: &mut SlotKey,
+    hands: &mut H,
+    pass: &mut Pass,
+)
+    requires book { IsOf key.old pass.old × IsOfBook head.now pass.old × IsOwn head.now key.old × (book_in blocks.now ≡ pass.old.name) }
+    requires inside { IsInside key.old }
+    requires last { IsLastOf key.old activation.old }
+    ensures knows { Knows key.new pass.new }
+    ensures last { IsLastOf key.new activation.new }
+    ensures leaves { Leaves Refresh true (beginning pass.old activation.new.life (SwapOut (number_of key.old))) key.old pass.old key.new pass.new }
+{
+    key.begin_refresh(pass);
+    let word = head.refresh(activation, key, pass);
+    walk_all(blocks, word, key, hands, pass);
+    key.finish(pass);
+}

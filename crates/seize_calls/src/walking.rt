@@ -1,0 +1,80 @@
+//! The walk of a call that has swapped its own head out: it counts down each batch that waited, by the words in the headers of blocks.
+//! Others may step on all these words meanwhile, and add any events.
+ghost use Rattle.std.specs.Prelude.{◌≡◌};
+ghost use Rattle.seize_calls.specs.Walking.{IsAtWalk, WalksAll, WalksTo};
+ghost use Rattle.seize_words.specs.Chunks.{book_in};
+ghost use Rattle.seize_book.specs.Slots.{IsOf};
+ghost use Rattle.seize_book.specs.Values.{IsEmpty};
+ghost use Rattle.seize_words.specs.Walks.{Knows};
+
+use crate::handing::Hands;
+use seize_words::blocks::Blocks;
+use seize_words::book::{Pass, SlotKey, ValueKeys};
+
+/// Where a walk stops.
+#[derive(Clone, Copy, PartialEq, Eq, Debug)]
+pub enum Walked {
+    /// Each batch was counted down, and none more was given up.
+    Over,
+    /// A batch was given up to the call, which is to hand its values before the walk goes on. First the number of the block of the first of
+    /// them, and then the word that leads to the rest of the walk.
+    GivesUp(u64, u64),
+}
+
+/// Counts down the batches to which this word leads, until one is given up to the slot's call. The keys of its values come out then.
+///
+/// It takes no memory and waits for nobody: for each batch, what `Blocks::count_down` does.
+pub fn walk<T: Drop>(
+    blocks: &Blocks<T>,
+    word: u64,
+    key: &mut SlotKey,
+    values: &mut ValueKeys,
+    pass: &mut Pass,
+) -> Walked
+    requires book { IsOf key.old pass.old × (book_in blocks.now ≡ pass.old.name) × IsEmpty values.old pass.old }
+    requires knows { Knows key.old pass.old }
+    requires at { IsAtWalk key.old word }
+    ensures book { IsOf key.new pass.new }
+    ensures knows { Knows key.new pass.new }
+    ensures walks { (at : IsAtWalk key.old word) → WalksTo at pass.old key.new pass.new values.new result }
+{
+    let mut leads = word;
+    while leads != 1 {
+        let (rest, zero, front) = blocks.count_down(leads, key, values, pass);
+        if zero {
+            return Walked::GivesUp(front, rest);
+        }
+        leads = rest;
+    }
+    Walked::Over
+}
+
+/// Counts down all the batches to which this word leads. What one of them gives up is handed before the walk goes on.
+///
+/// It takes no memory and waits for nobody, but for what the handing does.
+pub fn walk_all<T: Drop, H: Hands>(
+    blocks: &Blocks<T>,
+    word: u64,
+    key: &mut SlotKey,
+    hands: &mut H,
+    pass: &mut Pass,
+)
+    requires book { IsOf key.old pass.old × (book_in blocks.now ≡ pass.old.name) }
+    requires knows { Knows key.old pass.old }
+    requires at { IsAtWalk key.old word }
+    ensures book { IsOf key.new pass.new }
+    ensures knows { Knows key.new pass.new }
+    ensures walks { (at : IsAtWalk key.old word) → WalksAll at pass.old key.new pass.new }
+{
+    let mut values = ValueKeys::new(pass);
+    let mut leads = word;
+    loop {
+        match walk(blocks, leads, key, &mut values, pass) {
+            Walked::Over => return,
+            Walked::GivesUp(front, rest) => {
+                hands.hand_all(front, &mut values, key, pass);
+                leads = rest;
+            }
+        }
+    }
+}
