@@ -1,6 +1,7 @@
 -- The words in which contracts speak of contents that are lent with values: before a value is named, and when it was reclaimed.
 --     MayLend keys ticket pool          there is one key of a block, with whose value nothing is lent; and the ticket is that of the pool
---     IsOfPlace n v ticket              the ticket is of the content that the block of the value v has in the store of book n, if it has one
+--     IsOfPlace n v ticket              the ticket is of the content that the block of the value v has in the store of book n, if it has
+--                                       one
 --     Lends keys pool keys'             the first key's label is another value of its block, which was never named, as it knows, and with
 --                                       which the pool's content is lent
 --     MayRedeem keys pass               there is one key of a block, of the pass's book; something is lent with its value, which was
@@ -31,7 +32,8 @@ IsOfPlace n v ticket = (n.store ≡ None) ⊎ (place_of v ≡ ticket.name)
 
 abbrev pub MayLend : Keys → Ticket → Pool → Type 0
 MayLend keys ticket pool =
-    (is_one blocks keys.held ≡ true) × CarriesNone (label_of keys.held) × IsLent ticket pool × IsOfPlace keys.name (label_of keys.held) ticket
+    (is_one blocks keys.held ≡ true) × CarriesNone (label_of keys.held) × IsLent ticket pool
+    × IsOfPlace keys.name (label_of keys.held) ticket
 
 pub record Lends (keys : Keys) (pool : Pool) (keys' : Keys) : Type 0 where
   pub value : ℕ

@@ -1,7 +1,7 @@
--- What may be lent. The steps of a content's stages are the same for a value behind a pointer and for anything else that may be owned, shown
--- for a time, and had back.
---     Goods           things of one kind in one place: what their owner has of one (own), what each of those to whom it is lent has (shr), its
---                     code, the lifetimes within which it may be lent, and what is there while there is none (bare)
+-- What may be lent. The steps of a content's stages are the same for a value behind a pointer and for anything else that may be owned,
+-- shown for a time, and had back.
+--     Goods           things of one kind in one place: what their owner has of one (own), what each of those to whom it is lent has (shr),
+--                     its code, the lifetimes within which it may be lent, and what is there while there is none (bare)
 --     Lendable G      what is lent can be had by as many as want it, and what is owned can be lent within those lifetimes
 --     value_at R p    a value of row R at p
 use mir.Raw.{raw}
@@ -33,4 +33,5 @@ abbrev pub room : RattleType → Ptr → Fml
 room R p = room_for (raw (lone R.mir)) p
 
 abbrev pub value_at : RattleType → Ptr → Goods
-value_at R p = record { Thing = R.Denot; own = lies_at R full_share p; shr = lent_at R p; code = R.coded.code; lives = R.lives; bare = room R p }
+value_at R p =
+    record { Thing = R.Denot; own = lies_at R full_share p; shr = lent_at R p; code = R.coded.code; lives = R.lives; bare = room R p }

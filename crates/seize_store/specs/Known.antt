@@ -5,7 +5,8 @@
 --     chunk_in chunks e            where the chunk at entry e lies, and its tag;  place_in, label_in and content_in are what these say
 --     family_in store              the family of the store's chunks;  AreKin f chunks   their labels are of the family f
 --     IsRowIn store row chunks     there is such a row, these are as many chunks as it has, and they are of the store's family
---     Way store n φ                a row of that store, of which the chunk of the number n has a tag with φ;  leads store n φ   there is one
+--     Way store n φ                a row of that store, of which the chunk of the number n has a tag with φ;  leads store n φ   there is
+--                                  one
 --     leads_to store n k           the number n leads to the label k in that store, for good
 --     lends_by store n γ           what is lent in the chunk of the number n is lent by the content γ, for good
 --     tells store n t              both, for the label t.0 and the content t.1

@@ -13,7 +13,14 @@ use Rattle.seize_store.specs.Block.{hull_shares, lain_owns}
 
 module _ (X U R : RattleType) (f : U.Denot → ℕ) (p : Ptr) (k : ℕ) where
   abbrev pub block_at : Goods
-  block_at = record { Thing = R.Denot; own = lain_owns X U R f p k; shr = hull_shares X U R f p; code = R.coded.code; lives = R.lives; bare = ftrue }
+  block_at = record {
+    Thing = R.Denot;
+    own = lain_owns X U R f p k;
+    shr = hull_shares X U R f p;
+    code = R.coded.code;
+    lives = R.lives;
+    bare = ftrue;
+  }
 
   abbrev pub lender_owns : Fml
   lender_owns = place block_at (right_of k)

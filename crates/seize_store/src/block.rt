@@ -1,5 +1,6 @@
 //! A chunk's room in its holder's hands: an empty room, a block, which is a value in a room, and a hull, which is a block without the
-//! owner's part. Each has the ticket of the chunk's content. It uses `chunk` for the memory and `known` for titles; `spot`, `owned` and `bare` wrap these for who holds them.
+//! owner's part. Each has the ticket of the chunk's content. It uses `chunk` for the memory and `known` for titles; `spot`, `owned` and
+//! `bare` wrap these for who holds them.
 ghost use Rattle.std.specs.Prelude.{◌≡◌, ◌≢◌, ℕ};
 ghost use Rattle.std.specs.Borrow.{sem};
 ghost use Rattle.seize_store.specs.Block.{out_owns, block_owns, block_shares, hull_owns, hull_shares};

@@ -1,5 +1,5 @@
-//! What lends the blocks of a chunk: the content of the chunk, in which a hull of `block` lies while it is lent. It has no bytes. `row` keeps
-//! it beside the chunk, and `store` lends by it.
+//! What lends the blocks of a chunk: the content of the chunk, in which a hull of `block` lies while it is lent. It has no bytes. `row`
+//! keeps it beside the chunk, and `store` lends by it.
 ghost use Rattle.std.specs.Prelude.{◌≡◌, ℕ};
 ghost use denote.RawPtr.{Ptr, coded_ptr};
 ghost use Rattle.seize_store.specs.Lending.{lender_owns, lender_shares};
@@ -75,7 +75,8 @@ impl<H, P: Labelled, T> Lender<H, P, T> {
         entry: usize,
         sight: Sight<'g>,
     ) -> &'g T
-        requires { (entry < length base.now.places) × (self.now.at ≡ at_entry base.now.places entry) × (sight.name ≡ right_of self.now.tag) }
+        requires { (entry < length base.now.places) × (self.now.at ≡ at_entry base.now.places entry)
+            × (sight.name ≡ right_of self.now.tag) }
         ensures { T.row.coded.code result.now ≡ sight.entry.value }
     {
         let Sight { marker: _ } = sight;

@@ -15,8 +15,8 @@ impl<H: Labelled + Drop, P: Labelled + Drop, T: Drop> Store<H, P, T> {
     /// Lends the block's value, under a lifetime of its own. The ticket says so, and the pool has the lifetime's token. It takes no memory
     /// and no atomic step: it looks the block's chunk up, and leaves the value where it lies.
     ///
-    /// The block is in nobody's hands then. Who knows its number and a token of its row (`Bare::known`) has it back by `back`. Where ticket or
-    /// pool are lost, or the store ends before, it is lost: the value does not end, and its row's memory is never given back.
+    /// The block is in nobody's hands then. Who knows its number and a token of its row (`Bare::known`) has it back by `back`. Where ticket
+    /// or pool are lost, or the store ends before, it is lost: the value does not end, and its row's memory is never given back.
     pub fn lend(&self, bare: Bare<H, P, T>) -> (Ticket, Pool)
         requires { bare_store bare ≡ name_of self.now }
         ensures loan { IsLent result.0 result.1 × (result.0.name ≡ bare_content bare) }

@@ -143,8 +143,8 @@ impl<T: Drop> Blocks<T> {
         self.store.see(number as usize, &known, glimpse.sight())
     }
 
-    /// The block whose value was reclaimed, as the pass has seen, in hand again: nobody sees it any more. It has a value of the code that was
-    /// lent. The key is for the next value of the block then. The pass looks at the list. It takes no memory and no atomic step.
+    /// The block whose value was reclaimed, as the pass has seen, in hand again: nobody sees it any more. It has a value of the code that
+    /// was lent. The key is for the next value of the block then. The pass looks at the list. It takes no memory and no atomic step.
     pub fn redeem(&self, number: u64, key: &mut ValueKey, pass: &mut Pass) -> Bare<Header, Part, T>
         requires book { IsValueOf key.old pass.old × (book_in self.now ≡ pass.old.name) }
         requires last { IsLast key.old × HasGone key.old pass.old }

@@ -114,7 +114,8 @@ impl<H: Labelled + Drop, P: Labelled + Drop, T> Store<H, P, T> {
     // The number's row, which the token shows, and its entry there.
     pub(crate) fn row_of(&self, number: usize, known: &Known) -> (&Row<H, P, T>, usize)
         requires { (known.now.store ≡ name_of self.now) × IsRowOf known.now number }
-        ensures { (result.1 < length result.0.now) × (chunk_in result.0.now result.1 ≡ chunk_in known.now.chunks (entry_of known.now.row number)) }
+        ensures { (result.1 < length result.0.now)
+            × (chunk_in result.0.now result.1 ≡ chunk_in known.now.chunks (entry_of known.now.row number)) }
     {
         let Some(place) = Thread::new(number) else {
             unreachable!();
