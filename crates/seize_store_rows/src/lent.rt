@@ -92,7 +92,7 @@ fn had_back_elsewhere<R: Threads + Sync>(rt: &R, store: &Tallied, owned: Block) 
         move || -> Bare<Tally, Numbered, u64>
             requires row { (token.now.store ≡ name_of store.now) × IsRowOf token.now number }
             requires loan { IsLent ticket pool × (ticket.name ≡ content_in token.now.chunks (entry_of token.now.row number)) }
-            ensures { (bare_number result ≡ number.entry) × (bare_known result ≡ token.entry.now) }
+            ensures { (bare_number result ≡ number) × (bare_known result ≡ token.entry.now) }
         { store.back(number, token, ticket, pool) },
         || (),
     );
