@@ -1,6 +1,6 @@
 -- A whole attempt: the marks, and then the insertions, and their number added to the count.
 --     Attempts at pass values key' pass' values' ends     the call has given up, as after marking (Ends), and the keys of the batch's
---                                                         values stay; or the batch was retired: see Retires
+--                        values stay; or the batch was retired: see Retires
 --     Retires at pass values key' pass' values' zero      all that was made with the pass is that the slot read the heads, detached the
 --                        batch, took a turn at each slot whose head was active (`turns_at`), and added the insertions won; the count is 0
 --                        then or isn't. Where it is 0 the batch's values are given up to the call, with their keys. Nothing else of the
@@ -30,9 +30,9 @@ pub record Retires {key : SlotKey} (at : BeginsToMark key) (pass : Pass) (values
   pub each : length turns ≡ length (actives 0 finds)
   pub count : ℤ
   pub is_count : zero ≡ is_zero count
-  pub made
-      : events_by pass' ≡ (((events_by pass ++ readings pass (number_of key) 0 finds) ++ (private pass (Detach (number_of key)), Done) ∷ [])
-      ++ turns_at pass (number_of key) (actives 0 finds) turns) ++ (private pass (AddCount (number_of key)), Count count) ∷ []
+  pub made : let s = number_of key in
+      events_by pass' ≡ (((events_by pass ++ readings pass s 0 finds) ++ (private pass (Detach s), Done) ∷ [])
+      ++ turns_at pass s (actives 0 finds) turns) ++ (private pass (AddCount s), Count count) ∷ []
   pub batch : (slot_of key').batch ≡ []
   pub used : (slot_of key').used ≡ (slot_of key).used
   pub active : active_of key' ≡ active_of key

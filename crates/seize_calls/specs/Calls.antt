@@ -8,7 +8,7 @@
 --                        are left
 --     Begins key pass job key' pass'     the call began with this job;  Puts key pass v key' pass'     it put v to the slot's batch
 --     Flushes key pass values key' pass' values' retired     a flush: it began, and then settled. Where the batch was empty no head was
---                                                            read
+--                        read
 --     RetiresOne key pass v values key' pass' values' retired     a retirement: it began, v was put, and then it settled. Where the batch
 --                        wasn't full no head was read
 --     Leaves job stays swap key pass key' pass'     a leave or a refresh: it began, the head was swapped out by this entry, each batch

@@ -1,6 +1,6 @@
 -- What a slot's holder keeps of the values of the slot's batch.
---     AreOf entries values     these are the entries of these values, in order: each has the number of the value's block, which fits beside
---                              2
+--     AreOf entries values     these are the entries of these values, in order: each has the number of the value's block, which fits
+--                              beside 2
 --     slots_of entries         the slots for which they stand, in order
 use Rattle.std.specs.Prelude.{◌≡◌, ℕ, ◌+◌, ◌<◌, ◌^◌, List, [], ◌∷◌, map}
 use Rattle.seize_book.specs.Blocks.{block_of}

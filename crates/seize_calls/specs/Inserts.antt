@@ -1,7 +1,7 @@
 -- How a call inserts the batch that it detached, at the slots that it marked, one after the other.
 --     Turn                   what a call did at one slot: the insertions lost there, and whether one was won or the slot was skipped
---     turn_at pass s m turn      its events, with the pass: before each try slot s read the head of slot m, last it won, or found m
---                                inactive
+--     turn_at pass s m turn      its events, with the pass: before each try slot s read the head of slot m; last it won, or found m
+--                            inactive
 --     turns_at pass s ms turns   those of a turn at each of these slots, in order;  won_in turns     how many insertions were won
 --     plan_in key b          how batch b was detached, as the slot's key knows
 --     Keeps key pass key' pass'  it is the same key and pass, and the slot's batch, whether it is in use and active, and its last

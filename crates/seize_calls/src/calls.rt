@@ -173,8 +173,8 @@ pub fn refresh<T: Drop, H: Hands>(
     requires last { IsLastOf key.old activation.old }
     ensures knows { Knows key.new pass.new }
     ensures last { IsLastOf key.new activation.new }
-    ensures leaves { let out = beginning pass.old activation.new.life (SwapOut (number_of key.old)) in
-        Leaves Refresh true out key.old pass.old key.new pass.new }
+    ensures leaves { let swap = beginning pass.old activation.new.life (SwapOut (number_of key.old)) in
+        Leaves Refresh true swap key.old pass.old key.new pass.new }
 {
     key.begin_refresh(pass);
     let word = head.refresh(activation, key, pass);
