@@ -5,6 +5,7 @@ pub mod Both
 pub mod Insertions
 pub mod Flushers
 pub mod Flushes
+pub mod JoinedRuns
 pub mod Leaves
 pub mod Passages
 pub mod Successors

@@ -7,8 +7,8 @@
 --     GoesOn pass pass'                it is the same pass, which has seen no less
 --     IsOutOrOver key v                the slot is not active any more; where its head's word was 1, its call has nothing more to do
 --     MayEnter words entrant           the slot is there and is outside, as its key and its pass know
---     MayRead words activation pass    the activation has begun, as the pass has seen: each link may be stepped on;  MayReadAll words
---                                      entered
+--     MayRead words activation pass    the activation has begun, as the pass has seen: each link may be stepped on
+--     MayReadAll words entered         so it is with the slot's own pass
 --     MayCross one two one' two'       where each could read the links with its own pass, each can with the other's
 use Rattle.std.specs.Prelude.{◌≡◌, ℕ, suc, ◌<◌, ◌≤◌, true, false, length}
 use mathlib.Core.List.{IsPrefix}

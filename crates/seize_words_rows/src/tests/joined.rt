@@ -1,7 +1,8 @@
-//! All words of one book, by number, shared by threads.
+//! All words of one book, found by their numbers: by one caller, and by threads that share them.
 ghost use Rattle.seize_words_rows.specs.Entrants.{HasLinks, MayEnter, MayRead, MayReadAll};
 
 use crate::entrants::{Entered, Entrant, LINKS, meet, open, read_under};
+use crate::joined_run;
 use seize_words::words::Words;
 use std::sync::Wait;
 use std::test::*;
@@ -10,6 +11,39 @@ use std::thread::Threads;
 
 // How often each thread swaps.
 const SWAPS: u64 = 5_000;
+
+// Two slots enter by their heads in the table. A value in a block of the store goes into one of two links, is found there, stays where an
+// exchange loses, and comes out where one wins. Both slots leave, and nothing waited.
+#[test]
+fn a_block_goes_through_a_link(rt: HostRuntime) {
+    let Some((words, mut finder, mut other, mut pass)) = joined_run::begin(rt.alloc()) else {
+        panic!(rt; "no memory");
+    };
+    let (first, second) = joined_run::enter(&words, &mut finder, &mut other, &mut pass);
+    let Some((before, block)) = joined_run::put_in(&words, 70, &second, &mut pass) else {
+        panic!(rt; "no memory");
+    };
+    let word = block.number() as u64 + 1;
+    assert_eq!(rt; (before, *block), (0, 70));
+    assert_eq!(rt;
+        joined_run::find(&words, &block, &first, &mut pass),
+        (0, word)
+    );
+    let Some(lost) = joined_run::lose(&words, &block, 71, &second, &mut pass) else {
+        panic!(rt; "no memory");
+    };
+    assert_eq!(rt; lost, (word, 71));
+    let (found, _) = joined_run::take_out(&words, &block, &second, &mut pass);
+    assert_eq!(rt; found, word);
+    assert_eq!(rt;
+        joined_run::leave(&words, 0, first, &mut finder, &mut pass),
+        1
+    );
+    assert_eq!(rt;
+        joined_run::leave(&words, 1, second, &mut other, &mut pass),
+        1
+    );
+}
 
 // Each of two threads swaps a value into one link and then waits for that of the other: it holds only where both run.
 #[test]

@@ -1,0 +1,181 @@
+//! A run over all words of one book, each found by its number. There are two slots, which enter by their heads in the table. The one puts
+//! the value of a block of the store into link 1, where the other finds it. An exchange loses there and another one wins, by which the
+//! value comes out. Then both leave, and nothing waited.
+//!
+//! As in `worked_run`, the book is open to one pass alone, so its holder knows the whole list, and the contracts say which words are found:
+//! they are those of the number that the store gave.
+ghost use Rattle.std.specs.Prelude.{◌≡◌, ◌+◌, ◌<◌, IfSome};
+ghost use Rattle.seize_book.specs.Others.{MayRetire, book_of};
+ghost use Rattle.seize_store.specs.Named.{bare_number, bare_value};
+ghost use Rattle.seize_words.specs.Joined.{words_book};
+ghost use Rattle.seize_words.specs.Named.{numbers_book};
+ghost use Rattle.seize_words.specs.Reserved.{HasNext};
+ghost use Rattle.seize_words.specs.Totals.{made_of};
+ghost use Rattle.seize_words_rows.specs.JoinedRuns.{HasBegun, HasTwo, IsInside, IsLeft, IsLinked, IsOut, Stay, both_in, one_made, opened, two_made};
+ghost use Rattle.seize_words_rows.specs.Stages.{Knows, Leads, Sees};
+
+use seize_store::Bare;
+use seize_words::activation::Activation;
+use seize_words::book::{NumbersKey, Pass, SlotKey, ValueKey};
+use seize_words::chunk::{Header, Part};
+use seize_words::link::MaybeKey;
+use seize_words::slots::NextSlot;
+use seize_words::words::Words;
+use std::alloc::Global;
+
+/// The words of a new book with two links, and two slots. It gives the key of the slot that finds, that of the other one, and the one pass.
+/// Nothing comes where memory was refused.
+pub fn begin(alloc: Global) -> Option<(Words<u64>, SlotKey, SlotKey, Pass)>
+    ensures words { IfSome result (λ begun. HasTwo begun.0) }
+    ensures finder { IfSome result (λ begun. Knows (words_book begun.0) begun.1 0 one_made) }
+    ensures other { IfSome result (λ begun. Leads (words_book begun.0) begun.3 begun.2 1 two_made) }
+{
+    let Ok((words, mut pass, numbers, next)) = Words::new_alone(alloc, 0, 2, 2) else {
+        return None;
+    };
+    let (finder, other) = make_slots(&words, numbers, next, &mut pass)?;
+    Some((words, finder, other, pass))
+}
+
+// Makes the slot that finds, and the other one.
+fn make_slots(
+    words: &Words<u64>,
+    numbers: NumbersKey,
+    next: NextSlot,
+    pass: &mut Pass,
+) -> Option<(SlotKey, SlotKey)>
+    requires empty { Sees (words_book words.now) pass.old opened × (numbers_book numbers ≡ words_book words.now) }
+    requires next { HasNext numbers next × (made_of numbers ≡ 0) }
+    ensures finder { IfSome result (λ made. Knows (words_book words.now) made.0 0 one_made) }
+    ensures other { IfSome result (λ made. Leads (words_book words.now) pass.new made.1 1 two_made) }
+{
+    let mut numbers = numbers;
+    let Ok((finder, next)) = words.make_slot(next, &mut numbers, pass) else {
+        return None;
+    };
+    let Ok((other, _)) = words.make_slot(next, &mut numbers, pass) else {
+        return None;
+    };
+    Some((finder, other))
+}
+
+/// Both slots enter.
+pub fn enter(
+    words: &Words<u64>,
+    finder: &mut SlotKey,
+    other: &mut SlotKey,
+    pass: &mut Pass,
+) -> (Activation, Activation)
+    requires finder { Knows (words_book words.now) finder.old 0 one_made }
+    requires other { Leads (words_book words.now) pass.old other.old 1 two_made }
+    ensures sees { Sees (words_book words.now) pass.new both_in }
+    ensures inside { IsInside (words_book words.now) finder.new 0 result.0 × IsInside (words_book words.now) other.new 1 result.1 }
+    ensures begun { HasBegun words.now result.0 pass.new 0 × HasBegun words.now result.1 pass.new 1 }
+{
+    let first = words.enter_head(0, finder, pass);
+    let second = words.enter_head(1, other, pass);
+    (first, second)
+}
+
+/// The value goes into a block of the store, and that into link 1. It gives the link's word before, and the block. Nothing comes where a
+/// growth of the store was refused.
+pub fn put_in(
+    words: &Words<u64>,
+    value: u64,
+    activation: &Activation,
+    pass: &mut Pass,
+) -> Option<(u64, Bare<Header, Part, u64>)>
+    requires words { HasTwo words.now × HasBegun words.now activation.now pass.old 1 }
+    requires sees { Sees (words_book words.now) pass.old both_in }
+    ensures found { IfSome result (λ put. (put.0 ≡ 0) × (bare_value put.1 ≡ value)) }
+    ensures begun { Stay words.now pass.old pass.new }
+    ensures linked { IfSome result (λ put. IsLinked words.now put.1 pass.new) }
+{
+    let Ok((key, block)) = words.blocks.add(value, pass) else {
+        return None;
+    };
+    let word = block.number() as u64 + 1;
+    let mut key = MaybeKey::some(key);
+    let before = words.swap_link(1, word, &mut key, activation, pass);
+    Some((before, block))
+}
+
+/// The slot that finds reads both links.
+pub fn find(
+    words: &Words<u64>,
+    _block: &Bare<Header, Part, u64>,
+    activation: &Activation,
+    pass: &mut Pass,
+) -> (u64, u64)
+    requires words { HasTwo words.now × HasBegun words.now activation.now pass.old 0 }
+    requires linked { IsLinked words.now _block.now pass.old }
+    ensures found { (result.0 ≡ 0) × (result.1 ≡ bare_number _block.now + 1) }
+    ensures begun { Stay words.now pass.old pass.new }
+    ensures linked { IsLinked words.now _block.now pass.new }
+{
+    let (first, _) = words.read_link(0, activation, pass);
+    let (second, _) = words.read_link(1, activation, pass);
+    (first, second)
+}
+
+/// An exchange at link 1 that takes it to be empty, and so loses. What would have gone in is in hand again: its block goes back into the
+/// store. It gives the word that was found, and the value. Nothing comes where a growth of the store was refused.
+pub fn lose(
+    words: &Words<u64>,
+    _block: &Bare<Header, Part, u64>,
+    value: u64,
+    activation: &Activation,
+    pass: &mut Pass,
+) -> Option<(u64, u64)>
+    requires words { HasTwo words.now × HasBegun words.now activation.now pass.old 1 }
+    requires linked { IsLinked words.now _block.now pass.old }
+    ensures found { IfSome result (λ lost. (lost.0 ≡ bare_number _block.now + 1) × (lost.1 ≡ value)) }
+    ensures begun { Stay words.now pass.old pass.new }
+    ensures linked { IsLinked words.now _block.now pass.new }
+{
+    let Ok((key, block)) = words.blocks.add(value, pass) else {
+        return None;
+    };
+    let word = block.number() as u64 + 1;
+    let mut key = MaybeKey::some(key);
+    let (found, _) = words.exchange_link(1, 0, word, &mut key, activation, pass);
+    Some((found, words.blocks.take_back(key.value(), block)))
+}
+
+/// An exchange at link 1 of what was found there, which wins: the value comes out. It gives the word that was found, and the value's key.
+pub fn take_out(
+    words: &Words<u64>,
+    block: &Bare<Header, Part, u64>,
+    activation: &Activation,
+    pass: &mut Pass,
+) -> (u64, ValueKey)
+    requires words { HasTwo words.now × HasBegun words.now activation.now pass.old 1 }
+    requires linked { IsLinked words.now block.now pass.old }
+    ensures found { result.0 ≡ bare_number block.now + 1 }
+    ensures out { IsOut words.now block.now result.1 pass.new × MayRetire result.1 }
+{
+    let mut none = MaybeKey::none(pass);
+    let seen = block.number() as u64 + 1;
+    let (found, _) = words.exchange_link(1, seen, 0, &mut none, activation, pass);
+    (found, none.value())
+}
+
+/// The slot leaves, after those with lower numbers. Nothing waits for it.
+pub fn leave(
+    words: &Words<u64>,
+    slot: usize,
+    activation: Activation,
+    key: &mut SlotKey,
+    pass: &mut Pass,
+) -> u64
+    requires slot { slot < 2 }
+    requires left { IsLeft words.now slot pass.old }
+    requires inside { IsInside (words_book words.now) key.old slot activation }
+    ensures found { result ≡ 1 }
+    ensures left { IsLeft words.now (slot + 1) pass.new }
+{
+    key.begin_leave(pass);
+    let word = words.swap_out(slot, activation, key, pass);
+    key.finish(pass);
+    word
+}
