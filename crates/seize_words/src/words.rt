@@ -14,6 +14,7 @@ use crate::slots::{NextSlot, Reservation, Slots};
 use seize_book::book::{Book, BookKeys, Keeps, NumbersKey, Pass, SlotKey, Unopened};
 use seize_store::Store;
 use seize_table::Refusal;
+use seize_table::thread_id::MAX_INDEX;
 use seize_table::tls::ThreadLocal;
 use std::alloc::Global;
 use std::marker::Brand;
@@ -61,7 +62,7 @@ impl<T: Drop> Words<T> {
         size: usize,
     ) -> Result<(Words<T>, NumbersKey, NextSlot), Refusal>
         ensures made { IfOk result (λ opened. OpensWords opened.0 opened.1 opened.2 links size) }
-        ensures refused { IfErr result (λ e. (e ≡ NoNumbers) ⊎ (e ≡ NoMemory)) }
+        ensures refused { IfErr result (λ e. ((e ≡ NoNumbers) × (MAX_INDEX < capacity)) ⊎ (e ≡ NoMemory)) }
     {
         let table = ThreadLocal::with_capacity(alloc, capacity)?;
         let (unopened, family) = Unopened::new();
@@ -82,7 +83,7 @@ impl<T: Drop> Words<T> {
         size: usize,
     ) -> Result<(Words<T>, Pass, NumbersKey, NextSlot), Refusal>
         ensures made { IfOk result (λ opened. OpensWordsAlone opened.0 opened.1 opened.2 opened.3 links size) }
-        ensures refused { IfErr result (λ e. (e ≡ NoNumbers) ⊎ (e ≡ NoMemory)) }
+        ensures refused { IfErr result (λ e. ((e ≡ NoNumbers) × (MAX_INDEX < capacity)) ⊎ (e ≡ NoMemory)) }
     {
         let table = ThreadLocal::with_capacity(alloc, capacity)?;
         let (unopened, family) = Unopened::new();

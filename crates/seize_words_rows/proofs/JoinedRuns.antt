@@ -13,9 +13,15 @@ use Rattle.seize_book.specs.Book.{after}
 use Rattle.seize_book.specs.Entry.{Entry}
 use Rattle.seize_book.specs.Slots.{number_of, own_list}
 use Rattle.seize_book.specs.Tokens.{IsSole, Name, start}
-use Rattle.seize_words.specs.Joined.{words_book}
-use Rattle.seize_words.specs.LinkWords.{Takes, held_before, number}
-use Rattle.seize_words.specs.Links.{compared, value_with}
+use Rattle.seize_book.specs.Books.{IsNextIn}
+use Rattle.seize_book.specs.Others.{book_of}
+use Rattle.seize_words.specs.Joined.{IsNewTo, words_book}
+use Rattle.seize_words.specs.LinkWords.{IsKeyIn, Takes, held_before, number}
+use Rattle.seize_words.specs.Links.{IsNewIn, compared, value_in, value_with}
+use Rattle.seize_book.specs.Homes.{IsVacant, home_of}
+use Rattle.seize_book.specs.Private.{label_of, own_of}
+use Rattle.seize_book.specs.declared.book.keys.Keys.{Keys}
+use Rattle.seize_words_rows.proofs.Lent.{value_of_one}
 use Rattle.seize_words.specs.Reserved.{MakesNext, next_key}
 use Rattle.seize_words.specs.Totals.{made_of, slots_seen}
 use Rattle.seize_words.specs.declared.activation.Activation.{Activation}
@@ -23,6 +29,8 @@ use Rattle.seize_book.specs.declared.book.numbers_key.NumbersKey.{NumbersKey}
 use Rattle.seize_book.specs.declared.book.pass.Pass.{Pass}
 use Rattle.seize_book.specs.declared.book.slot_key.SlotKey.{SlotKey}
 use Rattle.seize_words.specs.declared.link.Link.{Link}
+use Rattle.seize_words.specs.declared.link.MaybeKey.{MaybeKey}
+use Rattle.seize_book.specs.declared.book.value_key.ValueKey.{ValueKey}
 use Rattle.seize_words.specs.declared.slots.next.NextSlot.{NextSlot}
 use Rattle.seize_words_rows.specs.Entrants.{GoesOn, Shared}
 use Rattle.seize_words_rows.specs.JoinedRuns.{HasTwo, IsInside, Stay, both_in, left, leaving, linked, one_in, one_made, opened, swapped, two_made}
@@ -161,3 +169,17 @@ slots_there n pass m v sees less = subst (λ (k : ℕ). m < k) (sym (ap (λ (z :
     two : (m : ℕ) → length (leaving m v).state.slots ≡ 2
     two zero = refl
     two (suc m) = refl
+
+-- a new block's value may go into a link
+pub new_to : (n : Name) (value : ValueKey) (key : MaybeKey) (number word : ℕ) → IsKeyIn value key → book_of value ≡ n → IsNextIn value number → word ≡ number + 1 → IsNewTo n key word
+new_to n value key number word is book next shows =
+    let held = value.keys.held in let v : ℕ = label_of held in let word_is : word ≡ link_word (Some v) = shows ∙ (ap (λ (m : ℕ). m + 1) (sym next.2) ∙ (let e : block_of v + 1 ≡ link_word (Some v) = omega arith in e)) in
+    subst (λ (ks : Keys). (ks.name ≡ n) × IsNewIn (start n) (value_in ks.held) ks.held × (word ≡ link_word (value_in ks.held))) (sym is) (
+      book,
+      subst (λ (o : Option ℕ). IsNewIn (start n) o held) (sym (value_of_one held value.one)) (
+        (value.one, value.home, refl),
+        subst (λ (m : Name). has v (after (start m) (own_of held)).named ≡ false) book next.0,
+        subst (λ (m : Name). IsVacant (after (start m) (own_of held)) (home_of v)) book next.1,
+      ),
+      word_is ∙ ap link_word (sym (value_of_one held value.one)),
+    )

@@ -41,6 +41,7 @@ returns-then-entries-size-clause-retires g c =
       puts = retire_puts key one two pass pass1 pass2 v c.begin_retire.ensures.noted c.put.ensures.noted;
       pushed = c.push.new.self;
       all = pushed;
+      book = c.push.ensures.0;
       settles = only_returned two c.finish.new.self pass2 c.finish.new.pass c.push.new.self c.finish.ensures.noted;
     }
 
@@ -84,5 +85,6 @@ returns-clause-retires g c =
       puts = retire_puts key one two pass pass1 pass2 v c.begin_retire.ensures.noted c.put.ensures.noted;
       pushed = c.push.new.self;
       all = pushed;
+      book = c.push.ensures.0;
       settles = c.settle.ensures.settles;
     }

@@ -1,20 +1,29 @@
-use Rattle.std.proofs.Common.{◌≡◌, ℕ, Option, Some, sym, ap, ◌∙◌, subst}
+use Rattle.std.proofs.Common.{◌≡◌, ◌+◌, ℕ, Option, Some, refl, sym, ap, ◌∙◌, subst, arith}
 use Rattle.seize_machine.specs.Machine.Event.{ExchangeLink}
 use Rattle.seize_machine.specs.Machine.Next.{next}
 use Rattle.seize_machine.specs.declared.machine.event.Answer.TheVariants.{Link}
 use Rattle.seize_machine.specs.declared.machine.event.Exchange.TheVariants.{Compare}
 use Rattle.seize_book.specs.Others.{value_of}
 use Rattle.seize_book.specs.declared.book.keys.Keys.{Keys}
-use Rattle.seize_words.specs.Joined.{words_book}
+use Rattle.seize_book.specs.declared.book.pass.Pass.{Pass}
+use Rattle.seize_store.specs.Named.{bare_number}
+use Rattle.seize_words.specs.Joined.{IsInAt, words_book}
 use Rattle.seize_words.specs.LinkWords.{holds, number}
 use Rattle.seize_words.specs.Links.{compared, value_in}
 use Rattle.seize_words_rows.specs.JoinedRuns.{linked}
 use Rattle.seize_words_rows.specs.Stages.{Goes}
-use Rattle.seize_words_rows.proofs.JoinedRuns.{all_stay, asks_for_none, legal_here, loses, steps_at}
+use Rattle.seize_words_rows.proofs.JoinedRuns.{all_stay, asks_for_none, legal_here, loses, new_to, steps_at, within_two}
 use Rattle.seize_words_rows.proofs.Lent.{value_of_one}
 use Rattle.seize_words_rows.proofs.Shared.{goes_noted, goes_same}
 use Rattle.seize_words_rows.proofs.Stages.{sees_still}
 use Rattle.seize_words_rows.proofs.joined_run.lose.Goals as goal
+
+pub exchange_link-found-requires : goal.exchange_link-found-requires
+exchange_link-found-requires c =
+    let words = c.args.words.now in let add = c.add in let made = c.in-Ok.ensures.made in let pass = sym add.ensures.pass in
+    let in_ = subst (λ (p : Pass). IsInAt c.args.activation.now p 1) pass (c.requires.words.1.0.1 1 (within_two words c.args.pass.now 1 c.requires.words.0 c.requires.words.1.0.0 (omega arith))) in
+    let new = new_to (words_book words) c.in-Ok.key c.some-key.result (bare_number c.in-Ok.block) (c.number.result + 1) c.some-key.ensures made.book made.next (ap (λ (m : ℕ). m + 1) c.number.ensures) in
+    (omega arith, (c.requires.words.1.0.0 ∙ ap (λ (p : Pass). p.name) pass, (in_, new)))
 
 pub returns-clause-begun : goal.returns-clause-begun
 returns-clause-begun c =
