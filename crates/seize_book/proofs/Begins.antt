@@ -21,7 +21,7 @@ use Rattle.seize_book.specs.Ledger.{Held, logs, halved, roster, rosters, rights,
 use Rattle.seize_book.specs.Entry.{Entry, entry_coded}
 use Rattle.seize_book.specs.Book.{Kept, Sized, mine, kind_of, rules, passes, numbers, slots, heads, links, totals, kinds}
 use Rattle.seize_book.specs.Homes.{IsSound}
-use Rattle.seize_book.specs.Tokens.{Name, Gate, many, sole, IsSole, rows, start, inside, beside, called, uncalled, name_coded, gate_keeps, gate_gives, all_lead, all_lie, rights_own, keys_own, pass_at, pass_holds}
+use Rattle.seize_book.specs.Tokens.{AllLentIn, Name, Gate, many, sole, IsSole, rows, start, inside, beside, called, uncalled, name_coded, gate_keeps, gate_gives, all_lead, all_lie, rights_own, keys_own, pass_at, pass_holds}
 use Rattle.seize_book.specs.Begin.{BeganWith, unused, first_links, first_keys, book_owns}
 use Rattle.seize_book.proofs.Append.{grown, borns, has_grown, shut, sizes, grown_sizes}
 use Rattle.seize_book.specs.Chains.{told}
@@ -75,6 +75,9 @@ abbrev sizes_before : ℕ → ℕ
 sizes_before = bumped heads (bumped slots (bumped totals (bumped numbers (bumped passes (sizes {E = Entry} [])))))
 
 -- no value was named
+none_lent : (m : Name) (n : ℕ) → AllLentIn m (linked (empty n))
+none_lent m n v named = absurd (let x : has v [] ≡ true = ap (has v) (sym (none_linked n)) ∙ named in cc)
+
 sound_first : (n : ℕ) → IsSound (opening 0 (empty n))
 sound_first n = record { one = λ v w home a b c d. absurd (let x : has v [] ≡ true = ap (has v) (sym (none_linked n)) ∙ a in cc); few = omega arith }
 
@@ -171,7 +174,8 @@ module _ {M : Type 1} {𝓤 : Ura M} (𝓛 : Logic 𝓤) where
         move ! (5 ∷ []) $ use1 𝓛 (later (‵ (rosters entry_coded (rows n₀) (grown [] bs [])) ⊛ ‵ (rights entry_coded (rows n₀) (born bs []))))
         (via 𝓤 _ (borns entry_coded (rules st) (beside n₀) η (rows n₀) 𝓛 [] bs [] (omega arith, (omega arith, (omega arith, (omega arith, (omega arith, below_links 0 n))))) (refl, (refl, (refl, (refl, (refl, next_links 0 n sizes_before refl)))))) (basic 𝓛 _)) $ await ! tt $ split ! $
         -- [the rosters; the rights; the book's copy; the pass's; nothing was reached, twice; the list]
-        use0 𝓛 (‵ (all_lie n₀ 0)) (none_lie 𝓛 n₀) $ nothing ! $ rewrite ! 0 (λ (vs : List ℕ). ‵ (all_lead n₀ vs)) (sym (none_linked n)) refl $ fjoin ! $ move ! (3 ∷ 0 ∷ []) $ fjoin ! $
+        use0 𝓛 (‵ (all_lie n₀ 0)) (none_lie 𝓛 n₀) $ nothing ! $ fpack ! (AllLentIn n₀ (linked (empty n))) (λ _. ftrue) (none_lent n₀ n) $ move ! (1 ∷ 0 ∷ []) $ fjoin ! $
+        nothing ! $ rewrite ! 0 (λ (vs : List ℕ). ‵ (all_lead n₀ vs)) (sym (none_linked n)) refl $ fjoin ! $ move ! (3 ∷ 0 ∷ []) $ fjoin ! $
         nothing ! $ move ! (0 ∷ 1 ∷ []) $ fjoin ! $ move ! (1 ∷ 6 ∷ 0 ∷ []) $ use3 𝓛 (‵ (inside n₀)) (shut entry_coded (rules st) (beside n₀) η (rows n₀) 𝓛 (grown [] bs []) [] (holds_first n)) $
         use1 𝓛 (later (some (λ (j : ℕ). given (0 ≤ j) (‵ (fnamed j (inside n₀)))))) (named_past 𝓛 0 (inside n₀)) $ await ! tt $ pick ! (λ j. learn ! (λ _. let m : Name = record n₀ { number = j } in
         -- [the invariant; the rights; the pass's copy; nothing was reached, twice; what the family says, which is nothing yet]

@@ -16,11 +16,12 @@ use Rattle.seize_book.specs.Book.{IsLegalList, Kept, TheBlock, after, blocks, ki
 use Rattle.seize_book.specs.Fair.{Before, Covers, Fair, IsLabel, MayAdd, pass_key}
 use Rattle.seize_book.specs.Homes.{HasOne, IsVacant, home_of}
 use Rattle.seize_book.specs.Books.{IsNextIn}
+use Rattle.seize_book.specs.Lending.{IsLentInBook}
 use Rattle.seize_book.specs.Values.{AreLast, AreOfBook, AllNew, AreNew, AreSpent, IsEmpty, IsKeyOfOne, LieApart, Nexts, Pushes, book_in, values_of}
 use Rattle.seize_book.specs.Others.{CannotRetire, IsLast, IsLastIn, IsSpent, IsWith, Knew, book_of, state_of, value_of}
 use Rattle.seize_book.specs.Private.{is_one, key_of, label_of, own_of, are_of_blocks, labels_of}
 use Rattle.seize_book.specs.Slots.{IsOf, hands_next, number_of, slot_of}
-use Rattle.seize_book.specs.Tokens.{Name, start}
+use Rattle.seize_book.specs.Tokens.{IsLentIn, Name, start}
 use Rattle.seize_book.specs.declared.book.keys.Keys.{Keys}
 use Rattle.seize_book.specs.declared.book.pass.Pass.{Pass}
 use Rattle.seize_book.specs.declared.book.slot_key.SlotKey.{SlotKey}
@@ -111,6 +112,15 @@ is_label (x ∷ held) v are h = go (x.label == v) refl (is_label held v) h
     go : (b : Bool) → (x.label == v) ≡ b → (are_of_blocks held ≡ true → has v (labels_of held) ≡ true → IsLabel held v) → (b || has v (labels_of held)) ≡ true → ((x.kind ≡ blocks) × (x.label ≡ v)) ⊎ IsLabel held v
     go true e rest h = inl (its.0, eq_true x.label v e)
     go false e rest h = inr (rest its.2 h)
+
+-- with each of their values something is lent where it has to be
+lent_of : (n : Name) (held : List (Held Entry)) (v : ℕ) → AllNew n held → has v (labels_of held) ≡ true → IsLentIn n v
+lent_of n [] v new h = absurd (cc)
+lent_of n (x ∷ held) v new h = go (x.label == v) refl (lent_of n held v new.1) h
+  where
+    go : (b : Bool) → (x.label == v) ≡ b → (has v (labels_of held) ≡ true → IsLentIn n v) → (b || has v (labels_of held)) ≡ true → IsLentIn n v
+    go true e rest h = subst (IsLentIn n) (eq_true x.label v e) new.0.2
+    go false e rest h = rest h
 
 -- what they know of their values still holds
 module _ (n : Name) (log : List Entry) (legal : IsLegalList (start n) log) where
@@ -221,7 +231,7 @@ module _ (n : Name) (p size : ℕ) (seen : List Entry) (a b : List (Held Entry))
     all_vacant : (u : ℕ) → has u puts ≡ true → IsVacant here (home_of u)
     all_vacant u h = vacant n log before.legal b u are before.kept.1 new h
 
-    fair : (mine : List Entry) → Fair (start n) (pass_key p mine ∷ (only slots a ++ b)) log (Made entry)
+    fair : (mine : List Entry) → Fair n (pass_key p mine ∷ (only slots a ++ b)) log (Made entry)
     fair mine = record {
       done = then_;
       legal = legal;
@@ -229,7 +239,7 @@ module _ (n : Name) (p size : ℕ) (seen : List Entry) (a b : List (Held Entry))
       names = λ many was there. (there.0, (λ k le. refl), (λ k le. none_past b many k are there.1.1 le), λ f le. refl);
       one = one_each size here (key_of a) goes.0 puts step apart all_vacant;
       leads = tt;
-      labels = λ u named. ⊎_elim (λ was. inl was) (λ put. inr (inr (inr (is_label b u are put)))) (either here.named puts u named);
+      labels = λ u named. ⊎_elim (λ was. inl was) (λ put. inr (inr (inr (is_label b u are put)), lent_of n b u new put)) (either here.named puts u named);
       places = λ makes. absurd (cc);
     }
 
@@ -300,24 +310,24 @@ append_new n [] more all new = new
 append_new n (h ∷ held) more all new = (all.0, append_new n held more all.1 new)
 
 -- the key of one value alone
-one_new : (n : Name) (held : List (Held Entry)) → is_one blocks held ≡ true → has (label_of held) (after (start n) (own_of held)).named ≡ false → IsVacant (after (start n) (own_of held)) (home_of (label_of held)) → AllNew n held
-one_new n [] one unnamed vacant = absurd (cc)
-one_new n (h ∷ g ∷ held) one unnamed vacant = absurd (cc)
-one_new n (h ∷ []) one unnamed vacant = ((unnamed, vacant), tt)
+one_new : (n : Name) (held : List (Held Entry)) → is_one blocks held ≡ true → has (label_of held) (after (start n) (own_of held)).named ≡ false → IsVacant (after (start n) (own_of held)) (home_of (label_of held)) → IsLentIn n (label_of held) → AllNew n held
+one_new n [] one unnamed vacant lent = absurd (cc)
+one_new n (h ∷ g ∷ held) one unnamed vacant lent = absurd (cc)
+one_new n (h ∷ []) one unnamed vacant lent = ((unnamed, vacant, lent), tt)
 
 pub none_new : (keys : ValueKeys) (pass : Pass) → IsEmpty keys pass → AreNew keys
 none_new keys pass none = subst (AllNew (book_in keys)) (sym none.1) tt
 
-pub first_new : (value : ValueKey) (keys : ValueKeys) (number : ℕ) → IsKeyOfOne value keys → IsNextIn value number → AreNew keys
-first_new value keys number is new =
-    subst (λ (ks : Keys). AllNew ks.name ks.held) (sym is.0) (one_new (book_of value) value.keys.held value.one new.0 new.1)
+pub first_new : (value : ValueKey) (keys : ValueKeys) (number : ℕ) → IsKeyOfOne value keys → IsNextIn value number → IsLentInBook value → AreNew keys
+first_new value keys number is new lent =
+    subst (λ (ks : Keys). AllNew ks.name ks.held) (sym is.0) (one_new (book_of value) value.keys.held value.one new.0 new.1 lent)
 
 -- and of one more
-pub pushed_new : (keys : ValueKeys) (value : ValueKey) (keys' : ValueKeys) (number : ℕ) → Pushes keys value keys' → book_of value ≡ book_in keys → AreNew keys → IsNextIn value number → AreNew keys'
-pushed_new keys value keys' number pushes book all new =
+pub pushed_new : (keys : ValueKeys) (value : ValueKey) (keys' : ValueKeys) (number : ℕ) → Pushes keys value keys' → book_of value ≡ book_in keys → AreNew keys → IsNextIn value number → IsLentInBook value → AreNew keys'
+pushed_new keys value keys' number pushes book all new lent =
     subst (λ (t : Name × List (Held Entry)). AllNew t.0 t.1) (λ j. (sym pushes.0 j, sym pushes.2 j))
     (append_new (book_in keys) keys.keys.held value.keys.held all
-    (subst (λ (n : Name). AllNew n value.keys.held) book (one_new (book_of value) value.keys.held value.one new.0 new.1)))
+    (subst (λ (n : Name). AllNew n value.keys.held) book (one_new (book_of value) value.keys.held value.one new.0 new.1 lent)))
 
 -- The key of the first of some values that were put knows what they all know.
 

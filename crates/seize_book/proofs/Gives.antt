@@ -57,7 +57,7 @@ may_turn n p seen a b e one one' zero_is pe turns ends starts goes =
     (subst (λ (hs : List (Held Entry)). MayAdd n p seen (only slots a ++ hs) e) (sym (only_is numbers b one'))
     ((omega arith, (omega arith, tt)), ends, starts, fair))
   where
-    fair : (mine log : List Entry) → Before n p seen (only slots a ++ only numbers b) log → Fair (start n) (pass_key p mine ∷ (only slots a ++ only numbers b)) log (Made e)
+    fair : (mine log : List Entry) → Before n p seen (only slots a ++ only numbers b) log → Fair n (pass_key p mine ∷ (only slots a ++ only numbers b)) log (Made e)
     fair mine log before = let does = goes log before in
         record {
           done = does.0;
@@ -66,7 +66,7 @@ may_turn n p seen a b e one one' zero_is pe turns ends starts goes =
           names = λ many was there. (subst (λ (z : ℕ). z < many 0) (sym pe) there.0, (λ j le. (turns.1 (after (start n) log) j).0), (λ j le. (turns.1 (after (start n) log) j).1), λ f le. refl);
           one = none_named e.size (after (start n) log) e.event does.0 (step_of _ _ _ _ does.1) (λ j. (turns.1 (after (start n) log) j).1);
           leads = unled (after (start n) log) (plans (start n) log) (told log) e.event (λ j. (turns.0 j).1);
-          labels = no_labels (pass_key p mine ∷ (only slots a ++ only numbers b)) e.size (after (start n) log) e.event does.0 (step_of _ _ _ _ does.1) (λ j. (turns.1 (after (start n) log) j).1);
+          labels = no_labels n (pass_key p mine ∷ (only slots a ++ only numbers b)) e.size (after (start n) log) e.event does.0 (step_of _ _ _ _ does.1) (λ j. (turns.1 (after (start n) log) j).1);
           places = no_place (after (start n) log) (pass_key p mine ∷ (only slots a ++ only numbers b)) (Made e) does.2;
         }
 

@@ -183,7 +183,7 @@ lengths st log (Used u) d l h =
     let slots_same : length (after st (log ++ Used u ∷ [])).slots ≡ length (after st log).slots = ap (λ (z : State). length z.slots) same in
     (omega (arith, slots_same), ap (λ (z : State). length z.links) same)
 
-sizes : (n : Name) → are_distinct (linked n.links) ≡ true → (held : List (Held Entry)) (log : List Entry) (e : Entry) (many : ℕ → ℕ) → IsLegalList (start n) log → (f : Fair (start n) held log e) → HasOne (after (start n) log)
+sizes : (n : Name) → are_distinct (linked n.links) ≡ true → (held : List (Held Entry)) (log : List Entry) (e : Entry) (many : ℕ → ℕ) → IsLegalList (start n) log → (f : Fair n held log e) → HasOne (after (start n) log)
     → ((r : ℕ) → Sized (start n) (kind_of r) (many r) log) → AllThere many held → Sizes (start n) log e many (slots_by (after (start n) log) e)
 sizes n distinct held log e many l f has_one was there =
     let named = f.names many was there in let same = lengths (start n) log e f.done l f.legal in
@@ -198,8 +198,8 @@ sizes n distinct held log e many l f has_one was there =
       none_told = λ i le. sym (same_push n distinct log log e f.done TheField i l has_one f.leads f.legal (named.3 i le) refl) ∙ was fields i le;
     }
 
-abbrev pub Can : State → List (Held Entry) → List Entry → (List Entry → Entry) → (List Entry → Type 0) → Type 0
-Can st held seen ev Told = (log : List Entry) → Known (rules st) held seen log → Told log → Fair st held log (ev log)
+abbrev pub Can : Name → List (Held Entry) → List Entry → (List Entry → Entry) → (List Entry → Type 0) → Type 0
+Can n held seen ev Told = (log : List Entry) → Known (rules (start n)) held seen log → Told log → Fair n held log (ev log)
 
 abbrev pub births_of : State → (List Entry → Entry) → List Entry → List (ℕ × ℕ)
 births_of st ev log = births_by (after st log) (ev log)
@@ -207,7 +207,7 @@ births_of st ev log = births_by (after st log) (ev log)
 prefix_push : (own log : List Entry) (e : Entry) → IsPrefix own log → IsPrefix own (log ++ e ∷ [])
 prefix_push own log e p = (p.0 ++ e ∷ [], sym (append_assoc own p.0 (e ∷ [])) ∙ ap (λ (l : List Entry). l ++ e ∷ []) p.1)
 
-pub goes : (n : Name) → are_distinct (linked n.links) ≡ true → (held : List (Held Entry)) (seen : List Entry) (ev : List Entry → Entry) (Told : List Entry → Type 0) → Can (start n) held seen ev Told
+pub goes : (n : Name) → are_distinct (linked n.links) ≡ true → (held : List (Held Entry)) (seen : List Entry) (ev : List Entry → Entry) (Told : List Entry → Type 0) → Can n held seen ev Told
     → Goes (rules (start n)) held seen ev (births_of (start n) ev) Told
 goes n distinct held seen ev Told can log known told_ =
     let st : State = start n in let e = ev log in let f = can log known told_ in let legal = known.0.0 in let sound = known.0.1 in (

@@ -40,3 +40,4 @@ pub mod Meets
 pub mod Sent
 pub mod Loans
 pub mod Lending
+pub mod LentValues

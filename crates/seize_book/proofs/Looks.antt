@@ -14,14 +14,13 @@ use Rattle.seize_book.specs.Entry.{Entry, entry_coded}
 use denote.RawPtr.{Ptr}
 use Rattle.seize_store.specs.Known.{IsRowIn, known_row, tells as chunk_tells}
 use Rattle.seize_book.specs.Blocks.{block_of}
-use Rattle.seize_book.specs.Homes.{home_of}
 use Rattle.seize_book.proofs.Sound.{named_later}
 use Rattle.seize_book.specs.Book.{after, IsLegalList, mine, rules, kinds}
 use Rattle.seize_book.specs.Fair.{Before, pass_key}
 use Rattle.seize_book.specs.Laws.{ended, IsIn}
 use Rattle.seize_book.specs.Passes.{LooksOn}
 use Rattle.seize_table.specs.Filled.{all_filled}
-use Rattle.seize_book.specs.Tokens.{leads, leads_in, told_of, Name, rows, start, beside, inside, knows, all_lead, all_lie, all_lie_in, slot_labels, found, keys_own, rights_own, over, IsSole, gate_keeps, gate_gives, pass_at, pass_holds, pass_owns}
+use Rattle.seize_book.specs.Tokens.{AllLentIn, leads, leads_in, told_of, Name, rows, start, beside, inside, knows, all_lead, all_lie, all_lie_in, slot_labels, found, keys_own, rights_own, over, IsSole, gate_keeps, gate_gives, pass_at, pass_holds, pass_owns}
 use Rattle.seize_book.proofs.Append.{Renewed, looks_beside, renews}
 use Rattle.seize_book.proofs.Gates.{agrees, gives_as}
 use Rattle.seize_book.proofs.Goes.{kept_now}
@@ -29,7 +28,7 @@ use Rattle.seize_book.proofs.Notes.{distinct_links, knows_twice, opens}
 use Rattle.seize_book.proofs.Passes.{IsDistinct}
 use Rattle.seize_book.proofs.Lives.{ended_grows, over_one}
 use Rattle.seize_book.proofs.Tables.{all_lie_twice}
-use Rattle.seize_book.proofs.Ways.{AreIn, all_in, all_twice, one_leads, keys_apart, keys_whole, ways, ways_renewed}
+use Rattle.seize_book.proofs.Ways.{AreIn, found_lent, all_in, all_twice, one_leads, keys_apart, keys_whole, ways, ways_renewed}
 
 -- the pass has seen more, and nothing was made with it
 pub looked : (n : Name) (p : ℕ) (seen log : List Entry) → Before n p seen [] log → are_distinct (linked n.links) ≡ true → LooksOn (record { marker = record {}; name = n; id = p; seen = seen }) (record { marker = record {}; name = n; id = p; seen = log })
@@ -40,6 +39,7 @@ looked n p seen log before distinct = record {
   alone = before.alone;
   legal = before.legal;
   sound = before.sound;
+  lent = before.lent;
   distinct = distinct;
 }
 
@@ -100,15 +100,19 @@ module _ {M : Type 1} {𝓤 : Ura M} (𝓛 : Logic 𝓤) (n : Name) (p : ℕ) wh
     abbrev alone : List Entry → Type 0
     alone log = IsSole n.gate → log ≡ seen
 
-    -- the gate tells a pass that is alone that it has seen all
-    tells : (own log : List Entry) → Known (rules st) (pass_key p own ∷ held) seen log → ⟦ beside n log ⟧ ∗ ⟦ gives seen ⟧ ⊢ guard 𝓤 (alone log) (⟦ beside n log ⟧ ∗ ⟦ gives seen ⟧)
-    tells own log known = qed 𝓛 (‵ (beside n log) ∷ ‵ (gives seen) ∷ []) ∵ fsplit ! $ move ! (1 ∷ []) $ fsplit ! $ move ! (0 ∷ 3 ∷ []) $
-        use2 𝓛 (given (alone log) (‵ (gate_keeps n.gate log) ⊛ ‵ (gives seen))) (agrees 𝓛 n.gate log seen) $ learn ! (λ same. check ! same $ split ! $
-        -- [the book's copy; the pass's; where all is found; what has ended]
-        move ! (0 ∷ 2 ∷ []) $ fjoin ! $ move ! (2 ∷ 0 ∷ []) $ fjoin ! $ done !)
+    -- the gate tells a pass that is alone that it has seen all; and with each value that was named something is lent where it has to be
+    abbrev Now : List Entry → Type 0
+    Now log = alone log × AllLentIn n (after st log).named
 
-    before : (own log : List Entry) → mine st p own ≡ mine st p seen → Known (rules st) (pass_key p own ∷ held) seen log → alone log → Before n p seen held log
-    before own log past known same = record { legal = known.0.0; sound = known.0.1; chained = known.0.2; grows = known.1; none_made = sym known.2.0.1 ∙ past; kept = known.2.1; alone = same }
+    tells : (own log : List Entry) → Known (rules st) (pass_key p own ∷ held) seen log → ⟦ beside n log ⟧ ∗ ⟦ gives seen ⟧ ⊢ guard 𝓤 (Now log) (⟦ beside n log ⟧ ∗ ⟦ gives seen ⟧)
+    tells own log known = qed 𝓛 (‵ (beside n log) ∷ ‵ (gives seen) ∷ []) ∵ fsplit ! $ move ! (1 ∷ []) $ fsplit ! $ move ! (0 ∷ 3 ∷ []) $
+        use2 𝓛 (given (alone log) (‵ (gate_keeps n.gate log) ⊛ ‵ (gives seen))) (agrees 𝓛 n.gate log seen) $ learn ! (λ same. split ! $
+        -- [the book's copy; the pass's; where all is found; what has ended]
+        move ! (2 ∷ []) $ use1 𝓛 (given (AllLentIn n (after st log).named) (‵ (found n (after st log)))) (found_lent 𝓛 n (after st log)) $ learn ! (λ lent. check ! (same, lent) $
+        move ! (1 ∷ 0 ∷ []) $ fjoin ! $ move ! (2 ∷ 0 ∷ []) $ fjoin ! $ done !))
+
+    before : (own log : List Entry) → mine st p own ≡ mine st p seen → Known (rules st) (pass_key p own ∷ held) seen log → Now log → Before n p seen held log
+    before own log past known now_ = record { legal = known.0.0; sound = known.0.1; chained = known.0.2; grows = known.1; none_made = sym known.2.0.1 ∙ past; kept = known.2.1; alone = now_.0; lent = now_.1 }
 
     -- where the invariant is open already; the keys stay as they are
     abbrev pub Peeked : List Entry → Pr
@@ -119,11 +123,11 @@ module _ {M : Type 1} {𝓤 : Ura M} (𝓛 : Logic 𝓤) (n : Name) (p : ℕ) wh
         use1 𝓛 (some (λ (own : List Entry). given (Idle own seen) (‵ (rights (pass_key p own ∷ [])) ⊛ ‵ (had seen) ⊛ ‵ (gives seen)))) (apart seen) $ pick ! (λ own. learn ! (λ past. split3 ! $ fsplit ! $ move ! (1 ∷ []) $ drop ! $
         -- [its key; what it has seen; its copy; the rights; the ways; J]
         move ! (0 ∷ 3 ∷ []) $ fjoin ! $ move ! (1 ∷ 2 ∷ []) $ join ! $ move ! (3 ∷ 1 ∷ 0 ∷ []) $
-        use3 𝓛 (some (λ (log : List Entry). given (Known (rules st) (pass_key p own ∷ held) seen log × alone log) (‵ J ⊛ ‵ (rights (pass_key p own ∷ held)) ⊛ ‵ (had log) ⊛ ‵ (gives seen))))
-        (looks_beside entry_coded (rules st) (beside n) n.log (rows n) 𝓛 (pass_key p own ∷ held) seen alone ⟦ gives seen ⟧ (λ _. ⟦ gives seen ⟧) (omega arith, within) (tells own)) $
+        use3 𝓛 (some (λ (log : List Entry). given (Known (rules st) (pass_key p own ∷ held) seen log × Now log) (‵ J ⊛ ‵ (rights (pass_key p own ∷ held)) ⊛ ‵ (had log) ⊛ ‵ (gives seen))))
+        (looks_beside entry_coded (rules st) (beside n) n.log (rows n) 𝓛 (pass_key p own ∷ held) seen Now ⟦ gives seen ⟧ (λ _. ⟦ gives seen ⟧) (omega arith, within) (tells own)) $
         pick ! (λ log. learn ! (λ known. let b = before own log past.1 known.0 known.1 in split ! $ move ! (1 ∷ []) $ split3 ! $
         -- [the rights; what was reached; its copy; J; the ways]
-        move ! (2 ∷ []) $ use1 𝓛 (‵ (gives log)) (gives_as 𝓛 n.gate seen log (λ s. sym (known.1 s))) $ move ! (1 ∷ []) $ fsplit ! $
+        move ! (2 ∷ []) $ use1 𝓛 (‵ (gives log)) (gives_as 𝓛 n.gate seen log (λ s. sym (known.1.0 s))) $ move ! (1 ∷ []) $ fsplit ! $
         -- [its key; the rights; its copy; what was reached; J; the ways]
         move ! (1 ∷ 5 ∷ []) $ use2 𝓛 (‵ (keys held)) (keys_whole 𝓛 n held) $
         nothing ! $ move ! (2 ∷ 0 ∷ []) $ fjoin ! $ move ! (0 ∷ 3 ∷ 2 ∷ []) $ use3 𝓛 (‵ (pass_holds n p log)) (together log own (known.0.2.0.0, known.0.2.0.1)) $
@@ -138,14 +142,15 @@ module _ {M : Type 1} {𝓤 : Ura M} (𝓛 : Logic 𝓤) (n : Name) (p : ℕ) wh
       abbrev pub Asks : Type 1
       Asks = (log : List Entry) → IsPrefix seen log → IsLegalList st log → ⟦ all log ⟧ ∗ X ⊢ guard 𝓤 (Told log) (⟦ all log ⟧ ∗ Y log)
 
-      tells_more : Asks → (own log : List Entry) → Known (rules st) (pass_key p own ∷ held) seen log → ⟦ beside n log ⟧ ∗ (⟦ gives seen ⟧ ∗ X) ⊢ guard 𝓤 (alone log × Told log) (⟦ beside n log ⟧ ∗ (⟦ gives seen ⟧ ∗ Y log))
+      tells_more : Asks → (own log : List Entry) → Known (rules st) (pass_key p own ∷ held) seen log → ⟦ beside n log ⟧ ∗ (⟦ gives seen ⟧ ∗ X) ⊢ guard 𝓤 (Now log × Told log) (⟦ beside n log ⟧ ∗ (⟦ gives seen ⟧ ∗ Y log))
       tells_more asks own log known = qed 𝓛 (‵ (beside n log) ∷ (‵ (gives seen) ⊛ raw X) ∷ []) ∵ fsplit ! $ move ! (1 ∷ []) $ fsplit ! $ move ! (3 ∷ []) $ split ! $
           -- [the pass's copy; X; the book's copy; where all is found; what has ended]
           move ! (3 ∷ 1 ∷ []) $ use2 𝓛 (given (Told log) (‵ (all log) ⊛ raw (Y log))) (asks log known.1 known.0.0) $ learn ! (λ told. split ! $
           -- [where all is found; Y; the pass's copy; the book's; what has ended]
-          move ! (3 ∷ 2 ∷ []) $ use2 𝓛 (given (alone log) (‵ (gate_keeps n.gate log) ⊛ ‵ (gives seen))) (agrees 𝓛 n.gate log seen) $ learn ! (λ same. check ! (same, told) $ split ! $
+          use1 𝓛 (given (AllLentIn n (after st log).named) (‵ (all log))) (found_lent 𝓛 n (after st log)) $ learn ! (λ lent.
+          move ! (3 ∷ 2 ∷ []) $ use2 𝓛 (given (alone log) (‵ (gate_keeps n.gate log) ⊛ ‵ (gives seen))) (agrees 𝓛 n.gate log seen) $ learn ! (λ same. check ! ((same, lent), told) $ split ! $
           -- [the book's copy; the pass's; where all is found; Y; what has ended]
-          move ! (0 ∷ 2 ∷ []) $ fjoin ! $ move ! (3 ∷ 0 ∷ []) $ fjoin ! $ move ! (1 ∷ 2 ∷ []) $ join ! $ move ! (1 ∷ 0 ∷ []) $ done !))
+          move ! (0 ∷ 2 ∷ []) $ fjoin ! $ move ! (3 ∷ 0 ∷ []) $ fjoin ! $ move ! (1 ∷ 2 ∷ []) $ join ! $ move ! (1 ∷ 0 ∷ []) $ done !)))
 
       -- where more is told of the values that were named alone
       abbrev pub AsksValues : Type 1
@@ -169,12 +174,12 @@ module _ {M : Type 1} {𝓤 : Ura M} (𝓛 : Logic 𝓤) (n : Name) (p : ℕ) wh
           use1 𝓛 (some (λ (own : List Entry). given (Idle own seen) (‵ (rights (pass_key p own ∷ [])) ⊛ ‵ (had seen) ⊛ ‵ (gives seen)))) (apart seen) $ pick ! (λ own. learn ! (λ past. split3 ! $ fsplit ! $ move ! (1 ∷ []) $ drop ! $
           -- [its key; what it has seen; its copy; J; the book; the rights; the ways; X]
           move ! (0 ∷ 5 ∷ []) $ fjoin ! $ move ! (2 ∷ 6 ∷ []) $ join ! $ move ! (2 ∷ 0 ∷ []) $ join ! $ move ! (2 ∷ 1 ∷ 0 ∷ []) $
-          use3 𝓛 (raw (upd 𝓤 (ex 𝓤 (Renewed entry_coded (rules st) (beside n) n.log (rows n) 𝓛 (pass_key p own ∷ held) seen (λ log. alone log × Told log) (λ log. ⟦ gives seen ⟧ ∗ Y log)))))
-          (renews entry_coded (rules st) (beside n) n.log (rows n) 𝓛 (pass_key p own ∷ held) seen (λ log. alone log × Told log) (⟦ gives seen ⟧ ∗ X) (λ log. ⟦ gives seen ⟧ ∗ Y log) (omega arith, within) (kept_now st) (tells_more asks own)) $
-          settle 𝓛 (⟦ J ⟧ ∗ Z) (some (λ (log : List Entry). given (Known (rules st) (pass_key p own ∷ held) seen log × (alone log × Told log)) (‵ J ⊛ ‵ (rights (renewed (pass_key p own ∷ held) log)) ⊛ ‵ (had log) ⊛ (‵ (gives seen) ⊛ raw (Y log))))) $
+          use3 𝓛 (raw (upd 𝓤 (ex 𝓤 (Renewed entry_coded (rules st) (beside n) n.log (rows n) 𝓛 (pass_key p own ∷ held) seen (λ log. Now log × Told log) (λ log. ⟦ gives seen ⟧ ∗ Y log)))))
+          (renews entry_coded (rules st) (beside n) n.log (rows n) 𝓛 (pass_key p own ∷ held) seen (λ log. Now log × Told log) (⟦ gives seen ⟧ ∗ X) (λ log. ⟦ gives seen ⟧ ∗ Y log) (omega arith, within) (kept_now st) (tells_more asks own)) $
+          settle 𝓛 (⟦ J ⟧ ∗ Z) (some (λ (log : List Entry). given (Known (rules st) (pass_key p own ∷ held) seen log × (Now log × Told log)) (‵ J ⊛ ‵ (rights (renewed (pass_key p own ∷ held) log)) ⊛ ‵ (had log) ⊛ (‵ (gives seen) ⊛ raw (Y log))))) $
           suffices ! _ (upd_i 𝓤 (⟦ J ⟧ ∗ Z)) $ pick ! (λ log. learn ! (λ known. let b = before own log past.1 known.0 known.1.0 in split ! $ frame ! $ split3 ! $
           -- [the rights; what was reached; its copy and Y; the book; the ways]
-          move ! (2 ∷ []) $ split ! $ use1 𝓛 (‵ (gives log)) (gives_as 𝓛 n.gate seen log (λ s. sym (known.1.0 s))) $ move ! (2 ∷ []) $ fsplit ! $
+          move ! (2 ∷ []) $ split ! $ use1 𝓛 (‵ (gives log)) (gives_as 𝓛 n.gate seen log (λ s. sym (known.1.0.0 s))) $ move ! (2 ∷ []) $ fsplit ! $
           -- [its key; the rights; its copy; Y; what was reached; the book; the ways]
           move ! (6 ∷ []) $ rewrite ! 0 (λ (F : Fml). ‵ F) (sym (ways_renewed 𝓛 n held log)) refl $ move ! (2 ∷ 0 ∷ []) $ use2 𝓛 (‵ (keys (renewed held log))) (keys_whole 𝓛 n (renewed held log)) $
           -- [the keys; its key; its copy; Y; what was reached; the book]
@@ -240,10 +245,10 @@ module _ {M : Type 1} {𝓤 : Ura M} (𝓛 : Logic 𝓤) (n : Name) (p : ℕ) wh
     where
       lie_there : (log : List Entry) → IsPrefix seen log → IsLegalList st log
           → ⟦ found n (after st log) ⟧ ∗ ⟦ ftrue ⟧ ⊢ guard 𝓤 (Unit {0}) (⟦ found n (after st log) ⟧ ∗ ⟦ all_filled table (slot_labels n (length (after st log).slots)) ⟧)
-      lie_there log grows legal = let m : ℕ = length (after st log).slots in qed 𝓛 (‵ (found n (after st log)) ∷ ‵ ftrue ∷ []) ∵ keep ! (0 ∷ []) $ fsplit ! $ move ! (1 ∷ []) $
+      lie_there log grows legal = let m : ℕ = length (after st log).slots in qed 𝓛 (‵ (found n (after st log)) ∷ ‵ ftrue ∷ []) ∵ keep ! (0 ∷ []) $ fsplit ! $ move ! (1 ∷ []) $ fsplit ! $
           use1 𝓛 (‵ (all_lie n m) ⊛ ‵ (all_lie n m)) (all_lie_twice 𝓛 n m) $ split ! $ rewrite ! 0 (λ (t : Option (List ℕ)). ‵ (all_lie_in t (slot_labels n m))) is refl $
-          -- [what is known of the table; where all lie; where all lead]
-          check ! tt $ move ! (2 ∷ 1 ∷ []) $ fjoin ! $ done !
+          -- [what is known of the table; where all lie; that all are lent; where all lead]
+          check ! tt $ move ! (1 ∷ 2 ∷ []) $ fjoin ! $ move ! (2 ∷ 0 ∷ []) $ fjoin ! $ done !
 
   -- a lifetime that the pass has seen ended is over
   pub is_over : (seen : List Entry) (a : ℕ) → IsIn (ended seen) a → ⟦ pass_owns n p seen ⟧ ⊢ H.⇛ (⟦ pass_owns n p seen ⟧ ∗ ⟦ fdead (a ∷ []) ⟧)

@@ -57,6 +57,7 @@ looks_on keys keys' pass pass' looks =
       alone = before.alone;
       legal = before.legal;
       sound = before.sound;
+      lent = before.lent;
       distinct = looks.3;
     }
 

@@ -14,13 +14,13 @@ use Rattle.seize_book.specs.Entry.{Entry, entry_coded, maker}
 use Rattle.seize_book.specs.Book.{after, blocks, mine, passes, rules, kinds, slots}
 use Rattle.seize_book.specs.Fair.{Before, Fair, HasPlace, IsLabel, pass_key}
 use Rattle.seize_book.specs.Laws.{ended}
-use Rattle.seize_book.specs.Tokens.{Name, rows, start, keys_own, rights_own, found, over, beside, inside, IsSole, gate_keeps, gate_gives, pass_at, pass_holds, Noted}
+use Rattle.seize_book.specs.Tokens.{AllLentIn, Name, rows, start, keys_own, rights_own, found, over, beside, inside, IsSole, gate_keeps, gate_gives, pass_at, pass_holds, Noted}
 use Rattle.seize_book.proofs.Append.{appends, Appended}
 use Rattle.seize_book.proofs.Goes.{chained_push, goes, kept_now, births_of, births_below, births_free, slots_after}
 use Rattle.seize_book.proofs.Gates.{agrees, follows}
 use Rattle.seize_book.proofs.Lists.{after_push, legal_push, selected_in}
 use Rattle.seize_book.proofs.Sound.{sound_push}
-use Rattle.seize_book.proofs.Ways.{Among, MorePlaced, found_more, keys_apart, keys_whole, paths, ways, ways_born, ways_renewed, ways_tell}
+use Rattle.seize_book.proofs.Ways.{Among, MorePlaced, found_lent, found_more, keys_apart, keys_whole, paths, ways, ways_born, ways_renewed, ways_tell}
 
 module _ {M : Type 1} {𝓤 : Ura M} (𝓛 : Logic 𝓤) (n : Name) where
   abbrev Pr : Type 2
@@ -54,7 +54,7 @@ module _ {M : Type 1} {𝓤 : Ura M} (𝓛 : Logic 𝓤) (n : Name) where
 
   -- the event is fair with the pass and these keys
   abbrev pub MayMake : ℕ → List Entry → List (Held Entry) → (List Entry → Entry) → (List Entry → Type 0) → Type 0
-  MayMake p seen held ev Told = (own log : List Entry) → Before n p seen held log → Told log → Fair st (pass_key p own ∷ held) log (ev log) × (maker (ev log) ≡ p)
+  MayMake p seen held ev Told = (own log : List Entry) → Before n p seen held log → Told log → Fair n (pass_key p own ∷ held) log (ev log) × (maker (ev log) ≡ p)
 
   -- what its maker brings tells more of the list, beside what has ended; and it is traded
   abbrev pub Tells : ℕ → List Entry → List (Held Entry) → (List Entry → Type 0) → Pr → Type 1
@@ -77,10 +77,10 @@ module _ {M : Type 1} {𝓤 : Ura M} (𝓛 : Logic 𝓤) (n : Name) where
   abbrev pub IsDistinct : Type 0
   IsDistinct = are_distinct (linked n.links) ≡ true
 
-  made_now : IsDistinct → (p : ℕ) (seen : List Entry) (held : List (Held Entry)) (ev : List Entry → Entry) (log own : List Entry) → Before n p seen held log → Fair st (pass_key p own ∷ held) log (ev log) × (maker (ev log) ≡ p)
+  made_now : IsDistinct → (p : ℕ) (seen : List Entry) (held : List (Held Entry)) (ev : List Entry → Entry) (log own : List Entry) → Before n p seen held log → Fair n (pass_key p own ∷ held) log (ev log) × (maker (ev log) ≡ p)
       → Noted n p seen (log ++ ev log ∷ []) (ev log)
   made_now distinct p seen held ev log own before f =
-      let fair : Fair st (pass_key p own ∷ held) log (ev log) = f.0 in
+      let fair : Fair n (pass_key p own ∷ held) log (ev log) = f.0 in
       record {
         before = log;
         appended = refl;
@@ -94,6 +94,7 @@ module _ {M : Type 1} {𝓤 : Ura M} (𝓛 : Logic 𝓤) (n : Name) where
         leads = after_push st log (ev log) fair.done before.legal fair.legal;
         made = selected_in (λ a. maker a.0 == p) st log (ev log) fair.done fair.legal (is p (maker (ev log)) f.1) ∙ ap (λ l. l ++ (ev log, fair.done.1) ∷ []) before.none_made;
         alone = before.alone;
+        lent = λ v named. ⊎_elim (λ was. before.lent v was) (λ is. is.1) (fair.labels v named);
         distinct = distinct;
       }
     where
@@ -105,8 +106,11 @@ module _ {M : Type 1} {𝓤 : Ura M} (𝓛 : Logic 𝓤) (n : Name) where
       abbrev all : List (Held Entry)
       all = pass_key p own ∷ held
 
+      abbrev Now : List Entry → Type 0
+      Now log = (IsSole n.gate → log ≡ seen) × AllLentIn n (after st log).named
+
       abbrev ToldAll : List Entry → Type 0
-      ToldAll log = (IsSole n.gate → log ≡ seen) × Told log
+      ToldAll log = Now log × Told log
 
       abbrev keeps : List Entry → Fml
       keeps log = gate_keeps n.gate log
@@ -117,8 +121,8 @@ module _ {M : Type 1} {𝓤 : Ura M} (𝓛 : Logic 𝓤) (n : Name) where
       abbrev now : List Entry → List Entry
       now log = log ++ ev log ∷ []
 
-      before : (log : List Entry) → Known (rules st) all seen log → (IsSole n.gate → log ≡ seen) → Before n p seen held log
-      before log known alone = record { legal = known.0.0; sound = known.0.1; chained = known.0.2; grows = known.1; none_made = sym known.2.0.1 ∙ past.1; kept = known.2.1; alone = alone }
+      before : (log : List Entry) → Known (rules st) all seen log → Now log → Before n p seen held log
+      before log known now_ = record { legal = known.0.0; sound = known.0.1; chained = known.0.2; grows = known.1; none_made = sym known.2.0.1 ∙ past.1; kept = known.2.1; alone = now_.0; lent = now_.1 }
 
       -- where the numbers lead of the values that the keys are labelled with
       abbrev its_ways : Fml
@@ -132,9 +136,10 @@ module _ {M : Type 1} {𝓤 : Ura M} (𝓛 : Logic 𝓤) (n : Name) where
           -- [the pass's copy; the ways; X; the book's copy; where all is found; what has ended]
           move ! (3 ∷ 0 ∷ []) $ use2 𝓛 (given (IsSole n.gate → log ≡ seen) (‵ (keeps log) ⊛ ‵ (gives seen))) (agrees 𝓛 n.gate log seen) $ learn ! (λ alone. split ! $
           -- [the book's copy; the pass's; the ways; X; where all is found; what has ended]
-          move ! (5 ∷ 3 ∷ []) $ use2 𝓛 (given (Told log) (‵ (over (ended log)) ⊛ raw X)) (tells log (before log known alone)) $ learn ! (λ told. split ! $
-          -- [what has ended; X; the book's copy; the pass's; the ways; where all is found]
-          check ! (alone, told) $ move ! (2 ∷ 5 ∷ []) $ fjoin ! $ move ! (1 ∷ 0 ∷ []) $ fjoin ! $ move ! (3 ∷ 1 ∷ []) $ join ! $ move ! (2 ∷ 0 ∷ []) $ join ! $ move ! (1 ∷ []) $ done !))
+          move ! (4 ∷ []) $ use1 𝓛 (given (AllLentIn n (after st log).named) (‵ (found n (after st log)))) (found_lent 𝓛 n (after st log)) $ learn ! (λ lent.
+          move ! (5 ∷ 4 ∷ []) $ use2 𝓛 (given (Told log) (‵ (over (ended log)) ⊛ raw X)) (tells log (before log known (alone, lent))) $ learn ! (λ told. split ! $
+          -- [what has ended; X; where all is found; the book's copy; the pass's; the ways]
+          check ! ((alone, lent), told) $ move ! (3 ∷ 2 ∷ []) $ fjoin ! $ move ! (1 ∷ 0 ∷ []) $ fjoin ! $ move ! (3 ∷ 1 ∷ []) $ join ! $ move ! (2 ∷ 0 ∷ []) $ join ! $ move ! (1 ∷ []) $ done !)))
 
       -- each value that is named by then was named, or is one of these; and the head of a slot that is made lies where its key says
       abbrev Names : (List Entry → Type 0) → Type 0
@@ -148,7 +153,7 @@ module _ {M : Type 1} {𝓤 : Ura M} (𝓛 : Logic 𝓤) (n : Name) where
           move ! (1 ∷ []) $ use1 𝓛 (‵ (paths 𝓛 n held) ⊛ ‵ its_ways) (ways_tell 𝓛 n held) $ split ! $
           move ! (5 ∷ 0 ∷ []) $ let new = names log (before log known told.0) told.1 in use2 𝓛 (‵ (found n (after st (now log)))) (found_more 𝓛 n (after st log) (after st (now log)) held new.0 new.1) $
           -- [where all is found then; the ways; the pass's copy; X; the book's copy; what has ended]
-          move ! (4 ∷ 2 ∷ []) $ use2 𝓛 (raw (upd 𝓤 (⟦ keeps (now log) ⟧ ∗ ⟦ gives (now log) ⟧))) (follows 𝓛 n.gate log seen (now log) (ev log ∷ [], refl) told.0) $ settle 𝓛 Z (‵ (keeps (now log)) ⊛ ‵ (gives (now log))) $ split ! $
+          move ! (4 ∷ 2 ∷ []) $ use2 𝓛 (raw (upd 𝓤 (⟦ keeps (now log) ⟧ ∗ ⟦ gives (now log) ⟧))) (follows 𝓛 n.gate log seen (now log) (ev log ∷ [], refl) told.0.0) $ settle 𝓛 Z (‵ (keeps (now log)) ⊛ ‵ (gives (now log))) $ split ! $
           -- [the book's copy; the pass's; where all is found then; the ways; X; what has ended]
           move ! (5 ∷ 4 ∷ []) $ use2 𝓛 (raw (upd 𝓤 (⟦ over (ended (now log)) ⟧ ∗ Y log))) (trades log (before log known told.0) told.1) $ settle 𝓛 Z (‵ (over (ended (now log))) ⊛ raw (Y log)) $ split ! $
           -- [what has ended then; Y; the book's copy; the pass's; where all is found then; the ways]
@@ -195,6 +200,6 @@ module _ {M : Type 1} {𝓤 : Ura M} (𝓛 : Logic 𝓤) (n : Name) where
         names : (own : List Entry) (past : IsPrefix own seen × (mine st p own ≡ mine st p seen)) → MayMake p seen held ev Told → Names own past Told
         names own past may log b told =
             let f = (may own log b told).0 in let e : after st (now own past log) ≡ f.done.0 = after_push st log (ev log) f.done b.legal f.legal in (
-              λ v named. ⊎_elim (λ was. inl was) (λ is. inr (past_pass own v is)) (f.labels v (subst (λ (z : State). has v z.named ≡ true) e named)),
+              λ v named. ⊎_elim (λ was. inl was) (λ is. inr (past_pass own v is.0, is.1)) (f.labels v (subst (λ (z : State). has v z.named ≡ true) e named)),
               ⊎_elim (λ same. inl same) (λ more. inr (more.1, past_place own (length (after st log).slots) (f.places more.0))) (slots_after st log (ev log) f.done b.legal f.legal),
             )

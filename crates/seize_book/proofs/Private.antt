@@ -104,7 +104,7 @@ pub may_add : (n : Name) (p : ℕ) (seen : List Entry) (held : List (Held Entry)
     → MayAdd n p seen held e
 may_add n p seen held e one pe private open_ = subst (λ (hs : List (Held Entry)). MayAdd n p seen hs e) (sym (only_is slots held one)) ((omega arith, tt), ends_none (key_of held) e.event private, starts_none (key_of held) e.event private, fair)
   where
-    fair : (own log : List Entry) → Before n p seen (only slots held) log → Fair (start n) (pass_key p own ∷ only slots held) log (Made e)
+    fair : (own log : List Entry) → Before n p seen (only slots held) log → Fair n (pass_key p own ∷ only slots held) log (Made e)
     fair mine log before =
         let k = before.kept.0.1 in let d = does e.size (after (start n) log) e.event (open_ (after (start n) log) (sym k.1) (sym k.2)) in
         record {
@@ -114,7 +114,7 @@ may_add n p seen held e one pe private open_ = subst (λ (hs : List (Held Entry)
           names = λ many was there. (subst (λ (z : ℕ). z < many 0) (sym pe) there.0, (λ j le. (private.3 (after (start n) log) j).0), (λ j le. (private.3 (after (start n) log) j).1), λ f le. refl);
           one = none_named e.size (after (start n) log) e.event d.0 (step_of _ _ _ _ d.1) (λ j. (private.3 (after (start n) log) j).1);
           leads = unled (after (start n) log) (plans (start n) log) (told log) e.event (λ j. (private.2 j).0);
-          labels = no_labels (pass_key p mine ∷ only slots held) e.size (after (start n) log) e.event d.0 (step_of _ _ _ _ d.1) (λ j. (private.3 (after (start n) log) j).1);
+          labels = no_labels n (pass_key p mine ∷ only slots held) e.size (after (start n) log) e.event d.0 (step_of _ _ _ _ d.1) (λ j. (private.3 (after (start n) log) j).1);
           places = no_place (after (start n) log) (pass_key p mine ∷ only slots held) (Made e) (makes_none (after (start n) log) e.event private.1);
         }
 

@@ -17,7 +17,7 @@ use Rattle.seize_book.specs.Fair.{Before, Covers, Fair, MayAdd, pass_key}
 use Rattle.seize_book.specs.Homes.{HasOne, IsVacant, home_of}
 use Rattle.seize_book.specs.Others.{IsLastIn, IsSpent, MayBegin, state_of, value_of}
 use Rattle.seize_book.specs.Private.{is_one, key_of, label_of, own_of}
-use Rattle.seize_book.specs.Tokens.{Name, Noted, start}
+use Rattle.seize_book.specs.Tokens.{IsLentIn, Name, Noted, start}
 use Rattle.seize_book.specs.Adding.{private}
 use Rattle.seize_book.specs.declared.book.keys.Keys.{Keys}
 use Rattle.seize_book.specs.declared.book.pass.Pass.{Pass}
@@ -54,7 +54,7 @@ added v named u = go (has v named)
 later : (v k n : ℕ) → v < n → n ≤ k → (v == k) ≡ false
 later v k n l le = grind arith
 
-pub may_retire : (n : Name) (p size : ℕ) (seen : List Entry) (a b : List (Held Entry)) → is_one slots a ≡ true → is_one blocks b ≡ true → key_of b ≡ home_of (label_of b) → is_idle (slot_at (after (start n) (own_of a)) (key_of a)) ≡ true → MayBegin (label_of b) (after (start n) (own_of b))
+pub may_retire : (n : Name) (p size : ℕ) (seen : List Entry) (a b : List (Held Entry)) → is_one slots a ≡ true → is_one blocks b ≡ true → key_of b ≡ home_of (label_of b) → is_idle (slot_at (after (start n) (own_of a)) (key_of a)) ≡ true → MayBegin n (label_of b) (after (start n) (own_of b))
     → MayAdd n p seen (a ++ b) (record { pass = p; size = size; event = Begin (key_of a) (Retire (label_of b)); life = 0 })
 unfolding retires
 may_retire n p size seen a b one one' home idle may =
@@ -62,7 +62,7 @@ may_retire n p size seen a b one one' home idle may =
     (subst (λ (hs : List (Held Entry)). MayAdd n p seen (only slots a ++ hs) (retires p size (key_of a) (label_of b))) (sym (only_is blocks b one'))
     ((omega arith, (omega arith, tt)), (λ lives. refl), (λ s. refl), fair))
   where
-    fair : (mine log : List Entry) → Before n p seen (only slots a ++ only blocks b) log → Fair (start n) (pass_key p mine ∷ (only slots a ++ only blocks b)) log (Made (retires p size (key_of a) (label_of b)))
+    fair : (mine log : List Entry) → Before n p seen (only slots a ++ only blocks b) log → Fair n (pass_key p mine ∷ (only slots a ++ only blocks b)) log (Made (retires p size (key_of a) (label_of b)))
     fair mine log before =
         let st : State = after (start n) log in let s : ℕ = key_of a in let v : ℕ = label_of b in
         let slot = before.kept.0.1 in let value = before.kept.1.0.1 v (sym home) in
@@ -75,7 +75,9 @@ may_retire n p size seen a b one one' home idle may =
           covers = covers (start n) log p size v mine a b home;
           names = λ many was there. (there.0, (λ k le. refl), (λ k le. later (home_of v) k (many blocks) (subst (λ (z : ℕ). z < many blocks) home there.1.1.0) le), λ f le. refl);
           leads = tt;
-          labels = λ u named. ⊎_elim (λ is. inr (inr (inr (inl (refl, sym is))))) (λ was. inl was) (added v st.named u named);
+          labels = λ u named. ⊎_elim
+              (λ is. ⊎_elim (λ h. inr (inr (inr (inl (refl, sym is))), subst (IsLentIn n) (sym is) h.2)) (λ h. inl (subst (λ (w : ℕ). has w st.named ≡ true) (sym is) (sym value.0 ∙ h.0))) may)
+              (λ was. inl was) (added v st.named u named);
           places = λ makes. absurd (cc);
           one = ⊎_elim (λ h. new_named size st (Begin s (Retire v)) d v step (added v st.named)
               (subst (IsVacant st) home (vacant_later (start n) (own_of b) log (key_of b) before.legal before.kept.1.0 (subst (IsVacant (after (start n) (own_of b))) (sym home) h.1))))

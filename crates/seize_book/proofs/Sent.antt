@@ -77,7 +77,7 @@ lies_if_keyless false n s = tt
 
 inside_keyless : (n : Name) → Keyless (inside n)
 unfolding latest
-inside_keyless n = λ s. (rosters_keyless (rows n) s.0, (tt, ((over_keyless (ended s.1), (keeps_keyless n.gate s.1, (leads_keyless n (after (start n) s.1).named, all_lie_keyless n.table (slot_labels n (length (after (start n) s.1).slots))))), (λ _. tt))))
+inside_keyless n = λ s. (rosters_keyless (rows n) s.0, (tt, ((over_keyless (ended s.1), (keeps_keyless n.gate s.1, (leads_keyless n (after (start n) s.1).named, (all_lie_keyless n.table (slot_labels n (length (after (start n) s.1).slots)), λ _. tt)))), (λ _. tt))))
 
 pub book_keyless : (n : Name) (seen : List Entry) → Keyless (book_owns n seen)
 unfolding at_least

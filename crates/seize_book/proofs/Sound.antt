@@ -13,6 +13,7 @@ use Rattle.seize_book.specs.Entry.{Entry, Made, Used, timed}
 use Rattle.seize_book.specs.Book.{IsLegalList, Does, Kept, TheBlock, after}
 use Rattle.seize_book.specs.Ledger.{Held}
 use Rattle.seize_book.specs.Fair.{NamesLabels}
+use Rattle.seize_book.specs.Tokens.{Name}
 use Rattle.seize_book.specs.Homes.{HasOne, IsSound, IsVacant, changes_home, home_of}
 use Rattle.seize_book.proofs.Homes.{home_value}
 use Rattle.seize_book.proofs.Lists.{after_push}
@@ -63,8 +64,8 @@ old_named size st event d step names one = λ v w home a b c e. one v w home (na
 pub same_named : (size : ℕ) (st : State) (event : Event) (d : State × Answer) → Step size st event d → ((k : ℕ) → changes_home st k event ≡ false) → (v : ℕ) → has v (d.0).named ≡ has v st.named
 same_named size st event d step none v = (value_frame v size st event d step (home_value st v event (none (home_of v)))).0
 
-pub no_labels : (held : List (Held Entry)) (size : ℕ) (st : State) (event : Event) (d : State × Answer) → Step size st event d → ((k : ℕ) → changes_home st k event ≡ false) → NamesLabels st held d.0
-no_labels held size st event d step none v named = inl (sym (same_named size st event d step none v) ∙ named)
+pub no_labels : (n : Name) (held : List (Held Entry)) (size : ℕ) (st : State) (event : Event) (d : State × Answer) → Step size st event d → ((k : ℕ) → changes_home st k event ≡ false) → NamesLabels n st held d.0
+no_labels n held size st event d step none v named = inl (sym (same_named size st event d step none v) ∙ named)
 
 pub none_named : (size : ℕ) (st : State) (event : Event) (d : State × Answer) → Step size st event d → ((k : ℕ) → changes_home st k event ≡ false) → HasOne st → HasOne d.0
 none_named size st event d step none = old_named size st event d step (λ v a. sym (same_named size st event d step none v) ∙ a)

@@ -1,12 +1,12 @@
 -- Where the numbers of values lead, and where heads lie: what goes with keys beside the rights, and what the book has of all that were named and
 -- of all slots. Assumes `Logic`.
-use Rattle.std.proofs.Common.{◌≡◌, ℕ, zero, suc, Bool, true, false, ◌||◌, ◌&&◌, ◌==◌, List, [], ◌∷◌, ◌++◌, length, take, Option, Some, None, ◌⊎◌, inl, inr, refl, sym, ◌∙◌, ap, subst, nat_lt, ◌+◌, ◌^◌, ◌<◌, arith}
+use Rattle.std.proofs.Common.{◌≡◌, ℕ, zero, suc, Bool, true, false, ◌||◌, ◌&&◌, ◌==◌, List, [], ◌∷◌, ◌++◌, length, take, Option, Some, None, ◌⊎◌, inl, inr, ⊎_elim, refl, sym, ◌∙◌, ap, subst, nat_lt, ◌+◌, ◌^◌, ◌<◌, arith}
 use Rattle.std.specs.Prelude.{drop as past}
 use seplogic.Ra.Ura.{Ura}
 use base.Logic.{SProp, ent, sep, guard}
 use base.Fml.{Fml, ftrue, fsep}
 use types.Logic.{Logic, sem}
-use types.Kit.{‵, raw, given, learn, check, ◌⊛◌, ◌$◌, ◌∵◌, !, qed, by, move, keep, drop, split, fsplit, fjoin, rewrite, use1, use2, done}
+use types.Kit.{‵, raw, given, learn, check, ◌⊛◌, ◌$◌, ◌∵◌, !, qed, by, move, keep, drop, split, fsplit, fjoin, fpick, fpack, rewrite, use1, use2, done}
 use denote.Steps.{heard, nothing}
 use Rattle.seize_machine.specs.Machine.State.{State, has}
 use Rattle.seize_machine.proofs.Facts.{eq_true, is_true}
@@ -27,7 +27,7 @@ use Rattle.seize_book.specs.Ledger.{Held, born, renewed}
 use Rattle.seize_book.specs.Others.{labelled}
 use Rattle.seize_book.specs.Private.{is_one, key_of, label_of}
 use Rattle.seize_book.specs.Loans.{CarriesNone, loan, loan_if, loan_of, place_of}
-use Rattle.seize_book.specs.Tokens.{Name, start, leads, label_at, leads_in, told_of, all_lead, lies, lies_in, lies_if, all_lie, found, is_placed, rights_own, keys_own, one_key, key, way, way_if}
+use Rattle.seize_book.specs.Tokens.{AllLentIn, IsLentIn, Name, start, leads, label_at, leads_in, told_of, all_lead, lies, lies_in, lies_if, all_lie, found, is_placed, rights_own, keys_own, one_key, key, way, way_if}
 use Rattle.seize_book.proofs.Goes.{AllFree}
 use Rattle.seize_book.proofs.Tables.{lies_twice, one_more}
 
@@ -362,13 +362,16 @@ module _ {M : Type 1} {𝓤 : Ura M} (𝓛 : Logic 𝓤) (n : Name) where
       move ! (2 ∷ []) $ use1 𝓛 (‵ (all_lead n vs) ⊛ ‵ (all_lead n vs)) (all_twice vs) $ split ! $
       move ! (2 ∷ 0 ∷ []) $ fjoin ! $ move ! (2 ∷ 1 ∷ []) $ fjoin ! $ done !
 
-  -- values that were named, or that keys are labelled with
+  -- values that were named, or that keys are labelled with, something being lent with them where it has to be
   abbrev pub Among : List ℕ → Keys → List ℕ → Type 0
-  Among vs held us = (v : ℕ) → has v us ≡ true → (has v vs ≡ true) ⊎ IsLabel held v
+  Among vs held us = (v : ℕ) → has v us ≡ true → (has v vs ≡ true) ⊎ (IsLabel held v × IsLentIn n v)
 
-  from_either : (vs : List ℕ) (held : Keys) (v : ℕ) → (has v vs ≡ true) ⊎ IsLabel held v → ⟦ all_lead n vs ⟧ ∗ ⟦ paths held ⟧ ⊢ ⟦ leads n v ⟧
+  lent_more : (vs : List ℕ) (held : Keys) (us : List ℕ) → Among vs held us → AllLentIn n vs → AllLentIn n us
+  lent_more vs held us among lent v named = ⊎_elim (λ was. lent v was) (λ is. is.1) (among v named)
+
+  from_either : (vs : List ℕ) (held : Keys) (v : ℕ) → (has v vs ≡ true) ⊎ (IsLabel held v × IsLentIn n v) → ⟦ all_lead n vs ⟧ ∗ ⟦ paths held ⟧ ⊢ ⟦ leads n v ⟧
   from_either vs held v (inl named) = qed 𝓛 (‵ (all_lead n vs) ∷ ‵ (paths held) ∷ []) ∵ keep ! (0 ∷ []) $ by ! (one_leads vs v named)
-  from_either vs held v (inr is) = qed 𝓛 (‵ (all_lead n vs) ∷ ‵ (paths held) ∷ []) ∵ keep ! (1 ∷ []) $ by ! (label_leads held v is)
+  from_either vs held v (inr is) = qed 𝓛 (‵ (all_lead n vs) ∷ ‵ (paths held) ∷ []) ∵ keep ! (1 ∷ []) $ by ! (label_leads held v is.0)
 
   pub all_more : (vs : List ℕ) (held : Keys) (us : List ℕ) → Among vs held us → ⟦ all_lead n vs ⟧ ∗ ⟦ paths held ⟧ ⊢ ⟦ all_lead n us ⟧
   all_more vs held [] among = qed 𝓛 (‵ (all_lead n vs) ∷ ‵ (paths held) ∷ []) ∵ drop ! $ drop ! $ nothing ! $ done !
@@ -377,6 +380,12 @@ module _ {M : Type 1} {𝓤 : Ura M} (𝓛 : Logic 𝓤) (n : Name) where
       -- [the paths, twice; all that were named, twice]
       move ! (2 ∷ 0 ∷ []) $ use2 𝓛 (‵ (leads n u)) (from_either vs held u (among u (here u us))) $
       move ! (2 ∷ 1 ∷ []) $ use2 𝓛 (‵ (all_lead n us)) (all_more vs held us (λ v h. among v (there u v us h))) $ move ! (1 ∷ 0 ∷ []) $ fjoin ! $ done !
+
+  -- with each that was named something is lent where it has to be
+  pub found_lent : (st : State) → ⟦ found n st ⟧ ⊢ guard 𝓤 (AllLentIn n st.named) ⟦ found n st ⟧
+  found_lent st = qed 𝓛 (‵ (found n st) ∷ []) ∵ fsplit ! $ move ! (1 ∷ []) $ fsplit ! $ move ! (1 ∷ []) $ fpick ! (λ lent. drop ! $ check ! lent $
+      -- [where all lie; where all lead]
+      nothing ! $ fpack ! (AllLentIn n st.named) (λ _. ftrue) lent $ move ! (1 ∷ 0 ∷ []) $ fjoin ! $ move ! (1 ∷ 0 ∷ []) $ fjoin ! $ done !)
 
   -- there are as many slots as before; or one more, whose key says where its head lies
   abbrev pub MorePlaced : ℕ → Keys → ℕ → Type 0
@@ -388,7 +397,10 @@ module _ {M : Type 1} {𝓤 : Ura M} (𝓛 : Logic 𝓤) (n : Name) where
       use2 𝓛 (‵ (all_lie n (suc m))) (one_more 𝓛 n m) $ rewrite ! 0 (λ (k : ℕ). ‵ (all_lie n k)) (sym is) refl $ done !
 
   pub found_more : (a b : State) (held : Keys) → Among a.named held b.named → MorePlaced (length a.slots) held (length b.slots) → ⟦ found n a ⟧ ∗ ⟦ paths held ⟧ ⊢ ⟦ found n b ⟧
-  found_more a b held among placed = qed 𝓛 (‵ (found n a) ∷ ‵ (paths held) ∷ []) ∵ fsplit ! $ move ! (2 ∷ []) $ use1 𝓛 (‵ (paths held) ⊛ ‵ (paths held)) (paths_twice held) $ split ! $
-      -- [the paths, twice; where all lead; where all lie]
-      move ! (2 ∷ 0 ∷ []) $ use2 𝓛 (‵ (all_lead n b.named)) (all_more a.named held b.named among) $
-      move ! (2 ∷ 1 ∷ []) $ use2 𝓛 (‵ (all_lie n (length b.slots))) (lie_more (length a.slots) held (length b.slots) placed) $ move ! (1 ∷ 0 ∷ []) $ fjoin ! $ done !
+  found_more a b held among placed = qed 𝓛 (‵ (found n a) ∷ ‵ (paths held) ∷ []) ∵ fsplit ! $ move ! (1 ∷ []) $ fsplit ! $ move ! (1 ∷ []) $ fpick ! (λ lent. drop ! $
+      -- [where all lie; where all lead; the paths]
+      move ! (2 ∷ []) $ use1 𝓛 (‵ (paths held) ⊛ ‵ (paths held)) (paths_twice held) $ split ! $
+      -- [the paths, twice; where all lie; where all lead]
+      move ! (3 ∷ 0 ∷ []) $ use2 𝓛 (‵ (all_lead n b.named)) (all_more a.named held b.named among) $
+      move ! (2 ∷ 1 ∷ []) $ use2 𝓛 (‵ (all_lie n (length b.slots))) (lie_more (length a.slots) held (length b.slots) placed) $
+      nothing ! $ fpack ! (AllLentIn n b.named) (λ _. ftrue) (lent_more a.named held b.named among lent) $ move ! (1 ∷ 0 ∷ []) $ fjoin ! $ move ! (1 ∷ 0 ∷ []) $ fjoin ! $ done !)

@@ -1,8 +1,9 @@
 -- What an entry has to be, so that the holder of a pass and of some keys may add it.
 --     Before n p seen held log   what is known of the list just before the entry
---     Fair st held log e         the entry is legal then; the keys that it touches are held, and it changes no block but theirs; and it
+--     Fair n held log e          the entry is legal then; the keys that it touches are held, and it changes no block but theirs; and it
 --                                keeps what the list keeps beside being legal
---     NamesLabels before held later  each value that it names is one with which a held key of a block is labelled
+--     NamesLabels n before held later  each value that it names is one with which a held key of a block is labelled; and something is lent
+--                                with it, if the blocks of the book lie in a store
 --     MakesPlaced st held e      where it makes a slot, the slot's key is held, and is labelled 1: the slot's head lies in the table
 --     MayAdd n p seen held e     it is fair whatever the list is by then, and it neither ends nor begins an activation
 --     Added n p seen seen' held held' e     it was added: see Noted; the keys know of it, and its own keys were made
@@ -18,7 +19,7 @@ use Rattle.seize_book.specs.Blocks.{plans}
 use Rattle.seize_book.specs.Chains.{Chained, IsLed, told}
 use Rattle.seize_book.specs.Homes.{HasOne, IsSound}
 use Rattle.seize_book.specs.Laws.{ended_by, starts}
-use Rattle.seize_book.specs.Tokens.{Name, start, IsSole, Noted}
+use Rattle.seize_book.specs.Tokens.{Name, start, AllLentIn, IsLentIn, IsSole, Noted}
 
 abbrev pub pass_key : ℕ → List Entry → Held Entry
 pass_key p own = record { kind = passes; key = p; own = own; label = 0 }
@@ -31,6 +32,7 @@ pub record Before (n : Name) (p : ℕ) (seen : List Entry) (held : List (Held En
   pub none_made : mine (start n) p log ≡ mine (start n) p seen
   pub kept : AllKept (rules (start n)) held log
   pub alone : IsSole n.gate → log ≡ seen
+  pub lent : AllLentIn n (after (start n) log).named
 
 abbrev pub Covers : State → List (Held Entry) → List Entry → Entry → Type 0
 Covers st held log e = (r k : ℕ) → Beside held r k → IsThere (rules st) r k log → touches (after st log) e (kind_of r) k ≡ false
@@ -48,9 +50,9 @@ abbrev pub IsLabel : List (Held Entry) → ℕ → Type 0
 IsLabel [] v = ⊥
 IsLabel (h ∷ held) v = ((h.kind ≡ blocks) × (h.label ≡ v)) ⊎ IsLabel held v
 
-abbrev pub NamesLabels : State → List (Held Entry) → State → Type 0
-NamesLabels before held later =
-    (v : ℕ) → has v later.named ≡ true → (has v before.named ≡ true) ⊎ IsLabel held v
+abbrev pub NamesLabels : Name → State → List (Held Entry) → State → Type 0
+NamesLabels n before held later =
+    (v : ℕ) → has v later.named ≡ true → (has v before.named ≡ true) ⊎ (IsLabel held v × IsLentIn n v)
 
 -- the slot's key is there, and labelled 1
 abbrev pub HasPlace : List (Held Entry) → ℕ → Type 0
@@ -60,16 +62,16 @@ HasPlace (h ∷ held) s = ((h.kind ≡ slots) × (h.key ≡ s) × (h.label ≡ 1
 abbrev pub MakesPlaced : State → List (Held Entry) → Entry → Type 0
 MakesPlaced st held e = touches st e TheTotal 0 ≡ true → HasPlace held (length st.slots)
 
-pub record Fair (st : State) (held : List (Held Entry)) (log : List Entry) (e : Entry) : Type 0 where
+pub record Fair (n : Name) (held : List (Held Entry)) (log : List Entry) (e : Entry) : Type 0 where
   pub done : State × Answer
-  pub legal : Does st log e done
-  pub covers : Covers st held log e
-  pub names : NamesHeld st held log e
+  pub legal : Does (start n) log e done
+  pub covers : Covers (start n) held log e
+  pub names : NamesHeld (start n) held log e
   -- all earlier values of a home were reclaimed where it names one
-  pub one : HasOne (after st log) → HasOne done.0
-  pub leads : IsLed (after st log) (plans st log) (told log) e
-  pub labels : NamesLabels (after st log) held done.0
-  pub places : MakesPlaced (after st log) held e
+  pub one : HasOne (after (start n) log) → HasOne done.0
+  pub leads : IsLed (after (start n) log) (plans (start n) log) (told log) e
+  pub labels : NamesLabels n (after (start n) log) held done.0
+  pub places : MakesPlaced (after (start n) log) held e
 
 -- it neither ends nor begins an activation
 abbrev pub EndsNone : Event → Type 0
@@ -81,7 +83,7 @@ StartsNone event = (s : ℕ) → starts s event ≡ false
 abbrev pub MayAdd : Name → ℕ → List Entry → List (Held Entry) → Deed → Type 0
 MayAdd n p seen held d =
     WithKinds kinds held × EndsNone d.event × StartsNone d.event
-    × ((own log : List Entry) → Before n p seen held log → Fair (start n) (pass_key p own ∷ held) log (Made d))
+    × ((own log : List Entry) → Before n p seen held log → Fair n (pass_key p own ∷ held) log (Made d))
 
 pub record Added (n : Name) (p : ℕ) (seen seen' : List Entry) (held held' : List (Held Entry)) (d : Deed) : Type 0 where
   pub noted : Noted n p seen seen' (Made d)

@@ -10,6 +10,7 @@
 --     IsInBlockOf value value'          it is of a value in the same block of the same book
 --     GoesWith value pool               the pool's content is lent with the value
 --     IsFreeKey value, IsLentKey value  nothing is lent with it;  something is
+--     IsLentInBook value                something is, if the blocks of its book lie in a store
 use Rattle.std.specs.Prelude.{◌≡◌, ℕ, ◌⊎◌, None, true, false}
 use Rattle.seize_content.specs.Loans.{IsLent}
 use Rattle.seize_content.specs.declared.loan.Pool.{Pool}
@@ -21,7 +22,7 @@ use Rattle.seize_book.specs.Homes.{home_of}
 use Rattle.seize_book.specs.Loans.{Carries, CarriesNone, place_of}
 use Rattle.seize_book.specs.Others.{Renames, book_of, labelled, state_of, value_of}
 use Rattle.seize_book.specs.Private.{is_one, label_of}
-use Rattle.seize_book.specs.Tokens.{Name, start}
+use Rattle.seize_book.specs.Tokens.{Name, IsLentIn, start}
 use Rattle.seize_book.specs.declared.book.keys.Keys.{Keys}
 use Rattle.seize_book.specs.declared.book.pass.Pass.{Pass}
 use Rattle.seize_book.specs.declared.book.value_key.ValueKey.{ValueKey}
@@ -63,3 +64,6 @@ IsFreeKey value = CarriesNone (value_of value)
 
 abbrev pub IsLentKey : ValueKey → Type 0
 IsLentKey value = ¬ (CarriesNone (value_of value))
+
+abbrev pub IsLentInBook : ValueKey → Type 0
+IsLentInBook value = IsLentIn (book_of value) (value_of value)

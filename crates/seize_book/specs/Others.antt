@@ -1,8 +1,9 @@
 -- The words in which contracts speak of the keys that a slot's holder needs beside its own.
 --     is_named value                    whether the value was ever named, as its key knows
 --     book_of value                     its book
---     MayBegin v st                     it was never named, and all values that lay in its block before were reclaimed; or it was named,
---                                       and is loose;  MayRetire value    so it is, as its key knows
+--     MayBegin n v st                   it was never named, all values that lay in its block before were reclaimed, and something is lent
+--                                       with it, if the blocks of the book lie in a store; or it was named, and is loose;
+--                                       MayRetire value    so it is, as its key knows
 --     IsSpent v st                      it was named, and it is not loose;  CannotRetire value   so it is, as its key knows
 --     IsLeast s st                      slot s is there, and its number is the least that is not in use and one of a table;
 --     MayTake numbers key               so it is for this slot, as the key of the numbers knows
@@ -35,7 +36,7 @@ use Rattle.seize_book.specs.Ledger.{Held, renewed}
 use Rattle.seize_book.specs.Entry.{Entry, Made}
 use Rattle.seize_book.specs.Adding.{private}
 use Rattle.seize_book.specs.Fair.{Before, MayAdd}
-use Rattle.seize_book.specs.Tokens.{Name, start}
+use Rattle.seize_book.specs.Tokens.{Name, start, IsLentIn}
 use Rattle.seize_book.specs.declared.book.keys.Keys.{Keys}
 use Rattle.seize_book.specs.declared.book.numbers_key.NumbersKey.{NumbersKey}
 use Rattle.seize_book.specs.declared.book.pass.Pass.{Pass}
@@ -54,11 +55,12 @@ book_of value = value.keys.name
 abbrev pub is_named : ValueKey → Bool
 is_named value = has (value_of value) (state_of value.keys).named
 
-abbrev pub MayBegin : ℕ → State → Type 0
-MayBegin v st = ((has v st.named ≡ false) × IsVacant st (home_of v)) ⊎ ((has v st.named ≡ true) × (has v st.loose ≡ true))
+abbrev pub MayBegin : Name → ℕ → State → Type 0
+MayBegin n v st =
+    ((has v st.named ≡ false) × IsVacant st (home_of v) × IsLentIn n v) ⊎ ((has v st.named ≡ true) × (has v st.loose ≡ true))
 
 abbrev pub MayRetire : ValueKey → Type 0
-MayRetire value = MayBegin (value_of value) (state_of value.keys)
+MayRetire value = MayBegin (book_of value) (value_of value) (state_of value.keys)
 
 abbrev pub IsSpent : ℕ → State → Type 0
 IsSpent v st = (has v st.named ≡ true) × (has v st.loose ≡ false)

@@ -12,7 +12,7 @@ use Rattle.seize_machine.specs.declared.machine.event.Answer.{Answer}
 use Rattle.seize_book.specs.Entry.{Entry, Made, Used, Deed}
 use Rattle.seize_book.specs.Book.{IsLegalList, after, mine}
 use Rattle.seize_book.specs.Homes.{IsSound}
-use Rattle.seize_book.specs.Tokens.{IsSole, start}
+use Rattle.seize_book.specs.Tokens.{AllLentIn, IsSole, start}
 use Rattle.seize_book.specs.declared.book.pass.Pass.{Pass}
 
 abbrev pub IsSame : Pass → Pass → Type 0
@@ -33,8 +33,9 @@ events_by pass = events_in (mine_of pass)
 abbrev pub MadeNone : Pass → Pass → Type 0
 MadeNone pass pass' = mine_of pass' ≡ mine_of pass
 
--- It has seen a legal list that goes on from what it had seen, all there is where it is alone, and nothing was made with it. The links of
--- the book's opening are distinct, so that the laws hold of this list.
+-- It has seen a legal list that goes on from what it had seen, all there is where it is alone, and nothing was made with it. With each
+-- value that was named something is lent, if the blocks of the book lie in a store. The links of the book's opening are distinct, so that
+-- the laws hold of this list.
 pub record LooksOn (pass pass' : Pass) : Type 0 where
   pub same : IsSame pass pass'
   pub none_made : MadeNone pass pass'
@@ -42,6 +43,7 @@ pub record LooksOn (pass pass' : Pass) : Type 0 where
   pub alone : IsSole pass.name.gate → pass'.seen ≡ pass.seen
   pub legal : IsLegalList (start pass.name) pass'.seen
   pub sound : IsSound (after (start pass.name) pass'.seen)
+  pub lent : AllLentIn pass.name (after (start pass.name) pass'.seen).named
   pub distinct : are_distinct (linked pass.name.links) ≡ true
 
 abbrev pub Longer : List Entry → List Entry → List Entry → Type 0

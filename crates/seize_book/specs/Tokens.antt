@@ -8,15 +8,16 @@
 --     leads n v     the value's number leads to the label of its home, in the store where the book's blocks lie; and nothing where they lie
 --                   in none
 --     all_lead n vs     so do the numbers of all these values
+--     IsLentIn n v       something is lent with the value, if the blocks of the book lie in a store;  AllLentIn n vs   with each of these
 --     lies n s      the entry of slot s, in the table where the heads of the book lie, has the slot's label for good; and nothing where
 --                   they lie in none
 --     all_lie n m   so do those of the first m slots, in their order;  slot_labels n m   their labels
---     found n st    both, of all that were ever named and of all slots that there are
+--     found n st    both, of all that were ever named and of all slots that there are; and with each that was named something is lent
 --     is_placed h   it is the key of a slot whose head lies in the table, as the label 1 says
 --     rights_own    the rights to some keys, in a given order;  keys_own   and with each key of a block, where its value's number leads,
 --                   and what is lent with the value; and with that of a slot whose head lies in the table, that it does
 --     Noted         one entry was appended with a pass
-use Rattle.std.specs.Prelude.{◌≡◌, ℕ, Bool, true, false, ◌&&◌, ◌==◌, List, [], ◌∷◌, ◌++◌, length, map, Option, slice_index_or}
+use Rattle.std.specs.Prelude.{◌≡◌, ℕ, Bool, true, false, ◌&&◌, ◌==◌, ◌⊎◌, List, [], ◌∷◌, ◌++◌, length, map, Option, None, slice_index_or}
 use Rattle.std.specs.List.{range_with_len}
 use Rattle.std.specs.Coded.{Coded, code_by, coded_ℕ, coded×, coded_list, coded_option}
 use mathlib.Core.Path.{refl}
@@ -25,7 +26,7 @@ use base.Share.{quarter, three_quarters}
 use base.Growing.{latest}
 use base.Stored.{gnil, gcons}
 use base.Fml.{Fml, ftrue, fsep, fex, fdead, fnamed, fobs, fauth, fres}
-use Rattle.seize_machine.specs.Machine.State.{State, opening, linked, are_distinct}
+use Rattle.seize_machine.specs.Machine.State.{State, opening, linked, are_distinct, has}
 use Rattle.seize_machine.specs.declared.machine.event.Answer.{Answer}
 use Rattle.seize_store.specs.Known.{tells}
 use Rattle.seize_table.specs.Filled.{all_filled, filled_at}
@@ -37,7 +38,7 @@ use Rattle.seize_book.specs.Blocks.{block_of, plans}
 use Rattle.seize_book.specs.Chains.{Chained, told}
 use Rattle.seize_book.specs.Homes.{IsSound, home_of}
 use Rattle.seize_book.specs.Laws.{ended}
-use Rattle.seize_book.specs.Loans.{loan, place_of}
+use Rattle.seize_book.specs.Loans.{CarriesNone, loan, place_of}
 
 -- Who may append: whoever has a pass; or one pass alone, whose copy of the list has this name.
 pub data Gate : Type 0 where
@@ -167,6 +168,13 @@ abbrev pub all_lead : Name → List ℕ → Fml
 all_lead n [] = ftrue
 all_lead n (v ∷ vs) = fsep (leads n v) (all_lead n vs)
 
+-- where the blocks of the book lie in a store, something is lent with the value
+abbrev pub IsLentIn : Name → ℕ → Type 0
+IsLentIn n v = (n.store ≡ None) ⊎ (¬ (CarriesNone v))
+
+abbrev pub AllLentIn : Name → List ℕ → Type 0
+AllLentIn n vs = (v : ℕ) → has v vs ≡ true → IsLentIn n v
+
 -- an entry of a table has one label for good, since it is filled once
 
 abbrev pub lies_in : Option (List ℕ) → ℕ → ℕ → Fml
@@ -187,7 +195,7 @@ abbrev pub all_lie : Name → ℕ → Fml
 all_lie n m = all_lie_in n.table (slot_labels n m)
 
 abbrev pub found : Name → State → Fml
-found n st = fsep (all_lead n st.named) (all_lie n (length st.slots))
+found n st = fsep (all_lead n st.named) (fsep (all_lie n (length st.slots)) (fact (AllLentIn n st.named)))
 
 -- what the invariant holds beside the list and the keys: each activation that has ended is over; the gate; and where all is found that was
 -- ever named or made
@@ -249,8 +257,9 @@ held_coded =
     (λ h. (h.kind, (h.key, (h.label, h.own)))) (λ t. record { kind = t.0; key = t.1.0; label = t.1.1.0; own = t.1.1.1 }) (λ _. refl)
 
 -- Entry e was added with pass p. It took the machine to this state, with this answer, and this state is where all that the pass has seen
--- leads. Nothing had been made with the pass since it had seen its beginning, and where it is alone nothing at all had been added. The
--- links of the book's opening are distinct, so that the laws hold of its list.
+-- leads. Nothing had been made with the pass since it had seen its beginning, and where it is alone nothing at all had been added. With
+-- each value that was named something is lent, if the blocks of the book lie in a store. The links of the book's opening are distinct, so
+-- that the laws hold of its list.
 pub record Noted (n : Name) (p : ℕ) (seen seen' : List Entry) (e : Entry) : Type 0 where
   pub before : List Entry
   pub appended : seen' ≡ before ++ e ∷ []
@@ -264,4 +273,5 @@ pub record Noted (n : Name) (p : ℕ) (seen seen' : List Entry) (e : Entry) : Ty
   pub leads : after (start n) seen' ≡ later
   pub made : mine (start n) p seen' ≡ mine (start n) p seen ++ (e, answer) ∷ []
   pub alone : IsSole n.gate → before ≡ seen
+  pub lent : AllLentIn n later.named
   pub distinct : are_distinct (linked n.links) ≡ true

@@ -8,7 +8,7 @@
 --     AreStill keys keys'            they are the same, and know what they knew
 --     LieApart values                no two of them lie in one block
 --     AllNew n held, AreNew keys     each of the values was never named, and all that lay in its block before were reclaimed, as its key
---                                    knows
+--                                    knows; and something is lent with it, if the blocks of the book lie in a store
 --     Keep keys pass' keys'          they are the same keys, and know all that the pass has seen
 --     AreSpent keys pass             each value was named, and no call may begin to retire it, as the pass has seen
 --     AreLast keys pass              all others that lay in the blocks of these values were reclaimed, as the pass has seen
@@ -20,7 +20,7 @@ use Rattle.seize_book.specs.Entry.{Entry}
 use Rattle.seize_book.specs.Homes.{IsVacant, home_of}
 use Rattle.seize_book.specs.Ledger.{Held, renewed}
 use Rattle.seize_book.specs.Others.{IsLastIn, IsSpent, book_of, value_of}
-use Rattle.seize_book.specs.Tokens.{Name, start}
+use Rattle.seize_book.specs.Tokens.{Name, start, IsLentIn}
 use Rattle.seize_book.specs.Private.{labels_of}
 use Rattle.seize_book.specs.declared.book.pass.Pass.{Pass}
 use Rattle.seize_book.specs.declared.book.value_key.ValueKey.{ValueKey}
@@ -64,7 +64,8 @@ LieApart values = are_distinct (map home_of values) ≡ true
 abbrev pub AllNew : Name → List (Held Entry) → Type 0
 AllNew n [] = Unit {0}
 AllNew n (h ∷ held) =
-    ((has h.label (after (start n) h.own).named ≡ false) × IsVacant (after (start n) h.own) (home_of h.label)) × AllNew n held
+    ((has h.label (after (start n) h.own).named ≡ false) × IsVacant (after (start n) h.own) (home_of h.label) × IsLentIn n h.label)
+    × AllNew n held
 
 abbrev pub AreNew : ValueKeys → Type 0
 AreNew keys = AllNew (book_in keys) keys.keys.held

@@ -130,7 +130,7 @@ module _ (n : Name) (k : ℕ) where
         → AreKeysOf (deposit (after st (log ++ Made e ∷ [])) k) (renewed (if trades then more else vs) (log ++ Made e ∷ []))
         → IsStep (at_count n k) p held_all [] w (Made e) trades (since, vs) own log
     made trades does ends shows stands = record {
-      fair = record { done = d; legal = does; covers = covers; names = names; one = none_named e.size (after st log) e.event d (step_of _ _ _ _ does) (λ j. c.home (after st log) j); leads = unled (after st log) (plans st log) (told log) e.event (λ j. c.head j); labels = no_labels (pass_key p own ∷ in_step (at_count n k) held_all (since, vs)) e.size (after st log) e.event d (step_of _ _ _ _ does) (λ j. c.home (after st log) j); places = no_place (after st log) (pass_key p own ∷ in_step (at_count n k) held_all (since, vs)) (Made e) (makes_none (after st log) e.event c.used) };
+      fair = record { done = d; legal = does; covers = covers; names = names; one = none_named e.size (after st log) e.event d (step_of _ _ _ _ does) (λ j. c.home (after st log) j); leads = unled (after st log) (plans st log) (told log) e.event (λ j. c.head j); labels = no_labels n (pass_key p own ∷ in_step (at_count n k) held_all (since, vs)) e.size (after st log) e.event d (step_of _ _ _ _ does) (λ j. c.home (after st log) j); places = no_place (after st log) (pass_key p own ∷ in_step (at_count n k) held_all (since, vs)) (Made e) (makes_none (after st log) e.event c.used) };
       its = pe;
       bears = c.births (after st log);
       ends = ends;

@@ -71,16 +71,17 @@ kept_state size st _ _ _ _ (Step.exchanged s l exchange new can fresh stores) mi
 kept_state size st _ _ _ _ (Step.compared s l exchange can none) misses = refl
 
 -- a value that is new in a list is so in one that leads to the same state
-new_later : (st : State) (o : Option ℕ) (vs : List (Held Entry)) (log log' : List Entry) → IsLegalList st log → IsNewIn st o vs → AllKept (rules st) vs log → after st log' ≡ after st log → IsNewIn st (value_in (renewed vs log')) (renewed vs log')
-new_later st None vs log log' l new kept same = subst (λ (hs : List (Held Entry)). IsNewIn st (value_in (renewed hs log')) (renewed hs log')) (sym new) refl
-new_later st (Some v) [] log log' l new kept same = absurd (let x : false ≡ true = new.0.0 in cc)
-new_later st (Some v) (x ∷ y ∷ vs) log log' l new kept same = absurd (let x : false ≡ true = new.0.0 in cc)
-new_later st (Some v) (x ∷ []) log log' l new kept same =
+new_later : (n : Name) (o : Option ℕ) (vs : List (Held Entry)) (log log' : List Entry) → IsLegalList (start n) log → IsNewIn n o vs → AllKept (rules (start n)) vs log → after (start n) log' ≡ after (start n) log → IsNewIn n (value_in (renewed vs log')) (renewed vs log')
+new_later n None vs log log' l new kept same = subst (λ (hs : List (Held Entry)). IsNewIn n (value_in (renewed hs log')) (renewed hs log')) (sym new) refl
+new_later n (Some v) [] log log' l new kept same = absurd (let x : false ≡ true = new.0.0 in cc)
+new_later n (Some v) (x ∷ y ∷ vs) log log' l new kept same = absurd (let x : false ≡ true = new.0.0 in cc)
+new_later n (Some v) (x ∷ []) log log' l new kept same =
     let label : v ≡ x.label = sym new.0.2 in
-    subst (λ (w : ℕ). IsNewIn st (Some w) (record { kind = x.kind; key = x.key; own = log'; label = x.label } ∷ [])) label (
+    subst (λ (w : ℕ). IsNewIn n (Some w) (record { kind = x.kind; key = x.key; own = log'; label = x.label } ∷ [])) label (
       key_later (Some v) (x ∷ []) log' new.0,
-      subst (λ (z : State). has v z.named ≡ false) (sym same) (not_true _ (still_new st (Some v) (x ∷ []) log new kept)),
-      subst (λ (z : State). IsVacant z (home_of v)) (sym same) (still_vacant st v (x ∷ []) log l new kept),
+      subst (λ (z : State). has v z.named ≡ false) (sym same) (not_true _ (still_new n (Some v) (x ∷ []) log new kept)),
+      subst (λ (z : State). IsVacant z (home_of v)) (sym same) (still_vacant n v (x ∷ []) log l new kept),
+      new.3,
     )
 
 renewed_own : (vs : List (Held Entry)) (log : List Entry) (w : ℕ) → value_in (renewed vs log) ≡ Some w → own_of (renewed vs log) ≡ log
@@ -149,14 +150,14 @@ module _ (link : Link) (a : Activation) (pass pass' : Pass) (in_ : IsIn link a p
   link_kept exchange is misses = ap (λ (z : State). link_at z (number link)) (step.noted.leads ∙ same_then exchange is misses)
 
   -- and the value is as new as before
-  pub still_may : (exchange : Option ℕ → Exchange) → keys.name ≡ pass.name → IsNewIn (start pass.name) (value_in keys.held) keys.held → ((o : Option ℕ) → ev o ≡ ExchangeLink a.slot (number link) (exchange o)) → ((o : Option ℕ) → v ≡ link_word o → is_stored o (exchange o) ≡ false) → trades v ≡ false
-      → IsNewIn (start keys'.name) (value_in keys'.held) keys'.held
+  pub still_may : (exchange : Option ℕ → Exchange) → keys.name ≡ pass.name → IsNewIn pass.name (value_in keys.held) keys.held → ((o : Option ℕ) → ev o ≡ ExchangeLink a.slot (number link) (exchange o)) → ((o : Option ℕ) → v ≡ link_word o → is_stored o (exchange o) ≡ false) → trades v ≡ false
+      → IsNewIn keys'.name (value_in keys'.held) keys'.held
   still_may exchange book new is misses e =
       let st : State = start pass.name in let now : State = after st step.log in
       let same : step.noted.later ≡ now = same_then exchange is misses in
       let kept = kept_right st step.since.1 keys.held step.log step.found.before.kept.1 in
-      subst (λ (t : Name × List (Held Entry)). IsNewIn (start t.0) (value_in t.1) t.1) (λ j. (sym (told.1 ∙ book) j, sym (had false e) j))
-      (new_later st (value_in keys.held) keys.held step.log pass'.seen step.found.before.legal new kept (step.noted.leads ∙ same))
+      subst (λ (t : Name × List (Held Entry)). IsNewIn t.0 (value_in t.1) t.1) (λ j. (sym (told.1 ∙ book) j, sym (had false e) j))
+      (new_later pass.name (value_in keys.held) keys.held step.log pass'.seen step.found.before.legal new kept (step.noted.leads ∙ same))
 
   pub knows_all : keys'.held ≡ renewed keys'.held pass'.seen
   knows_all = step.keys ∙ renewed_twice (held_then (kind_of links) (trades v) step.since.1 keys.held) pass'.seen ∙ ap (λ (hs : List (Held Entry)). renewed hs pass'.seen) (sym step.keys)

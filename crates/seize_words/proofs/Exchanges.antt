@@ -83,7 +83,7 @@ module _ (n : Name) (s a l : ℕ) (since seen : List Entry) (in_ : IsWithin n s 
   all_blocks (x ∷ []) one = (let is : x.kind ≡ blocks = eq_true x.kind blocks (and_true (x.kind == blocks) (x.key == home_of x.label) one).0 in omega arith, tt)
   all_blocks (x ∷ y ∷ held) one = absurd (cc)
 
-  pub may_swap_link : (p size new : ℕ) (held : List (Held Entry)) → is_at_most_one held ≡ true → IsNewIn st (value_in held) held → new ≡ link_word (value_in held)
+  pub may_swap_link : (p size new : ℕ) (held : List (Held Entry)) → is_at_most_one held ≡ true → IsNewIn n (value_in held) held → new ≡ link_word (value_in held)
       → MayStep (at_link n l) p seen held (a ∷ []) [] (λ v. new) (λ v log. Made (record { pass = p; size = size; event = ExchangeLink s l (Swap (value_in held)); life = 0 })) (λ v. true)
   may_swap_link p size new held one fresh word =
       (all_blocks held one, (λ v t own log found. let w = within v p held t log found in store_step n l v p size s seen held (a ∷ []) t own log found w.0 w.1 (value_in held) (Swap (value_in held)) refl fresh new word refl))
@@ -114,7 +114,7 @@ module _ (n : Name) (s a l : ℕ) (since seen : List Entry) (in_ : IsWithin n s 
       apart (inl h) = absurd (differs (same_words old (value_with seen_word) h ∙ word_back seen_word fits))
       apart (inr h) = h
 
-  pub may_compare_link : (p size seen_word new : ℕ) (held : List (Held Entry)) → seen_word < 2 ^ 64 → is_at_most_one held ≡ true → IsNewIn st (value_in held) held → new ≡ link_word (value_in held)
+  pub may_compare_link : (p size seen_word new : ℕ) (held : List (Held Entry)) → seen_word < 2 ^ 64 → is_at_most_one held ≡ true → IsNewIn n (value_in held) held → new ≡ link_word (value_in held)
       → MayStep (at_link n l) p seen held (a ∷ []) [] (exchanged seen_word new)
       (λ v log. Made (record { pass = p; size = size; event = ExchangeLink s l (Compare (compared seen_word (link_at (after st log) l)) (value_in held)); life = 0 })) (λ v. v == seen_word)
   may_compare_link p size seen_word new held fits one fresh word = (all_blocks held one, step)
@@ -134,7 +134,7 @@ module _ (n : Name) (s a l : ℕ) (since seen : List Entry) (in_ : IsWithin n s 
           (miss_step n l v p size s seen held (a ∷ []) t own log found w.0 w.1 (value_in held) (Compare (compared seen_word old) (value_in held)) refl fresh (missed seen_word old (value_in held) fits (λ x. differs (is ∙ x)))))
 
   -- and where something else is there, finds that
-  pub compare_finds : (p size seen_word : ℕ) (held : List (Held Entry)) → seen_word < 2 ^ 64 → IsNewIn st (value_in held) held → (v : ℕ) (t : At) (log : List Entry) → FoundAs (at_link n l) v p seen held (a ∷ []) t log → (v == seen_word) ≡ false → (w : ℕ)
+  pub compare_finds : (p size seen_word : ℕ) (held : List (Held Entry)) → seen_word < 2 ^ 64 → IsNewIn n (value_in held) held → (v : ℕ) (t : At) (log : List Entry) → FoundAs (at_link n l) v p seen held (a ∷ []) t log → (v == seen_word) ≡ false → (w : ℕ)
       → link_at (after st (log ++ Made (record { pass = p; size = size; event = ExchangeLink s l (Compare (compared seen_word (link_at (after st log) l)) (value_in held)); life = 0 }) ∷ [])) l ≡ Some w
       → Reader st (log ++ Made (record { pass = p; size = size; event = ExchangeLink s l (Compare (compared seen_word (link_at (after st log) l)) (value_in held)); life = 0 }) ∷ []) w a
   compare_finds p size seen_word held fits fresh v t log found differs w is =

@@ -3,12 +3,12 @@ use Rattle.std.proofs.Common.{◌≡◌, ℕ, ◌<◌, ◌≤◌, Bool, true, fa
 use Rattle.std.specs.Prelude.{slice_index_or}
 use base.Growing.{prefix_trans}
 use mathlib.Core.List.{IsPrefix}
-use Rattle.seize_machine.specs.Machine.State.{Mark, State, are_distinct, linked, slot_at}
-use Rattle.seize_machine.specs.Machine.Event.{Event}
+use Rattle.seize_machine.specs.Machine.State.{Mark, State, are_distinct, has, link_at, linked, slot_at}
+use Rattle.seize_machine.specs.Machine.Event.{Event, ReadLink}
 use Rattle.seize_machine.specs.Machine.History.{IsReached, first_of}
 use Rattle.seize_machine.specs.Machine.Next.{next}
 use Rattle.seize_machine.specs.declared.machine.event.Answer.{Answer}
-use Rattle.seize_machine.proofs.Facts.{note_within, some_is}
+use Rattle.seize_machine.proofs.Facts.{linked_named, note_within, some_is}
 use Rattle.seize_book.specs.Adding.{private}
 use Rattle.seize_book.specs.Blocks.{Plan, block_for, block_in, block_of, front_of, list_word, no_plan, planned_by, plans, serving}
 use Rattle.seize_book.specs.Book.{IsLegalList, after, mine}
@@ -18,15 +18,15 @@ use Rattle.seize_words.specs.Headers.{Stores, Uses, using}
 use Rattle.seize_words.specs.Heads.{IsTrying}
 use Rattle.seize_book.specs.Homes.{home_of}
 use Rattle.seize_book.specs.Laws.{life, starts}
-use Rattle.seize_words.specs.LinkWords.{IsIn, Takes, number}
+use Rattle.seize_words.specs.LinkWords.{IsIn, Sees, Takes, held_before, number}
 use Rattle.seize_words.specs.Links.{IsWithin}
 use Rattle.seize_book.specs.Passes.{IsSame, LooksOn, events_by, events_in, mine_of}
 use Rattle.seize_book.specs.Slots.{IsOf, Moves, NotesAs, life_of, number_of, own_list, size_of, slot_of, start_of}
-use Rattle.seize_book.specs.Tokens.{Name, Noted, start}
+use Rattle.seize_book.specs.Tokens.{IsLentIn, Name, Noted, start}
 use Rattle.seize_words.specs.Totals.{slots_seen}
 use Rattle.seize_book.proofs.Fronts.{front_there}
 use Rattle.seize_words.proofs.Heads.{slots_grow}
-use Rattle.seize_book.proofs.Lists.{reached_after}
+use Rattle.seize_book.proofs.Lists.{legal_front, reached_after}
 pub use Rattle.seize_book.proofs.Lists.{after_used}
 -- the keys of values that were never named, put together, and what the key of one knows that was put
 pub use Rattle.seize_book.proofs.Further.{none_new, first_new, pushed_new, next_known}
@@ -36,6 +36,8 @@ pub use Rattle.seize_words.proofs.Inserts.{detached_named, knows_used, looked_na
 -- what a sight shows by a value's name is what was lent with the value
 pub use Rattle.seize_words.proofs.Contents.{same_content}
 pub use Rattle.seize_book.proofs.Hands.{hands_soon}
+-- with a value that was named something is lent, if the blocks of its book lie in a store
+pub use Rattle.seize_book.proofs.LentValues.{gone_lent, lent_key, named_lent}
 -- a value that was named stays so
 pub use Rattle.seize_book.proofs.Sound.{named_later}
 -- looks, a slot's key, and the walk of its call, in what the key knows later
@@ -45,6 +47,7 @@ use Rattle.seize_words.proofs.Stepped.{life_push}
 use Rattle.seize_words.specs.declared.activation.Activation.{Activation}
 use Rattle.seize_book.specs.declared.book.pass.Pass.{Pass}
 use Rattle.seize_book.specs.declared.book.slot_key.SlotKey.{SlotKey}
+use Rattle.seize_words.specs.declared.glimpse.Glimpse.{Glimpse}
 use Rattle.seize_words.specs.declared.link.Link.{Link}
 
 -- what was made with a pass has grown by the event and its answer
@@ -212,3 +215,16 @@ known_in link a pass pass' in_ name grows = record {
 -- after a step on a link the same activation may make the next, on this link or on another one
 pub still_in : (link other : Link) (a : Activation) (pass pass' : Pass) (event : Option ℕ → Event) (v : ℕ) → IsIn other a pass → Takes link a pass pass' event v → IsIn other a pass'
 still_in link other a pass pass' event v in_ t = known_in other a pass pass' in_ t.same.0 (seen_grows pass.name pass.id pass.seen pass'.seen _ t.noted)
+
+-- and with a value that was found in a link
+pub held_lent : (link : Link) (a : Activation) (pass pass' : Pass) (event : Option ℕ → Event) (v w : ℕ) (t : Takes link a pass pass' event v) → held_before t ≡ Some w → IsLentIn pass.name w
+held_lent link a pass pass' event v w t is =
+    let st : State = start pass.name in let noted = t.noted in let e : Entry = Made (private pass (event (link_at (after st t.before) (number link)))) in
+    let appended : pass'.seen ≡ t.before ++ e ∷ [] = noted.appended ∙ ap (λ (log : List Entry). log ++ e ∷ []) t.is_before in
+    let legal = legal_front st t.before e (subst (IsLegalList st) appended noted.legal) in
+    let named = (linked_named (after st t.before) (reached_after pass.name t.before noted.distinct legal) (number link) w is).0 in
+    noted.lent w (subst (λ (z : State). has w z.named ≡ true) noted.leads (named_later st t.before pass'.seen w (e ∷ [], sym appended) noted.legal named))
+
+-- so whoever has a glimpse of it knows that it can be seen
+pub glimpse_lent : (link : Link) (a : Activation) (pass pass' : Pass) (v w : ℕ) (glimpse : Glimpse) → Sees link a pass pass' v glimpse → glimpse.value ≡ Some w → IsLentIn pass.name w
+glimpse_lent link a pass pass' v w glimpse sees is = held_lent link a pass pass' (λ _. ReadLink a.slot (number link)) v w sees.0 (sym sees.1 ∙ is)

@@ -11,7 +11,7 @@ use Rattle.seize_words.specs.Joined.{TriesAtSlot}
 use Rattle.seize_book.specs.Passes.{LooksOn}
 use Rattle.seize_words.specs.Reservations.{TriesAt, beginning, slot}
 use Rattle.seize_book.specs.Slots.{NotesAs, number_of, own_list, start_of}
-use Rattle.seize_book.specs.Tokens.{IsSole, Name, Noted, start}
+use Rattle.seize_book.specs.Tokens.{AllLentIn, IsSole, Name, Noted, start}
 use Rattle.seize_words.specs.Totals.{slots_seen}
 use Rattle.seize_book.specs.declared.book.pass.Pass.{Pass}
 use Rattle.seize_book.specs.declared.book.slot_key.SlotKey.{SlotKey}
@@ -38,6 +38,7 @@ module _ (key key' : SlotKey) (pass mid pass' : Pass) (looks : LooksOn pass mid)
           ap (λ (t : Name × ℕ). mine (start t.0) t.1 pass'.seen) (λ j. (sym looks.same.0 j, sym looks.same.1 j))
           ∙ (x.made ∙ ap (λ (made : List (Entry × _)). made ++ (Made d, x.answer) ∷ []) looks.none_made);
       alone = λ s. x.alone (subst (λ (n : Name). IsSole n.gate) (sym looks.same.0) s) ∙ looks.alone s;
+      lent = subst (λ (n : Name). AllLentIn n (x.later).named) looks.same.0 x.lent;
       distinct = looks.distinct;
     }
 

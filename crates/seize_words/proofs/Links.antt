@@ -16,7 +16,7 @@ use Rattle.seize_book.specs.Ledger.{Held, AllKept, AllThere, Beside, renewed}
 use Rattle.seize_book.specs.Homes.{HasOne, IsVacant, home_of, is_home}
 use Rattle.seize_words.specs.Links.{at_link, IsNewIn}
 use Rattle.seize_words.specs.Stepping.{FoundAs, IsStep, in_step}
-use Rattle.seize_book.specs.Tokens.{Name, start}
+use Rattle.seize_book.specs.Tokens.{IsLentIn, Name, start}
 use Rattle.seize_words.specs.Words.{IsKeyOf}
 use Rattle.seize_book.proofs.Lists.{after_push}
 use Rattle.seize_book.proofs.Private.{differ}
@@ -65,9 +65,9 @@ past_value many (Some v) (x ∷ []) k is there le =
     let kind : x.kind ≡ blocks = eq_true x.kind blocks is.0 in let l : home_of v < many blocks = subst (λ (z : ℕ). home_of v < many z) kind (subst (λ (z : ℕ). z < many x.kind) is.1 there.0) in
     differ (home_of v) k (λ e. omega (arith, e, l, le))
 
-pub is_key : (st : State) (o : Option ℕ) (vs : List (Held Entry)) → IsNewIn st o vs → IsKeyOf o vs
-is_key st None vs new = new
-is_key st (Some v) vs new = new.0
+pub is_key : (n : Name) (o : Option ℕ) (vs : List (Held Entry)) → IsNewIn n o vs → IsKeyOf o vs
+is_key n None vs new = new
+is_key n (Some v) vs new = new.0
 
 -- what the key of a value's block says
 block_kept : (st : State) (v : ℕ) (x : Held Entry) (log : List Entry) → IsKeyOf (Some v) (x ∷ []) → (rules st).Kept x.kind x.key x.own log → Kept st TheBlock (home_of v) x.own log
@@ -78,18 +78,18 @@ value_kept : (st : State) (v : ℕ) (x : Held Entry) (log : List Entry) → IsKe
 value_kept st v x log is kept = (block_kept st v x log is kept).1 v refl
 
 -- a value that its key knows to be new is new
-pub still_new : (st : State) (o : Option ℕ) (vs : List (Held Entry)) (log : List Entry) → IsNewIn st o vs → AllKept (rules st) vs log → is_none_or_fresh (after st log) o ≡ true
-still_new st None vs log new kept = refl
-still_new st (Some v) [] log new kept = absurd (let x : false ≡ true = new.0.0 in cc)
-still_new st (Some v) (x ∷ y ∷ vs) log new kept = absurd (let x : false ≡ true = new.0.0 in cc)
-still_new st (Some v) (x ∷ []) log new kept =
-    ap not (sym (value_kept st v x log new.0 kept.0).0 ∙ new.1)
+pub still_new : (n : Name) (o : Option ℕ) (vs : List (Held Entry)) (log : List Entry) → IsNewIn n o vs → AllKept (rules (start n)) vs log → is_none_or_fresh (after (start n) log) o ≡ true
+still_new n None vs log new kept = refl
+still_new n (Some v) [] log new kept = absurd (let x : false ≡ true = new.0.0 in cc)
+still_new n (Some v) (x ∷ y ∷ vs) log new kept = absurd (let x : false ≡ true = new.0.0 in cc)
+still_new n (Some v) (x ∷ []) log new kept =
+    ap not (sym (value_kept (start n) v x log new.0 kept.0).0 ∙ new.1)
 
 -- and its block is vacant still
-pub still_vacant : (st : State) (v : ℕ) (vs : List (Held Entry)) (log : List Entry) → IsLegalList st log → IsNewIn st (Some v) vs → AllKept (rules st) vs log → IsVacant (after st log) (home_of v)
-still_vacant st v [] log l new kept = absurd (let x : false ≡ true = new.0.0 in cc)
-still_vacant st v (x ∷ y ∷ vs) log l new kept = absurd (let x : false ≡ true = new.0.0 in cc)
-still_vacant st v (x ∷ []) log l new kept = vacant_later st x.own log (home_of v) l (block_kept st v x log new.0 kept.0) new.2
+pub still_vacant : (n : Name) (v : ℕ) (vs : List (Held Entry)) (log : List Entry) → IsLegalList (start n) log → IsNewIn n (Some v) vs → AllKept (rules (start n)) vs log → IsVacant (after (start n) log) (home_of v)
+still_vacant n v [] log l new kept = absurd (let x : false ≡ true = new.0.0 in cc)
+still_vacant n v (x ∷ y ∷ vs) log l new kept = absurd (let x : false ≡ true = new.0.0 in cc)
+still_vacant n v (x ∷ []) log l new kept = vacant_later (start n) x.own log (home_of v) l (block_kept (start n) v x log new.0 kept.0) new.2
 
 or_both : (a b : Bool) → a ≡ false → b ≡ false → (a || b) ≡ false
 or_both false b x y = y
@@ -150,7 +150,7 @@ module _ (n : Name) (l : ℕ) where
         covers (suc (suc (suc (suc (suc (suc (suc (suc (suc r))))))))) k beside there = refl
 
     -- An exchange, with the keys of the value that it would store.
-    module _ (o : Option ℕ) (exchange : Exchange) (for : new_link exchange ≡ o) (new : IsNewIn st o held) where
+    module _ (o : Option ℕ) (exchange : Exchange) (for : new_link exchange ≡ o) (new : IsNewIn n o held) where
       abbrev pub exchanges : Entry
       exchanges = Made (record { pass = p; size = size; event = ExchangeLink s l exchange; life = 0 })
 
@@ -172,7 +172,7 @@ module _ (n : Name) (l : ℕ) where
       covers_exchange (suc (suc (suc (suc zero)))) k beside there = differ l k (λ i. beside.1.0 (refl, i))
       covers_exchange (suc (suc (suc (suc (suc zero))))) k beside there = refl
       covers_exchange (suc (suc (suc (suc (suc (suc zero)))))) k beside there = let b = beside_both t.1 held blocks k beside.1.1 in
-          or_both (is_home k (new_link exchange)) (is_home k (link_at now l)) (ap (is_home k) for ∙ other_value o held k (is_key st o held new) b.1) (other_value (link_at now l) t.1 k here b.0)
+          or_both (is_home k (new_link exchange)) (is_home k (link_at now l)) (ap (is_home k) for ∙ other_value o held k (is_key n o held new) b.1) (other_value (link_at now l) t.1 k here b.0)
       covers_exchange (suc (suc (suc (suc (suc (suc (suc zero))))))) k beside there = refl
       covers_exchange (suc (suc (suc (suc (suc (suc (suc (suc zero)))))))) k beside there = refl
       covers_exchange (suc (suc (suc (suc (suc (suc (suc (suc (suc r))))))))) k beside there = refl
@@ -181,24 +181,24 @@ module _ (n : Name) (l : ℕ) where
       names_exchange many was there = let h = there_both many t.1 held there.1.1 in (
         there.0,
         (λ w le. refl),
-        (λ w le. or_both (is_home w (new_link exchange)) (is_home w (link_at now l)) (ap (is_home w) for ∙ past_value many o held w (is_key st o held new) h.1 le) (past_value many (link_at now l) t.1 w here h.0 le)),
+        (λ w le. or_both (is_home w (new_link exchange)) (is_home w (link_at now l)) (ap (is_home w) for ∙ past_value many o held w (is_key n o held new) h.1 le) (past_value many (link_at now l) t.1 w here h.0 le)),
         λ f le. refl,
       )
 
       fresh : is_none_or_fresh now o ≡ true
-      fresh = still_new st o held log new (kept_right st t.1 held log found.before.kept.1)
+      fresh = still_new n o held log new (kept_right st t.1 held log found.before.kept.1)
 
       -- and what lay in its block before was reclaimed
-      one_stored : (o : Option ℕ) → IsNewIn st o held → Step size now (ExchangeLink s l exchange) (swapped now l o, Held_ (link_at now l)) → HasOne now → HasOne (swapped now l o)
+      one_stored : (o : Option ℕ) → IsNewIn n o held → Step size now (ExchangeLink s l exchange) (swapped now l o, Held_ (link_at now l)) → HasOne now → HasOne (swapped now l o)
       one_stored None new step = old_named size now (ExchangeLink s l exchange) (swapped now l None, Held_ (link_at now l)) step (λ u h. subst (λ (vs : List ℕ). has u vs ≡ true) (append-nil now.named) h)
       one_stored (Some w) new step =
-          new_named size now (ExchangeLink s l exchange) (swapped now l (Some w), Held_ (link_at now l)) w step (pushed w now.named) (still_vacant st w held log found.before.legal new (kept_right st t.1 held log found.before.kept.1))
+          new_named size now (ExchangeLink s l exchange) (swapped now l (Some w), Held_ (link_at now l)) w step (pushed w now.named) (still_vacant n w held log found.before.legal new (kept_right st t.1 held log found.before.kept.1))
 
       -- the value that it names is the one with which the key is labelled
-      labels_stored : (o : Option ℕ) → IsNewIn st o held → NamesLabels now all (swapped now l o)
+      labels_stored : (o : Option ℕ) → IsNewIn n o held → NamesLabels n now all (swapped now l o)
       labels_stored None new u named = inl (subst (λ (vs : List ℕ). has u vs ≡ true) (append-nil now.named) named)
       labels_stored (Some w) new u named =
-          ⊎_elim (λ is. inr (inr (inr (label_beside t.1 held u (label_here held w u new.0 is))))) (λ was. inl was) (pushed w now.named u named)
+          ⊎_elim (λ is. inr (inr (inr (label_beside t.1 held u (label_here held w u new.0 is))), subst (IsLentIn n) (sym is) new.3)) (λ was. inl was) (pushed w now.named u named)
 
       -- it stores the value
       pub store_step : (w : ℕ) → w ≡ link_word o → is_stored (link_at now l) exchange ≡ true
@@ -214,7 +214,7 @@ module _ (n : Name) (l : ℕ) where
             bears = refl;
             ends = λ a i. absurd i;
             shows = word ∙ ap link_word (sym is);
-            stands = subst (λ (x : Option ℕ). IsKeyOf x (renewed held (log ++ exchanges ∷ []))) (sym is) (key_later o held (log ++ exchanges ∷ []) (is_key st o held new));
+            stands = subst (λ (x : Option ℕ). IsKeyOf x (renewed held (log ++ exchanges ∷ []))) (sym is) (key_later o held (log ++ exchanges ∷ []) (is_key n o held new));
           }
 
       -- one that finds something else is legal, and leaves all as it is

@@ -29,7 +29,7 @@ use Rattle.seize_book.specs.Homes.{IsSound, home_of}
 use Rattle.seize_book.specs.Homesteads.{HasNumber, state_seen}
 use Rattle.seize_book.specs.Passes.{LooksOn}
 use Rattle.seize_book.specs.Slots.{IsOf, IsStill, Notes, NotesAs, number_of, own_list, size_of, slot_of, start_of}
-use Rattle.seize_book.specs.Tokens.{IsSole, Name, start}
+use Rattle.seize_book.specs.Tokens.{AllLentIn, IsSole, Name, start}
 use Rattle.seize_words.specs.Walks.{IsAtBatch, Knows, word_for}
 use Rattle.seize_book.specs.declared.book.pass.Pass.{Pass}
 use Rattle.seize_book.specs.declared.book.slot_key.SlotKey.{SlotKey}
@@ -63,6 +63,7 @@ looks_twice a b c one two = record {
   alone = λ s. two.alone (subst (λ (n : Name). IsSole n.gate) (sym one.same.0) s) ∙ one.alone s;
   legal = subst (λ (n : Name). IsLegalList (start n) c.seen) one.same.0 two.legal;
   sound = subst (λ (n : Name). IsSound (after (start n) c.seen)) one.same.0 two.sound;
+  lent = subst (λ (n : Name). AllLentIn n (after (start n) c.seen).named) one.same.0 two.lent;
   distinct = one.distinct;
 }
 

@@ -77,7 +77,7 @@ TriesAtSlot key s seen block =
     (t : IsTrying (start_of key) (number_of key) (own_list key) s seen block) × HasWritten key seen t.batch × (block + 2 < 2 ^ 64)
 
 abbrev pub IsNewTo : Name → MaybeKey → ℕ → Type 0
-IsNewTo n key new = (key.keys.name ≡ n) × IsNewIn (start n) (holds key) key.keys.held × (new ≡ link_word (holds key))
+IsNewTo n key new = (key.keys.name ≡ n) × IsNewIn n (holds key) key.keys.held × (new ≡ link_word (holds key))
 
 abbrev pub IsStoreOf : {H P T : Type 0} {g : Ghosts H} → Store H P T g → Book → Type 0
 IsStoreOf store book = (book.name.store ≡ Some (name_of store)) × (family_in (name_of store) ≡ book.name.family)

@@ -3,7 +3,8 @@
 --     number link                 which link it is
 --     holds key, IsSomeKey key    the value whose key it is, if it is one;  and it is one
 --     IsIn link activation pass   all are of one book, the activation has begun, as the pass has seen, and the link is one of the book's
---     IsNewFor link key new       the key is that of a value that was never named and whose block is vacant, or none; this is its word
+--     IsNewFor link key new       the key is that of a value that was never named, whose block is vacant, and with which something is lent
+--                                 if the blocks of the book lie in a store; or none; this is its word
 --     IsOut key                   the value was named, and it is loose, as its key knows
 --     HasNext left, IsNext left link left'     a link is left to make;  it was made
 --     Takes                       the event was made with the pass, during the activation;  IsDuring activation name list
@@ -51,7 +52,7 @@ pub record IsIn (link : Link) (activation : Activation) (pass : Pass) : Type 0 w
 
 abbrev pub IsNewFor : Link → MaybeKey → ℕ → Type 0
 IsNewFor link key new =
-    (key.keys.name ≡ link.word.name) × IsNewIn (start link.word.name) (holds key) key.keys.held × (new ≡ link_word (holds key))
+    (key.keys.name ≡ link.word.name) × IsNewIn link.word.name (holds key) key.keys.held × (new ≡ link_word (holds key))
 
 abbrev pub IsSomeKey : MaybeKey → Type 0
 IsSomeKey key = is_some (holds key) ≡ true
@@ -103,7 +104,7 @@ CompareExchanges link activation key pass seen key' pass' v glimpse =
     (t : Takes link activation pass pass' (λ old. ExchangeLink activation.slot (number link) (Compare (compared seen old) (holds key))) v)
     × (key'.keys.name ≡ key.keys.name)
     × (v ≡ seen → (holds key' ≡ held_before t) × IsOut key' × (glimpse.value ≡ None))
-    × (v ≢ seen → (holds key' ≡ holds key) × IsNewIn (start key'.keys.name) (holds key') key'.keys.held × (glimpse.value ≡ held_before t))
+    × (v ≢ seen → (holds key' ≡ holds key) × IsNewIn key'.keys.name (holds key') key'.keys.held × (glimpse.value ≡ held_before t))
     × KnowsAll key' pass'
 
 -- Links are made of the keys that their book begins with.

@@ -2,8 +2,9 @@
 --     at_link n l        the word of link l of the book
 --     IsWithin n s a since seen l   the slot was active, in the activation with lifetime a, when the list was `since`, which the pass has
 --                        seen; and the link is one of the book's
---     IsNewIn st o vs    the keys are of this value, which was never named, as they know, and all that lay in its block before were
---                        reclaimed; or there is neither value nor key
+--     IsNewIn n o vs     the keys are of this value, which was never named, as they know, and all that lay in its block before were
+--                        reclaimed; and something is lent with it, if the blocks of the book lie in a store; or there is neither value nor
+--                        key
 --     value_in held, is_at_most_one held     the value that a key is labelled with, if there is one;  there is no other key
 --     compared seen old  what an exchange compares that asks for this word, where the link holds this
 use Rattle.std.specs.Prelude.{◌≡◌, ℕ, zero, suc, ◌<◌, ◌==◌, Bool, true, false, ◌&&◌, if◌then◌else◌, List, [], ◌∷◌, length, Option, Some, None}
@@ -16,7 +17,7 @@ use Rattle.seize_book.specs.Homes.{IsVacant, home_of}
 use Rattle.seize_book.specs.Laws.{life}
 use Rattle.seize_book.specs.Ledger.{Held}
 use Rattle.seize_book.specs.Private.{own_of}
-use Rattle.seize_book.specs.Tokens.{Name, start}
+use Rattle.seize_book.specs.Tokens.{IsLentIn, Name, start}
 use Rattle.seize_words.specs.Words.{Site, IsKeyOf}
 
 abbrev pub at_link : Name → ℕ → Site
@@ -28,11 +29,12 @@ pub record IsWithin (n : Name) (s a : ℕ) (since seen : List Entry) (l : ℕ) :
   pub known : IsPrefix since seen
   pub is_link : l < length n.links
 
--- the keys are those of the value o, which was never named, and whose home is vacant
-abbrev pub IsNewIn : State → Option ℕ → List (Held Entry) → Type 0
-IsNewIn st None vs = IsKeyOf None vs
-IsNewIn st (Some v) vs =
-    IsKeyOf (Some v) vs × (has v (after st (own_of vs)).named ≡ false) × IsVacant (after st (own_of vs)) (home_of v)
+-- the keys are those of the value o, which was never named, whose home is vacant, and with which something is lent where it has to be
+abbrev pub IsNewIn : Name → Option ℕ → List (Held Entry) → Type 0
+IsNewIn n None vs = IsKeyOf None vs
+IsNewIn n (Some v) vs =
+    IsKeyOf (Some v) vs × (has v (after (start n) (own_of vs)).named ≡ false) × IsVacant (after (start n) (own_of vs)) (home_of v)
+    × IsLentIn n v
 
 abbrev pub IsLink : Site → Type 0
 IsLink word = word.kind ≡ links

@@ -67,7 +67,7 @@ with_births held (b ∷ births) log = held ++ born (b ∷ births) log
 
 pub record IsStepWith (births : Births) (site : Site) (p : ℕ) (held : Keys) (lives : List ℕ) (w : ℕ) (e : Entry) (trades : Bool) (t : At)
     (own log : List Entry) : Type 0 where
-  pub fair : Fair (start site.name) (pass_key p own ∷ in_step site held t) log e
+  pub fair : Fair site.name (pass_key p own ∷ in_step site held t) log e
   pub its : maker e ≡ p
   pub bears : births_by (after (start site.name) log) e ≡ births
   pub ends : EndsAmong lives log e

@@ -94,7 +94,8 @@ impl Link {
     }
 
     /// Puts a value that was never named into the link, or none: the event `ExchangeLink` of the activation's slot. All values that lay in
-    /// its block before were reclaimed. It gives the word of what the link held, and the key of that, in place of the value's.
+    /// its block before were reclaimed, and something is lent with it, if the blocks of its book lie in a store. It gives the word of what
+    /// the link held, and the key of that, in place of the value's.
     pub fn swap(
         &self,
         new: u64,

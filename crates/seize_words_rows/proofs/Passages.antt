@@ -94,5 +94,5 @@ laid linked values v are book is first =
     subst (λ (k : ℕ). AreHeads linked.heads
     × ((count_book linked.count ≡ n) × (home linked.count ≡ home_of k) × (block_of k ≡ 5)
     × ((field_book linked.next ≡ n) × (field_book linked.first ≡ n) × (number linked.next ≡ next_field (home_of k)) × (number linked.first ≡ first_field (home_of k)))
-    × ((book_in values ≡ n) × (values_of values ≡ k ∷ []))))
-    (sym first) (are.0.0, (at.0, at.1, at.2, at.3, (book, is)))
+    × ((book_in values ≡ n) × (values_of values ≡ k ∷ [])) × (n.store ≡ None)))
+    (sym first) (are.0.0, (at.0, at.1, at.2, at.3, (book, is), are.0.4))

@@ -1,5 +1,5 @@
 -- The second value of the worked run's block: its steps from stage to stage, and the words with its key.
-use Rattle.std.proofs.Common.{◌≡◌, ℕ, Bool, true, false, if◌then◌else◌, List, [], ◌∷◌, Some, refl, sym, ap, ◌∙◌, subst, inl, inr}
+use Rattle.std.proofs.Common.{◌≡◌, ℕ, Bool, true, false, if◌then◌else◌, List, [], ◌∷◌, None, Some, refl, sym, ap, ◌∙◌, subst, inl, inr}
 use Rattle.seize_machine.specs.Machine.State.{Append, State, has}
 use Rattle.seize_machine.specs.Machine.Event.{Begin, Put}
 use Rattle.seize_machine.specs.Machine.Next.{begun as begun_in, next, retiring}
@@ -64,6 +64,6 @@ goes_on words values pass key now v are first book is leads =
     subst (λ (k : ℕ). (AreHeads words.heads
     × ((count_book block.count ≡ n) × (home block.count ≡ home_of k) × (block_of k ≡ 5)
     × ((field_book block.next ≡ n) × (field_book block.first ≡ n) × (number block.next ≡ next_field (home_of k)) × (number block.first ≡ first_field (home_of k)))
-    × ((book_in values ≡ n) × (values_of values ≡ k ∷ []))))
+    × ((book_in values ≡ n) × (values_of values ≡ k ∷ [])) × (n.store ≡ None)))
     × ((x : ℕ) × Leads n pass key 1 (now x k)))
-    (sym first) ((are.0, (at.0, at.1, at.2, at.3, (book, is))), (v, leads))
+    (sym first) ((are.0, (at.0, at.1, at.2, at.3, (book, is), at.5)), (v, leads))

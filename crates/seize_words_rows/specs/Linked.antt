@@ -1,6 +1,7 @@
 -- The worked run through a link.
 --     book_by linked                the book of the words
---     HasLink linked                the heads are those of slots 0 and 1, and the link is the only one of their book
+--     HasLink linked                the heads are those of slots 0 and 1, and the link is the only one of their book, whose blocks lie in
+--                                   no store
 --     IsLaidAt v linked             the count and the fields are of the book too, and stand with the block in which v lies, which has
 --                                   number 5
 --     AreLinked v linked            both
@@ -28,7 +29,7 @@ book_by linked = book_in linked.heads
 abbrev pub HasLink : Linked → Type 0
 HasLink linked =
     AreHeads linked.heads × (link_book linked.link ≡ book_by linked) × (links.number linked.link ≡ 0)
-    × (length (book_by linked).links ≡ 1)
+    × (length (book_by linked).links ≡ 1) × ((book_by linked).store ≡ None)
 
 abbrev pub IsLaidAt : ℕ → Linked → Type 0
 IsLaidAt v linked =

@@ -43,14 +43,14 @@ HasFields n block =
 abbrev pub HasKey : Name → Block → Type 0
 HasKey n block = (values.book_in block.values ≡ n) × (values.values_of block.values ≡ value_in block ∷ [])
 
--- the block has number 5, and its count, of this book, is that of the batch whose first value lies there
+-- the block has number 5, in no store, and its count, of this book, is that of the batch whose first value lies there
 abbrev pub IsLaid : Name → Block → Type 0
 IsLaid n block =
     (count_book block.count ≡ n) × (home block.count ≡ home_of (value_in block)) × (block_of (value_in block) ≡ 5) × HasFields n block
-    × HasKey n block
+    × HasKey n block × (n.store ≡ None)
 
 abbrev pub IsNewBlock : Name → Block → Type 0
-IsNewBlock n block = IsLaid n block × others.MayBegin (value_in block) (values_state block.values)
+IsNewBlock n block = IsLaid n block × others.MayBegin n (value_in block) (values_state block.values)
 
 abbrev pub book_of : Words → Name
 book_of words = book_in words.heads

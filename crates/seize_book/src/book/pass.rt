@@ -45,7 +45,7 @@ impl Pass {
 
     /// Looks at the list, and adds nothing. It gives what shows the row of this number, which is that of a value that was named: the value
     /// lies in the block with the label that the row has there, and so does each other one that was named and whose number is one of the
-    /// row's.
+    /// row's. With each something is lent (`LooksOn`).
     pub fn seek(&mut self, number: u64) -> Known
         requires store { is_some self.old.name.store ≡ true }
         requires named { HasNumber number (state_seen self.old) }

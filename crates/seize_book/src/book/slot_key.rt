@@ -85,8 +85,9 @@ impl SlotKey {
         self.keys.anywhere();
     }
 
-    /// The event `Begin` of the retirement of a value. Its key knows then that no call may begin to retire it, and that all others that lay
-    /// in its block were reclaimed.
+    /// The event `Begin` of the retirement of a value, which came out of a link, or was never named. In the second case something is lent
+    /// with it, if the blocks of its book lie in a store. Its key knows then that no call may begin to retire it, and that all others that
+    /// lay in its block were reclaimed.
     pub fn begin_retire(&mut self, value: &mut ValueKey, pass: &mut Pass)
         requires book { IsOf self.old pass.old × IsValueOf value.old pass.old }
         requires idle { is_idle (slot_of self.old) ≡ true }
@@ -166,7 +167,8 @@ impl SlotKey {
     }
 
     /// The event `Hand`: the value that the slot's call is about to hand to its reclaimer goes there, and its reclaimer puts these values,
-    /// which were never named. All that lay in their blocks before were reclaimed.
+    /// which were never named. All that lay in their blocks before were reclaimed, and something is lent with each, if the blocks of their
+    /// book lie in a store.
     ///
     /// The value goes there for the first time, and was retired before. Each slot that was active then, and each that found it in a link,
     /// has left or refreshed since, and the activations in which they found it are over. The slot's call is to retire the further values

@@ -1,4 +1,4 @@
-use Rattle.std.proofs.Common.{◌≡◌, ℕ, pos, [], ◌∷◌, ap, refl, sym, subst, ◌∙◌}
+use Rattle.std.proofs.Common.{◌≡◌, ℕ, pos, [], ◌∷◌, None, ap, refl, sym, subst, ◌∙◌}
 use Rattle.seize_machine.specs.Machine.State.{Slot}
 use Rattle.seize_machine.specs.Machine.Event.{AddCount}
 use Rattle.seize_machine.specs.declared.machine.event.Answer.TheVariants.{Count}
@@ -53,7 +53,7 @@ returns-clause-stands c =
     let after = steps n c.args.retirer.now one.new.key c.args.pass.now one.new.pass 1 0 (λ s. AddCount s) (reader_over v) (inserted v) (counted_up v) (Count (pos 0)) one.ensures.counts.0 c.requires.stands.1 c.requires.stands.2 (counts_up v) in
     let zero = came_to_zero one.result _ [] v [] [] (sym (one.ensures.gives (adds words c.args.retirer.now c.requires.stands.0 c.requires.stands.2)) ∙ ap (λ (r : Slot). r.call) (record_is n one.new.key 1 (counted_up v) after.1)) in
     let stay = keys_stay n words.block.values one.new.values one.new.pass one.result zero one.ensures.keys after.0.book in
-    subst (λ (k : ℕ). AreAt n words one.new.values one.new.pass one.new.key k) (sym stay.0) ((c.requires.stands.0.0, (laid.0, laid.1, laid.2, laid.3, (stay.1, stay.2 ∙ laid.4.1))), after.0, after.1)
+    subst (λ (k : ℕ). AreAt n words one.new.values one.new.pass one.new.key k) (sym stay.0) ((c.requires.stands.0.0, (laid.0, laid.1, laid.2, laid.3, (stay.1, stay.2 ∙ laid.4.1), laid.5)), after.0, after.1)
   where
     -- with the block's value by this name
     AreAt : Name → Words → ValueKeys → Pass → SlotKey → ℕ → Type 0
@@ -61,5 +61,5 @@ returns-clause-stands c =
         (AreHeads words.heads
         × ((words.block.count.word.name ≡ n) × (home words.block.count ≡ home_of k) × (block_of k ≡ 5)
         × ((words.block.next.word.name ≡ n) × (words.block.first.word.name ≡ n) × (number words.block.next ≡ next_field (home_of k)) × (number words.block.first ≡ first_field (home_of k)))
-        × ((book_in values ≡ n) × (values_of values ≡ k ∷ []))))
+        × ((book_in values ≡ n) × (values_of values ≡ k ∷ [])) × (n.store ≡ None)))
         × Sees n pass (counted_up k) × Knows n key 1 (counted_up k)

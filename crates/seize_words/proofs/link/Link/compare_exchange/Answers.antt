@@ -26,7 +26,7 @@ events n s l seen o v log = by_held s l seen o (link_at (after (start n) log) l)
 pub exchange_in-requires : goal.exchange_in-requires
 exchange_in-requires c =
     let link = c.args.self.now in let a = c.args.activation.now in let pass = c.args.pass.now in let in_ = c.requires.within in let l = number link in let value = c.args.value.now in let held = value.keys.held in
-    let fresh = subst (λ (n : Name). IsNewIn (start n) (holds value) held) in_.book.0 c.requires.new.1 in
+    let fresh = subst (λ (n : Name). IsNewIn n (holds value) held) in_.book.0 c.requires.new.1 in
     let may = may_compare_link pass.name a.slot a.life l a.since pass.seen in_.within pass.id pass.name.size c.args.seen c.args.new held c.ranges.seen.fits value.value fresh c.requires.new.2 in
     let finds = compare_finds pass.name a.slot a.life l a.since pass.seen in_.within pass.id pass.name.size c.args.seen held c.ranges.seen.fits fresh in (
       link.link,
@@ -59,7 +59,7 @@ returns c =
         (λ differs. (
           stayed link a pass pass' in_ value.keys keys' f v ev (λ v. v == seen) told (unequal v seen differs),
           still_may link a pass pass' in_ value.keys keys' f v ev (λ v. v == seen) told (λ old. Compare (compared seen old) (holds value)) (c.requires.new.0 ∙ in_.book.0)
-              (subst (λ (n : Name). IsNewIn (start n) (holds value) value.keys.held) in_.book.0 c.requires.new.1) (λ _. refl)
+              (subst (λ (n : Name). IsNewIn n (holds value) value.keys.held) in_.book.0 c.requires.new.1) (λ _. refl)
               (λ old found. missed pass.name a.slot a.life l a.since pass.seen in_.within seen old (holds value) c.ranges.seen.fits (λ x. differs (found ∙ x))) (unequal v seen differs),
           c.exchange_in.ensures.1 ∙ (ap (λ (b : Bool). shown b there) (unequal v seen differs) ∙ (ap (λ (n : Name). link_at (after (start n) pass'.seen) l) in_.book.0
               ∙ link_kept link a pass pass' in_ value.keys keys' f v ev (λ v. v == seen) told (λ old. Compare (compared seen old) (holds value)) (λ _. refl)

@@ -15,7 +15,7 @@ use Rattle.seize_words.proofs.link.Link.swap.Goals as goal
 pub swap_in-requires : goal.swap_in-requires
 swap_in-requires c =
     let link = c.args.self.now in let a = c.args.activation.now in let pass = c.args.pass.now in let in_ = c.requires.within in let l = number link in let value = c.args.value.now in let held = value.keys.held in
-    let fresh = subst (λ (n : Name). IsNewIn (start n) (holds value) held) in_.book.0 c.requires.new.1 in
+    let fresh = subst (λ (n : Name). IsNewIn n (holds value) held) in_.book.0 c.requires.new.1 in
     let may = may_swap_link pass.name a.slot a.life l a.since pass.seen in_.within pass.id pass.name.size c.args.new held value.value fresh c.requires.new.2 in (
       in_.book.0,
       c.requires.new.0 ∙ in_.book.0,

@@ -1,4 +1,4 @@
-use Rattle.std.proofs.Common.{◌≡◌, ℕ, sym, ◌∙◌, ap, subst}
+use Rattle.std.proofs.Common.{sym, ◌∙◌, ap, subst}
 use Rattle.seize_machine.specs.Machine.Event.{Hand}
 use Rattle.seize_book.specs.Ledger.{renewed}
 use Rattle.seize_book.specs.Others.{IsWith, Knew}
