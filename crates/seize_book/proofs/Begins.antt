@@ -41,7 +41,7 @@ firsts n = (passes, 0) ∷ (numbers, 0) ∷ (totals, 0) ∷ (slots, 0) ∷ (head
 
 born_links : (l n : ℕ) → born {E = Entry} (of_links l n) [] ≡ first_links l n
 born_links l zero = refl
-born_links l (suc n) = ap (λ hs. record { kind = links; key = l; own = []; label = 0 } ∷ hs) (born_links (suc l) n)
+born_links l (suc n) = ap (λ hs. record { kind = links; key = l; own = []; label = 0; note = gnil } ∷ hs) (born_links (suc l) n)
 
 below_links : (l n : ℕ) → AllBelow kinds (of_links l n)
 below_links l zero = tt

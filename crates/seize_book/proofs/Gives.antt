@@ -18,7 +18,7 @@ use Rattle.seize_book.specs.Book.{after, births, makes_slot, Does, slots, number
 use Rattle.seize_book.specs.Fair.{Before, Covers, Fair, MayAdd, EndsNone, StartsNone, pass_key}
 use Rattle.seize_book.specs.Homes.{changes_count, changes_home}
 use Rattle.seize_book.specs.Others.{IsLeast}
-use Rattle.seize_book.specs.Private.{is_one, key_of, label_of, own_of}
+use Rattle.seize_book.specs.Private.{Tag, is_one, key_of, tag_of, own_of}
 use Rattle.seize_book.specs.Tokens.{Name, start}
 use Rattle.seize_book.proofs.Chains.{unled}
 use Rattle.seize_book.proofs.Lists.{equal}
@@ -35,8 +35,8 @@ Turns s event =
 pub the_only : (k j m : ℕ) → m ≡ 1 → k < m → j < m → k ≡ j
 the_only k j m e l h = omega (arith, e, l, h)
 
-covers : (st : State) (log : List Entry) (e : Deed) (p s j x y : ℕ) (mine own own' : List Entry) → e.pass ≡ p → Turns s e.event → makes_slot (after st log) e.event ≡ false → j ≡ 0
-    → Covers st (pass_key p mine ∷ record { kind = slots; key = s; own = own; label = x } ∷ record { kind = numbers; key = j; own = own'; label = y } ∷ []) log (Made e)
+covers : (st : State) (log : List Entry) (e : Deed) (p s j : ℕ) (x y : Tag) (mine own own' : List Entry) → e.pass ≡ p → Turns s e.event → makes_slot (after st log) e.event ≡ false → j ≡ 0
+    → Covers st (pass_key p mine ∷ record { kind = slots; key = s; own = own; label = x.0; note = x.1 } ∷ record { kind = numbers; key = j; own = own'; label = y.0; note = y.1 } ∷ []) log (Made e)
 covers st log e p s j x y mine own own' pe turns none is zero k b there = differ e.pass k (λ i. b.0 (refl, i ∙ pe))
 covers st log e p s j x y mine own own' pe turns none is (suc zero) k b there = absurd (b.1.1.0 (refl, the_only k j there.0 there.1 there.2 (let n : there.0 ≡ 1 = there.1 in omega (arith, is, n))))
 covers st log e p s j x y mine own own' pe turns none is (suc (suc zero)) k b there = (turns.0 k).0 ∙ differ s k (λ i. b.1.0 (refl, i))
@@ -62,7 +62,7 @@ may_turn n p seen a b e one one' zero_is pe turns ends starts goes =
         record {
           done = does.0;
           legal = does.1;
-          covers = covers (start n) log e p (key_of a) (key_of b) (label_of a) (label_of b) mine (own_of a) (own_of b) pe turns does.2 zero_is;
+          covers = covers (start n) log e p (key_of a) (key_of b) (tag_of a) (tag_of b) mine (own_of a) (own_of b) pe turns does.2 zero_is;
           names = λ many was there. (subst (λ (z : ℕ). z < many 0) (sym pe) there.0, (λ j le. (turns.1 (after (start n) log) j).0), (λ j le. (turns.1 (after (start n) log) j).1), λ f le. refl);
           one = none_named e.size (after (start n) log) e.event does.0 (step_of _ _ _ _ does.1) (λ j. (turns.1 (after (start n) log) j).1);
           leads = unled (after (start n) log) (plans (start n) log) (told log) e.event (λ j. (turns.0 j).1);

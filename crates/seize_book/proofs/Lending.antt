@@ -71,7 +71,7 @@ module _ {M : Type 1} {𝓤 : Ura M} (𝓛 : Logic 𝓤) (n : Name) where
       → ⟦ keys_own n held ⟧ ∗ ⟦ ticket_owns c (lent a g) ⟧ ∗ ⟦ pool_owns c a g ⟧ ⊢ ⟦ keys_own n (labelled v held) ⟧
   lends_key [] v a c g one home block place carries = absurd (cc)
   lends_key (x ∷ y ∷ held) v a c g one home block place carries = absurd (cc)
-  lends_key (h ∷ []) v a c g one home block place carries = let h' : Held Entry = record { kind = h.kind; key = h.key; own = h.own; label = v } in
+  lends_key (h ∷ []) v a c g one home block place carries = let h' : Held Entry = record { kind = h.kind; key = h.key; own = h.own; label = v; note = h.note } in
       qed 𝓛 (‵ (keys_own n (h ∷ [])) ∷ ‵ (ticket_owns c (lent a g)) ∷ ‵ (pool_owns c a g) ∷ []) ∵ move ! (1 ∷ 2 ∷ []) $ use2 𝓛 (‵ (loan st n.log v)) (lent_new (loan_of v) v a c g carries.1 carries) $
       -- [the loan; the key]
       move ! (1 ∷ []) $ fsplit ! $ fsplit ! $ move ! (1 ∷ []) $ use1 𝓛 (‵ (fsep (leads n h.label) (loan st n.log h.label))) (way_opens 𝓛 n h one) $ fsplit ! $ rewrite ! 0 (λ (F : Fml). ‵ F) (lent_lead 𝓛 n h.label v home block place) refl $
@@ -136,7 +136,7 @@ module _ {M : Type 1} {𝓤 : Ura M} (𝓛 : Logic 𝓤) (n : Name) where
         → ⟦ P ⟧ ∗ ⟦ keys_own n held ⟧ ⊢ H.⇛ (ex 𝓤 (Redeemed (labelled w held)))
     redeems [] w one label lent_ home block place none = absurd (cc)
     redeems (x ∷ y ∷ held) w one label lent_ home block place none = absurd (cc)
-    redeems (h ∷ []) w one label lent_ home block place none = let h' : Held Entry = record { kind = h.kind; key = h.key; own = h.own; label = w } in
+    redeems (h ∷ []) w one label lent_ home block place none = let h' : Held Entry = record { kind = h.kind; key = h.key; own = h.own; label = w; note = h.note } in
         qed 𝓛 (‵ P ∷ ‵ (keys_own n (h ∷ [])) ∷ []) ∵ updating ! $ move ! (1 ∷ []) $ fsplit ! $ fsplit ! $ move ! (1 ∷ []) $ use1 𝓛 (‵ (fsep (leads n h.label) (loan st n.log h.label))) (way_opens 𝓛 n h one) $ fsplit ! $
         -- [where it leads; the loan; the right; nothing; the pass]
         move ! (1 ∷ []) $ rewrite ! 0 (λ (u : ℕ). ‵ (loan st n.log u)) label refl $ move ! (4 ∷ 0 ∷ []) $

@@ -1,5 +1,6 @@
 -- Events that change nothing but a slot's own record: its key is enough.
 use Rattle.std.proofs.Common.{◌≡◌, ℕ, zero, suc, ◌<◌, true, false, ◌==◌, List, [], ◌∷◌, ◌++◌, Option, Some, is_some, refl, sym, ◌∙◌, ap, subst, ⊎_elim, append-nil, arith}
+use base.Stored.{gnil}
 use Rattle.std.specs.Prelude.{take, drop}
 use Rattle.seize_machine.specs.Machine.State.{State, slot_at, head_at, is_active}
 use Rattle.seize_machine.specs.Machine.Event.{Event, slot_of}
@@ -21,12 +22,12 @@ use Rattle.seize_book.proofs.Sound.{no_labels, none_named}
 
 -- the one key there is
 abbrev pub only : ℕ → List (Held Entry) → List (Held Entry)
-only r held = record { kind = r; key = key_of held; own = own_of held; label = label_of held } ∷ []
+only r held = record { kind = r; key = key_of held; own = own_of held; label = label_of held; note = note_of held } ∷ []
 
 pub only_is : (r : ℕ) (held : List (Held Entry)) → is_one r held ≡ true → held ≡ only r held
 only_is r [] h = absurd (cc)
 only_is r (x ∷ y ∷ held) h = absurd (cc)
-only_is r (x ∷ []) h = ap (λ (k : ℕ). record { kind = k; key = x.key; own = x.own; label = x.label } ∷ []) (eq_true x.kind r h)
+only_is r (x ∷ []) h = ap (λ (k : ℕ). record { kind = k; key = x.key; own = x.own; label = x.label; note = x.note } ∷ []) (eq_true x.kind r h)
 
 -- the key after an event that it made
 pub one_after : (r : ℕ) (held : List (Held Entry)) (births : List (ℕ × ℕ)) (seen : List Entry) → is_one r held ≡ true
@@ -71,7 +72,7 @@ pub no_place : (st : State) (held : List (Held Entry)) (e : Entry) → touches s
 no_place st held e none makes = absurd (let x : true ≡ false = sym makes ∙ none in cc)
 
 covers : (st : State) (log : List Entry) (e : Deed) (p s : ℕ) (mine own : List Entry) → e.pass ≡ p → IsOwn s e.event
-    → Covers st (pass_key p mine ∷ record { kind = slots; key = s; own = own; label = 0 } ∷ []) log (Made e)
+    → Covers st (pass_key p mine ∷ record { kind = slots; key = s; own = own; label = 0; note = gnil } ∷ []) log (Made e)
 covers st log e p s mine own pe private zero k b there = differ e.pass k (λ i. b.0 (refl, i ∙ pe))
 covers st log e p s mine own pe private (suc zero) k b there = private.1
 covers st log e p s mine own pe private (suc (suc zero)) k b there = of_other e.event k (differ (slot_of e.event) k (λ i. b.1.0 (refl, i ∙ private.0)))

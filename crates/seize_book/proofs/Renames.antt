@@ -147,7 +147,7 @@ module _ {M : Type 1} {𝓤 : Ura M} (𝓛 : Logic 𝓤) (n : Name) where
       → ent 𝓤 (sem 𝓛 (keys_own n held)) (sem 𝓛 (keys_own n (labelled v held)))
   relabels [] v one home block place none = absurd (cc)
   relabels (h ∷ g ∷ held) v one home block place none = absurd (cc)
-  relabels (h ∷ []) v one home block place none = let h' : Held Entry = record { kind = h.kind; key = h.key; own = h.own; label = v } in let L : Fml = leads n h.label in
+  relabels (h ∷ []) v one home block place none = let h' : Held Entry = record { kind = h.kind; key = h.key; own = h.own; label = v; note = h.note } in let L : Fml = leads n h.label in
       qed 𝓛 (‵ (keys_own n (h ∷ [])) ∷ []) ∵ fsplit ! $ fsplit ! $ move ! (1 ∷ []) $ use1 𝓛 (‵ (fsep L (loan (start n) n.log h.label))) (way_opens 𝓛 n h one) $ fsplit ! $ move ! (1 ∷ []) $ drop ! $
       -- [where it leads; the right; nothing], for what was lent is let go
       rewrite ! 0 (λ (F : Fml). ‵ F) (same_lead h.label v home block place) refl $ use1 𝓛 (‵ (way n h')) (bare_way 𝓛 n h' none one) $ move ! (1 ∷ 0 ∷ []) $ fjoin ! $ fjoin ! $ done !

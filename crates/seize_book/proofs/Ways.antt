@@ -1,6 +1,7 @@
 -- Where the numbers of values lead, and where heads lie: what goes with keys beside the rights, and what the book has of all that were named and
 -- of all slots. Assumes `Logic`.
 use Rattle.std.proofs.Common.{◌≡◌, ℕ, zero, suc, Bool, true, false, ◌||◌, ◌&&◌, ◌==◌, List, [], ◌∷◌, ◌++◌, length, take, Option, Some, None, ◌⊎◌, inl, inr, ⊎_elim, refl, sym, ◌∙◌, ap, subst, nat_lt, ◌+◌, ◌^◌, ◌<◌, arith}
+use base.Stored.{gnil}
 use Rattle.std.specs.Prelude.{drop as past}
 use seplogic.Ra.Ura.{Ura}
 use base.Logic.{SProp, ent, sep, guard}
@@ -206,13 +207,13 @@ module _ {M : Type 1} {𝓤 : Ura M} (𝓛 : Logic 𝓤) (n : Name) where
       -- [where it leads; P; where it lies]
       move ! (0 ∷ 2 ∷ []) $ fjoin ! $ done !
 
-  new_free : (kind key : ℕ) (log : List Entry) → (kind == blocks) ≡ false → needs (record { kind = kind; key = key; own = log; label = 0 }) ≡ false
+  new_free : (kind key : ℕ) (log : List Entry) → (kind == blocks) ≡ false → needs (record { kind = kind; key = key; own = log; label = 0; note = gnil }) ≡ false
   new_free kind key log e = ap (λ (b : Bool). b || ((kind == slots) && (0 == 1))) e ∙ and_false (kind == slots)
 
   pub ways_born : (held : Keys) (births : List (ℕ × ℕ)) (log : List Entry) → AllFree births → ⟦ ways held ⟧ ⊢ ⟦ ways (held ++ born births log) ⟧
   ways_born (h ∷ held) births log free = qed 𝓛 (‵ (ways (h ∷ held)) ∷ []) ∵ fsplit ! $ move ! (1 ∷ []) $ use1 𝓛 (‵ (ways (held ++ born births log))) (ways_born held births log free) $ move ! (1 ∷ 0 ∷ []) $ fjoin ! $ done !
   ways_born [] [] log free = qed 𝓛 (‵ ftrue ∷ []) ∵ done !
-  ways_born [] (b ∷ births) log free = let h : Held Entry = record { kind = b.0; key = b.1; own = log; label = 0 } in qed 𝓛 (‵ ftrue ∷ []) ∵
+  ways_born [] (b ∷ births) log free = let h : Held Entry = record { kind = b.0; key = b.1; own = log; label = 0; note = gnil } in qed 𝓛 (‵ ftrue ∷ []) ∵
       use1 𝓛 (‵ (ways (born births log))) (ways_born [] births log free.1) $
       use1 𝓛 (‵ (way n h) ⊛ ‵ (ways (born births log))) (way_free h (new_free b.0 b.1 log free.0) (ways (born births log))) $ split ! $ fjoin ! $ done !
 
@@ -268,7 +269,7 @@ module _ {M : Type 1} {𝓤 : Ura M} (𝓛 : Logic 𝓤) (n : Name) where
 
   -- the key of a slot, with where its head lies
   relabelled : (h : Held Entry) → is_one slots (h ∷ []) ≡ true → ⟦ keys_own n (h ∷ []) ⟧ ∗ ⟦ lies n h.key ⟧ ⊢ ⟦ keys_own n (labelled 1 (h ∷ [])) ⟧
-  relabelled h one = let h' : Held Entry = record { kind = h.kind; key = h.key; own = h.own; label = 1 } in let W : Fml = way n h' in
+  relabelled h one = let h' : Held Entry = record { kind = h.kind; key = h.key; own = h.own; label = 1; note = h.note } in let W : Fml = way n h' in
       qed 𝓛 (‵ (keys_own n (h ∷ [])) ∷ ‵ (lies n h.key) ∷ []) ∵ nothing ! $ move ! (0 ∷ 2 ∷ []) $ fjoin ! $ rewrite ! 0 (λ (F : Fml). ‵ F) (sym (slot_way h' h.key (eq_true h.kind slots one, refl, refl))) refl $
       -- [the new way; the key, with its own]
       move ! (1 ∷ []) $ fsplit ! $ fsplit ! $ move ! (0 ∷ 3 ∷ []) $ fjoin ! $ move ! (0 ∷ 2 ∷ []) $ fjoin ! $ keep ! (0 ∷ []) $ done !
@@ -318,7 +319,7 @@ module _ {M : Type 1} {𝓤 : Ura M} (𝓛 : Logic 𝓤) (n : Name) where
       → ⟦ rights_own n held ⟧ ∗ ⟦ known_row store row chunks ⟧ ⊢ ⟦ keys_own n (labelled v held) ⟧
   placed store row chunks [] v one is made place there free = absurd (cc)
   placed store row chunks (h ∷ g ∷ held) v one is made place there free = absurd (cc)
-  placed store row chunks (h ∷ []) v one is made place there free = let b : ℕ = block_of v in let h' : Held Entry = record { kind = h.kind; key = h.key; own = h.own; label = v } in
+  placed store row chunks (h ∷ []) v one is made place there free = let b : ℕ = block_of v in let h' : Held Entry = record { kind = h.kind; key = h.key; own = h.own; label = v; note = h.note } in
       let t : ℕ × ℕ = (label_in chunks (entry_of row b), content_in chunks (entry_of row b)) in let same : t ≡ told_of n v = λ j. (there.0 j, there.1 j) in
       qed 𝓛 (‵ (rights_own n (h ∷ [])) ∷ ‵ (known_row store row chunks) ∷ []) ∵ move ! (1 ∷ []) $ use1 𝓛 (‵ (tells store b t)) (known_tells 𝓛 store b row chunks made place) $
       rewrite ! 0 (λ (u : ℕ × ℕ). ‵ (tells store b u)) same refl $ rewrite ! 0 (λ (s : Option (List ℕ)). ‵ (leads_in s b (told_of n v))) (sym is) refl $

@@ -11,6 +11,7 @@
 --     IsNewChunk rights keys         the key of a block of which no value was ever named, and those of its count and of its fields
 --     IsChunkOf book keys            they are the keys of a new block of the book
 use Rattle.std.specs.Prelude.{◌≡◌, ℕ, pos, true, false, List, [], ◌∷◌, Some}
+use base.Stored.{gnil}
 use Rattle.seize_machine.specs.Machine.State.{State, has}
 use Rattle.seize_store.specs.Known.{content_in, entry_of, label_in}
 use Rattle.seize_store.specs.declared.known.Known.{Known}
@@ -91,12 +92,12 @@ IsLaid value key = (bare_book key ≡ book_of value) × (bare_home key ≡ home_
 
 -- the key of the values of the block with home k, labelled with this one; and those of its count and of its fields
 abbrev pub of_values : ℕ → ℕ → List Entry → List (Held Entry)
-of_values value k own = record { kind = blocks; key = k; own = own; label = value } ∷ []
+of_values value k own = record { kind = blocks; key = k; own = own; label = value; note = gnil } ∷ []
 
 abbrev pub of_header : ℕ → List Entry → List (Held Entry)
 of_header k own =
-    record { kind = counts; key = k; own = own; label = 0 } ∷ record { kind = fields; key = next_field k; own = own; label = 0 }
-    ∷ record { kind = fields; key = first_field k; own = own; label = 0 } ∷ []
+    record { kind = counts; key = k; own = own; label = 0; note = gnil } ∷ record { kind = fields; key = next_field k; own = own; label = 0; note = gnil }
+    ∷ record { kind = fields; key = first_field k; own = own; label = 0; note = gnil } ∷ []
 
 pub record IsNewChunk (rights : Rights) (keys : Keys) : Type 0 where
   pub value : ℕ

@@ -5,6 +5,7 @@
 --                              first slot and its head, and of each link
 --     book_owns n seen         what the token of a book owns that has seen this beginning of the list
 use Rattle.std.specs.Prelude.{◌≡◌, ℕ, zero, suc, List, [], ◌∷◌, replicate, Option, None}
+use base.Stored.{gnil}
 use base.Fml.{Fml, fsep}
 use Rattle.seize_book.specs.Ledger.{Held, reached}
 use Rattle.seize_book.specs.Entry.{Entry, entry_coded}
@@ -17,7 +18,7 @@ BeganWith n links size store table =
 
 -- nothing was ever added by its holder
 abbrev pub unused : ℕ → ℕ → Held Entry
-unused kind key = record { kind = kind; key = key; own = []; label = 0 }
+unused kind key = record { kind = kind; key = key; own = []; label = 0; note = gnil }
 
 -- those of so many links, from this one on
 abbrev pub first_links : ℕ → ℕ → List (Held Entry)

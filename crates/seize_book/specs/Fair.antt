@@ -8,6 +8,7 @@
 --     MayAdd n p seen held e     it is fair whatever the list is by then, and it neither ends nor begins an activation
 --     Added n p seen seen' held held' e     it was added: see Noted; the keys know of it, and its own keys were made
 use Rattle.std.specs.Prelude.{◌≡◌, ℕ, ◌<◌, ◌≤◌, true, false, ◌⊎◌, List, [], ◌∷◌, ◌++◌, length}
+use base.Stored.{gnil}
 use mathlib.Core.List.{IsPrefix}
 use Rattle.seize_machine.specs.Machine.State.{State, has}
 use Rattle.seize_machine.specs.Machine.Event.{Event}
@@ -22,7 +23,7 @@ use Rattle.seize_book.specs.Laws.{ended_by, starts}
 use Rattle.seize_book.specs.Tokens.{Name, start, AllLentIn, IsLentIn, IsSole, Noted}
 
 abbrev pub pass_key : ℕ → List Entry → Held Entry
-pass_key p own = record { kind = passes; key = p; own = own; label = 0 }
+pass_key p own = record { kind = passes; key = p; own = own; label = 0; note = gnil }
 
 pub record Before (n : Name) (p : ℕ) (seen : List Entry) (held : List (Held Entry)) (log : List Entry) : Type 0 where
   pub legal : IsLegalList (start n) log

@@ -12,7 +12,7 @@ use Rattle.core.specs.Prelude.{◌≡◌, ℕ, zero, suc, ◌+◌, ◌<◌, ◌=
 use mathlib.Core.List.{IsPrefix}
 use base.Fraction.{full_share}
 use base.Share.{quarter, three_quarters}
-use base.Stored.{Coded, coded_list}
+use base.Stored.{Coded, Gv, coded_list, gnil}
 use base.Algebra.{Algebra}
 use base.SetCodes.{coded}
 use base.Algebras.{both, shares, agreed}
@@ -30,6 +30,8 @@ pub record Held (E : Type 0) : Type 0 where
   pub own : List E
   -- what its holder calls it: no part of the right, which is to the kind and number alone
   pub label : ℕ
+  -- and what its holder notes beside it, which is no part of the right either
+  pub note : Gv
 
 -- the keys of the kinds, a row each: those past the last are empty
 abbrev pub first : {X : Type 0} → List (List X) → List X
@@ -109,7 +111,7 @@ WithKinds n (h ∷ hs) = (h.kind < n) × WithKinds n hs
 
 abbrev pub renewed : {E : Type 0} → List (Held E) → List E → List (Held E)
 renewed [] log = []
-renewed (h ∷ hs) log = record { kind = h.kind; key = h.key; own = log; label = h.label } ∷ renewed hs log
+renewed (h ∷ hs) log = record { kind = h.kind; key = h.key; own = log; label = h.label; note = h.note } ∷ renewed hs log
 
 -- the keys that an event makes, each by its kind and number
 
@@ -119,7 +121,7 @@ AllBelow n (b ∷ births) = (b.0 < n) × AllBelow n births
 
 abbrev pub born : {E : Type 0} → List (ℕ × ℕ) → List E → List (Held E)
 born [] own = []
-born (b ∷ births) own = record { kind = b.0; key = b.1; own = own; label = 0 } ∷ born births own
+born (b ∷ births) own = record { kind = b.0; key = b.1; own = own; label = 0; note = gnil } ∷ born births own
 
 -- how many there are of each kind, with one more of kind b
 abbrev pub bumped : ℕ → (ℕ → ℕ) → ℕ → ℕ

@@ -113,7 +113,7 @@ HasGone value pass = has (value_of value) (after (start pass.name) pass.seen).go
 
 abbrev pub labelled : ℕ → List (Held Entry) → List (Held Entry)
 labelled v [] = []
-labelled v (h ∷ held) = record { kind = h.kind; key = h.key; own = h.own; label = v } ∷ held
+labelled v (h ∷ held) = record { kind = h.kind; key = h.key; own = h.own; label = v; note = h.note } ∷ held
 
 pub record Renames (keys keys' : Keys) : Type 0 where
   pub value : ℕ

@@ -4,11 +4,13 @@
 --     IsOpen slot active s size event    it is legal wherever the slot is as its key says
 --     puts_next slot         the value that the slot's call is about to put
 --     IsOver slot            the slot's call has nothing more to do
---     is_one r held          there is one key, of kind r;  key_of held, own_of held, label_of held    its number, list and label
+--     is_one r held          there is one key, of kind r;  key_of held, own_of held, label_of held, note_of held    its number, list, label
+--                            and note
 --     are_of_blocks held, labels_of held    each is the key of a block, with the name of a value that lies there;  these are the labels
 --     AreKeysOf values held  so it is, and these are the values
 use Rattle.std.specs.Prelude.{◌≡◌, ℕ, true, false, Bool, ◌==◌, ◌&&◌, map, List, [], ◌∷◌, Option, Some, None, is_some}
 use Rattle.std.specs.List.{list_all}
+use base.Stored.{Gv, gnil}
 use Rattle.seize_machine.specs.Machine.State.{State, Slot, Place, Append, Rest, slot_at, head_at, is_active}
 use Rattle.seize_machine.specs.Machine.Event.{Event, slot_of}
 use Rattle.seize_machine.specs.Machine.Next.{next, of_call}
@@ -49,6 +51,17 @@ own_of (h ∷ held) = h.own
 abbrev pub label_of : List (Held Entry) → ℕ
 label_of [] = 0
 label_of (h ∷ held) = h.label
+
+abbrev pub note_of : List (Held Entry) → Gv
+note_of [] = gnil
+note_of (h ∷ held) = h.note
+
+-- what is no part of the right
+abbrev pub Tag : Type 0
+Tag = ℕ × Gv
+
+abbrev pub tag_of : List (Held Entry) → Tag
+tag_of held = (label_of held, note_of held)
 
 -- each is the key of a block, with the name of a value on it that lies there
 abbrev pub are_of_blocks : List (Held Entry) → Bool

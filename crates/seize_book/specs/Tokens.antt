@@ -24,8 +24,9 @@ use mathlib.Core.Path.{refl}
 use mathlib.Core.List.{IsPrefix}
 use base.Share.{quarter, three_quarters}
 use base.Growing.{latest}
-use base.Stored.{gnil, gcons}
+use base.Stored.{Gv, gnil, gcons}
 use base.Fml.{Fml, ftrue, fsep, fex, fdead, fnamed, fobs, fauth, fres}
+use denote.Struct.Codes.{itself}
 use Rattle.seize_machine.specs.Machine.State.{State, opening, linked, are_distinct, has}
 use Rattle.seize_machine.specs.declared.machine.event.Answer.{Answer}
 use Rattle.seize_store.specs.Known.{tells}
@@ -253,8 +254,9 @@ keys_own n (h ∷ held) = fsep (one_key n h) (keys_own n held)
 
 abbrev pub held_coded : Coded (Held Entry)
 held_coded =
-    code_by (ℕ × (ℕ × (ℕ × List Entry))) (coded× coded_ℕ (coded× coded_ℕ (coded× coded_ℕ (coded_list entry_coded))))
-    (λ h. (h.kind, (h.key, (h.label, h.own)))) (λ t. record { kind = t.0; key = t.1.0; label = t.1.1.0; own = t.1.1.1 }) (λ _. refl)
+    code_by (ℕ × (ℕ × (ℕ × (Gv × List Entry)))) (coded× coded_ℕ (coded× coded_ℕ (coded× coded_ℕ (coded× itself (coded_list entry_coded)))))
+    (λ h. (h.kind, (h.key, (h.label, (h.note, h.own)))))
+    (λ t. record { kind = t.0; key = t.1.0; label = t.1.1.0; note = t.1.1.1.0; own = t.1.1.1.1 }) (λ _. refl)
 
 -- Entry e was added with pass p. It took the machine to this state, with this answer, and this state is where all that the pass has seen
 -- leads. Nothing had been made with the pass since it had seen its beginning, and where it is alone nothing at all had been added. With

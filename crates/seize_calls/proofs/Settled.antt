@@ -123,7 +123,7 @@ module _ (key : SlotKey) (pass : Pass) (values : ValueKeys) (m : Marking key) wh
 
       pub renewed_twice : (held : List (Held Logged)) (seen : List Logged) → renewed held seen ≡ renewed (renewed held seen) seen
       renewed_twice [] seen = refl
-      renewed_twice (h ∷ held) seen = ap (λ (hs : List (Held Logged)). record { kind = h.kind; key = h.key; own = seen; label = h.label } ∷ hs) (renewed_twice held seen)
+      renewed_twice (h ∷ held) seen = ap (λ (hs : List (Held Logged)). record { kind = h.kind; key = h.key; own = seen; label = h.label; note = h.note } ∷ hs) (renewed_twice held seen)
 
       pub kept_keys : values1.keys.held ≡ renewed values.keys.held pass1.seen
       kept_keys = r.keys.1 ∙ ap (λ (z : Bool). renewed (if z then values.keys.held else []) pass1.seen) on

@@ -307,7 +307,7 @@ renewed_twice done vs held log is = is ∙ sym (twice (if done then vs else []))
   where
     twice : (hs : List (Held Entry)) → renewed (renewed hs log) log ≡ renewed hs log
     twice [] = refl
-    twice (x ∷ hs) = ap (λ (rest : List (Held Entry)). record { kind = x.kind; key = x.key; own = log; label = x.label } ∷ rest) (twice hs)
+    twice (x ∷ hs) = ap (λ (rest : List (Held Entry)). record { kind = x.kind; key = x.key; own = log; label = x.label; note = x.note } ∷ rest) (twice hs)
 
 pub not_in_none : (u : ℕ) → Contains [] u → ⊥
 not_in_none u found = let less : found.0 < 0 = found.1 in omega (arith, less)

@@ -22,7 +22,7 @@ use Rattle.seize_book.specs.Entry.{Entry, Made, Deed, timed}
 use Rattle.seize_book.specs.Fair.{Covers, NamesHeld, pass_key}
 use Rattle.seize_book.specs.Homes.{IsSound, changes_count, changes_home, count_in, home_of, is_batch_in, is_home, is_in}
 use Rattle.seize_book.specs.Ledger.{Held, AllKept, Beside, Rules, renewed}
-use Rattle.seize_book.specs.Private.{is_one, key_of, label_of, own_of, AreKeysOf, are_of_blocks, labels_of}
+use Rattle.seize_book.specs.Private.{Tag, is_one, key_of, tag_of, own_of, AreKeysOf, are_of_blocks, labels_of}
 use Rattle.seize_words.specs.Stepping.{EndsAmong, FoundAs, IsStep, MayStep, in_step}
 use Rattle.seize_book.specs.Tokens.{Name, start}
 use Rattle.seize_words.specs.Words.{Site}
@@ -86,8 +86,8 @@ module _ (n : Name) (k : ℕ) where
   abbrev At : Type 0
   At = List Entry × List (Held Entry)
 
-  abbrev key : ℕ → ℕ → List Entry → List (Held Entry)
-  key s x own = record { kind = slots; key = s; own = own; label = x } ∷ []
+  abbrev key : ℕ → Tag → List Entry → List (Held Entry)
+  key s x own = record { kind = slots; key = s; own = own; label = x.0; note = x.1 } ∷ []
 
   -- the count that the word shows, and the keys that stand beside it
   pub same : (v p : ℕ) (seen : List Entry) (held : List (Held Entry)) (t : At) (log : List Entry) → FoundAs (at_count n k) v p seen held [] t log → v ≡ count_word (count_in (after st log) k)
@@ -98,7 +98,7 @@ module _ (n : Name) (k : ℕ) where
 
   -- One event of the slot that counts batch b, which is of this block. The holder has other keys after the slot's, and others stand beside
   -- the count.
-  module _ (p s x b : ℕ) (slots_own own since log : List Entry) (vs more : List (Held Entry)) (w : ℕ) (e : Deed) (pe : e.pass ≡ p) (c : IsCounting s e.event) (d : State × Answer)
+  module _ (p s : ℕ) (x : Tag) (b : ℕ) (slots_own own since log : List Entry) (vs more : List (Held Entry)) (w : ℕ) (e : Deed) (pe : e.pass ≡ p) (c : IsCounting s e.event) (d : State × Answer)
       (touched : (j : ℕ) → changes_count (after st log) j e.event ≡ is_in j (batch_at (after st log) b)) (here : is_in k (batch_at (after st log) b) ≡ true) where
     not_here : (j : ℕ) → j ≢ k → changes_count (after st log) j e.event ≡ false
     not_here j other = touched j ∙ other_block k j (batch_at (after st log) b) here other
@@ -139,20 +139,20 @@ module _ (n : Name) (k : ℕ) where
     }
 
   -- it is enough to see it for the slot's key, with others after it
-  MayStepAs : (p s x : ℕ) (seen slots_own : List Entry) (more : List (Held Entry)) (f : ℕ → ℕ) (e : Deed) (trades : ℕ → Bool) → Type 0
+  MayStepAs : (p s : ℕ) (x : Tag) (seen slots_own : List Entry) (more : List (Held Entry)) (f : ℕ → ℕ) (e : Deed) (trades : ℕ → Bool) → Type 0
   MayStepAs p s x seen slots_own more f e trades =
       (v : ℕ) (t : At) (own log : List Entry) → FoundAs (at_count n k) v p seen (key s x slots_own ++ more) [] t log → Kept st TheSlot s slots_own log
       → v ≡ count_word (count_in (after st log) k) → AreKeysOf (deposit (after st log) k) t.1
       → IsStep (at_count n k) p (key s x slots_own ++ more) [] (f v) (Made e) (trades v) t own log
 
-  may_step : (p : ℕ) (seen : List Entry) (held more : List (Held Entry)) (f : ℕ → ℕ) (e : Deed) (trades : ℕ → Bool) → is_one slots held ≡ true → are_of_blocks more ≡ true → MayStepAs p (key_of held) (label_of held) seen (own_of held) more f e trades
+  may_step : (p : ℕ) (seen : List Entry) (held more : List (Held Entry)) (f : ℕ → ℕ) (e : Deed) (trades : ℕ → Bool) → is_one slots held ≡ true → are_of_blocks more ≡ true → MayStepAs p (key_of held) (tag_of held) seen (own_of held) more f e trades
       → MayStep (at_count n k) p seen (held ++ more) [] [] f (λ v log. Made e) trades
   unfolding MayStepAs
   may_step p seen held more f e trades one are steps =
       subst (λ (hs : List (Held Entry)). MayStep (at_count n k) p seen (hs ++ more) [] [] f (λ v log. Made e) trades) (sym (only_is slots held one)) (
         (omega arith, blocks_within more are),
         (λ v t own log found.
-            let hs = key (key_of held) (label_of held) (own_of held) ++ more in
+            let hs = key (key_of held) (tag_of held) (own_of held) ++ more in
             steps v t own log found (kept_past (rules st) t.1 _ more log found.before.kept.1) (same v p seen hs t log found) (deposited v p seen hs t log found)),
       )
 
@@ -249,7 +249,7 @@ module _ (n : Name) (k : ℕ) where
         }
 
   -- whoever counts may take the step
-  counting_step : (p x v b : ℕ) (own mine since log : List Entry) (vs more : List (Held Entry)) (f : ℕ → ℕ) (s : ℕ) (e : Deed) (walk queue : List ℕ) (trades : Bool) → e.pass ≡ p → IsLegalList st log → EndsAmong [] log (Made e)
+  counting_step : (p : ℕ) (x : Tag) (v b : ℕ) (own mine since log : List Entry) (vs more : List (Held Entry)) (f : ℕ → ℕ) (s : ℕ) (e : Deed) (walk queue : List ℕ) (trades : Bool) → e.pass ≡ p → IsLegalList st log → EndsAmong [] log (Made e)
       → (c : Counting s own log e f v b walk queue) → AreKeysOf (deposit (come (after st log) s b c.count walk queue).0 k) (if trades then more else vs)
       → IsStep (at_count n k) p (key s x own ++ more) [] (f v) (Made e) trades (since, vs) mine log
   counting_step p x v b own mine since log vs more f s e walk queue trades pe legal ends c stands =
@@ -300,7 +300,7 @@ module _ (n : Name) (k : ℕ) where
   may_add_count p size won seen held more one a these =
       may_step p seen held more (plus won) (record { pass = p; size = size; event = AddCount (key_of held); life = 0 }) (λ v. not (plus won v == 0)) one these.1 (λ v t own log found kept word are.
       let c = adding (key_of held) (own_of held) log found.distinct found.before.legal found.before.sound kept p size won v word a in
-      counting_step p (label_of held) v a.batch (own_of held) own t.0 log t.1 more (plus won) (key_of held) (record { pass = p; size = size; event = AddCount (key_of held); life = 0 }) [] a.queue (not (plus won v == 0)) refl found.before.legal (λ q i. absurd i) c
+      counting_step p (tag_of held) v a.batch (own_of held) own t.0 log t.1 more (plus won) (key_of held) (record { pass = p; size = size; event = AddCount (key_of held); life = 0 }) [] a.queue (not (plus won v == 0)) refl found.before.legal (λ q i. absurd i) c
       (added_keys (key_of held) (own_of held) log found.distinct found.before.legal found.before.sound kept p size won v a c t.1 more are these))
 
   pub may_subtract_count : (p size : ℕ) (seen : List Entry) (held : List (Held Entry)) → is_one slots held ≡ true → IsWalking st (key_of held) (own_of held) k
@@ -309,5 +309,5 @@ module _ (n : Name) (k : ℕ) where
   may_subtract_count p size seen held one a =
       may_step p seen held [] (minus 1) (record { pass = p; size = size; event = SubCount (key_of held); life = 0 }) (λ v. minus 1 v == 0) one refl (λ v t own log found kept word are.
       let c = subtracting (key_of held) (own_of held) log found.distinct found.before.legal found.before.sound kept p size v word a in
-      counting_step p (label_of held) v a.batch (own_of held) own t.0 log t.1 [] (minus 1) (key_of held) (record { pass = p; size = size; event = SubCount (key_of held); life = 0 }) a.walk a.queue (minus 1 v == 0) refl found.before.legal (λ q i. absurd i) c
+      counting_step p (tag_of held) v a.batch (own_of held) own t.0 log t.1 [] (minus 1) (key_of held) (record { pass = p; size = size; event = SubCount (key_of held); life = 0 }) a.walk a.queue (minus 1 v == 0) refl found.before.legal (λ q i. absurd i) c
       (taken_keys (key_of held) (own_of held) log found.distinct found.before.legal found.before.sound kept p size v a c t.1 are))

@@ -77,7 +77,7 @@ new_later n (Some v) [] log log' l new kept same = absurd (let x : false ≡ tru
 new_later n (Some v) (x ∷ y ∷ vs) log log' l new kept same = absurd (let x : false ≡ true = new.0.0 in cc)
 new_later n (Some v) (x ∷ []) log log' l new kept same =
     let label : v ≡ x.label = sym new.0.2 in
-    subst (λ (w : ℕ). IsNewIn n (Some w) (record { kind = x.kind; key = x.key; own = log'; label = x.label } ∷ [])) label (
+    subst (λ (w : ℕ). IsNewIn n (Some w) (record { kind = x.kind; key = x.key; own = log'; label = x.label; note = x.note } ∷ [])) label (
       key_later (Some v) (x ∷ []) log' new.0,
       subst (λ (z : State). has v z.named ≡ false) (sym same) (not_true _ (still_new n (Some v) (x ∷ []) log new kept)),
       subst (λ (z : State). IsVacant z (home_of v)) (sym same) (still_vacant n v (x ∷ []) log l new kept),
@@ -90,7 +90,7 @@ renewed_own (x ∷ vs) log w h = refl
 
 renewed_twice : (vs : List (Held Entry)) (log : List Entry) → renewed vs log ≡ renewed (renewed vs log) log
 renewed_twice [] log = refl
-renewed_twice (x ∷ vs) log = ap (λ (hs : List (Held Entry)). record { kind = x.kind; key = x.key; own = log; label = x.label } ∷ hs) (renewed_twice vs log)
+renewed_twice (x ∷ vs) log = ap (λ (hs : List (Held Entry)). record { kind = x.kind; key = x.key; own = log; label = x.label; note = x.note } ∷ hs) (renewed_twice vs log)
 
 module _ (link : Link) (a : Activation) (pass pass' : Pass) (in_ : IsIn link a pass) (keys keys' : Keys) (f : ℕ → ℕ) (v : ℕ) (ev : Option ℕ → Event) (trades : ℕ → Bool)
     (told : Took (at_link pass.name (number link)) keys pass keys' pass' (a.life ∷ []) f v (entries pass 0 (λ v log. ev (link_at (after (start pass.name) log) (number link)))) trades) where

@@ -25,7 +25,7 @@ use Rattle.seize_words.specs.Heads.{IsTrying, found_end, reads, reads_at}
 use Rattle.seize_book.specs.Homes.{changes_count, changes_home, home_of}
 use Rattle.seize_book.specs.Laws.{IsIn, life}
 use Rattle.seize_book.specs.Ledger.{Held, AllKept}
-use Rattle.seize_book.specs.Private.{is_one, key_of, label_of, own_of}
+use Rattle.seize_book.specs.Private.{Tag, is_one, key_of, tag_of, own_of}
 use Rattle.seize_words.specs.Stepping.{EndsAmong, FoundAs, IsStep, MayStep, in_step}
 use Rattle.seize_book.specs.Tokens.{Name, start}
 use Rattle.seize_words.specs.Words.{Site}
@@ -93,11 +93,11 @@ module _ (n : Name) (m : ℕ) where
   shown : (v p : ℕ) (seen : List Entry) (held : List (Held Entry)) (t : At) (log : List Entry) → FoundAs (at_head n m) v p seen held [] t log → v ≡ head_word st log m
   shown v p seen held t log found = found.shows ∙ head_stays n m t.0 log found.distinct found.before.legal found.before.kept.0
 
-  abbrev key : ℕ → ℕ → List Entry → List (Held Entry)
-  key s x own = record { kind = slots; key = s; own = own; label = x } ∷ []
+  abbrev key : ℕ → Tag → List Entry → List (Held Entry)
+  key s x own = record { kind = slots; key = s; own = own; label = x.0; note = x.1 } ∷ []
 
   -- One event of the slot, with the slot's key.
-  module _ (p s x : ℕ) (slots_own own since log : List Entry) (lives : List ℕ) (w : ℕ) (e : Deed) (pe : e.pass ≡ p) (t : Touches s m e.event) (d : State × Answer) where
+  module _ (p s : ℕ) (x : Tag) (slots_own own since log : List Entry) (lives : List ℕ) (w : ℕ) (e : Deed) (pe : e.pass ≡ p) (t : Touches s m e.event) (d : State × Answer) where
     covers : Covers st (pass_key p own ∷ in_step (at_head n m) (key s x slots_own) (since, [])) log (Made e)
     covers zero k b there = differ e.pass k (λ i. b.0 (refl, i ∙ pe))
     covers (suc zero) k b there = t.used
@@ -121,21 +121,21 @@ module _ (n : Name) (m : ℕ) where
     }
 
   -- it is enough to see it for the slot's key alone, and with no key beside the head's
-  MayStepAs : (p s x : ℕ) (seen slots_own : List Entry) (lives : List ℕ) (f : ℕ → ℕ) (entry : ℕ → List Entry → Entry) → Type 0
+  MayStepAs : (p s : ℕ) (x : Tag) (seen slots_own : List Entry) (lives : List ℕ) (f : ℕ → ℕ) (entry : ℕ → List Entry → Entry) → Type 0
   MayStepAs p s x seen slots_own lives f entry =
       (v : ℕ) (t : At) (own log : List Entry) → FoundAs (at_head n m) v p seen (key s x slots_own) [] t log → Kept st TheSlot s slots_own log → v ≡ head_word st log m
       → IsStep (at_head n m) p (key s x slots_own) lives (f v) (entry v log) false (t.0, []) own log
 
   may_step : (p : ℕ) (seen : List Entry) (held : List (Held Entry)) (lives : List ℕ) (f : ℕ → ℕ) (entry : ℕ → List Entry → Entry) → is_one slots held ≡ true
-      → MayStepAs p (key_of held) (label_of held) seen (own_of held) lives f entry → MayStep (at_head n m) p seen held [] lives f entry (λ v. false)
+      → MayStepAs p (key_of held) (tag_of held) seen (own_of held) lives f entry → MayStep (at_head n m) p seen held [] lives f entry (λ v. false)
   unfolding MayStepAs
   may_step p seen held lives f entry one steps =
       subst (λ (hs : List (Held Entry)). MayStep (at_head n m) p seen hs [] lives f entry (λ v. false)) (sym (only_is slots held one)) (
         (omega arith, tt),
         (λ v t own log found.
-            let kept = subst (λ (vs : List (Held Entry)). AllKept (rules st) (vs ++ key (key_of held) (label_of held) (own_of held)) log) found.stands found.before.kept.1 in
-            subst (λ (vs : List (Held Entry)). IsStep (at_head n m) p (key (key_of held) (label_of held) (own_of held)) lives (f v) (entry v log) false (t.0, vs) own log) (sym found.stands)
-            (steps v t own log found kept.0 (shown v p seen (key (key_of held) (label_of held) (own_of held)) t log found))),
+            let kept = subst (λ (vs : List (Held Entry)). AllKept (rules st) (vs ++ key (key_of held) (tag_of held) (own_of held)) log) found.stands found.before.kept.1 in
+            subst (λ (vs : List (Held Entry)). IsStep (at_head n m) p (key (key_of held) (tag_of held) (own_of held)) lives (f v) (entry v log) false (t.0, vs) own log) (sym found.stands)
+            (steps v t own log found kept.0 (shown v p seen (key (key_of held) (tag_of held) (own_of held)) t log found))),
       )
 
   -- A read.
@@ -177,7 +177,7 @@ module _ (n : Name) (m : ℕ) where
       let s = key_of held in let le : length (after st seen).slots ≤ length (after st log).slots = slots_grow st seen log found.before.grows found.before.legal in
       let done = read_done size s (after st log) (ap (λ (x : Slot). reads x m) (sym kept.1.1) ∙ may) (omega (arith, le)) in
       let e : Deed = record { pass = p; size = size; event = ReadHead s m; life = 0 } in
-      made p s (label_of held) (own_of held) own t.0 log [] v e refl (read_touches s) done.0 done.1 tt (λ a i. absurd i) (word ∙ unchanged log e done.0 found.distinct found.before.legal done.1 refl))
+      made p s (tag_of held) (own_of held) own t.0 log [] v e refl (read_touches s) done.0 done.1 tt (λ a i. absurd i) (word ∙ unchanged log e done.0 found.distinct found.before.legal done.1 refl))
 
   -- The slot becomes active.
 
@@ -206,7 +206,7 @@ module _ (n : Name) (m : ℕ) where
       let does : Does st log (Made e) d = next_of size now (Enter s) d (Step.entered s idle_now (sym kept.1.2 ∙ off)) in
       let there : s < length now.heads = head_there log s found.distinct found.before.legal (λ x. let y : true ≡ false = sym idle_now ∙ ap is_idle x in cc) in
       let head = set_word log e d (Active []) now.heads found.before.legal does (ap (λ (k : ℕ). set now.heads k (Active [])) is) (subst (λ (k : ℕ). k < length now.heads) is there) in
-      made p s (label_of held) (own_of held) own t.0 log lives 1 e refl (enter_touches s is) d does tt (λ a i. absurd i) (sym (ap (word_of (λ b. block_for st (log ++ Made e ∷ []) b m)) head)))
+      made p s (tag_of held) (own_of held) own t.0 log lives 1 e refl (enter_touches s is) d does tt (λ a i. absurd i) (sym (ap (word_of (λ b. block_for st (log ++ Made e ∷ []) b m)) head)))
 
   -- The slot leaves or refreshes.
 
@@ -230,7 +230,7 @@ module _ (n : Name) (m : ℕ) where
       let there : s < length now.heads = head_there log s found.distinct found.before.legal (λ x. let y : Option.None ≡ (slot_at now s).call = sym (ap (λ (z : Slot). z.call) x) in let z : Option.None ≡ Some (record { place = Out stays; queue = queue }) = y ∙ stands_now in cc) in
       let head = set_word log e d h now.heads found.before.legal does (ap (λ (k : ℕ). set now.heads k h) is) (subst (λ (k : ℕ). k < length now.heads) is there) in
       let its : life s (own_of held) ≡ life s log = life_kept st s (own_of held) log kept in
-      made p s (label_of held) (own_of held) own t.0 log lives (if stays then 1 else 0) e refl (leave_touches s is) d does tt (λ b i. subst (IsIn lives) (its ∙ only_that (life s log) b i) among)
+      made p s (tag_of held) (own_of held) own t.0 log lives (if stays then 1 else 0) e refl (leave_touches s is) d does tt (λ b i. subst (IsIn lives) (its ∙ only_that (life s log) b i) among)
       (left_word stays (λ b. block_for st (log ++ Made e ∷ []) b m) ∙ sym (ap (word_of (λ b. block_for st (log ++ Made e ∷ []) b m)) head)))
     where
       only_that : (x b : ℕ) → IsIn (x ∷ []) b → x ≡ b
@@ -259,7 +259,7 @@ module _ (n : Name) (m : ℕ) where
 
   module _ (p size seen_word block : ℕ) (seen : List Entry) (held : List (Held Entry)) (tries : IsTrying st (key_of held) (own_of held) m seen_word block)
       (wrote : Wrote (key_of held) (own_of held) seen_word tries.batch)
-      (v : ℕ) (t : At) (own log : List Entry) (found : FoundAs (at_head n m) v p seen (key (key_of held) (label_of held) (own_of held)) [] t log) (kept : Kept st TheSlot (key_of held) (own_of held) log) (word : v ≡ head_word st log m) where
+      (v : ℕ) (t : At) (own log : List Entry) (found : FoundAs (at_head n m) v p seen (key (key_of held) (tag_of held) (own_of held)) [] t log) (kept : Kept st TheSlot (key_of held) (own_of held) log) (word : v ≡ head_word st log m) where
     abbrev s : ℕ
     s = key_of held
 
@@ -292,14 +292,14 @@ module _ (n : Name) (m : ℕ) where
     saw_word = tries.is_seen ∙ blocks_stay n then_own log m tries.saw kept.0 (planned tries.saw (saw_there (after st then_own) reached_own s tries.batch tries.won m tries.later tries.saw tries.queue stands_own))
 
     abbrev Step_ : ℕ → Insertion → Type 0
-    Step_ w end = IsStep (at_head n m) p (key s (label_of held) then_own) [] w (Made (record { pass = p; size = size; event = Insert s m end; life = 0 })) false (t.0, []) own log
+    Step_ w end = IsStep (at_head n m) p (key s (tag_of held) then_own) [] w (Made (record { pass = p; size = size; event = Insert s m end; life = 0 })) false (t.0, []) own log
 
     lost : v ≢ seen_word → Step_ v Lost
     lost differs =
         let d : State × Answer = (go_on now s (record { place = Look tries.batch tries.won m tries.later; queue = tries.queue }), Done) in
         let other : head_at now m ≢ Active tries.saw = λ x. differs (word ∙ ap (word_of (λ b. block_for st log b m)) x ∙ sym saw_word) in
         let does : Does st log (Made (inserts Lost)) d = next_of size now (Insert s m Lost) d (Step.lost s m tries.batch tries.won tries.later tries.saw tries.queue stands_now other) in
-        made p s (label_of held) then_own own t.0 log [] v (inserts Lost) refl (insert_touches s Lost) d does tt (λ a i. absurd i) (word ∙ unchanged log (inserts Lost) d found.distinct found.before.legal does refl)
+        made p s (tag_of held) then_own own t.0 log [] v (inserts Lost) refl (insert_touches s Lost) d does tt (λ a i. absurd i) (word ∙ unchanged log (inserts Lost) d found.distinct found.before.legal does refl)
 
     won : v ≡ seen_word → Step_ (block + 2) Won
     won same =
@@ -310,7 +310,7 @@ module _ (n : Name) (m : ℕ) where
         let head = set_word log (inserts Won) d (Active (b ∷ waiting)) now.heads found.before.legal does refl there in
         let its : b < length (plans st then_own) = subst (λ (k : ℕ). b < k) (sym (plans_long n then_own own_legal)) (tried_there (after st then_own) s b tries.won m tries.later tries.saw tries.queue reached_own stands_own) in
         let stays = block_stays st then_own (log ++ Made (inserts Won) ∷ []) b m (prefix_trans then_own log (log ++ Made (inserts Won) ∷ []) kept.0 (prefix_push log (Made (inserts Won)))) its in
-        made p s (label_of held) then_own own t.0 log [] (block + 2) (inserts Won) refl (insert_touches s Won) d does (leads waiting active.1 (sym same ∙ word ∙ ap (word_of (λ c. block_for st log c m)) active.1)) (λ a i. absurd i)
+        made p s (tag_of held) then_own own t.0 log [] (block + 2) (inserts Won) refl (insert_touches s Won) d does (leads waiting active.1 (sym same ∙ word ∙ ap (word_of (λ c. block_for st log c m)) active.1)) (λ a i. absurd i)
         (ap (λ (k : ℕ). k + 2) (tries.is_block ∙ stays) ∙ sym (ap (word_of (λ b. block_for st (log ++ Made (inserts Won) ∷ []) b m)) head))
       where
         -- what the slot wrote is what waits there, and the block of the batch's front

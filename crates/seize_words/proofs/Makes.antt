@@ -1,5 +1,6 @@
 -- The key of the numbers and that of the next slot are enough to make the slot, where all numbers are in use: by a step on the total.
 use Rattle.std.proofs.Common.{inl, inr, ◌≡◌, ℕ, zero, suc, ◌+◌, ◌^◌, ◌<◌, true, false, List, [], ◌∷◌, ◌++◌, length, get_or, Bool, refl, sym, ◌∙◌, ap, subst, arith, not, nat_lt, ◌&&◌, if◌then◌else◌, Some, None}
+use base.Stored.{gnil}
 use Rattle.std.proofs.lemmas.List.{length-map}
 use Rattle.std.proofs.Math.Nat.{mod-eq_of_lt}
 use Rattle.seize_machine.specs.Machine.State.{State, Slot, Head, Inactive, head_at, no_slot, slot_at}
@@ -16,7 +17,7 @@ use Rattle.seize_book.specs.Ledger.{Held, AllKept, renewed, born}
 use Rattle.seize_book.specs.Entry.{Entry, Made, Deed}
 use Rattle.seize_book.specs.Book.{IsLegalList, after, births, slots, heads, numbers, totals, of_next_slot, of_slot, rules}
 use Rattle.seize_book.specs.Fair.{Covers, pass_key}
-use Rattle.seize_book.specs.Private.{is_one, key_of, label_of, own_of}
+use Rattle.seize_book.specs.Private.{Tag, is_one, key_of, label_of, note_of, tag_of, own_of}
 use Rattle.seize_words.specs.Stepping.{FoundAs, IsStepWith, MayStepWith, in_step}
 use Rattle.seize_book.specs.Tokens.{Name, start}
 use Rattle.seize_words.specs.Words.{Site}
@@ -31,12 +32,12 @@ abbrev pub takes : ℕ → ℕ → ℕ → Deed
 takes p size s = record { pass = p; size = size; event = Take s; life = 0 }
 
 -- the keys that are there in the step, but for the pass's
-abbrev all : ℕ → ℕ → List Entry → List Entry → List Entry → ℕ → ℕ → List (Held Entry)
+abbrev all : ℕ → ℕ → List Entry → List Entry → List Entry → Tag → Tag → List (Held Entry)
 all j s since own own' x y =
-    record { kind = totals; key = 0; own = since; label = 0 } ∷ record { kind = numbers; key = j; own = own; label = x }
-    ∷ record { kind = slots; key = s; own = own'; label = y } ∷ []
+    record { kind = totals; key = 0; own = since; label = 0; note = gnil } ∷ record { kind = numbers; key = j; own = own; label = x.0; note = x.1 }
+    ∷ record { kind = slots; key = s; own = own'; label = y.0; note = y.1 } ∷ []
 
-covers : (st : State) (log : List Entry) (p size s j x y : ℕ) (mine since own own' : List Entry) → j ≡ 0 → Covers st (pass_key p mine ∷ all j s since own own' x y) log (Made (takes p size s))
+covers : (st : State) (log : List Entry) (p size s j : ℕ) (x y : Tag) (mine since own own' : List Entry) → j ≡ 0 → Covers st (pass_key p mine ∷ all j s since own own' x y) log (Made (takes p size s))
 covers st log p size s j x y mine since own own' z zero k b there = differ p k (λ i. b.0 (refl, i))
 covers st log p size s j x y mine since own own' z (suc zero) k b there =
     absurd (b.1.1.0 (refl, the_only k j there.0 there.1 there.2 (let n : there.0 ≡ 1 = there.1 in omega (arith, z, n))))
@@ -164,8 +165,8 @@ module _ (n : Name) (a b : List (Held Entry)) where
             fair = record {
               done = made_by (after st log) s;
               legal = legal_now log is;
-              covers = subst (λ (k : ℕ). Covers st (pass_key p own ∷ all (key_of a) k since (own_of a) (own_of b) (label_of a) (label_of b)) log (Made e)) (sym may.its)
-                  (covers st log p size s (key_of a) (label_of a) (label_of b) own since (own_of a) (own_of b) may.zero_is);
+              covers = subst (λ (k : ℕ). Covers st (pass_key p own ∷ all (key_of a) k since (own_of a) (own_of b) (tag_of a) (tag_of b)) log (Made e)) (sym may.its)
+                  (covers st log p size s (key_of a) (tag_of a) (tag_of b) own since (own_of a) (own_of b) may.zero_is);
               names = λ many was there. (there.0, (λ k le. refl), (λ k le. refl), λ f le. refl);
               one = λ one. one;
               leads = tt;
@@ -200,8 +201,8 @@ module _ (n : Name) (a b : List (Held Entry)) where
         -- the keys then
         pub all_keys : (log' : List Entry)
             → renewed (a ++ b) log' ++ born (of_slot (suc s)) log'
-            ≡ record { kind = numbers; key = key_of a; own = log'; label = label_of a } ∷ record { kind = slots; key = key_of b; own = log'; label = label_of b }
-            ∷ record { kind = slots; key = suc s; own = log'; label = 0 } ∷ record { kind = heads; key = suc s; own = log'; label = 0 } ∷ []
+            ≡ record { kind = numbers; key = key_of a; own = log'; label = label_of a; note = note_of a } ∷ record { kind = slots; key = key_of b; own = log'; label = label_of b; note = note_of b }
+            ∷ record { kind = slots; key = suc s; own = log'; label = 0; note = gnil } ∷ record { kind = heads; key = suc s; own = log'; label = 0; note = gnil } ∷ []
         all_keys log' = ap (λ (hs : List (Held Entry)). renewed hs log' ++ born (of_slot (suc s)) log') joined
 
         abbrev new : Slot

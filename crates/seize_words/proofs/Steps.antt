@@ -70,7 +70,7 @@ both_within (x ∷ a) b h k = (h.0, both_within a b h.1 k)
 
 renewed_append : (a b : List (Held Entry)) (log : List Entry) → renewed (a ++ b) log ≡ renewed a log ++ renewed b log
 renewed_append [] b log = refl
-renewed_append (x ∷ a) b log = ap (λ (hs : List (Held Entry)). record { kind = x.kind; key = x.key; own = log; label = x.label } ∷ hs) (renewed_append a b log)
+renewed_append (x ∷ a) b log = ap (λ (hs : List (Held Entry)). record { kind = x.kind; key = x.key; own = log; label = x.label; note = x.note } ∷ hs) (renewed_append a b log)
 
 module _ {M : Type 1} {𝓤 : Ura M} (𝓛 : Logic 𝓤) (site : Site) where
   open 𝓛 use {H, A}
@@ -108,7 +108,7 @@ module _ {M : Type 1} {𝓤 : Ura M} (𝓛 : Logic 𝓤) (site : Site) where
   renewed_take : (m : ℕ) (held : List (Held Entry)) (log : List Entry) → take m (renewed held log) ≡ renewed (take m held) log
   renewed_take zero held log = refl
   renewed_take (suc m) [] log = refl
-  renewed_take (suc m) (x ∷ held) log = ap (λ (hs : List (Held Entry)). record { kind = x.kind; key = x.key; own = log; label = x.label } ∷ hs) (renewed_take m held log)
+  renewed_take (suc m) (x ∷ held) log = ap (λ (hs : List (Held Entry)). record { kind = x.kind; key = x.key; own = log; label = x.label; note = x.note } ∷ hs) (renewed_take m held log)
 
   renewed_past : (m : ℕ) (held : List (Held Entry)) (log : List Entry) → past m (renewed held log) ≡ renewed (past m held) log
   renewed_past zero held log = refl

@@ -1,5 +1,6 @@
 -- What is known after a slot was made by a step on the total.
 use Rattle.std.proofs.Common.{◌≡◌, ℕ, suc, true, false, List, [], ◌∷◌, ◌++◌, length, refl, sym, ◌∙◌, ap, subst}
+use base.Stored.{gnil}
 use Rattle.seize_machine.specs.Machine.State.{State, Inactive, head_at, slot_at}
 use Rattle.seize_machine.specs.Machine.Event.{Take}
 use Rattle.seize_machine.specs.Machine.Next.{first_free}
@@ -75,8 +76,8 @@ module _ (word : Site) (numbers_ : NumbersKey) (key : SlotKey) (pass : Pass) (bo
     pub same : IsSame pass pass'
     pub name : keys'.name ≡ n
     pub noted : Noted n pass.id pass.seen pass'.seen (Made (takes pass.id pass.name.size s))
-    pub held : keys'.held ≡ record { kind = numbers; key = key_of a; own = pass'.seen; label = label_of a } ∷ record { kind = slots; key = key_of b; own = pass'.seen; label = label_of b }
-        ∷ record { kind = slots; key = suc s; own = pass'.seen; label = 0 } ∷ record { kind = heads; key = suc s; own = pass'.seen; label = 0 } ∷ []
+    pub held : keys'.held ≡ record { kind = numbers; key = key_of a; own = pass'.seen; label = label_of a; note = note_of a } ∷ record { kind = slots; key = key_of b; own = pass'.seen; label = label_of b; note = note_of b }
+        ∷ record { kind = slots; key = suc s; own = pass'.seen; label = 0; note = gnil } ∷ record { kind = heads; key = suc s; own = pass'.seen; label = 0; note = gnil } ∷ []
     pub slot : slot_at noted.later s ≡ record { used = true; batch = []; call = Rattle.std.specs.Prelude.None }
     pub head : head_at noted.later s ≡ Inactive
     pub next_head : head_at noted.later (suc s) ≡ Inactive

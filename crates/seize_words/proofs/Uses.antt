@@ -15,7 +15,7 @@ use Rattle.seize_words.specs.Headers.{IsStoring, Uses, first_of as first_in, nex
 use Rattle.seize_book.specs.Homes.{home_of}
 use Rattle.seize_book.specs.Laws.{life, life_from}
 use Rattle.seize_book.specs.Ledger.{AllKept, Held}
-use Rattle.seize_book.specs.Private.{is_one, key_of, label_of, own_of}
+use Rattle.seize_book.specs.Private.{Tag, is_one, key_of, tag_of, own_of}
 use Rattle.seize_book.specs.Slots.{IsAfter, IsOf, number_of, own_list, start_of, written_of}
 use Rattle.seize_words.specs.Stepping.{FoundAs, IsStep, MayStep, Stepped, in_step}
 use Rattle.seize_book.specs.Tokens.{Name, start}
@@ -42,15 +42,15 @@ module _ (n : Name) (f : ℕ) where
   abbrev At : Type 0
   At = List Entry × List (Held Entry)
 
-  abbrev key : ℕ → ℕ → List Entry → List (Held Entry)
-  key s x own = record { kind = slots; key = s; own = own; label = x } ∷ []
+  abbrev key : ℕ → Tag → List Entry → List (Held Entry)
+  key s x own = record { kind = slots; key = s; own = own; label = x.0; note = x.1 } ∷ []
 
   -- what the word holds was last stored there
   pub shown : (v p : ℕ) (seen : List Entry) (held : List (Held Entry)) (t : At) (log : List Entry) → FoundAs (at_field n f) v p seen held [] t log → v ≡ told log f
   shown v p seen held t log found = found.shows ∙ found.before.kept.0.1
 
   -- One use by a slot, with the slot's key.
-  module _ (p s x : ℕ) (slots_own own since log : List Entry) (value w : ℕ) where
+  module _ (p s : ℕ) (x : Tag) (slots_own own since log : List Entry) (value w : ℕ) where
     abbrev u : Use
     u = record { pass = p; slot = s; field = f; value = value }
 
@@ -92,21 +92,21 @@ module _ (n : Name) (f : ℕ) where
   uses_it p s value = Used (record { pass = p; slot = s; field = f; value = value })
 
   -- it is enough to see it for the slot's key alone, and with no key beside the field's
-  MayStepAs : (p s x : ℕ) (seen slots_own : List Entry) (g : ℕ → ℕ) (value : ℕ) → Type 0
+  MayStepAs : (p s : ℕ) (x : Tag) (seen slots_own : List Entry) (g : ℕ → ℕ) (value : ℕ) → Type 0
   MayStepAs p s x seen slots_own g value =
       (v : ℕ) (t : At) (own log : List Entry) → FoundAs (at_field n f) v p seen (key s x slots_own) [] t log → Kept st TheSlot s slots_own log → v ≡ told log f
       → IsStep (at_field n f) p (key s x slots_own) [] (g v) (uses_it p s value) false (t.0, []) own log
 
-  may_step : (p : ℕ) (seen : List Entry) (held : List (Held Entry)) (g : ℕ → ℕ) (value : ℕ) → is_one slots held ≡ true → MayStepAs p (key_of held) (label_of held) seen (own_of held) g value
+  may_step : (p : ℕ) (seen : List Entry) (held : List (Held Entry)) (g : ℕ → ℕ) (value : ℕ) → is_one slots held ≡ true → MayStepAs p (key_of held) (tag_of held) seen (own_of held) g value
       → MayStep (at_field n f) p seen held [] [] g (λ v log. uses_it p (key_of held) value) (λ v. false)
   unfolding MayStepAs
   may_step p seen held g value one steps =
       subst (λ (hs : List (Held Entry)). MayStep (at_field n f) p seen hs [] [] g (λ v log. uses_it p (key_of held) value) (λ v. false)) (sym (only_is slots held one)) (
         (omega arith, tt),
         (λ v t own log found.
-            let kept = subst (λ (vs : List (Held Entry)). AllKept (rules st) (vs ++ key (key_of held) (label_of held) (own_of held)) log) found.stands found.before.kept.1 in
-            subst (λ (vs : List (Held Entry)). IsStep (at_field n f) p (key (key_of held) (label_of held) (own_of held)) [] (g v) (uses_it p (key_of held) value) false (t.0, vs) own log) (sym found.stands)
-            (steps v t own log found kept.0 (shown v p seen (key (key_of held) (label_of held) (own_of held)) t log found))),
+            let kept = subst (λ (vs : List (Held Entry)). AllKept (rules st) (vs ++ key (key_of held) (tag_of held) (own_of held)) log) found.stands found.before.kept.1 in
+            subst (λ (vs : List (Held Entry)). IsStep (at_field n f) p (key (key_of held) (tag_of held) (own_of held)) [] (g v) (uses_it p (key_of held) value) false (t.0, vs) own log) (sym found.stands)
+            (steps v t own log found kept.0 (shown v p seen (key (key_of held) (tag_of held) (own_of held)) t log found))),
       )
 
   -- a slot that is about to try to insert its batch may store in the fields of the block for it
@@ -137,7 +137,7 @@ module _ (n : Name) (f : ℕ) where
   unfolding MayStepAs
   may_store p value seen held one stores =
       may_step p seen held (λ v. value) value one (λ v t own log found kept word.
-      made p (key_of held) (label_of held) (own_of held) own t.0 log value value (led log found.distinct found.before.legal kept stores) (its_own value (f == f) (told log f) itself ∙ sym (told_push log (uses_it p (key_of held) value) f)))
+      made p (key_of held) (tag_of held) (own_of held) own t.0 log value value (led log found.distinct found.before.legal kept stores) (its_own value (f == f) (told log f) itself ∙ sym (told_push log (uses_it p (key_of held) value) f)))
     where
       led : (log : List Entry) → are_distinct (linked n.links) ≡ true → IsLegalList st log → Kept st TheSlot (key_of held) (own_of held) log
           → IsStoring st (key_of held) (own_of held) next_field f ⊎ IsStoring st (key_of held) (own_of held) first_field f → IsWriting (after st log) (plans st log) (key_of held) f

@@ -12,6 +12,7 @@ use Rattle.std.specs.Prelude.{◌≡◌, ℕ, true, List, [], ◌∷◌, length,
 use Rattle.std.specs.Coded.{Coded, code_by, coded_ℕ, coded×}
 use mathlib.Core.Path.{refl}
 use base.Before.{before}
+use base.Stored.{gnil}
 use base.Fml.{Lft, Fml, ffalse, fsep, fex, fbor, fnamed}
 use denote.RawPtr.{Ptr, block_ptr, null_ptr}
 use Rattle.core.specs.Sync.RawAtomic.{word}
@@ -70,7 +71,7 @@ abbrev pub Stands : Site → List Entry → List (Held Entry) → Type 0
 Stands site log vs = StandsOf (start site.name) (kind_of site.kind) site.number log vs
 
 abbrev pub site_keys : Site → List Entry → List (Held Entry) → List (Held Entry)
-site_keys site since vs = record { kind = site.kind; key = site.number; own = since; label = 0 } ∷ vs
+site_keys site since vs = record { kind = site.kind; key = site.number; own = since; label = 0; note = gnil } ∷ vs
 
 -- the list was `since` at the last step on the word
 abbrev pub word_knows : Site → ℕ → List Entry × List (Held Entry) → Fml
