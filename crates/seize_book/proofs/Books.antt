@@ -103,15 +103,15 @@ module _ {M : Type 1} {𝓤 : Ura M} (𝓛 : Logic 𝓤) (n : Name) where
   abbrev pub IsUnused : ℕ × List Entry → Type 0
   IsUnused t = ((v : ℕ) → home_of v ≡ t.0 → has v (after st t.1).named ≡ false) × ((count_in (after st t.1) t.0 ≡ pos 0) × (deposit (after st t.1) t.0 ≡ [])) × (told t.1 (next_field t.0) ≡ 0) × (told t.1 (first_field t.0) ≡ 0)
 
-  -- the key of its values, labelled with one of them; and those of its count and of its two fields
-  abbrev pub HasChunk : (ℕ → ℕ) → ℕ × List Entry → Pr
-  HasChunk value t = guard 𝓤 (IsUnused t) (⟦ rights_own n (of_values (value t.0) t.0 t.1) ⟧ ∗ ⟦ keys_own n (of_header t.0 t.1) ⟧)
+  -- the key of its values, labelled with one of them, with this note; and those of its count and of its two fields
+  abbrev pub HasChunk : (ℕ → ℕ) → Gv → ℕ × List Entry → Pr
+  HasChunk value g t = guard 𝓤 (IsUnused t) (⟦ rights_own n (of_values (value t.0) t.0 g t.1) ⟧ ∗ ⟦ keys_own n (of_header t.0 t.1) ⟧)
 
-  pub chunk : (seen : List Entry) (value : ℕ → ℕ) → ⟦ book_owns n seen ⟧ ⊢ H.⇛ (ex 𝓤 (HasChunk value))
-  chunk seen value = let number : (ℕ → ℕ) → ℕ = λ sizes. sizes blocks + sizes counts + sizes fields in let births : Picks 𝓛 n = λ sizes. let k : ℕ = number sizes in (blocks, k) ∷ (counts, k) ∷ (fields, next_field k) ∷ (fields, first_field k) ∷ [] in
+  pub chunk : (seen : List Entry) (value : ℕ → ℕ) (g : Gv) → ⟦ book_owns n seen ⟧ ⊢ H.⇛ (ex 𝓤 (HasChunk value g))
+  chunk seen value g = let number : (ℕ → ℕ) → ℕ = λ sizes. sizes blocks + sizes counts + sizes fields in let births : Picks 𝓛 n = λ sizes. let k : ℕ = number sizes in (blocks, k) ∷ (counts, k) ∷ (fields, next_field k) ∷ (fields, first_field k) ∷ [] in
       let more : OneMore (rules st) fields = λ log j h f le. h f (omega (arith, le)) in qed 𝓛 (‵ (book_owns n seen) ∷ []) ∵ updating ! $ fsplit ! $
       use2 𝓛 (minted 𝓛 n seen births) (new_keys 𝓛 n seen births (λ sizes. (omega arith, (λ log j h v le. h v (omega (arith, le))), omega arith, (omega arith, (λ log j h k le. h k (omega (arith, le))), omega arith, (omega arith, more, omega arith, (omega arith, more, omega arith, tt)))))) $
       await ! tt $ pick ! (λ t. learn ! (λ so. let k : ℕ = number t.0 in let header : List (Held Entry) = of_header k t.1 in split ! $ fsplit ! $
       -- [the right; the header's rights; what was reached]
       move ! (1 ∷ []) $ use1 𝓛 (‵ (keys_own n header)) (free_own 𝓛 n header (refl, (refl, (refl, tt)))) $ nothing ! $ move ! (2 ∷ 0 ∷ []) $ fjoin ! $
-      now ! $ show ! (HasChunk value) (k, t.1) $ check ! ((λ v home. so.1 blocks v (omega (arith, home))), so.1 counts k (omega arith), so.1 fields (next_field k) (omega arith), so.1 fields (first_field k) (omega arith)) $ keep ! (0 ∷ 1 ∷ []) $ done !))
+      now ! $ show ! (HasChunk value g) (k, t.1) $ check ! ((λ v home. so.1 blocks v (omega (arith, home))), so.1 counts k (omega arith), so.1 fields (next_field k) (omega arith), so.1 fields (first_field k) (omega arith)) $ keep ! (0 ∷ 1 ∷ []) $ done !))

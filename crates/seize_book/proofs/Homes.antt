@@ -11,28 +11,29 @@ use Rattle.seize_book.specs.Homes.{home_of, is_home, changes_home}
 use Rattle.seize_table.specs.Pairs.{left_of, pair, right_of}
 use Rattle.seize_table.proofs.Pairs.{left_pair, past, right_pair}
 use Rattle.seize_book.specs.Blocks.{block_of}
-use Rattle.seize_book.specs.Loans.{loan_of, place_of, rest_of}
+use Rattle.seize_book.specs.Loans.{cell_of, loan_of, place_of, rest_of}
 use Rattle.seize_book.proofs.Lists.{equal, unequal}
 
--- each home has values with any block's number, any place and anything that is lent with them, past any bound
-pub another_with : (k place carried p bound : ℕ) → p < 2 ^ 64
-    → (v : ℕ) × (home_of v ≡ k) × (block_of v ≡ p) × (bound ≤ v) × (place_of v ≡ place) × (loan_of v ≡ carried)
-another_with k place carried p bound small =
-    let turn : ℕ = pair carried bound in let rest : ℕ = pair place turn in let w : ℕ = pair k rest in let v : ℕ = w * 2 ^ 64 + p in
+-- each home has values with any block's number, any place, any cell and anything that is lent with them, past any bound
+pub another_with : (k place carried cell p bound : ℕ) → p < 2 ^ 64
+    → (v : ℕ) × (home_of v ≡ k) × (block_of v ≡ p) × (bound ≤ v) × (place_of v ≡ place) × (loan_of v ≡ carried) × (cell_of v ≡ cell)
+another_with k place carried cell p bound small =
+    let inner : ℕ = pair cell bound in let turn : ℕ = pair carried inner in let rest : ℕ = pair place turn in let w : ℕ = pair k rest in let v : ℕ = w * 2 ^ 64 + p in
     let above : v / 2 ^ 64 ≡ w = omega (arith, small) in
-    let last : bound ≤ turn = past carried bound in let middle : turn ≤ rest = past place turn in let first : rest ≤ w = past k rest in
+    let least : bound ≤ inner = past cell bound in let last : inner ≤ turn = past carried inner in let middle : turn ≤ rest = past place turn in let first : rest ≤ w = past k rest in
     let its_rest : rest_of v ≡ rest = ap right_of above ∙ right_pair k rest in (
       v,
       ap left_of above ∙ left_pair k rest,
       omega (arith, small),
-      omega (arith, last, middle, first),
+      omega (arith, least, last, middle, first),
       ap left_of its_rest ∙ left_pair place turn,
-      ap (λ (r : ℕ). left_of (right_of r)) its_rest ∙ (ap left_of (right_pair place turn) ∙ left_pair carried bound),
+      ap (λ (r : ℕ). left_of (right_of r)) its_rest ∙ (ap left_of (right_pair place turn) ∙ left_pair carried inner),
+      ap (λ (r : ℕ). left_of (right_of (right_of r))) its_rest ∙ (ap (λ (r : ℕ). left_of (right_of r)) (right_pair place turn) ∙ (ap left_of (right_pair carried inner) ∙ left_pair cell bound)),
     )
 
 -- with which nothing is lent
 pub another_of : (k p bound : ℕ) → p < 2 ^ 64 → (v : ℕ) × (home_of v ≡ k) × (block_of v ≡ p) × (bound ≤ v)
-another_of k p bound small = let v = another_with k 0 0 p bound small in (v.0, v.1, v.2, v.3)
+another_of k p bound small = let v = another_with k 0 0 0 p bound small in (v.0, v.1, v.2, v.3)
 
 -- what changes nothing of a home changes nothing of its values
 

@@ -21,10 +21,10 @@ use Rattle.seize_book.specs.Entry.{Entry, entry_coded}
 use Rattle.seize_book.specs.Homes.{home_of}
 use Rattle.seize_book.specs.Laws.{IsIn, ended}
 use Rattle.seize_book.specs.Ledger.{Held, Known, logs, reached}
-use Rattle.seize_book.specs.Loans.{Carries, CarriesNone, IsReader, Loan, lent_as, loan, loan_if, loan_number, loan_of, place_of, reader, readers}
+use Rattle.seize_book.specs.Loans.{Carries, CarriesNone, cell_of, IsReader, Loan, lent_as, loan, loan_if, loan_number, loan_of, place_of, reader, readers}
 use Rattle.seize_book.specs.Others.{labelled}
 use Rattle.seize_book.specs.Private.{is_one, label_of}
-use Rattle.seize_book.specs.Tokens.{Name, beside, inside, keys_own, knows, leads, over, pass_holds, pass_owns, rows, start, way}
+use Rattle.seize_book.specs.Tokens.{Name, beside, inside, keys_own, knows, leads, note_in, over, pass_holds, pass_owns, rows, start, way}
 use Rattle.seize_book.proofs.Append.{looks_beside}
 use Rattle.seize_book.proofs.Lives.{over_one}
 use Rattle.seize_book.proofs.Loans.{gone_over, pass_shows, reader_later}
@@ -32,7 +32,7 @@ use Rattle.seize_book.proofs.Notes.{distinct_links, knows_twice, opens}
 use Rattle.seize_book.proofs.Passes.{IsDistinct}
 use Rattle.seize_book.proofs.Renames.{lent_lead, same_lead}
 use Rattle.seize_book.proofs.Sound.{gone_later}
-use Rattle.seize_book.proofs.Ways.{bare_way, way_closes, way_opens}
+use Rattle.seize_book.proofs.Ways.{bare_way, block_ways, way_closes, way_opens}
 
 module _ {M : Type 1} {𝓤 : Ura M} (𝓛 : Logic 𝓤) (n : Name) where
   open 𝓛 use {H, A}
@@ -67,16 +67,17 @@ module _ {M : Type 1} {𝓤 : Ura M} (𝓛 : Logic 𝓤) (n : Name) where
   lent_new (suc k) v a c g is carries = let l : Loan = record { content = c; life = a; code = g; readers = [] } in qed 𝓛 (‵ (ticket_owns c (lent a g)) ∷ ‵ (lent_pool c a g []) ∷ []) ∵
       nothing ! $ move ! (2 ∷ 0 ∷ []) $ fjoin ! $ move ! (1 ∷ 0 ∷ []) $ fjoin ! $ nothing ! $ fpack ! (Carries v c g) (λ _. ftrue) carries $ move ! (0 ∷ 1 ∷ []) $ fjoin ! $ fpack ! Loan (lent_as st n.log v) l $ done !
 
-  pub lends_key : (held : List (Held Entry)) (v a : ℕ) (c : ℕ) (g : Gv) → is_one blocks held ≡ true → home_of (label_of held) ≡ home_of v → block_of (label_of held) ≡ block_of v → (n.store ≡ None) ⊎ (place_of (label_of held) ≡ place_of v) → Carries v c g
+  pub lends_key : (held : List (Held Entry)) (v a : ℕ) (c : ℕ) (g : Gv) → is_one blocks held ≡ true → home_of (label_of held) ≡ home_of v → block_of (label_of held) ≡ block_of v → (n.store ≡ None) ⊎ (place_of (label_of held) ≡ place_of v) → Carries v c g → cell_of (label_of held) ≡ cell_of v
       → ⟦ keys_own n held ⟧ ∗ ⟦ ticket_owns c (lent a g) ⟧ ∗ ⟦ pool_owns c a g ⟧ ⊢ ⟦ keys_own n (labelled v held) ⟧
-  lends_key [] v a c g one home block place carries = absurd (cc)
-  lends_key (x ∷ y ∷ held) v a c g one home block place carries = absurd (cc)
-  lends_key (h ∷ []) v a c g one home block place carries = let h' : Held Entry = record { kind = h.kind; key = h.key; own = h.own; label = v; note = h.note } in
+  lends_key [] v a c g one home block place carries cell = absurd (cc)
+  lends_key (x ∷ y ∷ held) v a c g one home block place carries cell = absurd (cc)
+  lends_key (h ∷ []) v a c g one home block place carries cell = let h' : Held Entry = record { kind = h.kind; key = h.key; own = h.own; label = v; note = h.note } in
       qed 𝓛 (‵ (keys_own n (h ∷ [])) ∷ ‵ (ticket_owns c (lent a g)) ∷ ‵ (pool_owns c a g) ∷ []) ∵ move ! (1 ∷ 2 ∷ []) $ use2 𝓛 (‵ (loan st n.log v)) (lent_new (loan_of v) v a c g carries.1 carries) $
       -- [the loan; the key]
-      move ! (1 ∷ []) $ fsplit ! $ fsplit ! $ move ! (1 ∷ []) $ use1 𝓛 (‵ (fsep (leads n h.label) (loan st n.log h.label))) (way_opens 𝓛 n h one) $ fsplit ! $ rewrite ! 0 (λ (F : Fml). ‵ F) (lent_lead 𝓛 n h.label v home block place) refl $
-      -- [where it leads; what was lent; the right; nothing; the loan]
-      move ! (0 ∷ 4 ∷ []) $ fjoin ! $ use1 𝓛 (‵ (way n h')) (way_closes 𝓛 n h' one) $ move ! (2 ∷ 0 ∷ []) $ fjoin ! $ move ! (0 ∷ 2 ∷ []) $ fjoin ! $ keep ! (0 ∷ []) $ done !
+      move ! (1 ∷ []) $ fsplit ! $ fsplit ! $ move ! (1 ∷ []) $ use1 𝓛 (‵ (block_ways 𝓛 n h.label h.note)) (way_opens 𝓛 n h one) $ fsplit ! $ fsplit ! $ rewrite ! 0 (λ (F : Fml). ‵ F) (lent_lead 𝓛 n h.label v home block place cell) refl $
+      rewrite ! 2 (λ (c : ℕ). ‵ (note_in n.store c h.note)) cell refl $
+      -- [where it leads; what was lent; the note; the right; nothing; the loan]
+      move ! (0 ∷ 5 ∷ []) $ fjoin ! $ move ! (0 ∷ 2 ∷ []) $ fjoin ! $ use1 𝓛 (‵ (way n h')) (way_closes 𝓛 n h' one) $ move ! (2 ∷ 0 ∷ []) $ fjoin ! $ move ! (0 ∷ 2 ∷ []) $ fjoin ! $ keep ! (0 ∷ []) $ done !
 
   -- ---- and comes back
 
@@ -132,15 +133,16 @@ module _ {M : Type 1} {𝓤 : Ura M} (𝓛 : Logic 𝓤) (n : Name) where
     abbrev pub Redeemed : List (Held Entry) → ℕ × (ℕ × Gv) → Pr
     Redeemed held t = guard 𝓤 (Carries v t.0 t.1.1) (⟦ P ⟧ ∗ ⟦ keys_own n held ⟧ ∗ ⟦ ticket_owns t.0 (lent t.1.0 t.1.1) ⟧ ∗ ⟦ pool_owns t.0 t.1.0 t.1.1 ⟧)
 
-    pub redeems : (held : List (Held Entry)) (w : ℕ) → is_one blocks held ≡ true → label_of held ≡ v → ¬ (CarriesNone v) → home_of (label_of held) ≡ home_of w → block_of (label_of held) ≡ block_of w → place_of (label_of held) ≡ place_of w → CarriesNone w
+    pub redeems : (held : List (Held Entry)) (w : ℕ) → is_one blocks held ≡ true → label_of held ≡ v → ¬ (CarriesNone v) → home_of (label_of held) ≡ home_of w → block_of (label_of held) ≡ block_of w → place_of (label_of held) ≡ place_of w → CarriesNone w → cell_of (label_of held) ≡ cell_of w
         → ⟦ P ⟧ ∗ ⟦ keys_own n held ⟧ ⊢ H.⇛ (ex 𝓤 (Redeemed (labelled w held)))
-    redeems [] w one label lent_ home block place none = absurd (cc)
-    redeems (x ∷ y ∷ held) w one label lent_ home block place none = absurd (cc)
-    redeems (h ∷ []) w one label lent_ home block place none = let h' : Held Entry = record { kind = h.kind; key = h.key; own = h.own; label = w; note = h.note } in
-        qed 𝓛 (‵ P ∷ ‵ (keys_own n (h ∷ [])) ∷ []) ∵ updating ! $ move ! (1 ∷ []) $ fsplit ! $ fsplit ! $ move ! (1 ∷ []) $ use1 𝓛 (‵ (fsep (leads n h.label) (loan st n.log h.label))) (way_opens 𝓛 n h one) $ fsplit ! $
-        -- [where it leads; the loan; the right; nothing; the pass]
-        move ! (1 ∷ []) $ rewrite ! 0 (λ (u : ℕ). ‵ (loan st n.log u)) label refl $ move ! (4 ∷ 0 ∷ []) $
+    redeems [] w one label lent_ home block place none cell = absurd (cc)
+    redeems (x ∷ y ∷ held) w one label lent_ home block place none cell = absurd (cc)
+    redeems (h ∷ []) w one label lent_ home block place none cell = let h' : Held Entry = record { kind = h.kind; key = h.key; own = h.own; label = w; note = h.note } in
+        qed 𝓛 (‵ P ∷ ‵ (keys_own n (h ∷ [])) ∷ []) ∵ updating ! $ move ! (1 ∷ []) $ fsplit ! $ fsplit ! $ move ! (1 ∷ []) $ use1 𝓛 (‵ (block_ways 𝓛 n h.label h.note)) (way_opens 𝓛 n h one) $ fsplit ! $ fsplit ! $
+        rewrite ! 2 (λ (c : ℕ). ‵ (note_in n.store c h.note)) cell refl $
+        -- [where it leads; the loan; the note; the right; nothing; the pass]
+        move ! (1 ∷ []) $ rewrite ! 0 (λ (u : ℕ). ‵ (loan st n.log u)) label refl $ move ! (5 ∷ 0 ∷ []) $
         use2 𝓛 (later (some (λ (t : ℕ × (ℕ × Gv)). given (Carries v t.0 t.1.1) (‵ P ⊛ ‵ (ticket_owns t.0 (lent t.1.0 t.1.1)) ⊛ ‵ (pool_owns t.0 t.1.0 t.1.1))))) (loan_back (loan_of v) lent_) $ await ! tt $ pick ! (λ t. learn ! (λ carries. split3 ! $
-        -- [the pass; the ticket; the pool; where it leads; the right; nothing]
-        move ! (3 ∷ []) $ rewrite ! 0 (λ (F : Fml). ‵ F) (same_lead 𝓛 n h.label w home block place) refl $ use1 𝓛 (‵ (way n h')) (bare_way 𝓛 n h' none one) $
+        -- [the pass; the ticket; the pool; where it leads; the note; the right; nothing]
+        move ! (3 ∷ 4 ∷ []) $ rewrite ! 0 (λ (F : Fml). ‵ F) (same_lead 𝓛 n h.label w home block place cell) refl $ use2 𝓛 (‵ (way n h')) (bare_way 𝓛 n h' none one) $
         move ! (4 ∷ 0 ∷ []) $ fjoin ! $ move ! (0 ∷ 4 ∷ []) $ fjoin ! $ now ! $ show ! (Redeemed (labelled w (h ∷ []))) t $ check ! carries $ move ! (1 ∷ 0 ∷ 2 ∷ 3 ∷ []) $ done !))

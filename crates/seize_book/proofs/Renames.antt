@@ -21,11 +21,11 @@ use Rattle.seize_book.specs.Homes.{IsVacant, home_of}
 use Rattle.seize_book.specs.Ledger.{AllKept, Held, renewed}
 use Rattle.seize_book.specs.Lending.{GoesWith, IsLentKey, Lends, MayRedeem}
 use Rattle.seize_book.specs.Passes.{IsSame}
-use Rattle.seize_book.specs.Loans.{Carries, CarriesNone, loan, loan_number, loan_of, place_of}
+use Rattle.seize_book.specs.Loans.{Carries, CarriesNone, cell_of, loan, loan_number, loan_of, place_of}
 use Rattle.seize_book.specs.Books.{IsNextIn}
 use Rattle.seize_book.specs.Others.{HasGone, IsLast, Renames, labelled, state_of, value_of}
 use Rattle.seize_book.specs.Private.{is_one, key_of, label_of, own_of}
-use Rattle.seize_book.specs.Tokens.{Name, label_at, leads, leads_in, told_of, rights_own, keys_own, start, way}
+use Rattle.seize_book.specs.Tokens.{Name, chunk_label, leads, leads_in, note_in, told_of, rights_own, keys_own, start, way}
 use Rattle.seize_book.specs.declared.book.keys.Keys.{Keys}
 use Rattle.seize_book.specs.declared.book.pass.Pass.{Pass}
 use Rattle.seize_book.specs.declared.book.value_key.ValueKey.{ValueKey}
@@ -33,7 +33,7 @@ use Rattle.seize_book.proofs.Homes.{another_with}
 use Rattle.seize_book.proofs.Lists.{unequal}
 use Rattle.seize_book.proofs.Private.{after_one, only_is, renewed_label, same_kind}
 use Rattle.seize_book.proofs.Sound.{gone_later}
-use Rattle.seize_book.proofs.Ways.{bare_way, way_opens}
+use Rattle.seize_book.proofs.Ways.{bare_way, block_ways, way_opens}
 
 -- past all that are in a list
 past : (xs : List ℕ) → (bound : ℕ) × ((v : ℕ) → bound ≤ v → has v xs ≡ false)
@@ -47,40 +47,40 @@ small v = omega arith
 -- a value of the same block that was never named
 another : (n : Name) (held : List (Held Entry))
     → (v : ℕ) × (home_of v ≡ home_of (label_of held)) × (block_of v ≡ block_of (label_of held)) × ((past (after (start n) (own_of held)).named).0 ≤ v)
-    × (place_of v ≡ place_of (label_of held)) × (loan_of v ≡ 0)
+    × (place_of v ≡ place_of (label_of held)) × (loan_of v ≡ 0) × (cell_of v ≡ cell_of (label_of held))
 another n held =
-    another_with (home_of (label_of held)) (place_of (label_of held)) 0 (block_of (label_of held)) (past (after (start n) (own_of held)).named).0 (small (label_of held))
+    another_with (home_of (label_of held)) (place_of (label_of held)) 0 (cell_of (label_of held)) (block_of (label_of held)) (past (after (start n) (own_of held)).named).0 (small (label_of held))
 
 pub fresh : Name → List (Held Entry) → ℕ
 fresh n held = (another n held).0
 
-pub fresh_home : (n : Name) (held : List (Held Entry)) → (home_of (label_of held) ≡ home_of (fresh n held)) × (block_of (label_of held) ≡ block_of (fresh n held)) × (place_of (label_of held) ≡ place_of (fresh n held)) × CarriesNone (fresh n held)
+pub fresh_home : (n : Name) (held : List (Held Entry)) → (home_of (label_of held) ≡ home_of (fresh n held)) × (block_of (label_of held) ≡ block_of (fresh n held)) × (place_of (label_of held) ≡ place_of (fresh n held)) × CarriesNone (fresh n held) × (cell_of (label_of held) ≡ cell_of (fresh n held))
 unfolding fresh
-fresh_home n held = let v = another n held in (sym v.1, sym v.2, sym v.4, v.5)
+fresh_home n held = let v = another n held in (sym v.1, sym v.2, sym v.4, v.5, sym v.6)
 
 pub renames : (marker : _) (n : Name) (held : List (Held Entry))
     → Renames (record { marker = marker; name = n; held = held }) (record { marker = marker; name = n; held = labelled (fresh n held) held })
 unfolding fresh
 renames marker n held = let v = another n held in
-    record { value = v.0; book = refl; held = refl; home = v.1; numbered = v.2; unnamed = (past (after (start n) (own_of held)).named).1 v.0 v.3; place = v.4; free = v.5 }
+    record { value = v.0; book = refl; held = refl; home = v.1; numbered = v.2; unnamed = (past (after (start n) (own_of held)).named).1 v.0 v.3; place = v.4; cell = v.6; free = v.5 }
 
 -- the same, where the book is named by another
 pub renames_in : (marker : _) (n m : Name) → n ≡ m → (held : List (Held Entry))
     → Renames (record { marker = marker; name = n; held = held }) (record { marker = marker; name = m; held = labelled (fresh n held) held })
 unfolding fresh
 renames_in marker n m same held = let r = renames marker n held in
-    record { value = r.value; book = sym same; held = r.held; home = r.home; numbered = r.numbered; unnamed = r.unnamed; place = r.place; free = r.free }
+    record { value = r.value; book = sym same; held = r.held; home = r.home; numbered = r.numbered; unnamed = r.unnamed; place = r.place; cell = r.cell; free = r.free }
 
 -- of a block whose number is still to be said, one with this number and this place
 pub fresh_at : (n : Name) (held : List (Held Entry)) (place number : ℕ) → number < 2 ^ 64 → ℕ
-fresh_at n held place number fits = (another_with (key_of held) place 0 number (past (after (start n) (own_of held)).named).0 fits).0
+fresh_at n held place number fits = (another_with (key_of held) place 0 (cell_of (label_of held)) number (past (after (start n) (own_of held)).named).0 fits).0
 
 pub numbers : (marker : _) (n : Name) (held : List (Held Entry)) (number : ℕ) (fits : number < 2 ^ 64)
     → Numbers (record { marker = marker; name = n; held = held }) (record { marker = marker; name = n; held = labelled (fresh_at n held (place_of (label_of held)) number fits) held }) number
 unfolding fresh_at
 numbers marker n held number fits =
-    let bound = past (after (start n) (own_of held)).named in let v = another_with (key_of held) (place_of (label_of held)) 0 number bound.0 fits in
-    record { value = v.0; book = refl; held = refl; home = v.1; numbered = v.2; unnamed = bound.1 v.0 v.3; place = v.4; free = v.5 }
+    let bound = past (after (start n) (own_of held)).named in let v = another_with (key_of held) (place_of (label_of held)) 0 (cell_of (label_of held)) number bound.0 fits in
+    record { value = v.0; book = refl; held = refl; home = v.1; numbered = v.2; unnamed = bound.1 v.0 v.3; place = v.4; cell = v.6; free = v.5 }
 
 -- of a block in a store, one with this number and with the place of the content there
 pub places : (r m : _) (n : Name) (held : List (Held Entry)) (number : ℕ) (fits : number < 2 ^ 64) (known : Known)
@@ -88,32 +88,32 @@ pub places : (r m : _) (n : Name) (held : List (Held Entry)) (number : ℕ) (fit
     Places (record { marker = r; name = n; held = held }) number known (record { marker = m; name = n; held = labelled (fresh_at n held place number fits) held })
 unfolding fresh_at
 places r m n held number fits known =
-    let bound = past (after (start n) (own_of held)).named in let v = another_with (key_of held) (content_in known.chunks (entry_of known.row number)) 0 number bound.0 fits in
-    record { value = v.0; book = refl; held = refl; home = v.1; numbered = v.2; unnamed = bound.1 v.0 v.3; place = v.4; free = v.5 }
+    let bound = past (after (start n) (own_of held)).named in let v = another_with (key_of held) (content_in known.chunks (entry_of known.row number)) 0 (cell_of (label_of held)) number bound.0 fits in
+    record { value = v.0; book = refl; held = refl; home = v.1; numbered = v.2; unnamed = bound.1 v.0 v.3; place = v.4; cell = v.6; free = v.5 }
 
 pub placed_at : (n : Name) (held : List (Held Entry)) (place number : ℕ) (fits : number < 2 ^ 64)
-    → let v : ℕ = fresh_at n held place number fits in (home_of v ≡ key_of held) × (block_of v ≡ number) × (place_of v ≡ place) × CarriesNone v
+    → let v : ℕ = fresh_at n held place number fits in (home_of v ≡ key_of held) × (block_of v ≡ number) × (place_of v ≡ place) × CarriesNone v × (cell_of (label_of held) ≡ cell_of v)
 unfolding fresh_at
-placed_at n held place number fits = let v = another_with (key_of held) place 0 number (past (after (start n) (own_of held)).named).0 fits in (v.1, v.2, v.4, v.5)
+placed_at n held place number fits = let v = another_with (key_of held) place 0 (cell_of (label_of held)) number (past (after (start n) (own_of held)).named).0 fits in (v.1, v.2, v.4, v.5, sym v.6)
 
 -- one with which a content is lent
 pub fresh_lent : Name → List (Held Entry) → ℕ → Gv → ℕ
 fresh_lent n held c g =
-    (another_with (home_of (label_of held)) c (loan_number g) (block_of (label_of held)) (past (after (start n) (own_of held)).named).0 (small (label_of held))).0
+    (another_with (home_of (label_of held)) c (loan_number g) (cell_of (label_of held)) (block_of (label_of held)) (past (after (start n) (own_of held)).named).0 (small (label_of held))).0
 
 pub fresh_lent_is : (n : Name) (held : List (Held Entry)) (c : ℕ) (g : Gv)
-    → (home_of (label_of held) ≡ home_of (fresh_lent n held c g)) × (block_of (label_of held) ≡ block_of (fresh_lent n held c g)) × Carries (fresh_lent n held c g) c g
+    → (home_of (label_of held) ≡ home_of (fresh_lent n held c g)) × (block_of (label_of held) ≡ block_of (fresh_lent n held c g)) × Carries (fresh_lent n held c g) c g × (cell_of (label_of held) ≡ cell_of (fresh_lent n held c g))
 unfolding fresh_lent
 fresh_lent_is n held c g =
-    let v = another_with (home_of (label_of held)) c (loan_number g) (block_of (label_of held)) (past (after (start n) (own_of held)).named).0 (small (label_of held)) in
-    (sym v.1, sym v.2, (v.4, v.5))
+    let v = another_with (home_of (label_of held)) c (loan_number g) (cell_of (label_of held)) (block_of (label_of held)) (past (after (start n) (own_of held)).named).0 (small (label_of held)) in
+    (sym v.1, sym v.2, (v.4, v.5), sym v.6)
 
 pub lends : (marker : _) (n : Name) (held : List (Held Entry)) (pool : Pool)
     → Lends (record { marker = marker; name = n; held = held }) pool (record { marker = marker; name = n; held = labelled (fresh_lent n held pool.name pool.value) held })
 unfolding fresh_lent
 lends marker n held pool =
-    let named = past (after (start n) (own_of held)).named in let v = another_with (home_of (label_of held)) pool.name (loan_number pool.value) (block_of (label_of held)) named.0 (small (label_of held)) in
-    record { value = v.0; book = refl; held = refl; home = v.1; numbered = v.2; unnamed = named.1 v.0 v.3; carries = (v.4, v.5) }
+    let named = past (after (start n) (own_of held)).named in let v = another_with (home_of (label_of held)) pool.name (loan_number pool.value) (cell_of (label_of held)) (block_of (label_of held)) named.0 (small (label_of held)) in
+    record { value = v.0; book = refl; held = refl; home = v.1; numbered = v.2; unnamed = named.1 v.0 v.3; cell = v.6; carries = (v.4, v.5) }
 
 -- the place of the content that is lent, where blocks lie in a store
 pub at_place : (store : Option (List ℕ)) (w c d v : ℕ) → (store ≡ None) ⊎ (place_of w ≡ c) → c ≡ d → place_of v ≡ d → (store ≡ None) ⊎ (place_of w ≡ place_of v)
@@ -129,28 +129,28 @@ label_one [] v one = absurd (cc)
 label_one (h ∷ held) v one = refl
 
 module _ {M : Type 1} {𝓤 : Ura M} (𝓛 : Logic 𝓤) (n : Name) where
-  pub same_lead : (v w : ℕ) → home_of v ≡ home_of w → block_of v ≡ block_of w → place_of v ≡ place_of w → leads n v ≡ leads n w
-  same_lead v w home block place = ap (λ (t : ℕ × (ℕ × ℕ)). leads_in n.store t.0 (label_at n t.1.0, t.1.1)) (λ j. (block j, (home j, place j)))
+  pub same_lead : (v w : ℕ) → home_of v ≡ home_of w → block_of v ≡ block_of w → place_of v ≡ place_of w → cell_of v ≡ cell_of w → leads n v ≡ leads n w
+  same_lead v w home block place cell = ap (λ (t : (ℕ × ℕ) × (ℕ × ℕ)). leads_in n.store t.0.0 (chunk_label n t.1.0 t.0.1, t.1.1)) (λ j. ((block j, cell j), (home j, place j)))
 
   -- where blocks lie in no store, nothing is said of the place
-  pub lent_lead : (v w : ℕ) → home_of v ≡ home_of w → block_of v ≡ block_of w → (n.store ≡ None) ⊎ (place_of v ≡ place_of w) → leads n v ≡ leads n w
-  lent_lead v w home block (inl none) =
+  pub lent_lead : (v w : ℕ) → home_of v ≡ home_of w → block_of v ≡ block_of w → (n.store ≡ None) ⊎ (place_of v ≡ place_of w) → cell_of v ≡ cell_of w → leads n v ≡ leads n w
+  lent_lead v w home block (inl none) cell =
       ap (λ (s : Option (List ℕ)). leads_in s (block_of v) (told_of n v)) none ∙ sym (ap (λ (s : Option (List ℕ)). leads_in s (block_of w) (told_of n w)) none)
-  lent_lead v w home block (inr place) = same_lead v w home block place
+  lent_lead v w home block (inr place) cell = same_lead v w home block place cell
 
   pub right_labelled : (held : List (Held Entry)) (v : ℕ) → ent 𝓤 (sem 𝓛 (rights_own n held)) (sem 𝓛 (rights_own n (labelled v held)))
   right_labelled [] v = qed 𝓛 (‵ (rights_own n []) ∷ []) ∵ done !
   right_labelled (h ∷ held) v = qed 𝓛 (‵ (rights_own n (h ∷ held)) ∷ []) ∵ done !
 
   -- a label is no part of the right, and its number leads to the same home
-  pub relabels : (held : List (Held Entry)) (v : ℕ) → is_one blocks held ≡ true → home_of (label_of held) ≡ home_of v → block_of (label_of held) ≡ block_of v → place_of (label_of held) ≡ place_of v → CarriesNone v
+  pub relabels : (held : List (Held Entry)) (v : ℕ) → is_one blocks held ≡ true → home_of (label_of held) ≡ home_of v → block_of (label_of held) ≡ block_of v → place_of (label_of held) ≡ place_of v → CarriesNone v → cell_of (label_of held) ≡ cell_of v
       → ent 𝓤 (sem 𝓛 (keys_own n held)) (sem 𝓛 (keys_own n (labelled v held)))
-  relabels [] v one home block place none = absurd (cc)
-  relabels (h ∷ g ∷ held) v one home block place none = absurd (cc)
-  relabels (h ∷ []) v one home block place none = let h' : Held Entry = record { kind = h.kind; key = h.key; own = h.own; label = v; note = h.note } in let L : Fml = leads n h.label in
-      qed 𝓛 (‵ (keys_own n (h ∷ [])) ∷ []) ∵ fsplit ! $ fsplit ! $ move ! (1 ∷ []) $ use1 𝓛 (‵ (fsep L (loan (start n) n.log h.label))) (way_opens 𝓛 n h one) $ fsplit ! $ move ! (1 ∷ []) $ drop ! $
-      -- [where it leads; the right; nothing], for what was lent is let go
-      rewrite ! 0 (λ (F : Fml). ‵ F) (same_lead h.label v home block place) refl $ use1 𝓛 (‵ (way n h')) (bare_way 𝓛 n h' none one) $ move ! (1 ∷ 0 ∷ []) $ fjoin ! $ fjoin ! $ done !
+  relabels [] v one home block place none cell = absurd (cc)
+  relabels (h ∷ g ∷ held) v one home block place none cell = absurd (cc)
+  relabels (h ∷ []) v one home block place none cell = let h' : Held Entry = record { kind = h.kind; key = h.key; own = h.own; label = v; note = h.note } in let L : Fml = leads n h.label in
+      qed 𝓛 (‵ (keys_own n (h ∷ [])) ∷ []) ∵ fsplit ! $ fsplit ! $ move ! (1 ∷ []) $ use1 𝓛 (‵ (block_ways 𝓛 n h.label h.note)) (way_opens 𝓛 n h one) $ fsplit ! $ fsplit ! $ move ! (1 ∷ []) $ drop ! $
+      -- [where it leads; the note; the right; nothing], for what was lent is let go
+      rewrite ! 0 (λ (F : Fml). ‵ F) (same_lead h.label v home block place cell) refl $ rewrite ! 1 (λ (c : ℕ). ‵ (note_in n.store c h.note)) cell refl $ use2 𝓛 (‵ (way n h')) (bare_way 𝓛 n h' none one) $ move ! (1 ∷ 0 ∷ []) $ fjoin ! $ fjoin ! $ done !
 
 -- what the key of a block knows that was looked up and labelled, where its last value was reclaimed and all others were before
 module _ (value : ValueKey) (pass : Pass) (seen' : List Entry) (looked renamed : Keys) (book : value.keys.name ≡ pass.name) (before : Before pass.name pass.id pass.seen value.keys.held seen')

@@ -1,6 +1,7 @@
 -- What the tokens own may go to another thread.
 use Rattle.std.proofs.Common.{ℕ, zero, suc, Bool, true, false, ◌==◌, List, [], ◌∷◌, length, Option, Some, None}
 use base.Growing.{latest, at_least}
+use base.Stored.{Gv}
 use base.Fml.{Lft}
 use base.Shift.{Keyless}
 use types.Keyed.{entry_keyless, entries_keyless}
@@ -9,11 +10,11 @@ use Rattle.seize_book.specs.Ledger.{Held, halved, roster, rosters, first, rest}
 use Rattle.seize_book.specs.Entry.{Entry, entry_coded}
 use Rattle.seize_book.specs.Book.{after, blocks}
 use Rattle.seize_content.specs.Stages.{lent}
-use Rattle.seize_content.proofs.Sends.{ticket_sent, lent_sent}
+use Rattle.seize_content.proofs.Sends.{ticket_sent, token_sent, lent_sent}
 use Rattle.seize_machine.specs.Machine.State.{State}
 use Rattle.seize_book.specs.Laws.{ended}
-use Rattle.seize_book.specs.Loans.{loan_if, loan_of, readers}
-use Rattle.seize_book.specs.Tokens.{Name, rows, start, inside, over, Gate, many, sole, gate_keeps, gate_gives, leads_in, all_lead, lies_in, all_lie_in, lies_if, is_placed, slot_labels, way_if, rights_own, keys_own, pass_owns}
+use Rattle.seize_book.specs.Loans.{cell_of, loan_if, loan_of, readers}
+use Rattle.seize_book.specs.Tokens.{Name, rows, start, inside, over, Gate, many, sole, gate_keeps, gate_gives, leads_in, all_lead, lies_in, all_lie_in, lies_if, is_placed, slot_labels, note_if, note_in, notes_own, way_if, rights_own, keys_own, pass_owns}
 use Rattle.seize_book.specs.Begin.{book_owns}
 
 roster_keyless : (δ k : ℕ) (owns : List (List Entry)) → Keyless (roster entry_coded δ k owns)
@@ -87,9 +88,21 @@ pub pass_keyless : (n : Name) (p : ℕ) (seen : List Entry) → Keyless (pass_ow
 unfolding at_least
 pass_keyless n p seen = ((inside_keyless n, (tt, λ _. tt)), λ own. (entry_keyless (halved entry_coded) _ p _, (tt, (gives_keyless n.gate seen, λ _. tt))))
 
+note_in_keyless : (store : Option (List ℕ)) (c : ℕ) (g : Gv) → Keyless (note_in store c g)
+note_in_keyless None c g = tt
+note_in_keyless (Some store) c g = token_sent c g
+
+note_keyless : (b : Bool) (n : Name) (v : ℕ) (g : Gv) → Keyless (note_if b n v g)
+note_keyless true n v g = note_in_keyless n.store (cell_of v) g
+note_keyless false n v g = tt
+
+pub notes_keyless : (n : Name) (held : List (Held Entry)) → Keyless (notes_own n held)
+notes_keyless n [] = tt
+notes_keyless n (h ∷ held) = (note_keyless (h.kind == blocks) n h.label h.note, notes_keyless n held)
+
 pub keys_keyless : (n : Name) (held : List (Held Entry)) → Keyless (keys_own n held)
 keys_keyless n [] = tt
-keys_keyless n (h ∷ held) = ((entry_keyless (halved entry_coded) _ h.key _, (way_keyless (h.kind == blocks) n h.label, lies_if_keyless (is_placed h) n h.key)), keys_keyless n held)
+keys_keyless n (h ∷ held) = ((entry_keyless (halved entry_coded) _ h.key _, (way_keyless (h.kind == blocks) n h.label, (lies_if_keyless (is_placed h) n h.key, note_keyless (h.kind == blocks) n h.label h.note))), keys_keyless n held)
 
 pub rights_keyless : (n : Name) (held : List (Held Entry)) → Keyless (rights_own n held)
 rights_keyless n [] = tt

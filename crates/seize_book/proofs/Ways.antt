@@ -1,7 +1,7 @@
 -- Where the numbers of values lead, and where heads lie: what goes with keys beside the rights, and what the book has of all that were named and
 -- of all slots. Assumes `Logic`.
 use Rattle.std.proofs.Common.{◌≡◌, ℕ, zero, suc, Bool, true, false, ◌||◌, ◌&&◌, ◌==◌, List, [], ◌∷◌, ◌++◌, length, take, Option, Some, None, ◌⊎◌, inl, inr, ⊎_elim, refl, sym, ◌∙◌, ap, subst, nat_lt, ◌+◌, ◌^◌, ◌<◌, arith}
-use base.Stored.{gnil}
+use base.Stored.{Gv, gnil}
 use Rattle.std.specs.Prelude.{drop as past}
 use seplogic.Ra.Ura.{Ura}
 use base.Logic.{SProp, ent, sep, guard}
@@ -20,6 +20,8 @@ use Rattle.seize_store.proofs.Tokens.{row_twice}
 use native.Mathlib.Decide.{ℕ_discrete}
 use contract.Monad.{fact}
 use Rattle.seize_book.specs.Blocks.{block_of}
+use Rattle.seize_content.specs.Cells.{cell_token}
+use Rattle.seize_book.specs.Bare.{of_values}
 use Rattle.seize_book.specs.Book.{blocks, slots}
 use Rattle.seize_book.specs.Entry.{Entry}
 use Rattle.seize_book.specs.Fair.{HasPlace, IsLabel}
@@ -27,8 +29,8 @@ use Rattle.seize_book.specs.Homes.{home_of}
 use Rattle.seize_book.specs.Ledger.{Held, born, renewed}
 use Rattle.seize_book.specs.Others.{labelled}
 use Rattle.seize_book.specs.Private.{is_one, key_of, label_of}
-use Rattle.seize_book.specs.Loans.{CarriesNone, loan, loan_if, loan_of, place_of}
-use Rattle.seize_book.specs.Tokens.{AllLentIn, IsLentIn, Name, start, leads, label_at, leads_in, told_of, all_lead, lies, lies_in, lies_if, all_lie, found, is_placed, rights_own, keys_own, one_key, key, way, way_if}
+use Rattle.seize_book.specs.Loans.{CarriesNone, cell_of, loan, loan_if, loan_of, place_of}
+use Rattle.seize_book.specs.Tokens.{AllLentIn, IsLentIn, Name, start, leads, label_at, chunk_label, leads_in, told_of, all_lead, lies, lies_in, lies_if, all_lie, found, is_placed, rights_own, keys_own, one_key, key, way, way_if, note, note_if, note_in, noted, notes_own}
 use Rattle.seize_book.proofs.Goes.{AllFree}
 use Rattle.seize_book.proofs.Tables.{lies_twice, one_more}
 
@@ -61,7 +63,7 @@ is_place b row e = go (ℕ_discrete (2 ^ (row + 5) + e) (b + 32)) (is_true (nat_
 -- its block has the label there
 abbrev pub IsIn : Name → ℕ → List (Ptr × ℕ) → ℕ → Type 0
 IsIn n row chunks v =
-    IsPlace (block_of v) row (entry_of row (block_of v)) → (label_in chunks (entry_of row (block_of v)) ≡ label_at n (home_of v)) × (content_in chunks (entry_of row (block_of v)) ≡ place_of v)
+    IsPlace (block_of v) row (entry_of row (block_of v)) → (label_in chunks (entry_of row (block_of v)) ≡ chunk_label n (home_of v) (cell_of v)) × (content_in chunks (entry_of row (block_of v)) ≡ place_of v)
 
 abbrev pub AreIn : Name → ℕ → List (Ptr × ℕ) → List ℕ → Type 0
 AreIn n row chunks vs = (v : ℕ) → has v vs ≡ true → IsIn n row chunks v
@@ -104,6 +106,13 @@ module _ {M : Type 1} {𝓤 : Ura M} (𝓛 : Logic 𝓤) (n : Name) where
 
   pub only_rights : (held : Keys) → ⟦ keys_own n held ⟧ ⊢ ⟦ rights_own n held ⟧
   only_rights held = qed 𝓛 (‵ (keys_own n held) ∷ []) ∵ use1 𝓛 (‵ (rights_own n held) ⊛ ‵ (ways held)) (keys_apart held) $ split ! $ keep ! (0 ∷ []) $ done !
+
+  -- the rights, with what their holder notes
+  pub keys_bared : (held : Keys) → ⟦ keys_own n held ⟧ ⊢ ⟦ rights_own n held ⟧ ∗ ⟦ notes_own n held ⟧
+  keys_bared [] = qed 𝓛 (‵ ftrue ∷ []) ∵ nothing ! $ done !
+  keys_bared (h ∷ held) = qed 𝓛 (‵ (keys_own n (h ∷ held)) ∷ []) ∵ fsplit ! $ fsplit ! $ move ! (1 ∷ []) $ fsplit ! $ drop ! $ fsplit ! $ drop ! $
+      -- [the note; the right; the other keys]
+      move ! (2 ∷ []) $ use1 𝓛 (‵ (rights_own n held) ⊛ ‵ (notes_own n held)) (keys_bared held) $ split ! $ move ! (3 ∷ 0 ∷ []) $ fjoin ! $ move ! (2 ∷ 1 ∷ []) $ fjoin ! $ move ! (1 ∷ 0 ∷ []) $ done !
 
   pub keys_whole : (held : Keys) → ⟦ rights_own n held ⟧ ∗ ⟦ ways held ⟧ ⊢ ⟦ keys_own n held ⟧
   keys_whole [] = qed 𝓛 (‵ ftrue ∷ ‵ ftrue ∷ []) ∵ keep ! (0 ∷ []) $ done !
@@ -171,10 +180,10 @@ module _ {M : Type 1} {𝓤 : Ura M} (𝓛 : Logic 𝓤) (n : Name) where
 
   way_tells : (h : Held Entry) → ⟦ way n h ⟧ ⊢ ⟦ path h ⟧ ∗ ⟦ way n h ⟧
   way_tells h = let A : Fml = way_if (h.kind == blocks) n h.label in let B : Fml = lies_if (is_placed h) n h.key in
-      qed 𝓛 (‵ (way n h) ∷ []) ∵ fsplit ! $ use1 𝓛 (‵ (path_if (h.kind == blocks) h.label) ⊛ ‵ A) (lead_tells (h.kind == blocks) h.label) $ split ! $ move ! (2 ∷ []) $
+      qed 𝓛 (‵ (way n h) ∷ []) ∵ fsplit ! $ use1 𝓛 (‵ (path_if (h.kind == blocks) h.label) ⊛ ‵ A) (lead_tells (h.kind == blocks) h.label) $ split ! $ move ! (2 ∷ []) $ fsplit ! $
       use1 𝓛 (‵ B ⊛ ‵ B) (lies_if_twice (is_placed h) h.key) $ split ! $
-      -- [where it lies, twice; where it leads; that, and what is lent]
-      move ! (2 ∷ 0 ∷ []) $ fjoin ! $ move ! (2 ∷ 1 ∷ []) $ fjoin ! $ move ! (1 ∷ 0 ∷ []) $ done !
+      -- [where it lies, twice; the note; where it leads; that, and what is lent]
+      move ! (3 ∷ 0 ∷ []) $ fjoin ! $ move ! (1 ∷ 2 ∷ []) $ fjoin ! $ move ! (2 ∷ 0 ∷ []) $ fjoin ! $ move ! (1 ∷ 0 ∷ []) $ done !
 
   pub ways_tell : (held : Keys) → ⟦ ways held ⟧ ⊢ ⟦ paths held ⟧ ∗ ⟦ ways held ⟧
   ways_tell [] = qed 𝓛 (‵ ftrue ∷ []) ∵ nothing ! $ done !
@@ -200,11 +209,17 @@ module _ {M : Type 1} {𝓤 : Ura M} (𝓛 : Logic 𝓤) (n : Name) where
   lies_free b true e s P = absurd (let t : true ≡ false = sym (or_true b) ∙ e in cc)
   lies_free b false e s P = qed 𝓛 (‵ P ∷ []) ∵ nothing ! $ done !
 
+  note_free : (b c : Bool) → (b || c) ≡ false → (v : ℕ) (g : Gv) (P : Fml) → ⟦ P ⟧ ⊢ ⟦ note_if b n v g ⟧ ∗ ⟦ P ⟧
+  note_free true c e v g P = absurd (cc)
+  note_free false c e v g P = qed 𝓛 (‵ P ∷ []) ∵ nothing ! $ done !
+
   way_free : (h : Held Entry) → needs h ≡ false → (P : Fml) → ⟦ P ⟧ ⊢ ⟦ way n h ⟧ ∗ ⟦ P ⟧
   way_free h e P = let A : Fml = way_if (h.kind == blocks) n h.label in let B : Fml = lies_if (is_placed h) n h.key in
-      qed 𝓛 (‵ P ∷ []) ∵ use1 𝓛 (‵ B ⊛ ‵ P) (lies_free (h.kind == blocks) (is_placed h) e h.key P) $ split ! $
-      move ! (1 ∷ []) $ use1 𝓛 (‵ A ⊛ ‵ P) (lead_free (h.kind == blocks) (is_placed h) e h.label P) $ split ! $
-      -- [where it leads; P; where it lies]
+      qed 𝓛 (‵ P ∷ []) ∵ use1 𝓛 (‵ (note n h) ⊛ ‵ P) (note_free (h.kind == blocks) (is_placed h) e h.label h.note P) $ split ! $
+      move ! (1 ∷ []) $ use1 𝓛 (‵ B ⊛ ‵ P) (lies_free (h.kind == blocks) (is_placed h) e h.key P) $ split ! $
+      -- [where it lies; P; the note]
+      move ! (0 ∷ 2 ∷ []) $ fjoin ! $ move ! (1 ∷ []) $ use1 𝓛 (‵ A ⊛ ‵ P) (lead_free (h.kind == blocks) (is_placed h) e h.label P) $ split ! $
+      -- [where it leads; P; the others]
       move ! (0 ∷ 2 ∷ []) $ fjoin ! $ done !
 
   new_free : (kind key : ℕ) (log : List Entry) → (kind == blocks) ≡ false → needs (record { kind = kind; key = key; own = log; label = 0; note = gnil }) ≡ false
@@ -228,25 +243,28 @@ module _ {M : Type 1} {𝓤 : Ura M} (𝓛 : Logic 𝓤) (n : Name) where
       use1 𝓛 (‵ (way n h) ⊛ ‵ K) (way_free h free.0 K) $ split ! $ move ! (1 ∷ 0 ∷ []) $ fjoin ! $
       move ! (1 ∷ []) $ use1 𝓛 (‵ (keys_own n held)) (free_own held free.1) $ move ! (1 ∷ 0 ∷ []) $ fjoin ! $ done !
 
-  -- the way of a key of a block: where its label's number leads, and what is lent with that
-  block_way : (h : Held Entry) → (h.kind == blocks) ≡ true → way n h ≡ fsep (fsep (leads n h.label) (loan (start n) n.log h.label)) ftrue
+  -- the way of a key of a block: where its label's number leads, what is lent with that, and what is noted
+  abbrev pub block_ways : ℕ → Gv → Fml
+  block_ways v g = fsep (fsep (leads n v) (loan (start n) n.log v)) (noted n v g)
+
+  block_way : (h : Held Entry) → (h.kind == blocks) ≡ true → way n h ≡ fsep (fsep (leads n h.label) (loan (start n) n.log h.label)) (fsep ftrue (noted n h.label h.note))
   block_way h is =
       let kind : h.kind ≡ blocks = eq_true h.kind blocks is in
-      ap (λ (t : Bool × Bool). fsep (way_if t.0 n h.label) (lies_if t.1 n h.key)) (λ j. (is j, ap (λ (k : ℕ). (k == slots) && (h.label == 1)) kind j))
+      ap (λ (t : Bool × Bool). fsep (way_if t.0 n h.label) (fsep (lies_if t.1 n h.key) (note_if t.0 n h.label h.note))) (λ j. (is j, ap (λ (k : ℕ). (k == slots) && (h.label == 1)) kind j))
 
-  pub way_opens : (h : Held Entry) → (h.kind == blocks) ≡ true → ⟦ way n h ⟧ ⊢ ⟦ fsep (leads n h.label) (loan (start n) n.log h.label) ⟧
-  way_opens h is = qed 𝓛 (‵ (way n h) ∷ []) ∵ rewrite ! 0 (λ (F : Fml). ‵ F) (block_way h is) refl $ fsplit ! $ keep ! (0 ∷ []) $ done !
+  pub way_opens : (h : Held Entry) → (h.kind == blocks) ≡ true → ⟦ way n h ⟧ ⊢ ⟦ block_ways h.label h.note ⟧
+  way_opens h is = qed 𝓛 (‵ (way n h) ∷ []) ∵ rewrite ! 0 (λ (F : Fml). ‵ F) (block_way h is) refl $ fsplit ! $ move ! (1 ∷ []) $ fsplit ! $ move ! (2 ∷ 1 ∷ []) $ fjoin ! $ keep ! (0 ∷ []) $ done !
 
-  pub way_closes : (h : Held Entry) → (h.kind == blocks) ≡ true → ⟦ fsep (leads n h.label) (loan (start n) n.log h.label) ⟧ ⊢ ⟦ way n h ⟧
-  way_closes h is = qed 𝓛 (‵ (fsep (leads n h.label) (loan (start n) n.log h.label)) ∷ []) ∵ nothing ! $ move ! (1 ∷ 0 ∷ []) $ fjoin ! $ rewrite ! 0 (λ (F : Fml). ‵ F) (sym (block_way h is)) refl $ done !
+  pub way_closes : (h : Held Entry) → (h.kind == blocks) ≡ true → ⟦ block_ways h.label h.note ⟧ ⊢ ⟦ way n h ⟧
+  way_closes h is = qed 𝓛 (‵ (block_ways h.label h.note) ∷ []) ∵ fsplit ! $ nothing ! $ move ! (0 ∷ 2 ∷ []) $ fjoin ! $ move ! (1 ∷ 0 ∷ []) $ fjoin ! $ rewrite ! 0 (λ (F : Fml). ‵ F) (sym (block_way h is)) refl $ done !
 
   none_lent : (k v : ℕ) → k ≡ 0 → (P : Fml) → ⟦ P ⟧ ⊢ ⟦ loan_if k (start n) n.log v ⟧ ∗ ⟦ P ⟧
   none_lent zero v none P = qed 𝓛 (‵ P ∷ []) ∵ nothing ! $ done !
   none_lent (suc k) v none P = absurd (let e : suc k ≡ 0 = none in omega (arith, e))
 
   -- of a value with which nothing is lent
-  pub bare_way : (h : Held Entry) → CarriesNone h.label → (h.kind == blocks) ≡ true → ⟦ leads n h.label ⟧ ⊢ ⟦ way n h ⟧
-  bare_way h none is = let L : Fml = leads n h.label in qed 𝓛 (‵ L ∷ []) ∵ use1 𝓛 (‵ (loan (start n) n.log h.label) ⊛ ‵ L) (none_lent (loan_of h.label) h.label none L) $ split ! $ move ! (1 ∷ 0 ∷ []) $ fjoin ! $
+  pub bare_way : (h : Held Entry) → CarriesNone h.label → (h.kind == blocks) ≡ true → ⟦ leads n h.label ⟧ ∗ ⟦ noted n h.label h.note ⟧ ⊢ ⟦ way n h ⟧
+  bare_way h none is = let L : Fml = leads n h.label in qed 𝓛 (‵ L ∷ ‵ (noted n h.label h.note) ∷ []) ∵ use1 𝓛 (‵ (loan (start n) n.log h.label) ⊛ ‵ L) (none_lent (loan_of h.label) h.label none L) $ split ! $ move ! (1 ∷ 0 ∷ []) $ fjoin ! $ fjoin ! $
       use1 𝓛 (‵ (way n h)) (way_closes h is) $ done !
 
   -- and what lasts of these
@@ -258,31 +276,55 @@ module _ {M : Type 1} {𝓤 : Ura M} (𝓛 : Logic 𝓤) (n : Name) where
   slot_path h s is =
       ap (λ (t : Bool × Bool × ℕ). fsep (path_if t.0 h.label) (lies_if t.1 n t.2)) (λ j. (ap (λ (k : ℕ). k == blocks) is.0 j, ap (λ (t : ℕ × ℕ). (t.0 == slots) && (t.1 == 1)) (λ i. (is.0 i, is.2 i)) j, is.1 j))
 
-  slot_way : (h : Held Entry) (s : ℕ) → (h.kind ≡ slots) × (h.key ≡ s) × (h.label ≡ 1) → way n h ≡ fsep ftrue (lies n s)
+  slot_way : (h : Held Entry) (s : ℕ) → (h.kind ≡ slots) × (h.key ≡ s) × (h.label ≡ 1) → way n h ≡ fsep ftrue (fsep (lies n s) ftrue)
   slot_way h s is =
-      ap (λ (t : Bool × Bool × ℕ). fsep (way_if t.0 n h.label) (lies_if t.1 n t.2)) (λ j. (ap (λ (k : ℕ). k == blocks) is.0 j, ap (λ (t : ℕ × ℕ). (t.0 == slots) && (t.1 == 1)) (λ i. (is.0 i, is.2 i)) j, is.1 j))
+      ap (λ (t : Bool × Bool × ℕ). fsep (way_if t.0 n h.label) (fsep (lies_if t.1 n t.2) (note_if t.0 n h.label h.note))) (λ j. (ap (λ (k : ℕ). k == blocks) is.0 j, ap (λ (t : ℕ × ℕ). (t.0 == slots) && (t.1 == 1)) (λ i. (is.0 i, is.2 i)) j, is.1 j))
 
   -- a key whose value's number leads to its home
-  way_placed : (h : Held Entry) → (h.kind == blocks) ≡ true → CarriesNone h.label → ⟦ key n h.kind h.key h.own ⟧ ∗ ⟦ leads n h.label ⟧ ⊢ ⟦ keys_own n (h ∷ []) ⟧
-  way_placed h is none = qed 𝓛 (‵ (key n h.kind h.key h.own) ∷ ‵ (leads n h.label) ∷ []) ∵ move ! (1 ∷ []) $ use1 𝓛 (‵ (way n h)) (bare_way h none is) $
+  way_placed : (h : Held Entry) → (h.kind == blocks) ≡ true → CarriesNone h.label → ⟦ key n h.kind h.key h.own ⟧ ∗ ⟦ leads n h.label ⟧ ∗ ⟦ noted n h.label h.note ⟧ ⊢ ⟦ keys_own n (h ∷ []) ⟧
+  way_placed h is none = qed 𝓛 (‵ (key n h.kind h.key h.own) ∷ ‵ (leads n h.label) ∷ ‵ (noted n h.label h.note) ∷ []) ∵ move ! (1 ∷ 2 ∷ []) $ use2 𝓛 (‵ (way n h)) (bare_way h none is) $
       move ! (1 ∷ 0 ∷ []) $ fjoin ! $ nothing ! $ move ! (1 ∷ 0 ∷ []) $ fjoin ! $ done !
 
   -- the key of a slot, with where its head lies
   relabelled : (h : Held Entry) → is_one slots (h ∷ []) ≡ true → ⟦ keys_own n (h ∷ []) ⟧ ∗ ⟦ lies n h.key ⟧ ⊢ ⟦ keys_own n (labelled 1 (h ∷ [])) ⟧
   relabelled h one = let h' : Held Entry = record { kind = h.kind; key = h.key; own = h.own; label = 1; note = h.note } in let W : Fml = way n h' in
-      qed 𝓛 (‵ (keys_own n (h ∷ [])) ∷ ‵ (lies n h.key) ∷ []) ∵ nothing ! $ move ! (0 ∷ 2 ∷ []) $ fjoin ! $ rewrite ! 0 (λ (F : Fml). ‵ F) (sym (slot_way h' h.key (eq_true h.kind slots one, refl, refl))) refl $
+      qed 𝓛 (‵ (keys_own n (h ∷ [])) ∷ ‵ (lies n h.key) ∷ []) ∵ nothing ! $ move ! (2 ∷ 0 ∷ []) $ fjoin ! $ nothing ! $ fjoin ! $ rewrite ! 0 (λ (F : Fml). ‵ F) (sym (slot_way h' h.key (eq_true h.kind slots one, refl, refl))) refl $
       -- [the new way; the key, with its own]
       move ! (1 ∷ []) $ fsplit ! $ fsplit ! $ move ! (0 ∷ 3 ∷ []) $ fjoin ! $ move ! (0 ∷ 2 ∷ []) $ fjoin ! $ keep ! (0 ∷ []) $ done !
 
   leads_anywhere : n.store ≡ None → (v : ℕ) (P : Fml) → ⟦ P ⟧ ⊢ ⟦ leads n v ⟧ ∗ ⟦ P ⟧
   leads_anywhere none v P = qed 𝓛 (‵ P ∷ []) ∵ nothing ! $ rewrite ! 0 (λ (store : Option (List ℕ)). ‵ (leads_in store (block_of v) (told_of n v))) (sym none) refl $ done !
 
+  -- a note is of a cell, whichever value the key is for
+  note_same : (b : Bool) (v w : ℕ) (g : Gv) → cell_of v ≡ cell_of w → note_if b n v g ≡ note_if b n w g
+  note_same true v w g cell = ap (λ (c : ℕ). note_in n.store c g) cell
+  note_same false v w g cell = refl
+
+  pub notes_labelled : (held : Keys) (v : ℕ) → cell_of (label_of held) ≡ cell_of v → ⟦ notes_own n held ⟧ ⊢ ⟦ notes_own n (labelled v held) ⟧
+  notes_labelled [] v cell = qed 𝓛 (‵ ftrue ∷ []) ∵ done !
+  notes_labelled (h ∷ held) v cell = qed 𝓛 (‵ (notes_own n (h ∷ held)) ∷ []) ∵ fsplit ! $ rewrite ! 0 (λ (F : Fml). ‵ F) (note_same (h.kind == blocks) h.label v h.note cell) refl $ fjoin ! $ done !
+
+  note_new_in : (store : Option (List ℕ)) (c : ℕ) (g : Gv) → ⟦ cell_token c g ⟧ ⊢ ⟦ note_in store c g ⟧
+  note_new_in None c g = qed 𝓛 (‵ (cell_token c g) ∷ []) ∵ nothing ! $ keep ! (0 ∷ []) $ done !
+  note_new_in (Some store) c g = qed 𝓛 (‵ (cell_token c g) ∷ []) ∵ done !
+
+  pub note_new : (k c v : ℕ) (g : Gv) (own : List Entry) → c ≡ cell_of v → ⟦ cell_token c g ⟧ ⊢ ⟦ notes_own n (of_values v k g own) ⟧
+  note_new k c v g own cell = qed 𝓛 (‵ (cell_token c g) ∷ []) ∵ use1 𝓛 (‵ (note_in n.store c g)) (note_new_in n.store c g) $ rewrite ! 0 (λ (d : ℕ). ‵ (note_in n.store d g)) cell refl $
+      nothing ! $ move ! (1 ∷ 0 ∷ []) $ fjoin ! $ done !
+
+  -- the note of a key of a block, which may be for another value of the block then
+  one_note : (h : Held Entry) (v : ℕ) → (h.kind == blocks) ≡ true → cell_of h.label ≡ cell_of v → ⟦ notes_own n (h ∷ []) ⟧ ⊢ ⟦ noted n v h.note ⟧
+  one_note h v one cell = qed 𝓛 (‵ (notes_own n (h ∷ [])) ∷ []) ∵ fsplit ! $ keep ! (0 ∷ []) $ rewrite ! 0 (λ (b : Bool). ‵ (note_if b n h.label h.note)) one refl $
+      rewrite ! 0 (λ (c : ℕ). ‵ (note_in n.store c h.note)) cell refl $ done !
+
   -- where blocks lie in no store
-  pub all_anywhere : n.store ≡ None → (held : Keys) → is_one blocks held ≡ true → CarriesNone (label_of held) → ⟦ rights_own n held ⟧ ⊢ ⟦ keys_own n held ⟧
+  pub all_anywhere : n.store ≡ None → (held : Keys) → is_one blocks held ≡ true → CarriesNone (label_of held) → ⟦ rights_own n held ⟧ ∗ ⟦ notes_own n held ⟧ ⊢ ⟦ keys_own n held ⟧
   all_anywhere none [] one free = absurd (cc)
   all_anywhere none (h ∷ g ∷ held) one free = absurd (cc)
-  all_anywhere none (h ∷ []) one free = let K : Fml = key n h.kind h.key h.own in qed 𝓛 (‵ (rights_own n (h ∷ [])) ∷ []) ∵ fsplit ! $
-      use1 𝓛 (‵ (leads n h.label) ⊛ ‵ K) (leads_anywhere none h.label K) $ split ! $ keep ! (1 ∷ 0 ∷ []) $ by ! (way_placed h one free)
+  all_anywhere none (h ∷ []) one free = let K : Fml = key n h.kind h.key h.own in qed 𝓛 (‵ (rights_own n (h ∷ [])) ∷ ‵ (notes_own n (h ∷ [])) ∷ []) ∵ move ! (1 ∷ []) $
+      use1 𝓛 (‵ (noted n h.label h.note)) (one_note h h.label one refl) $ move ! (1 ∷ []) $ fsplit ! $ use1 𝓛 (‵ (leads n h.label) ⊛ ‵ K) (leads_anywhere none h.label K) $ split ! $
+      -- [where it leads; the right; nothing; the note]
+      keep ! (1 ∷ 0 ∷ 3 ∷ []) $ by ! (way_placed h one free)
 
   pub label_leads : (held : Keys) (v : ℕ) → IsLabel held v → ⟦ paths held ⟧ ⊢ ⟦ leads n v ⟧
   label_leads [] v is = absurd is
@@ -315,16 +357,16 @@ module _ {M : Type 1} {𝓤 : Ura M} (𝓛 : Logic 𝓤) (n : Name) where
 
   -- a key whose value's number leads to its home, as a token of the number's row shows
   pub placed : (store : List ℕ) (row : ℕ) (chunks : List (Ptr × ℕ)) (held : Keys) (v : ℕ) → is_one blocks held ≡ true → n.store ≡ Some store → IsRowIn store row chunks
-      → IsPlace (block_of v) row (entry_of row (block_of v)) → (label_in chunks (entry_of row (block_of v)) ≡ label_at n (home_of v)) × (content_in chunks (entry_of row (block_of v)) ≡ place_of v) → CarriesNone v
-      → ⟦ rights_own n held ⟧ ∗ ⟦ known_row store row chunks ⟧ ⊢ ⟦ keys_own n (labelled v held) ⟧
-  placed store row chunks [] v one is made place there free = absurd (cc)
-  placed store row chunks (h ∷ g ∷ held) v one is made place there free = absurd (cc)
-  placed store row chunks (h ∷ []) v one is made place there free = let b : ℕ = block_of v in let h' : Held Entry = record { kind = h.kind; key = h.key; own = h.own; label = v; note = h.note } in
+      → IsPlace (block_of v) row (entry_of row (block_of v)) → (label_in chunks (entry_of row (block_of v)) ≡ chunk_label n (home_of v) (cell_of v)) × (content_in chunks (entry_of row (block_of v)) ≡ place_of v) → CarriesNone v
+      → cell_of (label_of held) ≡ cell_of v → ⟦ rights_own n held ⟧ ∗ ⟦ notes_own n held ⟧ ∗ ⟦ known_row store row chunks ⟧ ⊢ ⟦ keys_own n (labelled v held) ⟧
+  placed store row chunks [] v one is made place there free cell = absurd (cc)
+  placed store row chunks (h ∷ g ∷ held) v one is made place there free cell = absurd (cc)
+  placed store row chunks (h ∷ []) v one is made place there free cell = let b : ℕ = block_of v in let h' : Held Entry = record { kind = h.kind; key = h.key; own = h.own; label = v; note = h.note } in
       let t : ℕ × ℕ = (label_in chunks (entry_of row b), content_in chunks (entry_of row b)) in let same : t ≡ told_of n v = λ j. (there.0 j, there.1 j) in
-      qed 𝓛 (‵ (rights_own n (h ∷ [])) ∷ ‵ (known_row store row chunks) ∷ []) ∵ move ! (1 ∷ []) $ use1 𝓛 (‵ (tells store b t)) (known_tells 𝓛 store b row chunks made place) $
+      qed 𝓛 (‵ (rights_own n (h ∷ [])) ∷ ‵ (notes_own n (h ∷ [])) ∷ ‵ (known_row store row chunks) ∷ []) ∵ move ! (2 ∷ []) $ use1 𝓛 (‵ (tells store b t)) (known_tells 𝓛 store b row chunks made place) $
       rewrite ! 0 (λ (u : ℕ × ℕ). ‵ (tells store b u)) same refl $ rewrite ! 0 (λ (s : Option (List ℕ)). ‵ (leads_in s b (told_of n v))) (sym is) refl $
-      -- [where it leads; the right]
-      move ! (1 ∷ []) $ fsplit ! $ keep ! (0 ∷ 2 ∷ []) $ by ! (way_placed h' one free)
+      -- [where it leads; the right; the note]
+      move ! (2 ∷ []) $ use1 𝓛 (‵ (noted n v h.note)) (one_note h v one cell) $ move ! (2 ∷ []) $ fsplit ! $ keep ! (0 ∷ 3 ∷ 2 ∷ []) $ by ! (way_placed h' one free)
 
   -- that of a value among others
   pub one_leads : (vs : List ℕ) (v : ℕ) → has v vs ≡ true → ⟦ all_lead n vs ⟧ ⊢ ⟦ leads n v ⟧

@@ -8,10 +8,11 @@
 --     bare_book key, bare_home key   the book of a bare key, and the home that its values have;  bare_label key   the label of that
 --     Becomes key value number       it is the key of a value of this block now, with this number, as IsNextIn says; and it knows no more
 --     IsLaid value key               it is the key of the value's block
---     IsNewChunk rights keys         the key of a block of which no value was ever named, and those of its count and of its fields
---     IsChunkOf book keys            they are the keys of a new block of the book
+--     IsNewChunk cell g rights keys  the key of a block of which no value was ever named, with this cell, in which g is noted; and those
+--                                    of its count and of its fields
+--     IsChunkOf book cell keys       they are the keys of a new block of the book with this cell
 use Rattle.std.specs.Prelude.{◌≡◌, ℕ, pos, true, false, List, [], ◌∷◌, Some}
-use base.Stored.{gnil}
+use base.Stored.{Gv, gnil}
 use Rattle.seize_machine.specs.Machine.State.{State, has}
 use Rattle.seize_store.specs.Known.{content_in, entry_of, label_in}
 use Rattle.seize_store.specs.declared.known.Known.{Known}
@@ -24,10 +25,10 @@ use Rattle.seize_book.specs.Deposits.{deposit}
 use Rattle.seize_book.specs.Entry.{Entry}
 use Rattle.seize_book.specs.Homes.{count_in, home_of}
 use Rattle.seize_book.specs.Ledger.{Held}
-use Rattle.seize_book.specs.Loans.{CarriesNone, place_of}
+use Rattle.seize_book.specs.Loans.{CarriesNone, cell_of, place_of}
 use Rattle.seize_book.specs.Others.{book_of, labelled, state_of, value_of}
 use Rattle.seize_book.specs.Private.{is_one, key_of, label_of, own_of}
-use Rattle.seize_book.specs.Tokens.{Name, label_at, start}
+use Rattle.seize_book.specs.Tokens.{Name, chunk_label, start}
 use Rattle.seize_book.specs.declared.book.bare_key.BareKey.{BareKey}
 use Rattle.seize_book.specs.declared.book.chunk_keys.ChunkKeys.{ChunkKeys}
 use Rattle.seize_book.specs.declared.book.keys.Keys.{Keys}
@@ -46,13 +47,15 @@ pub record Numbers (rights rights' : Rights) (number : ℕ) : Type 0 where
   pub numbered : block_of value ≡ number
   pub unnamed : has value (state_in rights).named ≡ false
   pub place : place_of value ≡ place_of (label_of rights.held)
+  pub cell : cell_of value ≡ cell_of (label_of rights.held)
   pub free : CarriesNone value
 
 pub record IsWay (rights : Rights) (number : ℕ) (known : Known) : Type 0 where
   pub one : is_one blocks rights.held ≡ true
   pub store : rights.name.store ≡ Some known.store
   pub placed : IsPlace number known.row (entry_of known.row number)
-  pub home : label_in known.chunks (entry_of known.row number) ≡ label_at rights.name (key_of rights.held)
+  pub home : label_in known.chunks (entry_of known.row number)
+      ≡ chunk_label rights.name (key_of rights.held) (cell_of (label_of rights.held))
 
 -- there is one key, and nothing is lent with its value
 abbrev pub IsFree : Rights → Type 0
@@ -69,6 +72,7 @@ pub record Places (rights : Rights) (number : ℕ) (known : Known) (keys : Keys)
   pub numbered : block_of value ≡ number
   pub unnamed : has value (state_in rights).named ≡ false
   pub place : place_of value ≡ content_in known.chunks (entry_of known.row number)
+  pub cell : cell_of value ≡ cell_of (label_of rights.held)
   pub free : CarriesNone value
 
 abbrev pub bare_book : BareKey → Name
@@ -77,32 +81,38 @@ bare_book key = key.rights.name
 abbrev pub bare_home : BareKey → ℕ
 bare_home key = key_of key.rights.held
 
+abbrev pub bare_cell : BareKey → ℕ
+bare_cell key = cell_of (label_of key.rights.held)
+
 abbrev pub bare_label : BareKey → ℕ
-bare_label key = label_at (bare_book key) (bare_home key)
+bare_label key = chunk_label (bare_book key) (bare_home key) (bare_cell key)
 
 pub record Becomes (key : BareKey) (value : ValueKey) (number : ℕ) : Type 0 where
   pub book : book_of value ≡ bare_book key
   pub home : home_of (value_of value) ≡ bare_home key
   pub state : state_of value.keys ≡ state_in key.rights
   pub next : IsNextIn value number
+  pub cell : cell_of (value_of value) ≡ bare_cell key
   pub free : CarriesNone (value_of value)
 
 abbrev pub IsLaid : ValueKey → BareKey → Type 0
-IsLaid value key = (bare_book key ≡ book_of value) × (bare_home key ≡ home_of (value_of value))
+IsLaid value key =
+    (bare_book key ≡ book_of value) × (bare_home key ≡ home_of (value_of value)) × (bare_cell key ≡ cell_of (value_of value))
 
 -- the key of the values of the block with home k, labelled with this one; and those of its count and of its fields
-abbrev pub of_values : ℕ → ℕ → List Entry → List (Held Entry)
-of_values value k own = record { kind = blocks; key = k; own = own; label = value; note = gnil } ∷ []
+abbrev pub of_values : ℕ → ℕ → Gv → List Entry → List (Held Entry)
+of_values value k g own = record { kind = blocks; key = k; own = own; label = value; note = g } ∷ []
 
 abbrev pub of_header : ℕ → List Entry → List (Held Entry)
 of_header k own =
     record { kind = counts; key = k; own = own; label = 0; note = gnil } ∷ record { kind = fields; key = next_field k; own = own; label = 0; note = gnil }
     ∷ record { kind = fields; key = first_field k; own = own; label = 0; note = gnil } ∷ []
 
-pub record IsNewChunk (rights : Rights) (keys : Keys) : Type 0 where
+pub record IsNewChunk (cell : ℕ) (g : Gv) (rights : Rights) (keys : Keys) : Type 0 where
   pub value : ℕ
   pub own : List Entry
-  pub right : rights.held ≡ of_values value (home_of value) own
+  pub right : rights.held ≡ of_values value (home_of value) g own
+  pub its_cell : cell_of value ≡ cell
   pub header : keys.held ≡ of_header (home_of value) own
   pub book : rights.name ≡ keys.name
   pub none_named : (v : ℕ) → home_of v ≡ home_of value → has v (after (start keys.name) own).named ≡ false
@@ -114,8 +124,8 @@ pub record IsNewChunk (rights : Rights) (keys : Keys) : Type 0 where
 abbrev pub IsUntouched : BareKey → Type 0
 IsUntouched key = (v : ℕ) → home_of v ≡ bare_home key → has v (state_in key.rights).named ≡ false
 
-pub record IsChunkOf (book : Book) (keys : ChunkKeys) : Type 0 where
-  pub value : (bare_book keys.value ≡ book.name) × IsUntouched keys.value
+pub record IsChunkOf (book : Book) (cell : ℕ) (keys : ChunkKeys) : Type 0 where
+  pub value : (bare_book keys.value ≡ book.name) × (bare_cell keys.value ≡ cell) × IsUntouched keys.value
   pub count : (keys.count.keys.name ≡ book.name) × IsCountAt keys.count (bare_home keys.value)
   pub next : (keys.next.keys.name ≡ book.name) × IsFieldAt next_field keys.next (bare_home keys.value)
   pub first : (keys.first.keys.name ≡ book.name) × IsFieldAt first_field keys.first (bare_home keys.value)

@@ -1,7 +1,7 @@
 -- Where the blocks of values are found that were named, by what a token of the store shows of a row.
 --     entry_in known v     the entry of the value's number in the token's row
 --     AreAt n known st     each value of the book n that was ever named, and whose number is one of the row's, lies in the block with the
---                          label there: that label is of the book, and of the value's home; and the content there is the value's place
+--                          label there: that label is of the book, and of the value's home and cell; and the content there is the value's place
 --     HasNumber k st       a value was named whose number this is
 --     state_seen pass      the machine after all that the pass has seen
 use Rattle.std.specs.Prelude.{◌≡◌, ℕ, true}
@@ -12,8 +12,8 @@ use Rattle.seize_table.specs.Place.{IsPlace}
 use Rattle.seize_book.specs.Blocks.{block_of}
 use Rattle.seize_book.specs.Book.{after}
 use Rattle.seize_book.specs.Homes.{home_of}
-use Rattle.seize_book.specs.Loans.{place_of}
-use Rattle.seize_book.specs.Tokens.{Name, label_at, start}
+use Rattle.seize_book.specs.Loans.{cell_of, place_of}
+use Rattle.seize_book.specs.Tokens.{Name, chunk_label, start}
 use Rattle.seize_book.specs.declared.book.pass.Pass.{Pass}
 
 abbrev pub entry_in : Known → ℕ → ℕ
@@ -22,7 +22,7 @@ entry_in known v = entry_of known.row (block_of v)
 abbrev pub AreAt : Name → Known → State → Type 0
 AreAt n known st =
     (v : ℕ) → has v st.named ≡ true → IsPlace (block_of v) known.row (entry_in known v)
-    → (label_in known.chunks (entry_in known v) ≡ label_at n (home_of v)) × (content_in known.chunks (entry_in known v) ≡ place_of v)
+    → (label_in known.chunks (entry_in known v) ≡ chunk_label n (home_of v) (cell_of v)) × (content_in known.chunks (entry_in known v) ≡ place_of v)
 
 abbrev pub HasNumber : ℕ → State → Type 0
 HasNumber number st = (v : ℕ) × (has v st.named ≡ true) × (block_of v ≡ number)

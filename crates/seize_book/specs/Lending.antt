@@ -19,7 +19,7 @@ use Rattle.seize_machine.specs.Machine.State.{has}
 use Rattle.seize_book.specs.Blocks.{block_of}
 use Rattle.seize_book.specs.Book.{after, blocks}
 use Rattle.seize_book.specs.Homes.{home_of}
-use Rattle.seize_book.specs.Loans.{Carries, CarriesNone, place_of}
+use Rattle.seize_book.specs.Loans.{Carries, CarriesNone, cell_of, place_of}
 use Rattle.seize_book.specs.Others.{Renames, book_of, labelled, state_of, value_of}
 use Rattle.seize_book.specs.Private.{is_one, label_of}
 use Rattle.seize_book.specs.Tokens.{Name, IsLentIn, start}
@@ -43,6 +43,7 @@ pub record Lends (keys : Keys) (pool : Pool) (keys' : Keys) : Type 0 where
   pub home : home_of value ≡ home_of (label_of keys.held)
   pub numbered : block_of value ≡ block_of (label_of keys.held)
   pub unnamed : has value (state_of keys).named ≡ false
+  pub cell : cell_of value ≡ cell_of (label_of keys.held)
   pub carries : Carries value pool.name pool.value
 
 abbrev pub MayRedeem : Keys → Pass → Type 0

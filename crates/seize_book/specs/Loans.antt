@@ -1,9 +1,10 @@
 -- Contents that are lent while their values stand in links. The name of a value says which content it stands for, beside its block: which
 -- one it is, and the code of what is lent there. The loan goes with the key of the value's block, wherever that goes.
 --     number_of g            a number for each code, of which no other has it
---     rest_of v              what the name says beside the block: a pair of its place and of what it carries
+--     rest_of v              what the name says beside the block: its place, what it carries, and its cell
 --     place_of v             the name of the content that its block has, and loan_of v    the number of the code that is lent there, and
 --                            one more; or 0, where nothing is lent with the value
+--     cell_of v              the name of the cell in which the holder of its block's key makes notes
 --     Carries v c g          a content c is lent with the value, of code g;  CarriesNone v    nothing is
 --     reader n v d           the escrow of d is lent for the time of an activation in which v was found in a link
 --     loan n v               the ticket of the content that is lent with v, and the pool of the loan; each reader found v
@@ -32,6 +33,9 @@ place_of v = left_of (rest_of v)
 
 abbrev pub loan_of : ℕ → ℕ
 loan_of v = left_of (right_of (rest_of v))
+
+abbrev pub cell_of : ℕ → ℕ
+cell_of v = left_of (right_of (right_of (rest_of v)))
 
 abbrev pub loan_number : Gv → ℕ
 loan_number g = suc (number_of g)

@@ -31,7 +31,7 @@ use Rattle.seize_machine.specs.Machine.Event.{Event}
 use Rattle.seize_machine.specs.Machine.Next.{first_free}
 use Rattle.seize_table.specs.Place.{all_numbers}
 use Rattle.seize_book.specs.Homes.{IsVacant, home_of}
-use Rattle.seize_book.specs.Loans.{CarriesNone, place_of}
+use Rattle.seize_book.specs.Loans.{CarriesNone, cell_of, place_of}
 use Rattle.seize_book.specs.Ledger.{Held, renewed}
 use Rattle.seize_book.specs.Entry.{Entry, Made}
 use Rattle.seize_book.specs.Adding.{private}
@@ -123,6 +123,7 @@ pub record Renames (keys keys' : Keys) : Type 0 where
   pub numbered : block_of value ≡ block_of (label_of keys.held)
   pub unnamed : has value (state_of keys).named ≡ false
   pub place : place_of value ≡ place_of (label_of keys.held)
+  pub cell : cell_of value ≡ cell_of (label_of keys.held)
   pub free : CarriesNone value
 
 abbrev pub SameKind : Keys → Keys → Type 0

@@ -2,11 +2,14 @@
 --     Name          a book: the number of its invariant, its names, who may append, and the opening of its list
 --     called        the book's family is the number by which labels say that something is of it: it stands for this name alone, for good;
 --                   uncalled   for none yet
---     label_at n k  the label of what is of the book and has the home k
+--     label_at n k  the label of what is of the book and has the number k
+--     chunk_label n k c   that of a chunk of the book's store with the home k and the cell c
 --     inside        what stands in its invariant;  knows   that there is this invariant, for good
 --     pass_owns     a pass: its key, a beginning of the list that it has seen, and at a closed gate the list itself
---     leads n v     the value's number leads to the label of its home, in the store where the book's blocks lie; and nothing where they lie
---                   in none
+--     leads n v     the value's number leads to the label of its home and cell, in the store where the book's blocks lie; and nothing where
+--                   they lie in none
+--     noted n v g   the token of the cell where the holder of the value's key makes notes, in which g is noted; and nothing where the
+--                   book's blocks lie in no store.  notes_own    those of some keys
 --     all_lead n vs     so do the numbers of all these values
 --     IsLentIn n v       something is lent with the value, if the blocks of the book lie in a store;  AllLentIn n vs   with each of these
 --     lies n s      the entry of slot s, in the table where the heads of the book lie, has the slot's label for good; and nothing where
@@ -15,7 +18,7 @@
 --     found n st    both, of all that were ever named and of all slots that there are; and with each that was named something is lent
 --     is_placed h   it is the key of a slot whose head lies in the table, as the label 1 says
 --     rights_own    the rights to some keys, in a given order;  keys_own   and with each key of a block, where its value's number leads,
---                   and what is lent with the value; and with that of a slot whose head lies in the table, that it does
+--                   what is lent with the value, and what is noted; and with that of a slot whose head lies in the table, that it does
 --     Noted         one entry was appended with a pass
 use Rattle.std.specs.Prelude.{◌≡◌, ℕ, Bool, true, false, ◌&&◌, ◌==◌, ◌⊎◌, List, [], ◌∷◌, ◌++◌, length, map, Option, None, slice_index_or}
 use Rattle.std.specs.List.{range_with_len}
@@ -27,6 +30,7 @@ use base.Growing.{latest}
 use base.Stored.{Gv, gnil, gcons}
 use base.Fml.{Fml, ftrue, fsep, fex, fdead, fnamed, fobs, fauth, fres}
 use denote.Struct.Codes.{itself}
+use Rattle.seize_content.specs.Cells.{cell_token}
 use Rattle.seize_machine.specs.Machine.State.{State, opening, linked, are_distinct, has}
 use Rattle.seize_machine.specs.declared.machine.event.Answer.{Answer}
 use Rattle.seize_store.specs.Known.{tells}
@@ -39,7 +43,7 @@ use Rattle.seize_book.specs.Blocks.{block_of, plans}
 use Rattle.seize_book.specs.Chains.{Chained, told}
 use Rattle.seize_book.specs.Homes.{IsSound, home_of}
 use Rattle.seize_book.specs.Laws.{ended}
-use Rattle.seize_book.specs.Loans.{CarriesNone, loan, place_of}
+use Rattle.seize_book.specs.Loans.{CarriesNone, cell_of, loan, place_of}
 
 -- Who may append: whoever has a pass; or one pass alone, whose copy of the list has this name.
 pub data Gate : Type 0 where
@@ -139,6 +143,9 @@ called n = fres n.family (gcons gnil (name_coded.code n))
 abbrev pub label_at : Name → ℕ → ℕ
 label_at n k = pair n.family k
 
+abbrev pub chunk_label : Name → ℕ → ℕ → ℕ
+chunk_label n k c = label_at n (pair k c)
+
 -- these lifetimes are over
 abbrev pub over : List ℕ → Fml
 over [] = ftrue
@@ -160,7 +167,7 @@ leads_in (Option.Some store) b t = tells store b t
 
 -- what the chunk of a value's block says
 abbrev pub told_of : Name → ℕ → ℕ × ℕ
-told_of n v = (label_at n (home_of v), place_of v)
+told_of n v = (chunk_label n (home_of v) (cell_of v), place_of v)
 
 abbrev pub leads : Name → ℕ → Fml
 leads n v = leads_in n.store (block_of v) (told_of n v)
@@ -242,8 +249,27 @@ abbrev pub lies_if : Bool → Name → ℕ → Fml
 lies_if true n s = lies n s
 lies_if false n s = ftrue
 
+-- what its holder notes, in a cell of its chunk
+abbrev pub note_in : Option (List ℕ) → ℕ → Gv → Fml
+note_in Option.None c g = ftrue
+note_in (Option.Some store) c g = cell_token c g
+
+abbrev pub noted : Name → ℕ → Gv → Fml
+noted n v g = note_in n.store (cell_of v) g
+
+abbrev pub note_if : Bool → Name → ℕ → Gv → Fml
+note_if true n v g = noted n v g
+note_if false n v g = ftrue
+
+abbrev pub note : Name → Held Entry → Fml
+note n h = note_if (h.kind == blocks) n h.label h.note
+
+abbrev pub notes_own : Name → List (Held Entry) → Fml
+notes_own n [] = ftrue
+notes_own n (h ∷ held) = fsep (note n h) (notes_own n held)
+
 abbrev pub way : Name → Held Entry → Fml
-way n h = fsep (way_if (h.kind == blocks) n h.label) (lies_if (is_placed h) n h.key)
+way n h = fsep (way_if (h.kind == blocks) n h.label) (fsep (lies_if (is_placed h) n h.key) (note n h))
 
 abbrev pub one_key : Name → Held Entry → Fml
 one_key n h = fsep (key n h.kind h.key h.own) (way n h)

@@ -4,8 +4,9 @@ ghost use Rattle.seize_store.specs.Known.{content_in, entry_of, label_in};
 ghost use Rattle.seize_store.specs.Named.{IsRowOf};
 ghost use Rattle.seize_book.specs.Book.{after, blocks};
 ghost use Rattle.seize_book.specs.Homes.{IsVacant, home_of};
+ghost use Rattle.seize_book.specs.Loans.{cell_of};
 ghost use Rattle.seize_book.specs.Private.{is_one, key_of, label_of, own_of};
-ghost use Rattle.seize_book.specs.Tokens.{label_at, start};
+ghost use Rattle.seize_book.specs.Tokens.{chunk_label, start};
 
 use crate::book::rights::Rights;
 use crate::book::value_key::ValueKey;
@@ -24,7 +25,7 @@ pub struct BareKey {
 }
 
 impl Labelled for BareKey {
-    ghost label = { λ key. label_at key.rights.name (key_of key.rights.held) };
+    ghost label = { λ key. chunk_label key.rights.name (key_of key.rights.held) (cell_of (label_of key.rights.held)) };
 }
 
 impl BareKey {

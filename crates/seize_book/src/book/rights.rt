@@ -1,18 +1,19 @@
 //! The right to the key of a block by itself, without where the number of its value leads: what lies with a chunk of a store. It uses keys;
 //! `bare_key` wraps it for callers.
 ghost use Rattle.std.specs.Prelude.{◌≡◌, ◌<◌, ◌^◌, List, None, true};
+ghost use base.Fml.{fsep};
 ghost use base.Stored.{coded_list};
 ghost use Rattle.seize_book.specs.Book.{blocks};
 ghost use Rattle.seize_book.specs.Entry.{Entry};
 ghost use Rattle.seize_book.specs.Ledger.{Held};
 ghost use Rattle.seize_book.specs.Private.{is_one};
-ghost use Rattle.seize_book.specs.Tokens.{Name, held_coded, name_coded, rights_own};
+ghost use Rattle.seize_book.specs.Tokens.{Name, held_coded, name_coded, notes_own, rights_own};
 
 use crate::book::keys::Keys;
 use seize_store::Known;
 use std::marker::{Model, PhantomData};
 
-/// As `Keys`, but for the ways.
+/// As `Keys`, but for the ways. What their holder notes goes with them.
 pub(crate) struct Rights {
     pub(super) marker: PhantomData<()>,
     pub(crate) ghost name: { Name } by { name_coded },
@@ -20,7 +21,7 @@ pub(crate) struct Rights {
 }
 
 impl Model for Rights {
-    ghost also_owns = { λ r. rights_own r.name r.held };
+    ghost also_owns = { λ r. fsep (rights_own r.name r.held) (notes_own r.name r.held) };
 }
 
 impl Rights {

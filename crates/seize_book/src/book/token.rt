@@ -160,7 +160,7 @@ impl Book {
             count,
             next,
             first,
-        } = self.chunk();
+        } = self.chunk(TokenCell::new(number).1);
         BlockKeys {
             value: value.anywhere(number),
             count,
@@ -169,11 +169,12 @@ impl Book {
         }
     }
 
-    /// The keys of a new block, before it is said where the block lies. None of its values was ever named.
-    pub fn chunk(&self) -> ChunkKeys
-        ensures { IsChunkOf self.now result }
+    /// The keys of a new block, before it is said where the block lies. None of its values was ever named. The token goes with the key of
+    /// the values: who has that key notes in its cell.
+    pub fn chunk(&self, token: CellToken) -> ChunkKeys
+        ensures { IsChunkOf self.now token.name result }
     {
-        let (rights, mut count) = self.chunk_keys();
+        let (rights, mut count) = self.chunk_keys(token);
         let mut next = count.none();
         let mut first = count.none();
         count.part(&mut next);
@@ -187,9 +188,10 @@ impl Book {
     }
 
     // The key of a new block's values, and those of its count and its fields, in this order.
-    fn chunk_keys(&self) -> (Rights, Keys)
-        ensures { IsNewChunk result.0 result.1 × (result.0.name ≡ self.now.name) }
+    fn chunk_keys(&self, token: CellToken) -> (Rights, Keys)
+        ensures { IsNewChunk token.name token.value result.0 result.1 × (result.0.name ≡ self.now.name) }
     {
+        let CellToken { marker: _ } = token;
         let rights = Rights {
             marker: PhantomData,
         };

@@ -1,7 +1,7 @@
 -- `bare` lets the ways go.
 use Rattle.seize_book.proofs.Kit.{ℕ, List, [], ◌∷◌, refl, proved, named, Val, vptr, SProp, emp, Fml, ftrue, fsep, flft, ‵, raw, ◌⊛◌, ◌$◌, ◌∵◌, !, qed, by, move, keep, split, fsplit, fsplit3, fjoin, fjoin3, use0, use1, feq_i, no_more, and_then, returns, enter, alloc_all, pass_all, free_all, look_at, get, sets, agg, fact_i, tables, owns, types_at, plain, mut_vals, mut_Tells, nothing, opens, closes, Stays, stay_ref, walk_of, Goes-ref}
-use Rattle.seize_book.specs.Tokens.{rights_own}
-use Rattle.seize_book.proofs.Ways.{only_rights}
+use Rattle.seize_book.specs.Tokens.{notes_own, rights_own}
+use Rattle.seize_book.proofs.Ways.{keys_bared}
 use Rattle.seize_book.specs.contracts.book.keys.Keys as Keys
 use Rattle.seize_book.specs.contracts.book.rights.Rights as Rights
 use Rattle.seize_book.proofs.Fields.{Token, token, token_made, ends}
@@ -25,7 +25,7 @@ bare_spec 𝓤 𝓛 𝓜 𝓡 wired =
     enter ! 𝓣.C 𝓣.Λ fn (vptr pb po ∷ []) Post $ alloc_all ! (λ l. pass_all ! refl ((tt, tt), tt) $
     opens ! tt Keys.the_row pb po (λ vs. move ! (1 ∷ []) $ fsplit ! $ move ! (1 ∷ []) $
     -- [what it owns; it; its cell, in four entries]
-    use1 𝓛 (‵ (rights_own b.name b.held)) (only_rights 𝓛 b.name b.held) $
+    use1 𝓛 (‵ (rights_own b.name b.held) ⊛ ‵ (notes_own b.name b.held)) (keys_bared 𝓛 b.name b.held) $ split ! $ fjoin ! $
     let r : Rights.the_row.Denot = record { marker = record {}; name = b.name; held = b.held } in let b' : Keys.the_row.Denot = record b { held = [] } in
     nothing ! $ move ! (2 ∷ 0 ∷ []) $ fjoin ! $ move ! (2 ∷ 0 ∷ 3 ∷ 4 ∷ 5 ∷ []) $ closes ! tt Keys.the_row b' vs pb po $
     -- [it, in two; its token; what the result owns]

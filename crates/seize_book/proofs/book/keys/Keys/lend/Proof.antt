@@ -36,7 +36,7 @@ lend_spec 𝓤 𝓛 𝓜 𝓡 wired =
     -- [what the keys own; the keys; their cell, in four entries; the ticket; the pool]
     let v : ℕ = fresh_lent k.name k.held pool.name pool.value in let is = fresh_lent_is k.name k.held pool.name pool.value in let k' : Keys.the_row.Denot = record k { held = labelled v k.held } in
     move ! (6 ∷ []) $ rewrite ! 0 (λ (m : ℕ). ‵ (ticket_owns m ticket.says)) asked.2.0 refl $ rewrite ! 0 (λ (u : Stage). ‵ (ticket_owns pool.name u)) asked.2.1 refl $
-    move ! (1 ∷ 0 ∷ 7 ∷ []) $ use3 𝓛 (‵ (keys_own k.name (labelled v k.held))) (lends_key 𝓛 k.name k.held v pool.life pool.name pool.value asked.0 is.0 is.1 (at_place k.name.store (label_of k.held) ticket.name pool.name v asked.3 asked.2.0 is.2.0) is.2) $
+    move ! (1 ∷ 0 ∷ 7 ∷ []) $ use3 𝓛 (‵ (keys_own k.name (labelled v k.held))) (lends_key 𝓛 k.name k.held v pool.life pool.name pool.value asked.0 is.0 is.1 (at_place k.name.store (label_of k.held) ticket.name pool.name v asked.3 asked.2.0 is.2.0) is.2 is.3) $
     move ! (1 ∷ 0 ∷ []) $ fjoin ! $ move ! (1 ∷ 0 ∷ 2 ∷ 3 ∷ 4 ∷ []) $ closes ! tt Keys.the_row k' vs pb po $
     -- [the keys, in two; their token]
     sets ! (of_opd ! (unit_lit !)) refl (tt, tt) $ feq_i ! (List Val) (vunit ∷ []) (vunit ∷ []) refl $

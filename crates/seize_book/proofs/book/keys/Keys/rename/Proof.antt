@@ -30,7 +30,7 @@ rename_spec 𝓤 𝓛 𝓜 𝓡 wired =
     opens ! tt Keys.the_row pb po (λ vs. move ! (1 ∷ []) $ fsplit ! $ move ! (1 ∷ []) $
     -- [what the keys own; the keys; their cell, in four entries]
     let v : ℕ = fresh k.name k.held in let same = fresh_home k.name k.held in let k' : Keys.the_row.Denot = record k { held = labelled v k.held } in
-    use1 𝓛 (‵ (keys_own k.name (labelled v k.held))) (relabels 𝓛 k.name k.held v asked same.0 same.1 same.2 same.3) $
+    use1 𝓛 (‵ (keys_own k.name (labelled v k.held))) (relabels 𝓛 k.name k.held v asked same.0 same.1 same.2 same.3 same.4) $
     move ! (1 ∷ 0 ∷ []) $ fjoin ! $ move ! (1 ∷ 0 ∷ 2 ∷ 3 ∷ 4 ∷ []) $ closes ! tt Keys.the_row k' vs pb po $
     -- [the keys, in two; their token]
     sets ! (of_opd ! (unit_lit !)) refl (tt, tt) $ feq_i ! (List Val) (vunit ∷ []) (vunit ∷ []) refl $

@@ -1,5 +1,5 @@
 -- `anywhere` gives the rights, which need no ways.
-use Rattle.seize_book.proofs.Kit.{ℕ, List, [], ◌∷◌, ◌≡◌, refl, proved, named, Val, vptr, SProp, emp, Fml, ftrue, fsep, flft, ‵, raw, ◌⊛◌, ◌$◌, ◌∵◌, !, qed, by, move, keep, split, fsplit, fsplit3, fjoin, fjoin3, use0, use1, feq_i, no_more, and_then, returns, enter, alloc_all, pass_all, free_all, look_at, get, sets, agg, fact, fact_i, heard, tables, owns, types_at, plain, mut_vals, mut_Tells, nothing, opens, closes, Stays, stay_ref, walk_of, Goes-ref}
+use Rattle.seize_book.proofs.Kit.{ℕ, List, [], ◌∷◌, ◌≡◌, refl, proved, named, Val, vptr, SProp, emp, Fml, ftrue, fsep, flft, ‵, raw, ◌⊛◌, ◌$◌, ◌∵◌, !, qed, by, move, keep, split, fsplit, fsplit3, fjoin, fjoin3, use0, use2, feq_i, no_more, and_then, returns, enter, alloc_all, pass_all, free_all, look_at, get, sets, agg, fact, fact_i, heard, tables, owns, types_at, plain, mut_vals, mut_Tells, nothing, opens, closes, Stays, stay_ref, walk_of, Goes-ref}
 use Rattle.std.specs.Prelude.{None}
 use Rattle.seize_book.specs.Bare.{IsFree}
 use Rattle.seize_book.specs.Tokens.{keys_own}
@@ -28,9 +28,9 @@ anywhere_spec 𝓤 𝓛 𝓜 𝓡 wired =
     enter ! 𝓣.C 𝓣.Λ fn (vptr pb po ∷ []) Post $ alloc_all ! (λ l. pass_all ! refl ((tt, tt), tt) $
     opens ! tt Rights.the_row pb po (λ vs. move ! (1 ∷ []) $ fsplit ! $ move ! (1 ∷ []) $
     -- [what it owns; it; its cell, in four entries]
-    use1 𝓛 (‵ (keys_own b.name b.held)) (all_anywhere 𝓛 b.name asked.0 b.held asked.1.0 asked.1.1) $
+    fsplit ! $ use2 𝓛 (‵ (keys_own b.name b.held)) (all_anywhere 𝓛 b.name asked.0 b.held asked.1.0 asked.1.1) $
     let r : Keys.the_row.Denot = record { marker = record {}; name = b.name; held = b.held } in let b' : Rights.the_row.Denot = record b { held = [] } in
-    nothing ! $ move ! (2 ∷ 0 ∷ []) $ fjoin ! $ move ! (2 ∷ 0 ∷ 3 ∷ 4 ∷ 5 ∷ []) $ closes ! tt Rights.the_row b' vs pb po $
+    nothing ! $ nothing ! $ fjoin ! $ move ! (2 ∷ 0 ∷ []) $ fjoin ! $ move ! (2 ∷ 0 ∷ 3 ∷ 4 ∷ 5 ∷ []) $ closes ! tt Rights.the_row b' vs pb po $
     -- [it, in two; its token; what the result owns]
     sets ! (agg ! (no_more !)) refl (tt, tt) $ sets ! (agg ! (and_then ! (get ! refl) (no_more !))) refl (tt, (tt, tt)) $
     move ! (3 ∷ []) $ use0 𝓛 (‵ (Token.own_val (record {}, tt) (token ∷ []))) (token_made 𝓛) $ fjoin ! $

@@ -3,10 +3,11 @@ use Rattle.seize_book.proofs.Kit.{vint, w64, u64, uint_vals, uint_Tells, yes, st
 use Rattle.seize_book.specs.Others.{labelled}
 use Rattle.seize_book.specs.Loans.{place_of}
 use Rattle.seize_book.specs.Private.{label_of}
-use Rattle.seize_book.specs.Tokens.{rights_own}
+use Rattle.seize_book.specs.Tokens.{notes_own, rights_own}
 use Rattle.seize_book.specs.contracts.book.rights.Rights as Rights
 use Rattle.seize_book.proofs.Fields.{ends}
-use Rattle.seize_book.proofs.Renames.{fresh_at, numbers, right_labelled}
+use Rattle.seize_book.proofs.Renames.{fresh_at, numbers, placed_at, right_labelled}
+use Rattle.seize_book.proofs.Ways.{notes_labelled}
 use Rattle.seize_book.specs.contracts.book.rights.Rights.number.{ended, clauses}
 use Rattle.seize_book.specs.contracts.book.rights.Rights.number.Key.{name as #self}
 use Rattle.seize_book.proofs.book.rights.Rights.number.Statement.{statement}
@@ -28,8 +29,9 @@ number_spec 𝓤 𝓛 𝓜 𝓡 wired =
     opens ! tt Rights.the_row pb po (λ vs. move ! (1 ∷ []) $ fsplit ! $ move ! (1 ∷ []) $
     -- [what the keys own; the keys; their cell, in four entries]
     let v : ℕ = fresh_at k.name k.held (place_of (label_of k.held)) number are.1.0.1 in let k' : Rights.the_row.Denot = record k { held = labelled v k.held } in
-    use1 𝓛 (‵ (rights_own k.name (labelled v k.held))) (right_labelled 𝓛 k.name k.held v) $
-    move ! (1 ∷ 0 ∷ []) $ fjoin ! $ move ! (1 ∷ 0 ∷ 2 ∷ 3 ∷ 4 ∷ []) $ closes ! tt Rights.the_row k' vs pb po $
+    let cell = (placed_at k.name k.held (place_of (label_of k.held)) number are.1.0.1).4 in
+    fsplit ! $ use1 𝓛 (‵ (rights_own k.name (labelled v k.held))) (right_labelled 𝓛 k.name k.held v) $ move ! (1 ∷ []) $ use1 𝓛 (‵ (notes_own k.name (labelled v k.held))) (notes_labelled 𝓛 k.name k.held v cell) $
+    move ! (1 ∷ 0 ∷ []) $ fjoin ! $ move ! (1 ∷ 0 ∷ []) $ fjoin ! $ move ! (1 ∷ 0 ∷ 2 ∷ 3 ∷ 4 ∷ []) $ closes ! tt Rights.the_row k' vs pb po $
     -- [the keys, in two; their token]
     sets ! (of_opd ! (unit_lit !)) refl (tt, tt) $ feq_i ! (List Val) (vunit ∷ []) (vunit ∷ []) refl $
     nothing ! $ move ! (4 ∷ 0 ∷ []) $ fjoin ! $

@@ -1,12 +1,12 @@
 -- `place` gives the rights, with the way that the token shows.
-use Rattle.seize_book.proofs.Kit.{vint, w64, u64, uint_vals, uint_Tells, ℕ, List, [], ◌∷◌, refl, proved, named, Val, vptr, SProp, emp, Fml, ftrue, fsep, flft, ‵, raw, ◌⊛◌, ◌$◌, ◌∵◌, !, qed, by, move, keep, drop, split, fsplit, fsplit3, fjoin, fjoin3, use0, use2, feq_i, no_more, and_then, returns, enter, alloc_all, pass_all, free_all, look_at, get, sets, agg, fact, fact_i, heard, tables, RefOf, yes, unhide, owns, types_at, plain, mut_vals, mut_Tells, shr_vals, shr_Tells, nothing, opens, closes, Stays, stay_ref, stay_dropped, walk_of, Goes-ref, Goes-dropped}
+use Rattle.seize_book.proofs.Kit.{vint, w64, u64, uint_vals, uint_Tells, ℕ, List, [], ◌∷◌, refl, proved, named, Val, vptr, SProp, emp, Fml, ftrue, fsep, flft, ‵, raw, ◌⊛◌, ◌$◌, ◌∵◌, !, qed, by, move, keep, drop, split, fsplit, fsplit3, fjoin, fjoin3, use0, use3, feq_i, no_more, and_then, returns, enter, alloc_all, pass_all, free_all, look_at, get, sets, agg, fact, fact_i, heard, tables, RefOf, yes, unhide, owns, types_at, plain, mut_vals, mut_Tells, shr_vals, shr_Tells, nothing, opens, closes, Stays, stay_ref, stay_dropped, walk_of, Goes-ref, Goes-dropped}
 use Rattle.seize_store.specs.contracts.known.Known as Known
 use Rattle.std.proofs.Common.{◌∙◌, ap, subst, sym}
 use Rattle.seize_store.specs.Known.{content_in, entry_of, label_in}
 use Rattle.seize_table.specs.Place.{IsPlace}
 use Rattle.seize_book.specs.Bare.{IsWay}
 use Rattle.seize_book.specs.Others.{labelled}
-use Rattle.seize_book.specs.Tokens.{keys_own, label_at}
+use Rattle.seize_book.specs.Tokens.{chunk_label, keys_own}
 use Rattle.seize_book.proofs.Renames.{fresh_at, placed_at, places}
 use Rattle.seize_book.proofs.Ways.{placed}
 use Rattle.seize_book.specs.contracts.book.keys.Keys as Keys
@@ -34,11 +34,11 @@ place_spec 𝓤 𝓛 𝓜 𝓡 wired =
     opens ! tt Rights.the_row pb po (λ vs. move ! (1 ∷ []) $ fsplit ! $ move ! (1 ∷ []) $
     -- [what it owns; it; its cell, in four entries; the other's token; what the token says]
     let place : ℕ = content_in k.chunks (entry_of k.row number) in let v : ℕ = fresh_at b.name b.held place number are.1.0.1 in let is = placed_at b.name b.held place number are.1.0.1 in let held' = labelled v b.held in
-    move ! (0 ∷ 7 ∷ []) $ use2 𝓛 (‵ (keys_own b.name held')) (placed 𝓛 b.name k.store k.row k.chunks b.held v asked.one asked.store k.made
+    fsplit ! $ move ! (0 ∷ 1 ∷ 8 ∷ []) $ use3 𝓛 (‵ (keys_own b.name held')) (placed 𝓛 b.name k.store k.row k.chunks b.held v asked.one asked.store k.made
     (subst (λ (m : ℕ). IsPlace m k.row (entry_of k.row m)) (sym is.1) asked.placed)
-    (ap (λ (m : ℕ). label_in k.chunks (entry_of k.row m)) is.1 ∙ (asked.home ∙ ap (label_at b.name) (sym is.0)), ap (λ (m : ℕ). content_in k.chunks (entry_of k.row m)) is.1 ∙ sym is.2) is.3) $
+    (ap (λ (m : ℕ). label_in k.chunks (entry_of k.row m)) is.1 ∙ (asked.home ∙ ap (λ (t : ℕ × ℕ). chunk_label b.name t.0 t.1) (λ j. (sym is.0 j, is.4 j))), ap (λ (m : ℕ). content_in k.chunks (entry_of k.row m)) is.1 ∙ sym is.2) is.3 is.4) $
     let r : Keys.the_row.Denot = record { marker = record {}; name = b.name; held = held' } in let b' : Rights.the_row.Denot = record b { held = [] } in
-    nothing ! $ move ! (2 ∷ 0 ∷ []) $ fjoin ! $ move ! (2 ∷ 0 ∷ 3 ∷ 4 ∷ 5 ∷ []) $ closes ! tt Rights.the_row b' vs pb po $
+    nothing ! $ nothing ! $ fjoin ! $ move ! (2 ∷ 0 ∷ []) $ fjoin ! $ move ! (2 ∷ 0 ∷ 3 ∷ 4 ∷ 5 ∷ []) $ closes ! tt Rights.the_row b' vs pb po $
     -- [it, in two; its token; what the result owns; the other's token]
     sets ! (agg ! (no_more !)) refl (tt, tt) $ sets ! (agg ! (and_then ! (get ! refl) (no_more !))) refl (tt, (tt, tt)) $
     move ! (3 ∷ []) $ use0 𝓛 (‵ (Token.own_val (record {}, tt) (token ∷ []))) (token_made 𝓛) $ fjoin ! $
