@@ -1,6 +1,6 @@
 -- What the holder of a cell's token does with a cell that is shared: the value comes out of the cell's invariant by a ghost step, is read
 -- and written, and goes back by another. Meanwhile a share of the sharing's lifetime lies there in its place. Assumes `Logic`.
-use Rattle.std.proofs.Common.{◌≡◌, ℕ, refl, sym}
+use Rattle.std.proofs.Common.{◌≡◌, ℕ, [], ◌∷◌, refl, sym}
 use seplogic.Ra.Ura.{Ura}
 use base.Fraction.{full_share}
 use base.Share
