@@ -72,7 +72,7 @@ module _ {M : Type 1} {𝓤 : Ura M} (𝓛 : Logic 𝓤) (R : RattleType) (γ b 
 
   -- ---- through a `&`
   module _ (𝓜 : Model 𝓤 𝓛.H) (𝓡 : Running 𝓤 𝓛.H 𝓜) (κ : Lft) (q : Share) where
-    abbrev Laid : R.Denot → Pr
+    abbrev pub Laid : R.Denot → Pr
     Laid y = wand 𝓤 ⟦ value y ⟧ (H.⇛ (⟦ cell_token γ (R.coded.code y) ⟧ ∗ A.lft κ q))
 
     abbrev pub Shut : Pr
