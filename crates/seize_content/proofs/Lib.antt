@@ -11,3 +11,4 @@ pub mod Turns
 pub mod Meet
 pub mod Views
 pub mod Readers
+pub mod CellTurns

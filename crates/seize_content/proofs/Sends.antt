@@ -9,7 +9,7 @@ use base.Shift.{Keyless}
 use base.Stored.{Gv}
 use denote.RattleType.{RattleType}
 use denote.RawPtr.{Ptr, block_ptr, null_ptr}
-use denote.Param.Send.{IsSend, IsSync}
+use denote.Param.Send.{IsSend, IsSync, part_keyless}
 use Rattle.core.proofs.atomic.Sent.{chain-Keyless}
 use Rattle.std.proofs.Crossing.{frees}
 use Rattle.std.specs.declared.alloc.Global.{Global}
@@ -19,6 +19,7 @@ use denote.Memory.{lone}
 use Rattle.seize_content.specs.Goods.{Goods, room, value_at}
 use Rattle.seize_content.specs.Stages.{Stage, empty, held, lent, goes}
 use Rattle.seize_content.specs.Contents.{body, onward, named, place, place_shares, content_owns, content_shares, ticket_owns, held_owns, stay, pool_owns, pool_shares, sight_owns}
+use Rattle.seize_content.specs.Cells.{Turn, there, away, cell_token, lies, cell_shares}
 use Rattle.seize_content.specs.Memory.{grant_owns}
 use Rattle.seize_content.specs.Readers.{Piece, deposit, holds, lent_pool, pool}
 
@@ -99,3 +100,15 @@ module _ (R : RattleType) (send : IsSend R) (sync : IsSync R) where
 
   pub content_seen : (γ : ℕ) (p : Ptr) (κ : Lft) → Keyless (content_shares R γ p κ)
   content_seen γ p κ = place_seen (value_at R p) (room_sent R p) (λ x. lies_keyless R send p x) (λ x κ'. seen R sync p x κ') γ κ
+
+-- a cell's value passes with its token
+pub token_sent : (γ : ℕ) (g : Gv) → Keyless (cell_token γ g)
+token_sent γ g = tt
+
+module _ (R : RattleType) (send : IsSend R) (γ b o : ℕ) where
+  lies_sent : (ν : Lft) (t : Turn) → Keyless (lies R γ b o ν t)
+  lies_sent ν (there g) = λ x. ((λ _. tt), part_keyless R send full_share x b o)
+  lies_sent ν (away r) = tt
+
+  pub cell_seen : (κ : Lft) → Keyless (cell_shares R γ (block_ptr b o) κ)
+  cell_seen κ = λ t. ((λ νs. chain-Keyless νs κ t.0), λ s. (tt, lies_sent t.0 s))

@@ -3,14 +3,17 @@
 //!
 //! `content` is the place, `room` the memory that it lies in. What its holders have has no bytes: `ticket` the right to change a content's
 //! stage and the value in hand, `loan` what is left with the lender and what a reader has.
+//! `token_cell` is a place of another kind: its value lies in it and is never lent, and belongs to whoever has its token.
 #![tactic(auto)]
 
 mod content;
 mod loan;
 mod room;
 mod ticket;
+mod token_cell;
 
 pub use content::Content;
 pub use loan::{Pool, Sight};
 pub use room::{Grant, Room};
 pub use ticket::{Held, Start, Ticket};
+pub use token_cell::{CellToken, TokenCell};
