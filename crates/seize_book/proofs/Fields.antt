@@ -9,6 +9,7 @@ use denote.Triple.Walked.{Fit, has_of}
 use denote.Laws.{Is, Tells}
 use mir.Val.{of_list}
 use Rattle.core.specs.contracts.marker.PhantomData as marker
+use Rattle.seize_book.specs.contracts.book.opened.Opened as opened
 use Rattle.seize_book.specs.contracts.book.unopened.Unopened as unopened
 
 abbrev pub token : Val
@@ -25,6 +26,9 @@ no_bytes d = token ∷ []
 
 pub unopened_tells : Tells unopened.the_row (Is unopened.the_row) no_bytes
 unopened_tells d vs is = is.0.1.0 ∙ (λ i. vstruct (of_list (is.0.1.1.0.1.0 i ++ [])) ∷ [])
+
+pub opened_tells : Tells opened.the_row (Is opened.the_row) no_bytes
+opened_tells d vs is = is.0.1.0 ∙ (λ i. vstruct (of_list (is.0.1.1.0.1.0 i ++ [])) ∷ [])
 
 pub ends : {M : Type 1} {𝓤 : Ura M} (𝓛 : Logic 𝓤) (T : Ended) (hs : Stays T.signature.params T.kept) (c : Clauses 𝓤 T) (y : (walk_of 𝓛 T hs c).Ghost) (v : Val) (r : Res T.signature y.0.0) (ws : Lasts T y.0.0 y.0.3)
     → Fit T hs y.0.0 y.0.3 ws → ent 𝓤 (emp 𝓤) ((c y.0.0 y.0.3).ensures y.1 r (at_exit T y.0.0 y.0.3 ws))

@@ -41,3 +41,4 @@ pub mod Sent
 pub mod Loans
 pub mod Lending
 pub mod LentValues
+pub mod Noted

@@ -15,7 +15,7 @@ use Rattle.seize_book.specs.Entry.{Entry, Made, Deed}
 use Rattle.seize_book.specs.Book.{after, births, makes_slot, TheSlot, TheTotal, Kept, kinds, rules, slots, touches}
 use Rattle.seize_book.specs.Fair.{Added, Before, Covers, Fair, MakesPlaced, EndsNone, StartsNone, MayAdd, pass_key}
 use Rattle.seize_book.specs.Others.{MakesNone}
-use Rattle.seize_book.specs.Private.{IsOwn, IsOpen, is_one, key_of, label_of, own_of}
+use Rattle.seize_book.specs.Private.{IsOwn, IsOpen, is_one, key_of, label_of, note_of, own_of}
 use Rattle.seize_book.specs.Tokens.{Name, start}
 use Rattle.seize_book.proofs.Chains.{unled}
 use Rattle.seize_book.proofs.Sound.{no_labels, none_named}

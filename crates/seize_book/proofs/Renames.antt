@@ -5,7 +5,7 @@ use seplogic.Ra.Ura.{Ura}
 use base.Logic.{ent}
 use base.Fml.{Fml, fsep}
 use types.Logic.{Logic, sem}
-use types.Kit.{‵, ◌$◌, ◌∵◌, !, qed, move, drop, fsplit, fjoin, rewrite, use1, done}
+use types.Kit.{‵, ◌$◌, ◌∵◌, !, qed, move, drop, fsplit, fjoin, rewrite, use1, use2, done}
 use native.Mathlib.Decide.{ℕ_discrete}
 use base.Stored.{Gv}
 use Rattle.seize_content.specs.declared.loan.Pool.{Pool}

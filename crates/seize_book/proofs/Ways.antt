@@ -28,9 +28,10 @@ use Rattle.seize_book.specs.Fair.{HasPlace, IsLabel}
 use Rattle.seize_book.specs.Homes.{home_of}
 use Rattle.seize_book.specs.Ledger.{Held, born, renewed}
 use Rattle.seize_book.specs.Others.{labelled}
-use Rattle.seize_book.specs.Private.{is_one, key_of, label_of}
+use Rattle.seize_book.specs.Notes.{with_note}
+use Rattle.seize_book.specs.Private.{is_one, key_of, label_of, note_of}
 use Rattle.seize_book.specs.Loans.{CarriesNone, cell_of, loan, loan_if, loan_of, place_of}
-use Rattle.seize_book.specs.Tokens.{AllLentIn, IsLentIn, Name, start, leads, label_at, chunk_label, leads_in, told_of, all_lead, lies, lies_in, lies_if, all_lie, found, is_placed, rights_own, keys_own, one_key, key, way, way_if, note, note_if, note_in, noted, notes_own}
+use Rattle.seize_book.specs.Tokens.{AllLentIn, IsLentIn, Name, start, leads, label_at, chunk_label, leads_in, told_of, all_lead, lies, lies_in, lies_if, all_lie, found, is_placed, rights_own, keys_own, one_key, key, way, way_if, opened_own, note, note_if, note_in, noted, notes_own}
 use Rattle.seize_book.proofs.Goes.{AllFree}
 use Rattle.seize_book.proofs.Tables.{lies_twice, one_more}
 
@@ -325,6 +326,22 @@ module _ {M : Type 1} {𝓤 : Ura M} (𝓛 : Logic 𝓤) (n : Name) where
       use1 𝓛 (‵ (noted n h.label h.note)) (one_note h h.label one refl) $ move ! (1 ∷ []) $ fsplit ! $ use1 𝓛 (‵ (leads n h.label) ⊛ ‵ K) (leads_anywhere none h.label K) $ split ! $
       -- [where it leads; the right; nothing; the note]
       keep ! (1 ∷ 0 ∷ 3 ∷ []) $ by ! (way_placed h one free)
+
+  -- the key of a block, whose token is out
+  pub opens_key : (store : List ℕ) (held : Keys) → n.store ≡ Some store → is_one blocks held ≡ true → ⟦ keys_own n held ⟧ ⊢ ⟦ opened_own n held ⟧ ∗ ⟦ cell_token (cell_of (label_of held)) (note_of held) ⟧
+  opens_key store [] is one = absurd (cc)
+  opens_key store (h ∷ g ∷ held) is one = absurd (cc)
+  opens_key store (h ∷ []) is one = qed 𝓛 (‵ (keys_own n (h ∷ [])) ∷ []) ∵ fsplit ! $ fsplit ! $ move ! (1 ∷ []) $ use1 𝓛 (‵ (block_ways h.label h.note)) (way_opens h one) $ fsplit ! $
+      -- [where it leads, and what is lent; the note; the right; nothing]
+      move ! (2 ∷ 0 ∷ []) $ fjoin ! $ move ! (1 ∷ []) $ rewrite ! 0 (λ (s : Option (List ℕ)). ‵ (note_in s (cell_of h.label) h.note)) is refl $ keep ! (1 ∷ 0 ∷ []) $ done !
+
+  pub closes_key : (store : List ℕ) (held : Keys) (g : Gv) → n.store ≡ Some store → is_one blocks held ≡ true → ⟦ opened_own n held ⟧ ∗ ⟦ cell_token (cell_of (label_of held)) g ⟧ ⊢ ⟦ keys_own n (with_note g held) ⟧
+  closes_key store [] g is one = absurd (cc)
+  closes_key store (h ∷ k ∷ held) g is one = absurd (cc)
+  closes_key store (h ∷ []) g is one = let h' : Held Entry = record { kind = h.kind; key = h.key; own = h.own; label = h.label; note = g } in
+      qed 𝓛 (‵ (opened_own n (h ∷ [])) ∷ ‵ (cell_token (cell_of h.label) g) ∷ []) ∵ fsplit ! $ move ! (2 ∷ []) $ rewrite ! 0 (λ (s : Option (List ℕ)). ‵ (note_in s (cell_of h.label) g)) (sym is) refl $
+      -- [the note; the right; where it leads, and what is lent]
+      move ! (2 ∷ 0 ∷ []) $ fjoin ! $ use1 𝓛 (‵ (way n h')) (way_closes h' one) $ move ! (1 ∷ 0 ∷ []) $ fjoin ! $ nothing ! $ move ! (1 ∷ 0 ∷ []) $ fjoin ! $ done !
 
   pub label_leads : (held : Keys) (v : ℕ) → IsLabel held v → ⟦ paths held ⟧ ⊢ ⟦ leads n v ⟧
   label_leads [] v is = absurd is

@@ -15,6 +15,7 @@ pub mod Adding
 pub mod Slots
 pub mod Others
 pub mod Lending
+pub mod Notes
 pub mod Chains
 pub mod Deposits
 pub mod Bare

@@ -19,6 +19,7 @@
 --     is_placed h   it is the key of a slot whose head lies in the table, as the label 1 says
 --     rights_own    the rights to some keys, in a given order;  keys_own   and with each key of a block, where its value's number leads,
 --                   what is lent with the value, and what is noted; and with that of a slot whose head lies in the table, that it does
+--     opened_own    a key of a block without what is noted
 --     Noted         one entry was appended with a pass
 use Rattle.std.specs.Prelude.{◌≡◌, ℕ, Bool, true, false, ◌&&◌, ◌==◌, ◌⊎◌, List, [], ◌∷◌, ◌++◌, length, map, Option, None, slice_index_or}
 use Rattle.std.specs.List.{range_with_len}
@@ -28,7 +29,7 @@ use mathlib.Core.List.{IsPrefix}
 use base.Share.{quarter, three_quarters}
 use base.Growing.{latest}
 use base.Stored.{Gv, gnil, gcons}
-use base.Fml.{Fml, ftrue, fsep, fex, fdead, fnamed, fobs, fauth, fres}
+use base.Fml.{Fml, ffalse, ftrue, fsep, fex, fdead, fnamed, fobs, fauth, fres}
 use denote.Struct.Codes.{itself}
 use Rattle.seize_content.specs.Cells.{cell_token}
 use Rattle.seize_machine.specs.Machine.State.{State, opening, linked, are_distinct, has}
@@ -277,6 +278,12 @@ one_key n h = fsep (key n h.kind h.key h.own) (way n h)
 abbrev pub keys_own : Name → List (Held Entry) → Fml
 keys_own n [] = ftrue
 keys_own n (h ∷ held) = fsep (one_key n h) (keys_own n held)
+
+-- the key of a block, but for the note
+abbrev pub opened_own : Name → List (Held Entry) → Fml
+opened_own n [] = ftrue
+opened_own n (h ∷ []) = fsep (key n h.kind h.key h.own) (fsep (leads n h.label) (loan (start n) n.log h.label))
+opened_own n (h ∷ g ∷ held) = ffalse
 
 abbrev pub held_coded : Coded (Held Entry)
 held_coded =

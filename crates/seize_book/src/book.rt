@@ -15,6 +15,7 @@ mod head_key;
 mod keys;
 mod link_keys;
 mod numbers_key;
+mod opened;
 mod pass;
 mod rights;
 mod slot_key;

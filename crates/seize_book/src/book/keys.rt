@@ -8,9 +8,10 @@ ghost use Rattle.seize_book.specs.Ledger.{Held};
 ghost use Rattle.seize_book.specs.Private.{is_one};
 ghost use Rattle.seize_book.specs.Tokens.{Name, held_coded, keys_own, name_coded};
 
+use crate::book::opened::Opened;
 use crate::book::pass::Pass;
 use crate::book::rights::Rights;
-use seize_content::{Pool, Ticket};
+use seize_content::{CellToken, Pool, Ticket};
 use seize_table::tls::FilledAt;
 use std::marker::{Brand, Model, PhantomData};
 
@@ -42,6 +43,7 @@ impl Keys {
     ghost use Rattle.seize_book.specs.Adding.{Adds, Asks, Joins, Looks, MayLook, Parts};
     ghost use Rattle.seize_book.specs.Ledger.{AllApart};
     ghost use Rattle.seize_book.specs.Lending.{Lends, MayLend, MayRedeem, Redeems};
+    ghost use Rattle.seize_book.specs.Notes.{MayOpen, Opens};
     ghost use Rattle.seize_book.specs.Others.{Renames};
     ghost use Rattle.seize_book.specs.Tables.{GetsPlace, LiesAt};
 
@@ -102,6 +104,20 @@ impl Keys {
     pub(crate) fn apart(&mut self)
         ensures { (self.new ≡ self.old) × AllApart self.old.held }
     {}
+
+    /// The token of the cell of the block whose key it is comes out. It says what is noted.
+    pub(crate) fn open(&mut self) -> (Opened, CellToken)
+        requires { MayOpen self.old }
+        ensures { Opens self.old self.new result.0 result.1 }
+    {
+        let opened = Opened {
+            marker: PhantomData,
+        };
+        let token = CellToken {
+            marker: PhantomData,
+        };
+        (opened, token)
+    }
 
     /// All of them, without the ways.
     pub(crate) fn bare(&mut self) -> Rights

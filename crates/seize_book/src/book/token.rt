@@ -16,6 +16,7 @@ use crate::book::keys::Keys;
 use crate::book::pass::Pass;
 use crate::book::rights::Rights;
 use crate::book::unopened::Unopened;
+use seize_content::{CellToken, TokenCell};
 use std::marker::{Brand, Model, PhantomData};
 
 /// What shows that there is a book, for good. It may be copied, and shared by `&`.

@@ -8,7 +8,7 @@ ghost use Rattle.seize_book.specs.Private.{is_one, key_of, label_of};
 use crate::book::bare_key::BareKey;
 use crate::book::keys::Keys;
 use crate::book::pass::Pass;
-use seize_content::{Pool, Ticket};
+use seize_content::{Pool, Ticket, TokenCell};
 
 /// The right to name the values of one block, of which it is this one's turn: to put it into a link, out of one, and to begin to retire it.
 /// It knows which of the block's values were ever named, and which came out of a link and no call began to retire them.
@@ -25,6 +25,7 @@ impl ValueKey {
     ghost use Rattle.seize_book.specs.Books.{IsNextIn, MakesNext};
     ghost use Rattle.seize_content.specs.Loans.{IsLent};
     ghost use Rattle.seize_book.specs.Loans.{place_of};
+    ghost use Rattle.seize_book.specs.Notes.{HasNoted, IsStored, IsUnchanged, cell_in, noted_in};
     ghost use Rattle.seize_book.specs.Lending.{GoesWith, IsFreeKey, IsInBlockOf, IsLentKey, IsOfPlace};
     ghost use Rattle.seize_book.specs.Others.{HasGone, IsLast, IsVacated, IsValueOf, book_of, value_of};
 
@@ -70,6 +71,30 @@ impl ValueKey {
         let keys = &mut self.keys;
         keys.look(pass);
         keys.redeem(pass)
+    }
+
+    /// What is noted of the block, in the cell of its chunk.
+    pub fn note<M: Copy>(&mut self, cell: &TokenCell<M>) -> M
+        requires store { IsStored (book_of self.old) }
+        requires cell { cell.now.name ≡ cell_in self.old }
+        ensures same { IsUnchanged self.old self.new }
+        ensures note { M.row.coded.code result ≡ noted_in self.old }
+    {
+        let (opened, mut token) = self.keys.open();
+        let note = cell.get(&mut token);
+        self.keys = opened.close(token);
+        note
+    }
+
+    /// Notes this of the block, in the cell of its chunk, in the place of what was noted before.
+    pub fn set_note<M: Copy>(&mut self, cell: &TokenCell<M>, note: M)
+        requires store { IsStored (book_of self.old) }
+        requires cell { cell.now.name ≡ cell_in self.old }
+        ensures { HasNoted (M.row.coded.code note) self.old self.new }
+    {
+        let (opened, mut token) = self.keys.open();
+        cell.set(&mut token, note);
+        self.keys = opened.close(token);
     }
 
     /// The key of the block by itself, as a chunk of a store keeps it. All values that ever lay in the block were reclaimed.
