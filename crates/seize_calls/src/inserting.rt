@@ -21,9 +21,9 @@ use std::sync::Wait;
 /// many insertions were won. `front` is the number of the batch's first block.
 ///
 /// It takes no memory. An insertion is tried again as often as others change the head between a look at it and the try.
-pub fn insert_each<T: Drop>(
+pub fn insert_each<T: Drop, N: Copy + Default>(
     slots: &Slots,
-    blocks: &Blocks<T>,
+    blocks: &Blocks<T, N>,
     entries: &[Entry],
     front: u64,
     key: &mut SlotKey,
@@ -48,9 +48,9 @@ pub fn insert_each<T: Drop>(
 
 /// Inserts the batch at the slot of this entry, with its block. It says whether an insertion was won; where the slot is inactive it is
 /// skipped.
-pub fn insert_at<T: Drop>(
+pub fn insert_at<T: Drop, N: Copy + Default>(
     slots: &Slots,
-    blocks: &Blocks<T>,
+    blocks: &Blocks<T, N>,
     entry: Entry,
     front: u64,
     key: &mut SlotKey,
@@ -71,9 +71,9 @@ pub fn insert_at<T: Drop>(
 }
 
 // The same, with the words in hand.
-fn insert_by(
+fn insert_by<N>(
     head: &Head,
-    header: &Header,
+    header: &Header<N>,
     block: u64,
     front: u64,
     key: &mut SlotKey,
@@ -101,9 +101,9 @@ fn insert_by(
 }
 
 // Stores what leads on from the block, and inserts the batch with it if the head's word is still what was seen. It says whether it was.
-fn try_once(
+fn try_once<N>(
     head: &Head,
-    header: &Header,
+    header: &Header<N>,
     seen: u64,
     block: u64,
     front: u64,

@@ -6,16 +6,16 @@ use denote.RawPtr.{Ptr, null_ptr}
 use Rattle.seize_machine.specs.Machine.State.{has}
 use Rattle.seize_store.specs.Known.{content_in, entry_of, family_in, label_in}
 use Rattle.seize_store.specs.declared.known.Known.{Known}
-use Rattle.seize_table.specs.Pairs.{left_of, of_family, right_of}
+use Rattle.seize_table.specs.Pairs.{left_of, of_family, pair, right_of}
 use Rattle.seize_table.specs.Place.{IsPlace}
 use Rattle.seize_table.proofs.Pairs.{left_pair, right_pair}
 use Rattle.seize_book.specs.Blocks.{block_of}
 use Rattle.seize_book.specs.Book.{after}
 use Rattle.seize_book.specs.Homes.{home_of}
 use Rattle.seize_book.specs.Homesteads.{AreAt, state_seen}
-use Rattle.seize_book.specs.Loans.{place_of}
+use Rattle.seize_book.specs.Loans.{cell_of, place_of}
 use Rattle.seize_book.specs.Passes.{LooksOn}
-use Rattle.seize_book.specs.Tokens.{Name, label_at, start}
+use Rattle.seize_book.specs.Tokens.{Name, chunk_label, label_at, start}
 use Rattle.seize_book.specs.declared.book.pass.Pass.{Pass}
 use Rattle.seize_machine.proofs.Facts.{gone_named}
 use Rattle.seize_book.proofs.Lists.{reached_after}
@@ -26,8 +26,16 @@ use Rattle.seize_book.proofs.Sound.{gone_later, named_later}
 pub same_family : (n m : Name) (k j : ℕ) → label_at n k ≡ label_at m j → n.family ≡ m.family
 same_family n m k j same = sym (left_pair n.family k) ∙ (ap left_of same ∙ left_pair m.family j)
 
-pub same_home : (n m : Name) (k j : ℕ) → label_at n k ≡ label_at m j → k ≡ j
-same_home n m k j same = sym (right_pair n.family k) ∙ (ap right_of same ∙ right_pair m.family j)
+pub same_number : (n m : Name) (k j : ℕ) → label_at n k ≡ label_at m j → k ≡ j
+same_number n m k j same = sym (right_pair n.family k) ∙ (ap right_of same ∙ right_pair m.family j)
+
+-- and those of chunks one home and one cell
+
+pub same_home : (n m : Name) (k c j d : ℕ) → chunk_label n k c ≡ chunk_label m j d → k ≡ j
+same_home n m k c j d same = sym (left_pair k c) ∙ (ap left_of (same_number n m (pair k c) (pair j d) same) ∙ left_pair j d)
+
+pub same_cell : (n m : Name) (k c j d : ℕ) → chunk_label n k c ≡ chunk_label m j d → c ≡ d
+same_cell n m k c j d same = sym (right_pair k c) ∙ (ap right_of (same_number n m (pair k c) (pair j d) same) ∙ right_pair j d)
 
 -- the labels of a store's chunks are of its family
 pub label_kin : (known : Known) (number : ℕ) → IsPlace number known.row (entry_of known.row number)
@@ -44,7 +52,7 @@ named_seen pass pass' v looks named =
 -- what has the label of the number's chunk has that of each value with this number
 pub found_label : (known : Known) (pass : Pass) (label number : ℕ) → AreAt pass.name known (state_seen pass) → IsPlace number known.row (entry_of known.row number)
     → label ≡ label_in known.chunks (entry_of known.row number)
-    → (v : ℕ) → has v (state_seen pass).named ≡ true → block_of v ≡ number → label ≡ label_at pass.name (home_of v)
+    → (v : ℕ) → has v (state_seen pass).named ≡ true → block_of v ≡ number → label ≡ chunk_label pass.name (home_of v) (cell_of v)
 found_label known pass label number homes placed its v named is =
     its ∙ (ap (λ (k : ℕ). label_in known.chunks (entry_of known.row k)) (sym is)
     ∙ (homes v named (subst (λ (k : ℕ). IsPlace k known.row (entry_of known.row k)) (sym is) placed)).0)

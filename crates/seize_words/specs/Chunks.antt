@@ -1,5 +1,6 @@
 -- The words in which the contracts of blocks in a store speak.
 --     header_book header, header_home header     the book whose words the header has, and the home of the values in its block
+--     header_cell header                the name of the cell in which the holder of the key of these values makes notes
 --     book_in blocks                    the book whose blocks these are
 --     OpensIn blocks keys links size    a new book, to which many may append, with so many links, which are empty, and its keys;  see Opens
 --     OpensAloneIn blocks pass keys links size     the same of a book to which this pass alone may append
@@ -10,7 +11,8 @@
 --     IsLentIn blocks key number g      the key is for a value that was never named, by this number, and a value of code g is lent with it
 --     IsFoundAt o number pass           it is a value, which was named, as the pass has seen, by this number, and something is lent with it
 --     IsFoundAs o g                     it is a value, and one of code g is lent with it
---     IsHeaderOf header number pass     it is of the pass's book, and each value with this number that was ever named lies in its block
+--     IsHeaderOf header number pass     it is of the pass's book, and each value with this number that was ever named lies in its block,
+--                                       with its cell
 use Rattle.std.specs.Prelude.{◌≡◌, ℕ, ◌+◌, ◌<◌, ◌^◌, Option, Some, None, true}
 use base.Stored.{Gv}
 use Rattle.seize_machine.specs.Machine.State.{has}
@@ -22,9 +24,10 @@ use Rattle.seize_words.specs.Counts.{home}
 use Rattle.seize_book.specs.Homes.{home_of}
 use Rattle.seize_book.specs.Homesteads.{state_seen}
 use Rattle.seize_book.specs.Lending.{IsFreeKey}
-use Rattle.seize_book.specs.Loans.{CarriesNone, loan_number, loan_of, place_of}
+use Rattle.seize_book.specs.Loans.{CarriesNone, cell_of, loan_number, loan_of, place_of}
+use Rattle.seize_book.specs.Notes.{cell_in}
 use Rattle.seize_book.specs.Others.{book_of, value_of}
-use Rattle.seize_book.specs.Tokens.{Name, label_at}
+use Rattle.seize_book.specs.Tokens.{Name, chunk_label}
 use Rattle.seize_words.specs.declared.blocks.Blocks.{Blocks}
 use Rattle.seize_book.specs.declared.book.book_keys.BookKeys.{BookKeys}
 use Rattle.seize_book.specs.declared.book.pass.Pass.{Pass}
@@ -32,25 +35,29 @@ use Rattle.seize_book.specs.declared.book.value_key.ValueKey.{ValueKey}
 use Rattle.seize_words.specs.declared.chunk.Header.{Header}
 use Rattle.seize_words.specs.declared.chunk.Part.{Part}
 
-abbrev pub header_book : Header → Name
+abbrev pub header_book : {N : Type 0} → Header N → Name
 header_book header = header.book.name
 
-abbrev pub header_home : Header → ℕ
+abbrev pub header_home : {N : Type 0} → Header N → ℕ
 header_home header = home header.count
 
-abbrev pub book_in : {T : Type 0} → Blocks T → Name
+-- the name of the cell where the holder of the key of the block's values makes notes
+abbrev pub header_cell : {N : Type 0} → Header N → ℕ
+header_cell header = header.note.name
+
+abbrev pub book_in : {T N : Type 0} → Blocks T N → Name
 book_in blocks = blocks.book.name
 
-abbrev pub OpensIn : {T : Type 0} → Blocks T → BookKeys → ℕ → ℕ → Type 0
+abbrev pub OpensIn : {T N : Type 0} → Blocks T N → BookKeys → ℕ → ℕ → Type 0
 OpensIn blocks keys links size = Opens blocks.book keys links size blocks.book.name.store None
 
-abbrev pub OpensAloneIn : {T : Type 0} → Blocks T → Pass → BookKeys → ℕ → ℕ → Type 0
+abbrev pub OpensAloneIn : {T N : Type 0} → Blocks T N → Pass → BookKeys → ℕ → ℕ → Type 0
 OpensAloneIn blocks pass keys links size = OpensAlone blocks.book pass keys links size blocks.book.name.store None
 
 abbrev pub LiesIn : {H P T : Type 0} → ValueKey → Bare H P T → Type 0
-LiesIn key block = label_at (book_of key) (home_of (value_of key)) ≡ bare_label block
+LiesIn key block = chunk_label (book_of key) (home_of (value_of key)) (cell_in key) ≡ bare_label block
 
-pub record IsBlockIn {T : Type 0} (blocks : Blocks T) (value : T) (key : ValueKey) (block : Bare Header Part T) : Type 0 where
+pub record IsBlockIn {T N : Type 0} (blocks : Blocks T N) (value : T) (key : ValueKey) (block : Bare (Header N) Part T) : Type 0 where
   pub holds : bare_value block ≡ value
   pub store : (book_in blocks).store ≡ Some (bare_store block)
   pub book : book_of key ≡ book_in blocks
@@ -66,7 +73,7 @@ pub record IsBlockIn {T : Type 0} (blocks : Blocks T) (value : T) (key : ValueKe
 abbrev pub IsLentAs : ℕ → Gv → Type 0
 IsLentAs v g = loan_of v ≡ loan_number g
 
-pub record IsLentIn {T : Type 0} (blocks : Blocks T) (key : ValueKey) (number : ℕ) (g : Gv) : Type 0 where
+pub record IsLentIn {T N : Type 0} (blocks : Blocks T N) (key : ValueKey) (number : ℕ) (g : Gv) : Type 0 where
   pub book : book_of key ≡ book_in blocks
   pub next : IsNextIn key number
   pub code : IsLentAs (value_of key) g
@@ -83,7 +90,8 @@ pub record IsFoundAt (o : Option ℕ) (number : ℕ) (pass : Pass) : Type 0 wher
 abbrev pub IsFoundAs : Option ℕ → Gv → Type 0
 IsFoundAs o g = (v : ℕ) × (o ≡ Some v) × IsLentAs v g
 
-abbrev pub IsHeaderOf : Header → ℕ → Pass → Type 0
+abbrev pub IsHeaderOf : {N : Type 0} → Header N → ℕ → Pass → Type 0
 IsHeaderOf header number pass =
     (header_book header ≡ pass.name)
     × ((v : ℕ) → has v (state_seen pass).named ≡ true → block_of v ≡ number → home_of v ≡ header_home header)
+    × ((v : ℕ) → has v (state_seen pass).named ≡ true → block_of v ≡ number → cell_of v ≡ header_cell header)

@@ -13,15 +13,15 @@ use std::marker::Brand;
 
 /// A book, with the store where its blocks lie. Threads share it by `&`.
 #[derive(Drop)]
-pub struct Blocks<T> {
-    store: Store<Header, Part, T>,
+pub struct Blocks<T, N> {
+    store: Store<Header<N>, Part, T>,
     /// The book.
     pub book: Book,
     ghost stands: { book.name.store ≡ Some (name_of store) },
     ghost kin: { family_in (name_of store) ≡ book.name.family },
 }
 
-impl<T: Drop> Blocks<T> {
+impl<T: Drop, N: Copy + Default> Blocks<T, N> {
     ghost use Rattle.seize_book.specs.Books.{MakesNext, Opens, OpensAlone};
     ghost use Rattle.seize_store.specs.Named.{bare_number, bare_value};
     ghost use Rattle.seize_table.specs.declared.refusal.Refusal.TheVariants.{NoMemory};
@@ -37,7 +37,7 @@ impl<T: Drop> Blocks<T> {
     ghost use Rattle.seize_words.specs.Walks.{CountsDown, IsAtBatch, Knows};
 
     /// Those of a book whose blocks lie in this store.
-    pub(crate) fn of(store: Store<Header, Part, T>, book: Book) -> Blocks<T>
+    pub(crate) fn of(store: Store<Header<N>, Part, T>, book: Book) -> Blocks<T, N>
         requires lies { book.name.store ≡ Some (name_of store) }
         requires kin { family_in (name_of store) ≡ book.name.family }
         ensures { result.book ≡ book }
@@ -46,7 +46,7 @@ impl<T: Drop> Blocks<T> {
     }
 
     /// A new book, as one of `Book::open`, with its keys; and a store with no rows for its blocks. It takes no memory.
-    pub fn new(alloc: Global, links: usize, size: usize) -> (Blocks<T>, BookKeys)
+    pub fn new(alloc: Global, links: usize, size: usize) -> (Blocks<T, N>, BookKeys)
         ensures { OpensIn result.0 result.1 links size }
     {
         let (unopened, family) = Unopened::new();
@@ -56,7 +56,7 @@ impl<T: Drop> Blocks<T> {
     }
 
     /// The same of a book as one of `Book::open_alone`: its one pass is alone, so only who has it appends, and it has seen all there is.
-    pub fn new_alone(alloc: Global, links: usize, size: usize) -> (Blocks<T>, Pass, BookKeys)
+    pub fn new_alone(alloc: Global, links: usize, size: usize) -> (Blocks<T, N>, Pass, BookKeys)
         ensures { OpensAloneIn result.0 result.1 result.2 links size }
     {
         let (unopened, family) = Unopened::new();
@@ -67,7 +67,7 @@ impl<T: Drop> Blocks<T> {
 
     // A book whose blocks lie in this store.
     fn open<K: Keeps>(
-        _store: &Store<Header, Part, T>,
+        _store: &Store<Header<N>, Part, T>,
         unopened: Unopened,
         links: usize,
         size: usize,
@@ -81,7 +81,7 @@ impl<T: Drop> Blocks<T> {
 
     // The same, with its one pass.
     fn open_alone<K: Keeps>(
-        _store: &Store<Header, Part, T>,
+        _store: &Store<Header<N>, Part, T>,
         unopened: Unopened,
         links: usize,
         size: usize,
@@ -103,7 +103,7 @@ impl<T: Drop> Blocks<T> {
         &self,
         value: T,
         pass: &mut Pass,
-    ) -> Result<(ValueKey, Bare<Header, Part, T>), (Refusal, T)>
+    ) -> Result<(ValueKey, Bare<Header<N>, Part, T>), (Refusal, T)>
         requires { book_in self.now ≡ pass.old.name }
         ensures pass { pass.new ≡ pass.old }
         ensures made { IfOk result (λ made. IsBlockIn self.now value made.0 made.1) }
@@ -120,7 +120,7 @@ impl<T: Drop> Blocks<T> {
     /// The block is lent: who finds its value in a link sees what lies there, by its number (`see`), and it comes back by its number when
     /// the value was reclaimed (`redeem`). The key is for another value of the block then, which stands for what is lent. The block is in
     /// nobody's hands until then. It does nothing when the program runs but for a look-up, and takes no memory.
-    pub fn lend(&self, key: &mut ValueKey, block: Bare<Header, Part, T>)
+    pub fn lend(&self, key: &mut ValueKey, block: Bare<Header<N>, Part, T>)
         requires block { IsBlockIn self.now (bare_value block) key.old block }
         ensures block { IsInBlockOf key.old key.new }
         ensures lent { IsLentIn self.now key.new (bare_number block) (T.row.coded.code (bare_value block)) }
@@ -145,7 +145,7 @@ impl<T: Drop> Blocks<T> {
 
     /// The block whose value was reclaimed, as the pass has seen, in hand again: nobody sees it any more. It has a value of the code that
     /// was lent. The key is for the next value of the block then. The pass looks at the list. It takes no memory and no atomic step.
-    pub fn redeem(&self, number: u64, key: &mut ValueKey, pass: &mut Pass) -> Bare<Header, Part, T>
+    pub fn redeem(&self, number: u64, key: &mut ValueKey, pass: &mut Pass) -> Bare<Header<N>, Part, T>
         requires book { IsValueOf key.old pass.old × (book_in self.now ≡ pass.old.name) }
         requires last { IsLast key.old × HasGone key.old pass.old }
         requires lent { IsLentKey key.old × (block_of (value_of key.old) ≡ number) }
@@ -160,7 +160,7 @@ impl<T: Drop> Blocks<T> {
 
     /// The value of a block whose values were all reclaimed. Its chunk is in again, with the block's key, by one swap; where the store is
     /// gone, the chunk's memory goes back.
-    pub fn take_back(&self, key: ValueKey, block: Bare<Header, Part, T>) -> T
+    pub fn take_back(&self, key: ValueKey, block: Bare<Header<N>, Part, T>) -> T
         requires book { book_of key ≡ book_in self.now }
         requires vacant { IsVacated key }
         requires lies { LiesIn key block }
@@ -176,7 +176,7 @@ impl<T: Drop> Blocks<T> {
     /// The header of the block with this number, which is that of a value that was named, as the pass has seen. The pass looks at the list.
     ///
     /// It takes no memory: three loads, each of which waits for the one before, with that of the word that is read in the header.
-    pub fn header(&self, number: u64, pass: &mut Pass) -> &Header
+    pub fn header(&self, number: u64, pass: &mut Pass) -> &Header<N>
         requires book { book_in self.now ≡ pass.old.name }
         requires named { HasNumber number (state_seen pass.old) }
         ensures looks { LooksOn pass.old pass.new }
