@@ -11,10 +11,11 @@ use types.Growing.{at_least_dup}
 use types.Kit.{‵, ◌⊛◌, ◌$◌, ◌∵◌, !, qed, move, split, fsplit, fjoin, fpick, fpack, done, use1}
 use types.Logic.{Logic, sem}
 use Rattle.seize_machine.specs.Machine.State.{State, linked, are_distinct, opening, has}
+use Rattle.seize_machine.specs.Machine.Event.{Event}
 use Rattle.seize_machine.specs.Machine.Next.{next}
-use Rattle.seize_machine.specs.Machine.History.{Moment, Found, Reclaimed, answers_of, handed, handed_value, done_by, is_link_event, linked_value, or_illegal}
+use Rattle.seize_machine.specs.Machine.History.{IsReached, Moment, Found, Reclaimed, answers_of, handed, handed_value, done_by, is_link_event, linked_value, or_illegal}
 use Rattle.seize_machine.specs.declared.machine.event.Answer.{Answer}
-use Rattle.seize_machine.proofs.Facts.{eq_true, law_gone, law_protection}
+use Rattle.seize_machine.proofs.Facts.{Step, eq_true, law_gone, law_protection, linked_named, reached_next, some_is, step_of}
 use Rattle.seize_book.specs.Entry.{Entry, entry_coded, Made, Used, Deed, deeds, timed, events_of}
 use Rattle.seize_book.specs.Book.{moments, after, IsLegalList, Does}
 use Rattle.seize_book.specs.Laws.{AllOver, AllParted, Reader, life, life_from}
@@ -22,7 +23,8 @@ use Rattle.seize_book.specs.Ledger.{logs, reached}
 use Rattle.seize_book.specs.Tokens.{Name, pass_at, pass_holds}
 use Rattle.seize_book.proofs.Handed.{get_last, moment, moments_push}
 use Rattle.seize_book.proofs.Lists.{as_legal, deeds_append}
-use Rattle.seize_book.proofs.Lives.{all_over}
+use Rattle.seize_book.proofs.Lives.{all_over, legal_first}
+use Rattle.seize_book.proofs.Sound.{named_later}
 
 -- A value that was reclaimed was handed by an event of the list.
 
@@ -105,6 +107,36 @@ reader_later st log log' v a grows r = subst (λ (l : List Entry). Reader st l v
 
     same : life_from 0 r.1 (take r.0 (deeds log)) ≡ life_from 0 r.1 (take r.0 (deeds (log ++ more)))
     same = ap (life_from 0 r.1) (sym (ap (take r.0) (deeds_append log more) ∙ take_more (deeds log) (deeds more) r.0 within))
+
+-- A value that was found in a link was named then.
+
+found_first : (s v size : ℕ) (st : State) (event : Event) (d : State × Answer) → IsReached st → Step size st event d → is_link_event s event ≡ true → linked_value d.1 ≡ Some v → has v st.named ≡ true
+found_first s v size st event _ r (Step.read i l can) own is = (linked_named st r l v is).0
+found_first s v size st event _ r (Step.exchanged i l exchange new can fresh exact) own is = (linked_named st r l v is).0
+found_first s v size st event _ r (Step.compared i l exchange can exact) own is = (linked_named st r l v is).0
+found_first s v size st event _ r _ own is = absurd (cc)
+
+pub found_named : (st : State) (log : List Entry) (s v i : ℕ) → IsReached st → IsLegalList st log → Found (moments st log) s v i → has v (after st log).named ≡ true
+found_named st [] s v i r legal f = absurd (let none = f.1 in cc)
+found_named st (Used u ∷ log) s v i r legal f = found_named st log s v i r legal f
+found_named st (Made e ∷ log) s v zero r legal f =
+    let w = legal_first st e log legal in let d : State × Answer = w.0 in
+    let m : moment st e ≡ f.0 = some_is _ _ f.1 in
+    let own : is_link_event s e.event ≡ true = ap (λ (x : Moment). is_link_event s x.timed.event) m ∙ f.2 in
+    let value : linked_value d.1 ≡ Some v = ap (λ (x : State × Answer). linked_value x.1) (sym w.2) ∙ (ap (λ (x : Moment). linked_value x.answer) m ∙ f.3) in
+    let step : Step e.size st e.event d = step_of e.size st e.event d w.1 in
+    named_later st [] (Made e ∷ log) v (Made e ∷ log, refl) legal (found_first s v e.size st e.event d r step own value)
+found_named st (Made e ∷ log) s v (suc i) r legal f =
+    let w = legal_first st e log legal in let d : State × Answer = w.0 in
+    let r' : IsReached d.0 = reached_next st (timed e) d r w.1 in
+    let f' : Found (moments d.0 log) s v i = subst (λ (x : State × Answer). Found (moments x.0 log) s v i) w.2 (f.0, f.1, f.2, f.3) in
+    subst (λ (x : State × Answer). has v (after x.0 log).named ≡ true) (sym w.2) (found_named d.0 log s v i r' w.3 f')
+
+-- so of a value that was never named there are no readers
+pub unnamed_unread : (st : State) (log log' : List Entry) (v a : ℕ) → IsReached st → IsLegalList st log' → IsPrefix log log' → has v (after st log').named ≡ false → Reader st log v a → ⊥
+unnamed_unread st log log' v a r legal grows unnamed reader_ =
+    let later = reader_later st log log' v a grows reader_ in
+    let named = found_named st log' later.1 v later.0 r legal later.2 in let no : true ≡ false = sym named ∙ unnamed in cc
 
 -- who finds a value by a legal event is a reader
 pub found_now : (st : State) (log : List Entry) (e : Deed) (d : State × Answer) (s w : ℕ) → Does st log (Made e) d → is_link_event s e.event ≡ true → linked_value d.1 ≡ Some w → Reader st (log ++ Made e ∷ []) w (life s log)

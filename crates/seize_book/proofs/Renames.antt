@@ -213,26 +213,52 @@ module _ (value : ValueKey) (pass : Pass) (seen' : List Entry) (looked renamed :
     ap block_of its_value ∙ is.numbered ∙ ap block_of same_label,
   )
 
--- what a key knows with which a content is lent
-module _ (value : ValueKey) (pool : Pool) (lent : Keys) (is : Lends value.keys pool lent) (next : IsNextIn value (block_of (value_of value))) where
-  lent_value : label_of lent.held ≡ is.value
-  lent_value = ap label_of is.held ∙ label_one value.keys.held is.value value.one
+-- what a key knows that was labelled with another value of its block, which was never named
+module _ (value : ValueKey) (renamed : Keys) (v : ℕ) (book : renamed.name ≡ value.keys.name) (held : renamed.held ≡ labelled v value.keys.held) (home : home_of v ≡ home_of (value_of value))
+    (numbered : block_of v ≡ block_of (value_of value)) (unnamed : has v (state_of value.keys).named ≡ false) (next : IsNextIn value (block_of (value_of value))) where
+  new_value : label_of renamed.held ≡ v
+  new_value = ap label_of held ∙ label_one value.keys.held v value.one
 
-  lent_state : state_of lent ≡ state_of value.keys
-  lent_state = ap (λ (t : Name × List Entry). after (start t.0) t.1) (λ j. (is.book j, (ap own_of is.held ∙ own_labelled is.value value.keys.held) j))
+  new_state : state_of renamed ≡ state_of value.keys
+  new_state = ap (λ (t : Name × List Entry). after (start t.0) t.1) (λ j. (book j, (ap own_of held ∙ own_labelled v value.keys.held) j))
 
-  pub lent_home : home_of (label_of lent.held) ≡ home_of (value_of value)
-  lent_home = ap home_of lent_value ∙ is.home
+  new_home : home_of (label_of renamed.held) ≡ home_of (value_of value)
+  new_home = ap home_of new_value ∙ home
 
-  pub lent_next : (has (label_of lent.held) (state_of lent).named ≡ false) × IsVacant (state_of lent) (home_of (label_of lent.held)) × (block_of (label_of lent.held) ≡ block_of (value_of value))
-  lent_next = (
-    subst (λ (t : ℕ × State). has t.0 t.1.named ≡ false) (λ j. (sym lent_value j, sym lent_state j)) is.unnamed,
-    subst (λ (t : ℕ × State). IsVacant t.1 t.0) (λ j. (sym lent_home j, sym lent_state j)) next.1,
-    ap block_of lent_value ∙ is.numbered,
+  new_next : (has (label_of renamed.held) (state_of renamed).named ≡ false) × IsVacant (state_of renamed) (home_of (label_of renamed.held)) × (block_of (label_of renamed.held) ≡ block_of (value_of value))
+  new_next = (
+    subst (λ (t : ℕ × State). has t.0 t.1.named ≡ false) (λ j. (sym new_value j, sym new_state j)) unnamed,
+    subst (λ (t : ℕ × State). IsVacant t.1 t.0) (λ j. (sym new_home j, sym new_state j)) next.1,
+    ap block_of new_value ∙ numbered,
   )
 
+-- one with which a content is lent
+module _ (value : ValueKey) (pool : Pool) (lent : Keys) (is : Lends value.keys pool lent) (next : IsNextIn value (block_of (value_of value))) where
+  pub lent_home : home_of (label_of lent.held) ≡ home_of (value_of value)
+  lent_home = new_home value lent is.value is.book is.held is.home is.numbered is.unnamed next
+
+  pub lent_next : (has (label_of lent.held) (state_of lent).named ≡ false) × IsVacant (state_of lent) (home_of (label_of lent.held)) × (block_of (label_of lent.held) ≡ block_of (value_of value))
+  lent_next = new_next value lent is.value is.book is.held is.home is.numbered is.unnamed next
+
   pub lent_goes : Carries (label_of lent.held) pool.name pool.value
-  lent_goes = subst (λ (v : ℕ). Carries v pool.name pool.value) (sym lent_value) is.carries
+  lent_goes = subst (λ (v : ℕ). Carries v pool.name pool.value) (sym (new_value value lent is.value is.book is.held is.home is.numbered is.unnamed next)) is.carries
+
+-- and one from which what was lent came back, with no look at the list
+module _ (value : ValueKey) (back : Keys) (is : Renames value.keys back) (next : IsNextIn value (block_of (value_of value))) where
+  back_value : label_of back.held ≡ is.value
+  back_value = new_value value back is.value is.book is.held is.home is.numbered is.unnamed next
+
+  pub back_home : home_of (label_of back.held) ≡ home_of (value_of value)
+  back_home = new_home value back is.value is.book is.held is.home is.numbered is.unnamed next
+
+  pub back_next : (has (label_of back.held) (state_of back).named ≡ false) × IsVacant (state_of back) (home_of (label_of back.held)) × (block_of (label_of back.held) ≡ block_of (value_of value))
+  back_next = new_next value back is.value is.book is.held is.home is.numbered is.unnamed next
+
+  pub back_place : place_of (label_of back.held) ≡ place_of (value_of value)
+  back_place = ap place_of back_value ∙ is.place
+
+  pub back_free : CarriesNone (label_of back.held)
+  back_free = ap loan_of back_value ∙ is.free
 
 -- a key that was looked up, of a value that was reclaimed, gives back what is lent with it
 pub may_redeem : (value : ValueKey) (pass pass' : Pass) (looked : Keys) → value.keys.name ≡ pass.name → IsSame pass pass' → Before pass.name pass.id pass.seen value.keys.held pass'.seen → looked.name ≡ value.keys.name

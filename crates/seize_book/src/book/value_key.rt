@@ -1,5 +1,5 @@
 //! The key of a value: that of the block in which it lies. It is `Keys` with one key, whose label is the value's name.
-ghost use Rattle.std.specs.Prelude.{◌≡◌, true};
+ghost use Rattle.std.specs.Prelude.{◌≡◌, is_some, true};
 ghost use Rattle.seize_book.specs.Blocks.{block_of};
 ghost use Rattle.seize_book.specs.Book.{blocks};
 ghost use Rattle.seize_book.specs.Homes.{home_of};
@@ -9,6 +9,7 @@ use crate::book::bare_key::BareKey;
 use crate::book::keys::Keys;
 use crate::book::pass::Pass;
 use seize_content::{Pool, Ticket};
+use seize_store::Known;
 
 /// The right to name the values of one block, of which it is this one's turn: to put it into a link, out of one, and to begin to retire it.
 /// It knows which of the block's values were ever named, and which came out of a link and no call began to retire them.
@@ -25,7 +26,7 @@ impl ValueKey {
     ghost use Rattle.seize_book.specs.Books.{IsNextIn, MakesNext};
     ghost use Rattle.seize_content.specs.Loans.{IsLent};
     ghost use Rattle.seize_book.specs.Loans.{place_of};
-    ghost use Rattle.seize_book.specs.Lending.{GoesWith, IsFreeKey, IsInBlockOf, IsLentKey, IsOfPlace};
+    ghost use Rattle.seize_book.specs.Lending.{GoesWith, IsFreeKey, IsInBlockOf, IsLentKey, IsOfPlace, IsRowAt};
     ghost use Rattle.seize_book.specs.Others.{HasGone, IsLast, IsVacated, IsValueOf, book_of, value_of};
 
     /// The key is for the next value of its block then, which words hold by the same number. The last one was reclaimed, as the pass has
@@ -70,6 +71,30 @@ impl ValueKey {
         let keys = &mut self.keys;
         keys.look(pass);
         keys.redeem(pass)
+    }
+
+    /// The content that is lent with the value comes back where that was never named: nobody can have found it in a link. The key is for
+    /// another value of its block then, with which nothing is lent. Nothing is looked at and no event is made: the key knows it.
+    pub fn withdraw(&mut self, pass: &mut Pass) -> (Ticket, Pool)
+        requires book { IsValueOf self.old pass.old }
+        requires new { IsNextIn self.old (block_of (value_of self.old)) }
+        requires lent { IsLentKey self.old }
+        ensures pass { pass.new ≡ pass.old }
+        ensures next { IsNextIn self.new (block_of (value_of self.old)) × IsInBlockOf self.old self.new }
+        ensures free { IsFreeKey self.new }
+        ensures place { place_of (value_of self.new) ≡ place_of (value_of self.old) }
+        ensures content { IsLent result.0 result.1 × GoesWith self.old result.1 }
+    {
+        self.keys.withdraw(pass)
+    }
+
+    /// What shows the row of the store in which the block lies, whether one of its values was ever named or not.
+    pub fn row(&mut self) -> Known
+        requires store { is_some (book_of self.old).store ≡ true }
+        ensures same { self.new ≡ self.old }
+        ensures row { IsRowAt (book_of self.old) (value_of self.old) result }
+    {
+        self.keys.row()
     }
 
     /// The key of the block by itself, as a chunk of a store keeps it. All values that ever lay in the block were reclaimed.
