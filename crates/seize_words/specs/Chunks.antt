@@ -7,7 +7,7 @@
 --     IsBlockIn blocks value key block  it is one of these blocks and has the value, and the key is for this value, by the block's number,
 --                                       and for the content of its chunk; nothing is lent with it
 --     IsLentAs v g                      a value of code g is lent with v
---     IsLentIn blocks key number g      the key is for a value that was never named, by this number, and a value of code g is lent with it
+--     LendsIn blocks key number g       the key is for a value that was never named, by this number, and a value of code g is lent with it
 --     IsFoundAt o number pass           it is a value, which was named, as the pass has seen, by this number, and something is lent with it
 --     IsFoundAs o g                     it is a value, and one of code g is lent with it
 --     IsHeaderOf header number pass     it is of the pass's book, and each value with this number that was ever named lies in its block
@@ -66,7 +66,7 @@ pub record IsBlockIn {T : Type 0} (blocks : Blocks T) (value : T) (key : ValueKe
 abbrev pub IsLentAs : ℕ → Gv → Type 0
 IsLentAs v g = loan_of v ≡ loan_number g
 
-pub record IsLentIn {T : Type 0} (blocks : Blocks T) (key : ValueKey) (number : ℕ) (g : Gv) : Type 0 where
+pub record LendsIn {T : Type 0} (blocks : Blocks T) (key : ValueKey) (number : ℕ) (g : Gv) : Type 0 where
   pub book : book_of key ≡ book_in blocks
   pub next : IsNextIn key number
   pub code : IsLentAs (value_of key) g

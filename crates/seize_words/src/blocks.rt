@@ -22,10 +22,10 @@ pub struct Blocks<T> {
 }
 
 impl<T: Drop> Blocks<T> {
-    ghost use Rattle.seize_book.specs.Books.{MakesNext, Opens, OpensAlone};
+    ghost use Rattle.seize_book.specs.Books.{IsNextIn, MakesNext, Opens, OpensAlone};
     ghost use Rattle.seize_store.specs.Named.{bare_number, bare_value};
     ghost use Rattle.seize_table.specs.declared.refusal.Refusal.TheVariants.{NoMemory};
-    ghost use Rattle.seize_words.specs.Chunks.{IsBlockIn, IsFoundAs, IsFoundAt, IsHeaderOf, IsLentAs, IsLentIn, LiesIn, OpensAloneIn, OpensIn, book_in};
+    ghost use Rattle.seize_words.specs.Chunks.{IsBlockIn, IsFoundAs, IsFoundAt, IsHeaderOf, IsLentAs, LendsIn, LiesIn, OpensAloneIn, OpensIn, book_in};
     ghost use Rattle.seize_book.specs.Others.{HasGone, IsLast, IsVacated, IsValueOf, book_of, value_of};
     ghost use Rattle.seize_book.specs.Blocks.{block_of};
     ghost use Rattle.seize_book.specs.Lending.{IsInBlockOf, IsLentKey};
@@ -123,7 +123,7 @@ impl<T: Drop> Blocks<T> {
     pub fn lend(&self, key: &mut ValueKey, block: Bare<Header, Part, T>)
         requires block { IsBlockIn self.now (bare_value block) key.old block }
         ensures block { IsInBlockOf key.old key.new }
-        ensures lent { IsLentIn self.now key.new (bare_number block) (T.row.coded.code (bare_value block)) }
+        ensures lent { LendsIn self.now key.new (bare_number block) (T.row.coded.code (bare_value block)) }
     {
         let (ticket, pool) = self.store.lend(block);
         key.lend(ticket, pool);
@@ -156,6 +156,28 @@ impl<T: Drop> Blocks<T> {
         let (ticket, pool) = key.redeem(pass);
         let known = pass.seek(number);
         self.store.back(number as usize, &known, ticket, pool)
+    }
+
+    /// The block of a value that was lent and never named, in hand again: nobody can have found it in a link, as where an exchange was lost.
+    /// It has a value of the code that was lent. The key is for another value of the block then, with which nothing is lent. It makes no
+    /// event, and does nothing when the program runs but for a look-up.
+    pub fn withdraw(
+        &self,
+        number: u64,
+        key: &mut ValueKey,
+        pass: &mut Pass,
+    ) -> Bare<Header, Part, T>
+        requires book { IsValueOf key.old pass.old × (book_in self.now ≡ pass.old.name) }
+        requires new { IsNextIn key.old number }
+        requires lent { IsLentKey key.old }
+        ensures pass { pass.new ≡ pass.old }
+        ensures home { IsInBlockOf key.old key.new }
+        ensures block { IsBlockIn self.now (bare_value result) key.new result × (bare_number result ≡ number) }
+        ensures code { IsLentAs (value_of key.old) (T.row.coded.code (bare_value result)) }
+    {
+        let row = key.row();
+        let (ticket, pool) = key.withdraw(pass);
+        self.store.back(number as usize, &row, ticket, pool)
     }
 
     /// The value of a block whose values were all reclaimed. Its chunk is in again, with the block's key, by one swap; where the store is
