@@ -73,11 +73,9 @@ impl ValueKey {
         ensures place { place_of (value_of self.new) ≡ place_of (value_of self.old) }
         ensures content { IsLent result.0 result.1 × GoesWith self.old result.1 }
     {
-        let keys = &mut self.keys;
-        let other = &mut slot.keys;
-        keys.join(other);
-        let lent = keys.redeem(pass);
-        keys.part(other);
+        self.keys.join(&mut slot.keys);
+        let lent = self.keys.redeem(pass);
+        self.keys.part(&mut slot.keys);
         lent
     }
 
