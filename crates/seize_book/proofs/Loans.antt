@@ -1,7 +1,5 @@
--- Loans of values that stand in links: who finds a value is one of its readers for good, and all of them are over when the value goes to its
--- reclaimer. Assumes `Logic`.
-use Rattle.std.proofs.Common.{◌≡◌, ℕ, zero, suc, ◌<◌, ◌≤◌, Bool, true, false, ◌==◌, ◌||◌, List, [], ◌∷◌, ◌++◌, length, take, slice_get, Option, Some, None, refl, sym, ◌∙◌, ap, subst, arith}
-use Rattle.std.specs.Prelude.{option_to_list}
+-- Loans of values that stand in links: who finds a value is one of its readers for good. Assumes `Logic`.
+use Rattle.std.proofs.Common.{◌≡◌, ℕ, zero, suc, ◌≤◌, true, false, List, [], ◌∷◌, ◌++◌, length, take, slice_get, Some, refl, sym, ◌∙◌, ap, subst, arith}
 use Rattle.std.proofs.lemmas.Option.{slice_get_within}
 use mathlib.Core.List.{IsPrefix}
 use seplogic.Ra.Ura.{Ura}
@@ -26,48 +24,11 @@ use Rattle.seize_book.proofs.Lists.{as_legal, deeds_append}
 use Rattle.seize_book.proofs.Lives.{all_over, legal_first}
 use Rattle.seize_book.proofs.Sound.{named_later}
 
--- A value that was reclaimed was handed by an event of the list.
-
-was_handed : (ms : List Moment) (v : ℕ) → has v (handed (answers_of ms)) ≡ true → (c : ℕ) × Reclaimed ms v c
-was_handed [] v h = absurd (cc)
-was_handed (m ∷ ms) v h = go (handed_value m.answer) refl h (was_handed ms v)
-  where
-    Later : Type 0
-    Later = has v (handed (answers_of ms)) ≡ true → (c : ℕ) × Reclaimed ms v c
-
-    later : (c : ℕ) × Reclaimed ms v c → (c : ℕ) × Reclaimed (m ∷ ms) v c
-    later r = (suc r.0, r.1)
-
-    is : (w : ℕ) → handed_value m.answer ≡ Some w → (b : Bool) → (w == v) ≡ b → (b || has v (handed (answers_of ms))) ≡ true → Later → (c : ℕ) × Reclaimed (m ∷ ms) v c
-    is w e true same t rest = (zero, (m, refl, e ∙ ap Some (eq_true w v same)))
-    is w e false other t rest = later (rest t)
-
-    go : (o : Option ℕ) → handed_value m.answer ≡ o → has v (option_to_list o ++ handed (answers_of ms)) ≡ true → Later → (c : ℕ) × Reclaimed (m ∷ ms) v c
-    go None e t rest = later (rest t)
-    go (Some w) e t rest = is w e (w == v) refl t rest
 
 moments_long : (st : State) (log : List Entry) → length (moments st log) ≡ length (deeds log)
 moments_long st [] = refl
 moments_long st (Made e ∷ log) = ap suc (moments_long (done_by next st (timed e)).0 log)
 moments_long st (Used u ∷ log) = moments_long st log
-
--- of a value that was reclaimed, all activations are over in which it was found
-pub gone_over : (slots : ℕ) (links : List (Option ℕ)) → are_distinct (linked links) ≡ true → (log : List Entry) (v : ℕ) → IsLegalList (opening slots links) log → has v (after (opening slots links) log).gone ≡ true
-    → AllOver (opening slots links) log v
-gone_over slots links distinct log v legal gone = all_over st log v legal parted
-  where
-    st : State
-    st = opening slots links
-
-    by_list : has v (handed (answers_of (moments st log))) ≡ true
-    by_list = subst (λ (vs : List ℕ). has v vs ≡ true) (law_gone slots links (events_of log) _ _ distinct (as_legal st log legal)) gone
-
-    parted : AllParted st log v
-    parted s i f =
-        let r = was_handed (moments st log) v by_list in let c : ℕ = r.0 in
-        let p = (law_protection slots links (events_of log) _ _ distinct (as_legal st log legal) s v i c f r.1).1 in
-        let below : c < length (moments st log) = slice_get_within (moments st log) c (r.1).0 (r.1).1 in let n = moments_long st log in let before = p.2 in
-        (p.0, p.1, omega (arith, below, n, before), p.3)
 
 -- A reader of a list is one of each longer one.
 

@@ -85,7 +85,8 @@ impl Keys {
         let Pool { marker: _ } = pool;
     }
 
-    /// What went with the first key comes back, whole. Its value was reclaimed, as the pass has seen, so nobody sees the content any more.
+    /// What went with the first key comes back, whole. The call of the slot whose key is the second is about to hand its value, so nobody
+    /// sees the content any more.
     pub(crate) fn redeem(&mut self, pass: &mut Pass) -> (Ticket, Pool)
         requires { MayRedeem self.old pass.old }
         ensures { (pass.new ≡ pass.old) × Redeems self.old self.new result.0 result.1 }

@@ -45,7 +45,7 @@ withdraw_spec 𝓤 𝓛 𝓜 𝓡 wired =
     let v : ℕ = label_of k.held in let w : ℕ = fresh k.name k.held in let same = fresh_home k.name k.held in let k' : Keys.the_row.Denot = record k { name = p.name; held = labelled w k.held } in
     let unnamed = subst (λ (n : Name). has v (after (start n) (own_of k.held)).named ≡ false) asked.0 asked.4 in
     move ! (6 ∷ 0 ∷ []) $ use2 𝓛 (later (some (λ (t : ℕ × (ℕ × Gv)). given (Carries v t.0 t.1.1) (‵ (pass_owns p.name p.id p.seen) ⊛ ‵ (keys_own p.name (labelled w k.held)) ⊛ ‵ (ticket_owns t.0 (lent t.1.0 t.1.1)) ⊛ ‵ (pool_owns t.0 t.1.0 t.1.1)))))
-    (withdraws 𝓛 p.name p.id p.seen v k.held w asked.1 refl asked.2 unnamed asked.3 same.0 same.1 same.2 same.3) $ await ! tt $ pick ! (λ t. learn ! (λ carries. split ! $ move ! (1 ∷ []) $ split3 ! $
+    (withdraws 𝓛 p.name p.id p.seen k.held w asked.1 asked.2 unnamed asked.3 same.0 same.1 same.2 same.3) $ await ! tt $ pick ! (λ t. learn ! (λ carries. split ! $ move ! (1 ∷ []) $ split3 ! $
     -- [what the keys own; the ticket; the pool; what the pass owns; the keys; their cell, in four entries; the pass; its cell]
     move ! (9 ∷ 3 ∷ []) $ fjoin ! $ move ! (9 ∷ 0 ∷ 10 ∷ 11 ∷ 12 ∷ []) $ closes ! tt Pass.the_row p vs1 pb po $
     move ! (6 ∷ 3 ∷ []) $ fjoin ! $ move ! (6 ∷ 0 ∷ 7 ∷ 8 ∷ 9 ∷ []) $ closes ! tt Keys.the_row k' vs0 kb ko $
