@@ -1,22 +1,25 @@
 -- A value that goes to its reclaimer: what the laws say of it.
-use Rattle.std.proofs.Common.{◌≡◌, ℕ, Bool, true, false, if◌then◌else◌, List, [], ◌∷◌, ◌++◌, Option, Some, None, IfSome, sym, ap, ◌∙◌, subst, refl}
-use Rattle.seize_machine.specs.Machine.State.{State, slot_at, linked, are_distinct}
+use Rattle.std.proofs.Common.{◌≡◌, ℕ, Bool, true, false, if◌then◌else◌, List, [], ◌∷◌, ◌++◌, Option, Some, None, IfSome, sym, ap, append-nil, ◌∙◌, subst, refl}
+use Rattle.seize_machine.specs.Machine.State.{State, has, slot_at, linked, are_distinct}
 use Rattle.seize_machine.specs.Machine.Event.{Hand}
 use Rattle.seize_machine.specs.Machine.Next.{are_fresh, next, scheme, hand, of_call, handing_at}
 use Rattle.seize_machine.specs.Machine.History.{handed_value, or_illegal}
 use Rattle.seize_machine.specs.declared.machine.event.Answer.{Answer}
-use Rattle.seize_machine.proofs.Facts.{some_is}
+use Rattle.seize_machine.proofs.Facts.{gone_named, some_is}
 use Rattle.seize_book.specs.Entry.{Entry, Made, Deed}
 use Rattle.seize_book.specs.Book.{after, IsLegalList, Does}
 use Rattle.seize_book.specs.Adding.{private}
+use Rattle.seize_book.specs.Books.{IsNextAfter, MaySettle}
 use Rattle.seize_book.specs.Slots.{Notes, HandsOnce, HandsSoon, hands_next, number_of, slot_of}
 use Rattle.seize_book.specs.Tokens.{Name, start}
 use Rattle.seize_book.specs.declared.book.pass.Pass.{Pass}
 use Rattle.seize_book.specs.declared.book.slot_key.SlotKey.{SlotKey}
+use Rattle.seize_book.specs.declared.book.value_key.ValueKey.{ValueKey}
 use Rattle.seize_book.proofs.Further.{handed_to}
 use Rattle.seize_book.proofs.Handed.{all_parted, not_handed, retired_and_left}
-use Rattle.seize_book.proofs.Lists.{legal_front}
+use Rattle.seize_book.proofs.Lists.{after_push, legal_front, legal_push, reached_after}
 use Rattle.seize_book.proofs.Lives.{all_over}
+use Rattle.seize_book.proofs.Sound.{has_last}
 
 -- the answer is the value, whatever its reclaimer puts
 hands_it : (size : ℕ) (st : State) (s v : ℕ) (puts : List ℕ) (d : State × Answer) → of_call handing_at (slot_at st s).call ≡ Some v → next size st (Hand s puts) ≡ Some d → handed_value d.1 ≡ Some v
@@ -61,6 +64,34 @@ hands_soon n log s v distinct legal is =
       all_parted = parted;
       all_over = all_over st log v legal parted;
     }
+
+-- And it was named: it would be gone were it handed, and what is gone was named.
+pub soon_named : (n : Name) (log : List Entry) (s v : ℕ) → are_distinct (linked n.links) ≡ true → IsLegalList (start n) log → hands_next (slot_at (after (start n) log) s) ≡ Some v → has v (after (start n) log).named ≡ true
+soon_named n log s v distinct legal is =
+    let st : State = start n in let now : State = after st log in let e : Deed = record { pass = 0; size = n.size; event = Hand s []; life = 0 } in let d : State × Answer = handed_to now s v [] in
+    let does : Does st log (Made e) d = ap (hand scheme now s []) is in let later = log ++ Made e ∷ [] in let leads : after st later ≡ d.0 = after_push st log (Made e) d legal does in
+    let named = gone_named (after st later) (reached_after n later distinct (legal_push st log (Made e) d legal does)) v (subst (λ (z : State). has v z.gone ≡ true) (sym leads) (has_last v now.gone)) in
+    subst (λ (vs : List ℕ). has v vs ≡ true) (append-nil now.named) (subst (λ (z : State). has v z.named ≡ true) leads named)
+
+goes : (size : ℕ) (st : State) (s v : ℕ) (puts : List ℕ) (d : State × Answer) → of_call handing_at (slot_at st s).call ≡ Some v → next size st (Hand s puts) ≡ Some d → has v (d.0).gone ≡ true
+goes size st s v puts d is h = go (are_fresh st.named puts) (sym (ap (hand scheme st s puts) is) ∙ h)
+  where
+    go : (b : Bool) → (if b then Some (handed_to st s v puts) else None) ≡ Some d → has v (d.0).gone ≡ true
+    go true e = subst (λ (x : State × Answer). has v (x.0).gone ≡ true) (some_is _ _ e) (has_last v st.gone)
+    go false e = absurd (cc)
+
+-- afterwards it is gone, as the pass has seen
+pub hands_gone : (key key' : SlotKey) (pass pass' : Pass) (v : ℕ) (puts : List ℕ) → key.keys.name ≡ pass.name → hands_next (slot_of key) ≡ Some v → Notes key pass key' pass' (Hand (number_of key) puts)
+    → has v (after (start pass'.name) pass'.seen).gone ≡ true
+hands_gone key key' pass pass' v puts name is notes =
+    let noted = notes.2.0 in let moves = notes.2.1 in let n : Name = key.keys.name in let log = noted.before in
+    let gone = goes n.size (after (start n) log) (number_of key) v puts (noted.later, noted.answer) (ap (λ slot. of_call handing_at slot.call) moves.was ∙ is) moves.legal in
+    subst (λ (m : Name). has v (after (start m) pass'.seen).gone ≡ true) (sym notes.0.0) (subst (λ (z : State). has v z.gone ≡ true) (sym noted.leads) gone)
+
+-- so a key that was made ready by it may be settled
+pub settles_after : (value : ValueKey) (key key' : SlotKey) (pass pass' : Pass) (v number : ℕ) (puts : List ℕ) → IsNextAfter value v number → key.keys.name ≡ pass.name → hands_next (slot_of key) ≡ Some v
+    → Notes key pass key' pass' (Hand (number_of key) puts) → MaySettle value pass'
+settles_after value key key' pass pass' v number puts next_ name is notes = (v, (next_.0, next_.1, next_.2, refl), hands_gone key key' pass pass' v puts name is notes)
 
 -- what is so of a value, if there is one
 pub if_some : {P : ℕ → Type 0} (o : Option ℕ) → ((v : ℕ) → o ≡ Some v → P v) → IfSome o P

@@ -1,5 +1,5 @@
 -- The book, with one entry more.
-use Rattle.std.proofs.Common.{◌≢◌, arith, ◌≡◌, ℕ, Bool, true, false, cond, ◌==◌, List, [], ◌∷◌, ◌++◌, filter, map, refl, sym, ◌∙◌, ap, subst, append_assoc, append-nil}
+use Rattle.std.proofs.Common.{◌≢◌, arith, ◌≡◌, ℕ, Bool, true, false, cond, ◌==◌, List, [], ◌∷◌, ◌++◌, filter, map, Option, Some, None, is_some, refl, sym, ◌∙◌, ap, subst, append_assoc, append-nil}
 use mathlib.Core.List.{IsPrefix, append_cancel_left, cons≢nil}
 use Rattle.std.proofs.lemmas.List.{map-append}
 use Rattle.std.proofs.lemmas.List.Elements.{filter-append}
@@ -112,3 +112,8 @@ equal x y e = grind arith
 
 pub unequal : (x y : ℕ) → x ≢ y → (x == y) ≡ false
 unequal x y n = grind arith
+
+-- the store where the blocks of a book lie, if they lie in one
+pub the_store : (o : Option (List ℕ)) → is_some o ≡ true → (store : List ℕ) × (o ≡ Some store)
+the_store None h = absurd (cc)
+the_store (Some store) h = (store, refl)

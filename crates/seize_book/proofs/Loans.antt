@@ -1,7 +1,5 @@
--- Loans of values that stand in links: who finds a value is one of its readers for good, and all of them are over when the value goes to its
--- reclaimer. Assumes `Logic`.
-use Rattle.std.proofs.Common.{◌≡◌, ℕ, zero, suc, ◌<◌, ◌≤◌, Bool, true, false, ◌==◌, ◌||◌, List, [], ◌∷◌, ◌++◌, length, take, slice_get, Option, Some, None, refl, sym, ◌∙◌, ap, subst, arith}
-use Rattle.std.specs.Prelude.{option_to_list}
+-- Loans of values that stand in links: who finds a value is one of its readers for good. Assumes `Logic`.
+use Rattle.std.proofs.Common.{◌≡◌, ℕ, zero, suc, ◌≤◌, true, false, List, [], ◌∷◌, ◌++◌, length, take, slice_get, Some, refl, sym, ◌∙◌, ap, subst, arith}
 use Rattle.std.proofs.lemmas.Option.{slice_get_within}
 use mathlib.Core.List.{IsPrefix}
 use seplogic.Ra.Ura.{Ura}
@@ -11,10 +9,11 @@ use types.Growing.{at_least_dup}
 use types.Kit.{‵, ◌⊛◌, ◌$◌, ◌∵◌, !, qed, move, split, fsplit, fjoin, fpick, fpack, done, use1}
 use types.Logic.{Logic, sem}
 use Rattle.seize_machine.specs.Machine.State.{State, linked, are_distinct, opening, has}
+use Rattle.seize_machine.specs.Machine.Event.{Event}
 use Rattle.seize_machine.specs.Machine.Next.{next}
-use Rattle.seize_machine.specs.Machine.History.{Moment, Found, Reclaimed, answers_of, handed, handed_value, done_by, is_link_event, linked_value, or_illegal}
+use Rattle.seize_machine.specs.Machine.History.{IsReached, Moment, Found, Reclaimed, answers_of, handed, handed_value, done_by, is_link_event, linked_value, or_illegal}
 use Rattle.seize_machine.specs.declared.machine.event.Answer.{Answer}
-use Rattle.seize_machine.proofs.Facts.{eq_true, law_gone, law_protection}
+use Rattle.seize_machine.proofs.Facts.{Step, eq_true, law_gone, law_protection, linked_named, reached_next, some_is, step_of}
 use Rattle.seize_book.specs.Entry.{Entry, entry_coded, Made, Used, Deed, deeds, timed, events_of}
 use Rattle.seize_book.specs.Book.{moments, after, IsLegalList, Does}
 use Rattle.seize_book.specs.Laws.{AllOver, AllParted, Reader, life, life_from}
@@ -22,50 +21,13 @@ use Rattle.seize_book.specs.Ledger.{logs, reached}
 use Rattle.seize_book.specs.Tokens.{Name, pass_at, pass_holds}
 use Rattle.seize_book.proofs.Handed.{get_last, moment, moments_push}
 use Rattle.seize_book.proofs.Lists.{as_legal, deeds_append}
-use Rattle.seize_book.proofs.Lives.{all_over}
-
--- A value that was reclaimed was handed by an event of the list.
-
-was_handed : (ms : List Moment) (v : ℕ) → has v (handed (answers_of ms)) ≡ true → (c : ℕ) × Reclaimed ms v c
-was_handed [] v h = absurd (cc)
-was_handed (m ∷ ms) v h = go (handed_value m.answer) refl h (was_handed ms v)
-  where
-    Later : Type 0
-    Later = has v (handed (answers_of ms)) ≡ true → (c : ℕ) × Reclaimed ms v c
-
-    later : (c : ℕ) × Reclaimed ms v c → (c : ℕ) × Reclaimed (m ∷ ms) v c
-    later r = (suc r.0, r.1)
-
-    is : (w : ℕ) → handed_value m.answer ≡ Some w → (b : Bool) → (w == v) ≡ b → (b || has v (handed (answers_of ms))) ≡ true → Later → (c : ℕ) × Reclaimed (m ∷ ms) v c
-    is w e true same t rest = (zero, (m, refl, e ∙ ap Some (eq_true w v same)))
-    is w e false other t rest = later (rest t)
-
-    go : (o : Option ℕ) → handed_value m.answer ≡ o → has v (option_to_list o ++ handed (answers_of ms)) ≡ true → Later → (c : ℕ) × Reclaimed (m ∷ ms) v c
-    go None e t rest = later (rest t)
-    go (Some w) e t rest = is w e (w == v) refl t rest
+use Rattle.seize_book.proofs.Lives.{all_over, legal_first}
+use Rattle.seize_book.proofs.Sound.{named_later}
 
 moments_long : (st : State) (log : List Entry) → length (moments st log) ≡ length (deeds log)
 moments_long st [] = refl
 moments_long st (Made e ∷ log) = ap suc (moments_long (done_by next st (timed e)).0 log)
 moments_long st (Used u ∷ log) = moments_long st log
-
--- of a value that was reclaimed, all activations are over in which it was found
-pub gone_over : (slots : ℕ) (links : List (Option ℕ)) → are_distinct (linked links) ≡ true → (log : List Entry) (v : ℕ) → IsLegalList (opening slots links) log → has v (after (opening slots links) log).gone ≡ true
-    → AllOver (opening slots links) log v
-gone_over slots links distinct log v legal gone = all_over st log v legal parted
-  where
-    st : State
-    st = opening slots links
-
-    by_list : has v (handed (answers_of (moments st log))) ≡ true
-    by_list = subst (λ (vs : List ℕ). has v vs ≡ true) (law_gone slots links (events_of log) _ _ distinct (as_legal st log legal)) gone
-
-    parted : AllParted st log v
-    parted s i f =
-        let r = was_handed (moments st log) v by_list in let c : ℕ = r.0 in
-        let p = (law_protection slots links (events_of log) _ _ distinct (as_legal st log legal) s v i c f r.1).1 in
-        let below : c < length (moments st log) = slice_get_within (moments st log) c (r.1).0 (r.1).1 in let n = moments_long st log in let before = p.2 in
-        (p.0, p.1, omega (arith, below, n, before), p.3)
 
 -- A reader of a list is one of each longer one.
 
@@ -105,6 +67,36 @@ reader_later st log log' v a grows r = subst (λ (l : List Entry). Reader st l v
 
     same : life_from 0 r.1 (take r.0 (deeds log)) ≡ life_from 0 r.1 (take r.0 (deeds (log ++ more)))
     same = ap (life_from 0 r.1) (sym (ap (take r.0) (deeds_append log more) ∙ take_more (deeds log) (deeds more) r.0 within))
+
+-- A value that was found in a link was named then.
+
+found_first : (s v size : ℕ) (st : State) (event : Event) (d : State × Answer) → IsReached st → Step size st event d → is_link_event s event ≡ true → linked_value d.1 ≡ Some v → has v st.named ≡ true
+found_first s v size st event _ r (Step.read i l can) own is = (linked_named st r l v is).0
+found_first s v size st event _ r (Step.exchanged i l exchange new can fresh exact) own is = (linked_named st r l v is).0
+found_first s v size st event _ r (Step.compared i l exchange can exact) own is = (linked_named st r l v is).0
+found_first s v size st event _ r _ own is = absurd (cc)
+
+pub found_named : (st : State) (log : List Entry) (s v i : ℕ) → IsReached st → IsLegalList st log → Found (moments st log) s v i → has v (after st log).named ≡ true
+found_named st [] s v i r legal f = absurd (let none = f.1 in cc)
+found_named st (Used u ∷ log) s v i r legal f = found_named st log s v i r legal f
+found_named st (Made e ∷ log) s v zero r legal f =
+    let w = legal_first st e log legal in let d : State × Answer = w.0 in
+    let m : moment st e ≡ f.0 = some_is _ _ f.1 in
+    let own : is_link_event s e.event ≡ true = ap (λ (x : Moment). is_link_event s x.timed.event) m ∙ f.2 in
+    let value : linked_value d.1 ≡ Some v = ap (λ (x : State × Answer). linked_value x.1) (sym w.2) ∙ (ap (λ (x : Moment). linked_value x.answer) m ∙ f.3) in
+    let step : Step e.size st e.event d = step_of e.size st e.event d w.1 in
+    named_later st [] (Made e ∷ log) v (Made e ∷ log, refl) legal (found_first s v e.size st e.event d r step own value)
+found_named st (Made e ∷ log) s v (suc i) r legal f =
+    let w = legal_first st e log legal in let d : State × Answer = w.0 in
+    let r' : IsReached d.0 = reached_next st (timed e) d r w.1 in
+    let f' : Found (moments d.0 log) s v i = subst (λ (x : State × Answer). Found (moments x.0 log) s v i) w.2 (f.0, f.1, f.2, f.3) in
+    subst (λ (x : State × Answer). has v (after x.0 log).named ≡ true) (sym w.2) (found_named d.0 log s v i r' w.3 f')
+
+-- so of a value that was never named there are no readers
+pub unnamed_unread : (st : State) (log log' : List Entry) (v a : ℕ) → IsReached st → IsLegalList st log' → IsPrefix log log' → has v (after st log').named ≡ false → Reader st log v a → ⊥
+unnamed_unread st log log' v a r legal grows unnamed reader_ =
+    let later = reader_later st log log' v a grows reader_ in
+    let named = found_named st log' later.1 v later.0 r legal later.2 in let no : true ≡ false = sym named ∙ unnamed in cc
 
 -- who finds a value by a legal event is a reader
 pub found_now : (st : State) (log : List Entry) (e : Deed) (d : State × Answer) (s w : ℕ) → Does st log (Made e) d → is_link_event s e.event ≡ true → linked_value d.1 ≡ Some w → Reader st (log ++ Made e ∷ []) w (life s log)

@@ -1,5 +1,6 @@
 -- The key of a block is for another of its values then. Assumes `Logic`.
-use Rattle.std.proofs.Common.{◌≡◌, ℕ, suc, ◌+◌, ◌^◌, ◌<◌, ◌≤◌, true, false, ◌==◌, List, [], ◌∷◌, Option, None, ◌⊎◌, inl, inr, refl, sym, ◌∙◌, ap, subst, arith}
+use Rattle.std.proofs.Common.{◌≡◌, ℕ, suc, ◌+◌, ◌^◌, ◌<◌, ◌≤◌, Bool, true, false, ◌==◌, List, [], ◌∷◌, ◌++◌, take, Option, None, Some, ◌⊎◌, inl, inr, refl, sym, ◌∙◌, ap, subst, arith}
+use Rattle.std.specs.Prelude.{drop as past_first}
 use Rattle.std.proofs.lemmas.Bool.{or_from}
 use seplogic.Ra.Ura.{Ura}
 use base.Logic.{ent}
@@ -11,27 +12,30 @@ use base.Stored.{Gv}
 use Rattle.seize_content.specs.declared.loan.Pool.{Pool}
 use Rattle.seize_store.specs.Known.{content_in, entry_of}
 use Rattle.seize_store.specs.declared.known.Known.{Known}
-use Rattle.seize_machine.specs.Machine.State.{State, has}
+use Rattle.seize_machine.specs.Machine.State.{State, has, slot_at}
+use Rattle.seize_content.specs.declared.ticket.Ticket.{Ticket}
+use Rattle.seize_book.specs.Adding.{Joins, Parts}
 use Rattle.seize_book.specs.Bare.{Numbers, Places}
 use Rattle.seize_book.specs.Blocks.{block_of}
-use Rattle.seize_book.specs.Book.{Kept, TheBlock, after, blocks, rules}
+use Rattle.seize_book.specs.Book.{Kept, TheBlock, after, blocks, rules, slots}
 use Rattle.seize_book.specs.Entry.{Entry}
 use Rattle.seize_book.specs.Fair.{Before}
 use Rattle.seize_book.specs.Homes.{IsVacant, home_of}
 use Rattle.seize_book.specs.Ledger.{AllKept, Held, renewed}
-use Rattle.seize_book.specs.Lending.{GoesWith, IsLentKey, Lends, MayRedeem}
-use Rattle.seize_book.specs.Passes.{IsSame}
+use Rattle.seize_book.specs.Lending.{IsHandedBy, IsLentKey, Lends, MayRedeem, Redeems}
 use Rattle.seize_book.specs.Loans.{Carries, CarriesNone, cell_of, loan, loan_number, loan_of, place_of}
-use Rattle.seize_book.specs.Books.{IsNextIn}
-use Rattle.seize_book.specs.Others.{HasGone, IsLast, Renames, labelled, state_of, value_of}
+use Rattle.seize_book.specs.Books.{IsNextIn, MaySettle}
+use Rattle.seize_book.specs.Others.{FollowsValue, IsLast, IsLastIn, Renames, labelled, state_of, value_of}
 use Rattle.seize_book.specs.Private.{is_one, key_of, label_of, own_of}
+use Rattle.seize_book.specs.Slots.{hands_next, number_of, own_list, slot_of}
 use Rattle.seize_book.specs.Tokens.{Name, chunk_label, leads, leads_in, note_in, told_of, rights_own, keys_own, start, way}
 use Rattle.seize_book.specs.declared.book.keys.Keys.{Keys}
 use Rattle.seize_book.specs.declared.book.pass.Pass.{Pass}
+use Rattle.seize_book.specs.declared.book.slot_key.SlotKey.{SlotKey}
 use Rattle.seize_book.specs.declared.book.value_key.ValueKey.{ValueKey}
 use Rattle.seize_book.proofs.Homes.{another_with}
 use Rattle.seize_book.proofs.Lists.{unequal}
-use Rattle.seize_book.proofs.Private.{after_one, only_is, renewed_label, same_kind}
+use Rattle.seize_book.proofs.Private.{after_one, only_is, renewed_label}
 use Rattle.seize_book.proofs.Sound.{gone_later}
 use Rattle.seize_book.proofs.Ways.{bare_way, block_ways, way_opens}
 
@@ -152,99 +156,186 @@ module _ {M : Type 1} {𝓤 : Ura M} (𝓛 : Logic 𝓤) (n : Name) where
       -- [where it leads; the note; the right; nothing], for what was lent is let go
       rewrite ! 0 (λ (F : Fml). ‵ F) (same_lead h.label v home block place cell) refl $ rewrite ! 1 (λ (c : ℕ). ‵ (note_in n.store c h.note)) cell refl $ use2 𝓛 (‵ (way n h')) (bare_way 𝓛 n h' none one) $ move ! (1 ∷ 0 ∷ []) $ fjoin ! $ fjoin ! $ done !
 
--- what the key of a block knows that was looked up and labelled, where its last value was reclaimed and all others were before
-module _ (value : ValueKey) (pass : Pass) (seen' : List Entry) (looked renamed : Keys) (book : value.keys.name ≡ pass.name) (before : Before pass.name pass.id pass.seen value.keys.held seen')
-    (name : looked.name ≡ value.keys.name) (held : looked.held ≡ renewed value.keys.held seen') (is : Renames looked renamed) where
-  abbrev st : State
-  st = start pass.name
+-- the first of several keys, which is a block's: it is renamed by itself
+pub first_labelled : (held more : List (Held Entry)) (v : ℕ) → is_one blocks held ≡ true
+    → (label_of (held ++ more) ≡ label_of held) × (own_of (held ++ more) ≡ own_of held)
+    × (take 1 (labelled v (held ++ more)) ≡ labelled v held) × (past_first 1 (labelled v (held ++ more)) ≡ more)
+first_labelled [] more v one = absurd (cc)
+first_labelled (x ∷ y ∷ held) more v one = absurd (cc)
+first_labelled (x ∷ []) more v one = (refl, refl, refl, refl)
 
+module _ (keys other all none redeemed parted other' : Keys) (ticket : Ticket) (pool : Pool) (one : is_one blocks keys.held ≡ true)
+    (joins : Joins keys other all none) (redeems : Redeems all redeemed ticket pool) (parts : Parts redeemed parted other') where
+  abbrev r : Renames all redeemed
+  r = redeems.0
+
+  first : (label_of (keys.held ++ other.held) ≡ label_of keys.held) × (own_of (keys.held ++ other.held) ≡ own_of keys.held)
+      × (take 1 (labelled r.value (keys.held ++ other.held)) ≡ labelled r.value keys.held) × (past_first 1 (labelled r.value (keys.held ++ other.held)) ≡ other.held)
+  first = first_labelled keys.held other.held r.value one
+
+  label : label_of all.held ≡ label_of keys.held
+  label = ap label_of joins.2 ∙ first.0
+
+  pub renames_first : Renames keys parted
+  renames_first = record {
+    value = r.value;
+    book = parts.0 ∙ r.book ∙ joins.0;
+    held = parts.2 ∙ ap (take 1) (r.held ∙ ap (labelled r.value) joins.2) ∙ first.2;
+    home = r.home ∙ ap home_of label;
+    numbered = r.numbered ∙ ap block_of label;
+    unnamed = subst (λ (st : State). has r.value st.named ≡ false) (ap (λ (t : Name × List Entry). after (start t.0) t.1) (λ j. (joins.0 j, (ap own_of joins.2 ∙ first.1) j))) r.unnamed;
+    place = r.place ∙ ap place_of label;
+    cell = r.cell ∙ ap cell_of label;
+    free = r.free;
+  }
+
+  -- the others are as they were
+  pub others_still : other.name ≡ keys.name → other' ≡ other
+  others_still same = λ j. record { marker = other.marker; name = (parts.1 ∙ r.book ∙ joins.0 ∙ sym same) j; held = (parts.3 ∙ ap (past_first 1) (r.held ∙ ap (labelled r.value) joins.2) ∙ first.3) j }
+
+  -- what comes back is what was lent with the first
+  pub was_lent : Carries (label_of keys.held) pool.name pool.value
+  was_lent = subst (λ (v : ℕ). Carries v pool.name pool.value) label redeems.2
+
+-- what the key of a block knows that was labelled anew, where all its values but the last were reclaimed
+module _ (value : ValueKey) (renamed : Keys) (is : Renames value.keys renamed) where
   abbrev u : ℕ
   u = label_of value.keys.held
 
-  looks : (key_of looked.held ≡ key_of value.keys.held) × (own_of looked.held ≡ seen')
-  looks = let known = after_one blocks value.keys.held seen' value.one in (ap key_of held ∙ known.0, ap own_of held ∙ known.1)
+  its_value : label_of renamed.held ≡ is.value
+  its_value = ap label_of is.held ∙ label_one value.keys.held is.value value.one
 
-  state_looked : state_of looked ≡ after st seen'
-  state_looked = ap (λ (t : Name × List Entry). after (start t.0) t.1) (λ j. ((name ∙ book) j, looks.1 j))
+  state_same : state_of renamed ≡ state_of value.keys
+  state_same = ap (λ (t : Name × List Entry). after (start t.0) t.1) (λ j. (is.book j, (ap own_of is.held ∙ own_labelled is.value value.keys.held) j))
 
-  state_same : state_of renamed ≡ state_of looked
-  state_same = ap (λ (t : Name × List Entry). after (start t.0) t.1) (λ j. (is.book j, (ap own_of is.held ∙ own_labelled is.value looked.held) j))
+  pub renamed_home : home_of (label_of renamed.held) ≡ home_of u
+  renamed_home = ap home_of its_value ∙ is.home
+
+  pub renamed_place : place_of (label_of renamed.held) ≡ place_of u
+  renamed_place = ap place_of its_value ∙ is.place
+
+  pub renamed_free : CarriesNone (label_of renamed.held)
+  renamed_free = ap loan_of its_value ∙ is.free
+
+  pub renamed_number : block_of (label_of renamed.held) ≡ block_of u
+  renamed_number = ap block_of its_value ∙ is.numbered
+
+  pub next_after : IsLast value
+      → (has (label_of renamed.held) (state_of renamed).named ≡ false) × IsLastIn u (state_of renamed) × (home_of (label_of renamed.held) ≡ home_of u)
+      × (block_of (label_of renamed.held) ≡ block_of u)
+  next_after last = (
+    subst (λ (t : ℕ × State). has t.0 t.1.named ≡ false) (λ j. (sym its_value j, sym state_same j)) is.unnamed,
+    subst (IsLastIn u) (sym state_same) last,
+    renamed_home,
+    renamed_number,
+  )
+
+-- and where it looked, after the last was reclaimed too
+module _ (value : ValueKey) (pass : Pass) (seen' : List Entry) (looked : Keys) (book : value.keys.name ≡ pass.name) (before : Before pass.name pass.id pass.seen value.keys.held seen')
+    (name : looked.name ≡ value.keys.name) (held : looked.held ≡ renewed value.keys.held seen') where
+  abbrev st : State
+  st = start pass.name
+
+  abbrev w : ℕ
+  w = label_of value.keys.held
 
   kept : Kept st TheBlock (key_of value.keys.held) (own_of value.keys.held) seen'
   kept = (subst (λ (hs : List (Held Entry)). AllKept (rules st) hs seen') (only_is blocks value.keys.held value.one) before.kept).0
 
-  its_value : label_of renamed.held ≡ is.value
-  its_value = ap label_of (is.held ∙ ap (labelled is.value) held) ∙ label_one (renewed value.keys.held seen') is.value (same_kind blocks value.keys.held seen' value.one)
+  in_book : state_of value.keys ≡ after st (own_of value.keys.held)
+  in_book = ap (λ (n : Name). after (start n) (own_of value.keys.held)) book
 
-  same_label : label_of looked.held ≡ u
+  state_looked : state_of looked ≡ after st seen'
+  state_looked = ap (λ (t : Name × List Entry). after (start t.0) t.1) (λ j. ((name ∙ book) j, (ap own_of held ∙ (after_one blocks value.keys.held seen' value.one).1) j))
+
+  same_label : label_of looked.held ≡ w
   same_label = ap label_of held ∙ renewed_label value.keys.held seen'
 
-  its_home : home_of is.value ≡ home_of u
-  its_home = is.home ∙ ap home_of same_label
+  -- what was named by now was named when the key knew it
+  knew : (x : ℕ) → home_of x ≡ home_of w → has x (after st seen').named ≡ true → has x (state_of value.keys).named ≡ true
+  knew x home named = subst (λ (z : State). has x z.named ≡ true) (sym in_book) ((kept.1 x (home ∙ sym value.home)).0 ∙ named)
 
-  pub next_home : home_of (label_of renamed.held) ≡ home_of u
-  next_home = ap home_of its_value ∙ its_home
-
-  pub next_place : place_of (label_of renamed.held) ≡ place_of u
-  next_place = ap place_of its_value ∙ (is.place ∙ ap place_of same_label)
-
-  pub next_free : CarriesNone (label_of renamed.held)
-  next_free = ap loan_of its_value ∙ is.free
-
-  gone_all : IsLast value → HasGone value pass → IsVacant (after st seen') (home_of is.value)
-  gone_all last gone w home named = go (ℕ_discrete w u)
+  all_gone : MaySettle value pass → IsVacant (after st seen') (home_of w)
+  all_gone may x home named = go (ℕ_discrete x may.0)
     where
-      same : home_of w ≡ home_of u
-      same = home ∙ its_home
-
-      go : Dec (w ≡ u) → has w (after st seen').gone ≡ true
-      go (yes e) = gone_later st pass.seen seen' w before.grows before.legal (subst (λ (x : ℕ). has x (after st pass.seen).gone ≡ true) (sym e) gone)
+      go : Dec (x ≡ may.0) → has x (after st seen').gone ≡ true
+      go (yes e) = gone_later st pass.seen seen' x before.grows before.legal (subst (λ (y : ℕ). has y (after st pass.seen).gone ≡ true) (sym e) may.2)
       go (no other) =
-          let known : has w (after st (own_of value.keys.held)).named ≡ true = (kept.1 w (same ∙ sym value.home)).0 ∙ named in
-          let in_book : state_of value.keys ≡ after st (own_of value.keys.held) = ap (λ (n : Name). after (start n) (own_of value.keys.held)) book in
-          gone_later st (own_of value.keys.held) seen' w kept.0 before.legal
-          (subst (λ (z : State). has w z.gone ≡ true) in_book (last w same other (subst (λ (z : State). has w z.named ≡ true) (sym in_book) known)))
+          gone_later st (own_of value.keys.held) seen' x kept.0 before.legal
+          (subst (λ (z : State). has x z.gone ≡ true) in_book (may.1.1 x (home ∙ may.1.2) other (knew x home named)))
 
-  pub next_in : IsLast value → HasGone value pass
-      → (has (label_of renamed.held) (state_of renamed).named ≡ false) × IsVacant (state_of renamed) (home_of (label_of renamed.held)) × (block_of (label_of renamed.held) ≡ block_of u)
-  next_in last gone = (
-    subst (λ (t : ℕ × State). has t.0 t.1.named ≡ false) (λ j. (sym its_value j, sym state_same j)) is.unnamed,
-    subst (λ (t : ℕ × State). IsVacant t.1 (home_of t.0)) (λ j. (sym its_value j, sym (state_same ∙ state_looked) j)) (gone_all last gone),
-    ap block_of its_value ∙ is.numbered ∙ ap block_of same_label,
+  unnamed : (b : Bool) → has w (after st seen').named ≡ b → has w (state_of value.keys).named ≡ false → has w (after st seen').named ≡ false
+  unnamed true named new = absurd (let e : true ≡ false = sym (knew w refl named) ∙ new in cc)
+  unnamed false named new = named
+
+  pub settled : MaySettle value pass
+      → (has (label_of looked.held) (state_of looked).named ≡ false) × IsVacant (state_of looked) (home_of (label_of looked.held)) × (block_of (label_of looked.held) ≡ block_of w)
+  settled may = (
+    subst (λ (t : ℕ × State). has t.0 t.1.named ≡ false) (λ j. (sym same_label j, sym state_looked j)) (unnamed (has w (after st seen').named) refl may.1.0),
+    subst (λ (t : ℕ × State). IsVacant t.1 (home_of t.0)) (λ j. (sym same_label j, sym state_looked j)) (all_gone may),
+    ap block_of same_label,
   )
 
--- what a key knows with which a content is lent
+-- what follows is for the same value
+pub follows_value : (value value' : ValueKey) (pass' : Pass) → FollowsValue value pass' value' → value_of value' ≡ value_of value
+follows_value value value' pass' follows = ap label_of follows.1 ∙ renewed_label value.keys.held pass'.seen
+
+-- what a key knows that was labelled with another value of its block, which was never named
+module _ (value : ValueKey) (renamed : Keys) (v : ℕ) (book : renamed.name ≡ value.keys.name) (held : renamed.held ≡ labelled v value.keys.held) (home : home_of v ≡ home_of (value_of value))
+    (numbered : block_of v ≡ block_of (value_of value)) (unnamed : has v (state_of value.keys).named ≡ false) (next : IsNextIn value (block_of (value_of value))) where
+  new_value : label_of renamed.held ≡ v
+  new_value = ap label_of held ∙ label_one value.keys.held v value.one
+
+  new_state : state_of renamed ≡ state_of value.keys
+  new_state = ap (λ (t : Name × List Entry). after (start t.0) t.1) (λ j. (book j, (ap own_of held ∙ own_labelled v value.keys.held) j))
+
+  new_home : home_of (label_of renamed.held) ≡ home_of (value_of value)
+  new_home = ap home_of new_value ∙ home
+
+  new_next : (has (label_of renamed.held) (state_of renamed).named ≡ false) × IsVacant (state_of renamed) (home_of (label_of renamed.held)) × (block_of (label_of renamed.held) ≡ block_of (value_of value))
+  new_next = (
+    subst (λ (t : ℕ × State). has t.0 t.1.named ≡ false) (λ j. (sym new_value j, sym new_state j)) unnamed,
+    subst (λ (t : ℕ × State). IsVacant t.1 t.0) (λ j. (sym new_home j, sym new_state j)) next.1,
+    ap block_of new_value ∙ numbered,
+  )
+
+-- one with which a content is lent
 module _ (value : ValueKey) (pool : Pool) (lent : Keys) (is : Lends value.keys pool lent) (next : IsNextIn value (block_of (value_of value))) where
-  lent_value : label_of lent.held ≡ is.value
-  lent_value = ap label_of is.held ∙ label_one value.keys.held is.value value.one
-
-  lent_state : state_of lent ≡ state_of value.keys
-  lent_state = ap (λ (t : Name × List Entry). after (start t.0) t.1) (λ j. (is.book j, (ap own_of is.held ∙ own_labelled is.value value.keys.held) j))
-
   pub lent_home : home_of (label_of lent.held) ≡ home_of (value_of value)
-  lent_home = ap home_of lent_value ∙ is.home
+  lent_home = new_home value lent is.value is.book is.held is.home is.numbered is.unnamed next
 
   pub lent_next : (has (label_of lent.held) (state_of lent).named ≡ false) × IsVacant (state_of lent) (home_of (label_of lent.held)) × (block_of (label_of lent.held) ≡ block_of (value_of value))
-  lent_next = (
-    subst (λ (t : ℕ × State). has t.0 t.1.named ≡ false) (λ j. (sym lent_value j, sym lent_state j)) is.unnamed,
-    subst (λ (t : ℕ × State). IsVacant t.1 t.0) (λ j. (sym lent_home j, sym lent_state j)) next.1,
-    ap block_of lent_value ∙ is.numbered,
-  )
+  lent_next = new_next value lent is.value is.book is.held is.home is.numbered is.unnamed next
 
   pub lent_goes : Carries (label_of lent.held) pool.name pool.value
-  lent_goes = subst (λ (v : ℕ). Carries v pool.name pool.value) (sym lent_value) is.carries
+  lent_goes = subst (λ (v : ℕ). Carries v pool.name pool.value) (sym (new_value value lent is.value is.book is.held is.home is.numbered is.unnamed next)) is.carries
 
--- a key that was looked up, of a value that was reclaimed, gives back what is lent with it
-pub may_redeem : (value : ValueKey) (pass pass' : Pass) (looked : Keys) → value.keys.name ≡ pass.name → IsSame pass pass' → Before pass.name pass.id pass.seen value.keys.held pass'.seen → looked.name ≡ value.keys.name
-    → looked.held ≡ renewed value.keys.held pass'.seen → HasGone value pass → IsLentKey value → MayRedeem looked pass'
-may_redeem value pass pass' looked book same before name held gone lent =
-    let label : label_of looked.held ≡ value_of value = ap label_of held ∙ renewed_label value.keys.held pass'.seen in (
-      name ∙ book ∙ sym same.0,
-      subst (λ (hs : List (Held Entry)). is_one blocks hs ≡ true) (sym held) (same_kind blocks value.keys.held pass'.seen value.one),
-      (λ none. lent (subst CarriesNone label none)),
-      subst (λ (t : ℕ × Name). has t.0 (after (start t.1) pass'.seen).gone ≡ true) (λ j. (sym label j, sym same.0 j)) (gone_later (start pass.name) pass.seen pass'.seen (value_of value) before.grows before.legal gone),
-    )
+-- and one from which what was lent came back, with no look at the list
+module _ (value : ValueKey) (back : Keys) (is : Renames value.keys back) (next : IsNextIn value (block_of (value_of value))) where
+  back_value : label_of back.held ≡ is.value
+  back_value = new_value value back is.value is.book is.held is.home is.numbered is.unnamed next
 
--- and what comes back is what was lent with that value
-pub was_lent : (value : ValueKey) (pool : Pool) (looked : Keys) (seen' : List Entry) → looked.held ≡ renewed value.keys.held seen' → Carries (label_of looked.held) pool.name pool.value → GoesWith value pool
-was_lent value pool looked seen' held carries = subst (λ (v : ℕ). Carries v pool.name pool.value) (ap label_of held ∙ renewed_label value.keys.held seen') carries
+  pub back_home : home_of (label_of back.held) ≡ home_of (value_of value)
+  back_home = new_home value back is.value is.book is.held is.home is.numbered is.unnamed next
+
+  pub back_next : (has (label_of back.held) (state_of back).named ≡ false) × IsVacant (state_of back) (home_of (label_of back.held)) × (block_of (label_of back.held) ≡ block_of (value_of value))
+  back_next = new_next value back is.value is.book is.held is.home is.numbered is.unnamed next
+
+  pub back_place : place_of (label_of back.held) ≡ place_of (value_of value)
+  back_place = ap place_of back_value ∙ is.place
+
+  pub back_free : CarriesNone (label_of back.held)
+  back_free = ap loan_of back_value ∙ is.free
+
+-- where a slot's call is about to hand the value of a key, what is lent with it comes back
+pub may_redeem : (value : ValueKey) (slot : SlotKey) (pass : Pass) (both : Keys) → value.keys.name ≡ pass.name → slot.keys.name ≡ pass.name → both.name ≡ value.keys.name → both.held ≡ value.keys.held ++ slot.keys.held
+    → hands_next (slot_of slot) ≡ Some (value_of value) → IsLentKey value → MayRedeem both pass
+may_redeem value slot pass both book of name held soon lent = (
+  name ∙ book,
+  subst (IsHandedBy pass.name) (sym (held ∙ ap (λ (t : List (Held Entry) × List (Held Entry)). t.0 ++ t.1) (λ j. (only_is blocks value.keys.held value.one j, only_is slots slot.keys.held slot.one j)))) (
+    refl,
+    refl,
+    lent,
+    subst (λ (n : Name). hands_next (slot_at (after (start n) (own_list slot)) (number_of slot)) ≡ Some (value_of value)) of soon,
+  ),
+)

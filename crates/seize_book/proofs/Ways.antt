@@ -259,6 +259,15 @@ module _ {M : Type 1} {𝓤 : Ura M} (𝓛 : Logic 𝓤) (n : Name) where
   pub way_closes : (h : Held Entry) → (h.kind == blocks) ≡ true → ⟦ block_ways h.label h.note ⟧ ⊢ ⟦ way n h ⟧
   way_closes h is = qed 𝓛 (‵ (block_ways h.label h.note) ∷ []) ∵ fsplit ! $ nothing ! $ move ! (0 ∷ 2 ∷ []) $ fjoin ! $ move ! (1 ∷ 0 ∷ []) $ fjoin ! $ rewrite ! 0 (λ (F : Fml). ‵ F) (sym (block_way h is)) refl $ done !
 
+  -- where the value's number leads, beside the key
+  pub its_lead : (held : Keys) → is_one blocks held ≡ true → ⟦ keys_own n held ⟧ ⊢ ⟦ leads n (label_of held) ⟧ ∗ ⟦ keys_own n held ⟧
+  its_lead [] one = absurd (cc)
+  its_lead (x ∷ y ∷ held) one = absurd (cc)
+  its_lead (h ∷ []) one = qed 𝓛 (‵ (keys_own n (h ∷ [])) ∷ []) ∵ fsplit ! $ fsplit ! $ move ! (1 ∷ []) $ use1 𝓛 (‵ (block_ways h.label h.note)) (way_opens h one) $ fsplit ! $ fsplit ! $
+      use1 𝓛 (‵ (leads n h.label) ⊛ ‵ (leads n h.label)) (lead_twice h.label) $ split ! $
+      -- [where it leads, twice; the loan; the note; the right; nothing]
+      move ! (1 ∷ 2 ∷ []) $ fjoin ! $ move ! (0 ∷ 2 ∷ []) $ fjoin ! $ use1 𝓛 (‵ (way n h)) (way_closes h one) $ move ! (2 ∷ 0 ∷ []) $ fjoin ! $ move ! (0 ∷ 2 ∷ []) $ fjoin ! $ move ! (1 ∷ 0 ∷ []) $ done !
+
   none_lent : (k v : ℕ) → k ≡ 0 → (P : Fml) → ⟦ P ⟧ ⊢ ⟦ loan_if k (start n) n.log v ⟧ ∗ ⟦ P ⟧
   none_lent zero v none P = qed 𝓛 (‵ P ∷ []) ∵ nothing ! $ done !
   none_lent (suc k) v none P = absurd (let e : suc k ≡ 0 = none in omega (arith, e))

@@ -6,20 +6,24 @@
 --     IsNextIn value number                    it was never named, all values that lay in its block before were reclaimed, and this is the
 --                                              number by which words hold the block
 --     IsFirstIn value number                   and no value of its home was ever named
+--     IsNextAfter value last number            it was never named, and of all that were ever named in its block this last one alone may not
+--                                              have been reclaimed; words hold the block by this number
+--     MaySettle value pass                     it is so after a value that was reclaimed since, as the pass has seen
 --     MakesNext value pass value' pass'        it is for the next value of the block, and the pass has looked at the list
 --     home_in count, count_known count         the block whose count it is the key of, and the count, as the key knows
 --     deposit_known count, told_known field    the values whose keys stand beside it;  what was last stored in the field, as its key knows
 --     IsCountAt count home                     it is that of the block with this home, the count is 0, and no keys stand beside it
 --     AreOf book keys                          these keys are of the book
 --     IsFieldAt which field home               it is that of this field of the block with this home, and nothing was stored there
-use Rattle.std.specs.Prelude.{◌≡◌, ℕ, ℤ, pos, false, Option, List, [], drop, take}
+use Rattle.std.specs.Prelude.{◌≡◌, ℕ, ℤ, pos, true, false, Option, List, [], drop, take}
 use Rattle.seize_machine.specs.Machine.State.{has}
 use Rattle.seize_book.specs.Blocks.{block_of}
 use Rattle.seize_book.specs.Chains.{told}
 use Rattle.seize_book.specs.Deposits.{deposit}
 use Rattle.seize_book.specs.Homes.{IsVacant, count_in, home_of}
-use Rattle.seize_book.specs.Others.{book_of, is_named, state_of, value_of}
-use Rattle.seize_book.specs.Tokens.{many, IsSole}
+use Rattle.seize_book.specs.Book.{after}
+use Rattle.seize_book.specs.Others.{IsLastIn, book_of, is_named, state_of, value_of}
+use Rattle.seize_book.specs.Tokens.{many, IsSole, start}
 use Rattle.seize_book.specs.Private.{key_of, own_of}
 use Rattle.seize_book.specs.Begin.{BeganWith, first_keys, first_links}
 use Rattle.seize_book.specs.Passes.{LooksOn, mine_of}
@@ -87,6 +91,17 @@ IsNextIn value number =
 abbrev pub IsFirstIn : ValueKey → ℕ → Type 0
 IsFirstIn value number =
     IsNextIn value number × ((w : ℕ) → home_of w ≡ home_of (value_of value) → has w (state_of value.keys).named ≡ false)
+
+-- it was never named, all others than this last one that were ever named in its block were reclaimed, and words hold the block by this number
+abbrev pub IsNextAfter : ValueKey → ℕ → ℕ → Type 0
+IsNextAfter value last number =
+    (is_named value ≡ false) × IsLastIn last (state_of value.keys) × (home_of (value_of value) ≡ home_of last)
+    × (block_of (value_of value) ≡ number)
+
+-- and this last one was reclaimed too, as the pass has seen
+abbrev pub MaySettle : ValueKey → Pass → Type 0
+MaySettle value pass =
+    (last : ℕ) × IsNextAfter value last (block_of (value_of value)) × (has last (after (start pass.name) pass.seen).gone ≡ true)
 
 -- it is for another value of the same block, and the pass has seen a legal list that goes on
 abbrev pub MakesNext : ValueKey → Pass → ValueKey → Pass → Type 0

@@ -1,28 +1,39 @@
--- The words in which contracts speak of contents that are lent with values: before a value is named, and when it was reclaimed.
+-- The words in which contracts speak of contents that are lent with values: before a value is named, when it was reclaimed, and where it is not
+-- to be named after all.
 --     MayLend keys ticket pool          there is one key of a block, with whose value nothing is lent; and the ticket is that of the pool
 --     IsOfPlace n v ticket              the ticket is of the content that the block of the value v has in the store of book n, if it has
 --                                       one
 --     Lends keys pool keys'             the first key's label is another value of its block, which was never named, as it knows, and with
 --                                       which the pool's content is lent
---     MayRedeem keys pass               there is one key of a block, of the pass's book; something is lent with its value, which was
---                                       reclaimed, as the pass has seen
---     Redeems keys keys' ticket pool    the ticket is that of the pool, which is of what was lent with the value; and see Renames
+--     IsHandedBy n held                 there are two keys: one of a block, with whose value something is lent, and one of a slot, whose
+--                                       call is about to hand this value;  MayRedeem keys pass   these are such, of the pass's book
+--     Redeems keys keys' ticket pool    the ticket is that of the pool, which is of what was lent with the first key's value; and see Renames
+--     MayWithdraw keys pass             there is one key of a block, of the pass's book; something is lent with its value, which was never
+--                                       named, as it knows
+--     IsRowAt n v known                 it is the row of the value's number, in the store where the blocks of book n lie; and the chunk of
+--                                       that number has the label of the value's home and cell, and the content that is the value's place
 --     IsInBlockOf value value'          it is of a value in the same block of the same book
 --     GoesWith value pool               the pool's content is lent with the value
 --     IsFreeKey value, IsLentKey value  nothing is lent with it;  something is
 --     IsLentInBook value                something is, if the blocks of its book lie in a store
-use Rattle.std.specs.Prelude.{◌≡◌, ℕ, ◌⊎◌, None, true, false}
+use Rattle.std.specs.Prelude.{◌≡◌, ℕ, ◌⊎◌, List, [], ◌∷◌, None, Some, true, false}
 use Rattle.seize_content.specs.Loans.{IsLent}
 use Rattle.seize_content.specs.declared.loan.Pool.{Pool}
 use Rattle.seize_content.specs.declared.ticket.Ticket.{Ticket}
-use Rattle.seize_machine.specs.Machine.State.{has}
+use Rattle.seize_machine.specs.Machine.State.{has, slot_at}
+use Rattle.seize_store.specs.Known.{content_in, entry_of, label_in}
+use Rattle.seize_store.specs.Named.{IsRowOf}
+use Rattle.seize_store.specs.declared.known.Known.{Known}
 use Rattle.seize_book.specs.Blocks.{block_of}
-use Rattle.seize_book.specs.Book.{after, blocks}
+use Rattle.seize_book.specs.Book.{after, blocks, slots}
+use Rattle.seize_book.specs.Entry.{Entry}
 use Rattle.seize_book.specs.Homes.{home_of}
+use Rattle.seize_book.specs.Ledger.{Held}
 use Rattle.seize_book.specs.Loans.{Carries, CarriesNone, cell_of, place_of}
 use Rattle.seize_book.specs.Others.{Renames, book_of, labelled, state_of, value_of}
-use Rattle.seize_book.specs.Private.{is_one, label_of}
-use Rattle.seize_book.specs.Tokens.{Name, IsLentIn, start}
+use Rattle.seize_book.specs.Private.{is_one, key_of, label_of}
+use Rattle.seize_book.specs.Slots.{hands_next}
+use Rattle.seize_book.specs.Tokens.{Name, IsLentIn, chunk_label, start}
 use Rattle.seize_book.specs.declared.book.keys.Keys.{Keys}
 use Rattle.seize_book.specs.declared.book.pass.Pass.{Pass}
 use Rattle.seize_book.specs.declared.book.value_key.ValueKey.{ValueKey}
@@ -46,13 +57,28 @@ pub record Lends (keys : Keys) (pool : Pool) (keys' : Keys) : Type 0 where
   pub cell : cell_of value ≡ cell_of (label_of keys.held)
   pub carries : Carries value pool.name pool.value
 
+abbrev pub IsHandedBy : Name → List (Held Entry) → Type 0
+IsHandedBy n (h ∷ k ∷ []) =
+    (is_one blocks (h ∷ []) ≡ true) × (is_one slots (k ∷ []) ≡ true) × (¬ (CarriesNone h.label))
+    × (hands_next (slot_at (after (start n) k.own) k.key) ≡ Some h.label)
+IsHandedBy n _ = ⊥
+
 abbrev pub MayRedeem : Keys → Pass → Type 0
-MayRedeem keys pass =
-    (keys.name ≡ pass.name) × (is_one blocks keys.held ≡ true) × (¬ (CarriesNone (label_of keys.held)))
-    × (has (label_of keys.held) (after (start pass.name) pass.seen).gone ≡ true)
+MayRedeem keys pass = (keys.name ≡ pass.name) × IsHandedBy pass.name keys.held
 
 abbrev pub Redeems : Keys → Keys → Ticket → Pool → Type 0
 Redeems keys keys' ticket pool = Renames keys keys' × IsLent ticket pool × Carries (label_of keys.held) pool.name pool.value
+
+abbrev pub MayWithdraw : Keys → Pass → Type 0
+MayWithdraw keys pass =
+    (keys.name ≡ pass.name) × (is_one blocks keys.held ≡ true) × (key_of keys.held ≡ home_of (label_of keys.held))
+    × (¬ (CarriesNone (label_of keys.held))) × (has (label_of keys.held) (state_of keys).named ≡ false)
+
+abbrev pub IsRowAt : Name → ℕ → Known → Type 0
+IsRowAt n v known =
+    (Some known.store ≡ n.store) × IsRowOf known (block_of v)
+    × (label_in known.chunks (entry_of known.row (block_of v)) ≡ chunk_label n (home_of v) (cell_of v))
+    × (content_in known.chunks (entry_of known.row (block_of v)) ≡ place_of v)
 
 abbrev pub GoesWith : ValueKey → Pool → Type 0
 GoesWith value pool = Carries (value_of value) pool.name pool.value

@@ -28,7 +28,7 @@ use Rattle.seize_words.specs.Headers.{IsFrontBlock, Passes}
 use Rattle.seize_book.specs.Homes.{IsSound, home_of}
 use Rattle.seize_book.specs.Homesteads.{HasNumber, state_seen}
 use Rattle.seize_book.specs.Passes.{LooksOn}
-use Rattle.seize_book.specs.Slots.{IsOf, IsStill, Notes, NotesAs, number_of, own_list, size_of, slot_of, start_of}
+use Rattle.seize_book.specs.Slots.{IsOf, IsStill, Notes, NotesAs, hands_next, number_of, own_list, size_of, slot_of, start_of}
 use Rattle.seize_book.specs.Tokens.{AllLentIn, IsSole, Name, start}
 use Rattle.seize_words.specs.Walks.{IsAtBatch, Knows, word_for}
 use Rattle.seize_book.specs.declared.book.pass.Pass.{Pass}
@@ -36,6 +36,7 @@ use Rattle.seize_book.specs.declared.book.slot_key.SlotKey.{SlotKey}
 use Rattle.seize_words.specs.declared.chunk.Header.{Header}
 use Rattle.seize_words.proofs.Chunked.{named_seen}
 use Rattle.seize_words.proofs.Finds.{IsLiving, front_living, walked_living}
+use Rattle.seize_book.proofs.Hands.{soon_named}
 use Rattle.seize_book.proofs.Plans.{block_stays, legal_prefix}
 use Rattle.seize_book.proofs.Serves.{marked_after, slots_in, walks_marked}
 use Rattle.seize_book.proofs.Sound.{named_later}
@@ -97,6 +98,12 @@ module _ (key : SlotKey) (pass : Pass) (book : IsOf key pass) (knows : Knows key
 
   living_named : (v : ℕ) → IsLiving v (after st own) → has v (state_seen pass).named ≡ true
   living_named v living = subst (λ (n : Name). has v (after (start n) pass.seen).named ≡ true) book (named_later st own pass.seen v knows.seen legal living.0)
+
+  -- a value that its call is about to hand was named
+  pub handing_named : (v : ℕ) → hands_next (slot_of key) ≡ Some v → has v (state_seen pass).named ≡ true
+  handing_named v soon =
+      subst (λ (n : Name). has v (after (start n) pass.seen).named ≡ true) book
+      (named_later st own pass.seen v knows.seen legal (soon_named key.keys.name own (number_of key) v distinct its_own soon))
 
   -- a batch that the slot's call walks
   module _ (b : ℕ) (walks : Walks (after st own) (number_of key) b) where

@@ -5,10 +5,12 @@
 --     OpensIn blocks keys links size    a new book, to which many may append, with so many links, which are empty, and its keys;  see Opens
 --     OpensAloneIn blocks pass keys links size     the same of a book to which this pass alone may append
 --     LiesIn key block                  the key is that of the values of this block
---     IsBlockIn blocks value key block  it is one of these blocks and has the value, and the key is for this value, by the block's number,
---                                       and for the content of its chunk; nothing is lent with it
+--     IsBlockAs Is blocks value key block     it is one of these blocks and has the value, and the key is for a value in it of which this is
+--                                       so for the block's number, and for the content of its chunk; nothing is lent with it
+--     IsBlockIn blocks value key block  and the key's is the next value of the block;  IsBlockAfter last blocks value key block   it is so
+--                                       once the last one was reclaimed
 --     IsLentAs v g                      a value of code g is lent with v
---     IsLentIn blocks key number g      the key is for a value that was never named, by this number, and a value of code g is lent with it
+--     LendsIn blocks key number g       the key is for a value that was never named, by this number, and a value of code g is lent with it
 --     IsFoundAt o number pass           it is a value, which was named, as the pass has seen, by this number, and something is lent with it
 --     IsFoundAs o g                     it is a value, and one of code g is lent with it
 --     IsHeaderOf header number pass     it is of the pass's book, and each value with this number that was ever named lies in its block,
@@ -19,7 +21,7 @@ use Rattle.seize_machine.specs.Machine.State.{has}
 use Rattle.seize_store.specs.Named.{bare_content, bare_label, bare_number, bare_store, bare_value}
 use Rattle.seize_store.specs.declared.bare.Bare.{Bare}
 use Rattle.seize_book.specs.Blocks.{block_of}
-use Rattle.seize_book.specs.Books.{IsNextIn, Opens, OpensAlone}
+use Rattle.seize_book.specs.Books.{IsNextAfter, IsNextIn, Opens, OpensAlone}
 use Rattle.seize_words.specs.Counts.{home}
 use Rattle.seize_book.specs.Homes.{home_of}
 use Rattle.seize_book.specs.Homesteads.{state_seen}
@@ -57,11 +59,12 @@ OpensAloneIn blocks pass keys links size = OpensAlone blocks.book pass keys link
 abbrev pub LiesIn : {H P T : Type 0} → ValueKey → Bare H P T → Type 0
 LiesIn key block = chunk_label (book_of key) (home_of (value_of key)) (cell_in key) ≡ bare_label block
 
-pub record IsBlockIn {T N : Type 0} (blocks : Blocks T N) (value : T) (key : ValueKey) (block : Bare (Header N) Part T) : Type 0 where
+pub record IsBlockAs {T N : Type 0} (Is : ValueKey → ℕ → Type 0) (blocks : Blocks T N) (value : T) (key : ValueKey)
+    (block : Bare (Header N) Part T) : Type 0 where
   pub holds : bare_value block ≡ value
   pub store : (book_in blocks).store ≡ Some (bare_store block)
   pub book : book_of key ≡ book_in blocks
-  pub next : IsNextIn key (bare_number block)
+  pub next : Is key (bare_number block)
   pub lies : LiesIn key block
   -- the value's name says the content that its chunk has, and nothing is lent with it
   pub content : place_of (value_of key) ≡ bare_content block
@@ -69,11 +72,17 @@ pub record IsBlockIn {T N : Type 0} (blocks : Blocks T N) (value : T) (key : Val
   -- words hold the number beside 2
   pub fits : bare_number block + 2 < 2 ^ 64
 
+abbrev pub IsBlockIn : {T N : Type 0} → Blocks T N → T → ValueKey → Bare (Header N) Part T → Type 0
+IsBlockIn blocks value key block = IsBlockAs IsNextIn blocks value key block
+
+abbrev pub IsBlockAfter : {T : Type 0} → ℕ → Blocks T → T → ValueKey → Bare (Header N) Part T → Type 0
+IsBlockAfter last blocks value key block = IsBlockAs (λ k number. IsNextAfter k last number) blocks value key block
+
 -- a value of the code g is lent with v
 abbrev pub IsLentAs : ℕ → Gv → Type 0
 IsLentAs v g = loan_of v ≡ loan_number g
 
-pub record IsLentIn {T N : Type 0} (blocks : Blocks T N) (key : ValueKey) (number : ℕ) (g : Gv) : Type 0 where
+pub record LendsIn {T N : Type 0} (blocks : Blocks T N) (key : ValueKey) (number : ℕ) (g : Gv) : Type 0 where
   pub book : book_of key ≡ book_in blocks
   pub next : IsNextIn key number
   pub code : IsLentAs (value_of key) g

@@ -22,17 +22,17 @@ pub struct Blocks<T, N> {
 }
 
 impl<T: Drop, N: Copy + Default> Blocks<T, N> {
-    ghost use Rattle.seize_book.specs.Books.{MakesNext, Opens, OpensAlone};
+    ghost use Rattle.seize_book.specs.Books.{IsNextIn, Opens, OpensAlone};
     ghost use Rattle.seize_store.specs.Named.{bare_number, bare_value};
     ghost use Rattle.seize_table.specs.declared.refusal.Refusal.TheVariants.{NoMemory};
-    ghost use Rattle.seize_words.specs.Chunks.{IsBlockIn, IsFoundAs, IsFoundAt, IsHeaderOf, IsLentAs, IsLentIn, LiesIn, OpensAloneIn, OpensIn, book_in};
-    ghost use Rattle.seize_book.specs.Others.{HasGone, IsLast, IsVacated, IsValueOf, book_of, value_of};
+    ghost use Rattle.seize_words.specs.Chunks.{IsBlockAfter, IsBlockIn, IsFoundAs, IsFoundAt, IsHeaderOf, IsLentAs, LendsIn, LiesIn, OpensAloneIn, OpensIn, book_in};
+    ghost use Rattle.seize_book.specs.Others.{IsLast, IsVacated, IsValueOf, book_of, value_of};
     ghost use Rattle.seize_book.specs.Blocks.{block_of};
     ghost use Rattle.seize_book.specs.Lending.{IsInBlockOf, IsLentKey};
     ghost use Rattle.seize_book.specs.Homesteads.{HasNumber, state_seen};
     ghost use Rattle.seize_words.specs.Headers.{IsFrontBlock};
     ghost use Rattle.seize_book.specs.Passes.{LooksOn};
-    ghost use Rattle.seize_book.specs.Slots.{IsOf};
+    ghost use Rattle.seize_book.specs.Slots.{IsOf, IsStill, hands_next, slot_of};
     ghost use Rattle.seize_book.specs.Values.{IsEmpty};
     ghost use Rattle.seize_words.specs.Walks.{CountsDown, IsAtBatch, Knows};
 
@@ -118,12 +118,12 @@ impl<T: Drop, N: Copy + Default> Blocks<T, N> {
     }
 
     /// The block is lent: who finds its value in a link sees what lies there, by its number (`see`), and it comes back by its number when
-    /// the value was reclaimed (`redeem`). The key is for another value of the block then, which stands for what is lent. The block is in
+    /// a slot's call is about to hand the value (`redeem`). The key is for another value of the block then, which stands for what is lent. The block is in
     /// nobody's hands until then. It does nothing when the program runs but for a look-up, and takes no memory.
     pub fn lend(&self, key: &mut ValueKey, block: Bare<Header<N>, Part, T>)
         requires block { IsBlockIn self.now (bare_value block) key.old block }
         ensures block { IsInBlockOf key.old key.new }
-        ensures lent { IsLentIn self.now key.new (bare_number block) (T.row.coded.code (bare_value block)) }
+        ensures lent { LendsIn self.now key.new (bare_number block) (T.row.coded.code (bare_value block)) }
     {
         let (ticket, pool) = self.store.lend(block);
         key.lend(ticket, pool);
@@ -143,19 +143,53 @@ impl<T: Drop, N: Copy + Default> Blocks<T, N> {
         self.store.see(number as usize, &known, glimpse.sight())
     }
 
-    /// The block whose value was reclaimed, as the pass has seen, in hand again: nobody sees it any more. It has a value of the code that
-    /// was lent. The key is for the next value of the block then. The pass looks at the list. It takes no memory and no atomic step.
-    pub fn redeem(&self, number: u64, key: &mut ValueKey, pass: &mut Pass) -> Bare<Header<N>, Part, T>
-        requires book { IsValueOf key.old pass.old × (book_in self.now ≡ pass.old.name) }
-        requires last { IsLast key.old × HasGone key.old pass.old }
+    /// The block whose value the slot's call is about to hand to its reclaimer, in hand again: nobody sees it any more, and its reclaimer
+    /// may have it before that names further ones. It has a value of the code that was lent. The key is for another value of the block
+    /// then, which may be named, or laid back with the block, when this one was handed (`ValueKey::settle`). The pass looks at the list.
+    /// It takes no memory and no atomic step.
+    pub fn redeem(
+        &self,
+        number: u64,
+        key: &mut ValueKey,
+        slot: &mut SlotKey,
+        pass: &mut Pass,
+    ) -> Bare<Header<N>, Part, T>
+        requires book { IsValueOf key.old pass.old × IsOf slot.old pass.old × (book_in self.now ≡ pass.old.name) }
+        requires knows { Knows slot.old pass.old }
+        requires soon { hands_next (slot_of slot.old) ≡ Some (value_of key.old) }
+        requires last { IsLast key.old }
         requires lent { IsLentKey key.old × (block_of (value_of key.old) ≡ number) }
-        ensures next { MakesNext key.old pass.old key.new pass.new }
+        ensures looks { LooksOn pass.old pass.new }
+        ensures slot { IsStill slot.old slot.new }
+        ensures knows { Knows slot.new pass.new }
+        ensures block { IsBlockAfter (value_of key.old) self.now (bare_value result) key.new result × (bare_number result ≡ number) }
+        ensures code { IsLentAs (value_of key.old) (T.row.coded.code (bare_value result)) }
+    {
+        let (ticket, pool) = key.redeem(slot, pass);
+        let known = pass.seek(number);
+        self.store.back(number as usize, &known, ticket, pool)
+    }
+
+    /// The block of a value that was lent and never named, in hand again: nobody can have found it in a link, as where an exchange was lost.
+    /// It has a value of the code that was lent. The key is for another value of the block then, with which nothing is lent. It makes no
+    /// event, and does nothing when the program runs but for a look-up.
+    pub fn withdraw(
+        &self,
+        number: u64,
+        key: &mut ValueKey,
+        pass: &mut Pass,
+    ) -> Bare<Header<N>, Part, T>
+        requires book { IsValueOf key.old pass.old × (book_in self.now ≡ pass.old.name) }
+        requires new { IsNextIn key.old number }
+        requires lent { IsLentKey key.old }
+        ensures pass { pass.new ≡ pass.old }
+        ensures home { IsInBlockOf key.old key.new }
         ensures block { IsBlockIn self.now (bare_value result) key.new result × (bare_number result ≡ number) }
         ensures code { IsLentAs (value_of key.old) (T.row.coded.code (bare_value result)) }
     {
-        let (ticket, pool) = key.redeem(pass);
-        let known = pass.seek(number);
-        self.store.back(number as usize, &known, ticket, pool)
+        let row = key.row();
+        let (ticket, pool) = key.withdraw(pass);
+        self.store.back(number as usize, &row, ticket, pool)
     }
 
     /// The value of a block whose values were all reclaimed. Its chunk is in again, with the block's key, by one swap; where the store is

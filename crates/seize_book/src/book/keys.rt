@@ -1,17 +1,18 @@
 //! Keys, one or several in a given order: the one generic step of the book. Each kind of key is a `Keys` with one key of that kind.
-ghost use Rattle.std.specs.Prelude.{◌≡◌, List, [], None, true};
+ghost use Rattle.std.specs.Prelude.{◌≡◌, List, [], None, is_some, true};
 ghost use base.Stored.{coded_list};
 ghost use Rattle.seize_machine.specs.Machine.Event.{Event, Return};
 ghost use Rattle.seize_book.specs.Book.{blocks, slots};
 ghost use Rattle.seize_book.specs.Entry.{Entry};
 ghost use Rattle.seize_book.specs.Ledger.{Held};
-ghost use Rattle.seize_book.specs.Private.{is_one};
+ghost use Rattle.seize_book.specs.Private.{is_one, label_of};
 ghost use Rattle.seize_book.specs.Tokens.{Name, held_coded, keys_own, name_coded};
 
 use crate::book::opened::Opened;
 use crate::book::pass::Pass;
 use crate::book::rights::Rights;
 use seize_content::{CellToken, Pool, Ticket};
+use seize_store::Known;
 use seize_table::tls::FilledAt;
 use std::marker::{Brand, Model, PhantomData};
 
@@ -42,7 +43,7 @@ impl Picks for Brand {
 impl Keys {
     ghost use Rattle.seize_book.specs.Adding.{Adds, Asks, Joins, Looks, MayLook, Parts};
     ghost use Rattle.seize_book.specs.Ledger.{AllApart};
-    ghost use Rattle.seize_book.specs.Lending.{Lends, MayLend, MayRedeem, Redeems};
+    ghost use Rattle.seize_book.specs.Lending.{IsRowAt, Lends, MayLend, MayRedeem, MayWithdraw, Redeems};
     ghost use Rattle.seize_book.specs.Notes.{MayOpen, Opens};
     ghost use Rattle.seize_book.specs.Others.{Renames};
     ghost use Rattle.seize_book.specs.Tables.{GetsPlace, LiesAt};
@@ -86,7 +87,8 @@ impl Keys {
         let Pool { marker: _ } = pool;
     }
 
-    /// What went with the first key comes back, whole. Its value was reclaimed, as the pass has seen, so nobody sees the content any more.
+    /// What went with the first key comes back, whole. The call of the slot whose key is the second is about to hand its value, so nobody
+    /// sees the content any more.
     pub(crate) fn redeem(&mut self, pass: &mut Pass) -> (Ticket, Pool)
         requires { MayRedeem self.old pass.old }
         ensures { (pass.new ≡ pass.old) × Redeems self.old self.new result.0 result.1 }
@@ -98,6 +100,30 @@ impl Keys {
             marker: PhantomData,
         };
         (ticket, pool)
+    }
+
+    /// The same where the value was never named: nobody ever found it in a link, so nobody sees the content.
+    pub(crate) fn withdraw(&mut self, pass: &mut Pass) -> (Ticket, Pool)
+        requires { MayWithdraw self.old pass.old }
+        ensures { (pass.new ≡ pass.old) × Redeems self.old self.new result.0 result.1 }
+    {
+        let ticket = Ticket {
+            marker: PhantomData,
+        };
+        let pool = Pool {
+            marker: PhantomData,
+        };
+        (ticket, pool)
+    }
+
+    /// What shows the row in which the block of the first key's value lies.
+    pub(crate) fn row(&mut self) -> Known
+        requires { (is_one blocks self.old.held ≡ true) × (is_some self.old.name.store ≡ true) }
+        ensures { (self.new ≡ self.old) × IsRowAt self.old.name (label_of self.old.held) result }
+    {
+        Known {
+            marker: PhantomData,
+        }
     }
 
     /// No two of them are one: nobody has a right twice.

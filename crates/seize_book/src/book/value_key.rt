@@ -1,5 +1,5 @@
 //! The key of a value: that of the block in which it lies. It is `Keys` with one key, whose label is the value's name.
-ghost use Rattle.std.specs.Prelude.{◌≡◌, true};
+ghost use Rattle.std.specs.Prelude.{◌≡◌, is_some, true, Some};
 ghost use Rattle.seize_book.specs.Blocks.{block_of};
 ghost use Rattle.seize_book.specs.Book.{blocks};
 ghost use Rattle.seize_book.specs.Homes.{home_of};
@@ -8,7 +8,9 @@ ghost use Rattle.seize_book.specs.Private.{is_one, key_of, label_of};
 use crate::book::bare_key::BareKey;
 use crate::book::keys::Keys;
 use crate::book::pass::Pass;
+use crate::book::slot_key::SlotKey;
 use seize_content::{Pool, Ticket, TokenCell};
+use seize_store::Known;
 
 /// The right to name the values of one block, of which it is this one's turn: to put it into a link, out of one, and to begin to retire it.
 /// It knows which of the block's values were ever named, and which came out of a link and no call began to retire them.
@@ -22,12 +24,14 @@ pub struct ValueKey {
 
 impl ValueKey {
     ghost use Rattle.seize_book.specs.Bare.{IsLaid};
-    ghost use Rattle.seize_book.specs.Books.{IsNextIn, MakesNext};
+    ghost use Rattle.seize_book.specs.Books.{IsNextAfter, IsNextIn, MakesNext, MaySettle};
     ghost use Rattle.seize_content.specs.Loans.{IsLent};
     ghost use Rattle.seize_book.specs.Loans.{place_of};
+    ghost use Rattle.seize_book.specs.Lending.{GoesWith, IsFreeKey, IsInBlockOf, IsLentKey, IsOfPlace, IsRowAt};
     ghost use Rattle.seize_book.specs.Notes.{HasNoted, IsStored, IsUnchanged, cell_in, noted_in};
-    ghost use Rattle.seize_book.specs.Lending.{GoesWith, IsFreeKey, IsInBlockOf, IsLentKey, IsOfPlace};
-    ghost use Rattle.seize_book.specs.Others.{HasGone, IsLast, IsVacated, IsValueOf, book_of, value_of};
+    ghost use Rattle.seize_book.specs.Others.{FollowsValue, HasGone, IsLast, IsVacated, IsValueOf, book_of, value_of};
+    ghost use Rattle.seize_book.specs.Passes.{LooksOn};
+    ghost use Rattle.seize_book.specs.Slots.{IsOf, IsStill, hands_next, slot_of};
 
     /// The key is for the next value of its block then, which words hold by the same number. The last one was reclaimed, as the pass has
     /// seen. The pass and the key look at the list with no event.
@@ -39,8 +43,8 @@ impl ValueKey {
         ensures place { place_of (value_of self.new) ≡ place_of (value_of self.old) }
         ensures next { MakesNext self.old pass.old self.new pass.new }
     {
-        self.keys.look(pass);
         self.keys.rename();
+        self.settle(pass);
     }
 
     /// A content that is lent goes with the key from then on, into a link and out of it, and whoever finds the value in a link can see the
@@ -56,21 +60,61 @@ impl ValueKey {
         self.keys.lend(ticket, pool);
     }
 
-    /// The content that is lent with the value comes back, when the value was reclaimed, as the pass has seen: whoever found it in a link
-    /// has left or refreshed since, so nobody sees it any more. The key is for the next value of its block then, as `next` makes it.
-    pub fn redeem(&mut self, pass: &mut Pass) -> (Ticket, Pool)
-        requires book { IsValueOf self.old pass.old }
-        requires last { IsLast self.old × HasGone self.old pass.old }
+    /// The content that is lent with the value comes back, when the slot's call is about to hand the value to its reclaimer: whoever found
+    /// it in a link has left or refreshed since, so nobody sees it any more. The key is for another value of its block then, with which
+    /// nothing is lent. It may be named when the value before it was handed (`settle`).
+    pub fn redeem(&mut self, slot: &mut SlotKey, pass: &mut Pass) -> (Ticket, Pool)
+        requires book { IsValueOf self.old pass.old × IsOf slot.old pass.old }
+        requires soon { hands_next (slot_of slot.old) ≡ Some (value_of self.old) }
+        requires last { IsLast self.old }
         requires lent { IsLentKey self.old }
-        ensures value { IsNextIn self.new (block_of (value_of self.old)) }
+        ensures still { (pass.new ≡ pass.old) × IsStill slot.old slot.new }
+        ensures value { IsNextAfter self.new (value_of self.old) (block_of (value_of self.old)) }
+        ensures block { IsInBlockOf self.old self.new }
         ensures free { IsFreeKey self.new }
         ensures place { place_of (value_of self.new) ≡ place_of (value_of self.old) }
-        ensures next { MakesNext self.old pass.old self.new pass.new }
         ensures content { IsLent result.0 result.1 × GoesWith self.old result.1 }
     {
-        let keys = &mut self.keys;
-        keys.look(pass);
-        keys.redeem(pass)
+        self.keys.join(&mut slot.keys);
+        let lent = self.keys.redeem(pass);
+        self.keys.part(&mut slot.keys);
+        lent
+    }
+
+    /// The key is as `next` makes it, when the value was handed with which it was redeemed, as the pass has seen. The pass and the key look
+    /// at the list with no event.
+    pub fn settle(&mut self, pass: &mut Pass)
+        requires book { IsValueOf self.old pass.old }
+        requires handed { MaySettle self.old pass.old }
+        ensures looks { LooksOn pass.old pass.new }
+        ensures follows { FollowsValue self.old pass.new self.new }
+        ensures next { IsNextIn self.new (block_of (value_of self.old)) }
+    {
+        self.keys.look(pass);
+    }
+
+    /// The content that is lent with the value comes back where that was never named: nobody can have found it in a link. The key is for
+    /// another value of its block then, with which nothing is lent. Nothing is looked at and no event is made: the key knows it.
+    pub fn withdraw(&mut self, pass: &mut Pass) -> (Ticket, Pool)
+        requires book { IsValueOf self.old pass.old }
+        requires new { IsNextIn self.old (block_of (value_of self.old)) }
+        requires lent { IsLentKey self.old }
+        ensures pass { pass.new ≡ pass.old }
+        ensures next { IsNextIn self.new (block_of (value_of self.old)) × IsInBlockOf self.old self.new }
+        ensures free { IsFreeKey self.new }
+        ensures place { place_of (value_of self.new) ≡ place_of (value_of self.old) }
+        ensures content { IsLent result.0 result.1 × GoesWith self.old result.1 }
+    {
+        self.keys.withdraw(pass)
+    }
+
+    /// What shows the row of the store in which the block lies, whether one of its values was ever named or not.
+    pub fn row(&mut self) -> Known
+        requires store { is_some (book_of self.old).store ≡ true }
+        ensures same { self.new ≡ self.old }
+        ensures row { IsRowAt (book_of self.old) (value_of self.old) result }
+    {
+        self.keys.row()
     }
 
     /// What is noted of the block, in the cell of its chunk.

@@ -1,4 +1,4 @@
--- `redeem` takes the loan from beside the key, when all its readers are over.
+-- `redeem` takes the loan from beside the key of a block; the key of the slot shows that all its readers are over.
 use Rattle.seize_book.proofs.Kit.{ℕ, List, [], ◌∷◌, refl, proved, named, Val, vptr, SProp, emp, Fml, ftrue, fsep, flft, ‵, raw, ◌⊛◌, some, given, later, await, ◌$◌, ◌∵◌, !, qed, by, move, keep, split, split3, fsplit, fsplit3, fjoin, fjoin3, pick, learn, use0, use2, feq_i, no_more, and_then, get, agg, returns, enter, alloc_all, pass_all, free_all, look_at, sets, fact, fact_i, heard, rewrite, tables, RattleType, owns, types_at, plain, mut_vals, mut_Tells, nothing, opens, closes, Stays, stay_ref, walk_of, Goes-ref}
 use base.Stored.{Gv}
 use denote.Struct.Tuple.{Tuple}
@@ -41,7 +41,7 @@ redeem_spec 𝓤 𝓛 𝓜 𝓡 wired =
     -- [what the keys own; the keys; their cell, in four entries; what the pass owns; the pass; its cell]
     let v : ℕ = label_of k.held in let w : ℕ = fresh k.name k.held in let same = fresh_home k.name k.held in let k' : Keys.the_row.Denot = record k { name = p.name; held = labelled w k.held } in
     move ! (6 ∷ 0 ∷ []) $ use2 𝓛 (later (some (λ (t : ℕ × (ℕ × Gv)). given (Carries v t.0 t.1.1) (‵ (pass_owns p.name p.id p.seen) ⊛ ‵ (keys_own p.name (labelled w k.held)) ⊛ ‵ (ticket_owns t.0 (lent t.1.0 t.1.1)) ⊛ ‵ (pool_owns t.0 t.1.0 t.1.1)))))
-    (redeems 𝓛 p.name p.id p.seen v asked.3 k.held w asked.1 refl asked.2 same.0 same.1 same.2 same.3 same.4) $ await ! tt $ pick ! (λ t. learn ! (λ carries. split ! $ move ! (1 ∷ []) $ split3 ! $
+    (redeems 𝓛 p.name p.id p.seen k.held w asked.1 same.0 same.1 same.2 same.3 same.4) $ await ! tt $ pick ! (λ t. learn ! (λ carries. split ! $ move ! (1 ∷ []) $ split3 ! $
     -- [what the keys own; the ticket; the pool; what the pass owns; the keys; their cell, in four entries; the pass; its cell]
     move ! (9 ∷ 3 ∷ []) $ fjoin ! $ move ! (9 ∷ 0 ∷ 10 ∷ 11 ∷ 12 ∷ []) $ closes ! tt Pass.the_row p vs1 pb po $
     move ! (6 ∷ 3 ∷ []) $ fjoin ! $ move ! (6 ∷ 0 ∷ 7 ∷ 8 ∷ 9 ∷ []) $ closes ! tt Keys.the_row k' vs0 kb ko $

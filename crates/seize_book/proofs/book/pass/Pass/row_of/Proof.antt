@@ -1,6 +1,6 @@
 -- `row_of` gives what the book keeps of where the number leads.
 use Rattle.seize_book.proofs.Kit.{ℕ, List, [], ◌∷◌, ◌≡◌, refl, sym, subst, proved, named, w64, u64, vint, uint_vals, uint_Tells, Val, vptr, SProp, emp, Fml, ftrue, fsep, flft, ‵, raw, ◌⊛◌, some, given, later, await, ◌$◌, ◌∵◌, !, qed, by, move, keep, split, fsplit, fsplit3, fjoin, fjoin3, fpick, pick, learn, use0, use1, feq_i, no_more, and_then, get, agg, returns, enter, alloc_all, pass_all, free_all, look_at, sets, fact, fact_i, heard, tables, yes, owns, types_at, plain, mut_vals, mut_Tells, nothing, opens, closes, Stays, stay_ref, stay_dropped, walk_of, Goes-ref, Goes-dropped}
-use Rattle.std.specs.Prelude.{Option, Some, None, is_some, true}
+use Rattle.std.specs.Prelude.{is_some, true}
 use Rattle.seize_store.specs.Known.{tells}
 use Rattle.seize_store.specs.Named.{IsRowOf}
 use Rattle.seize_store.specs.contracts.known.Known as Known
@@ -11,16 +11,13 @@ use Rattle.seize_book.specs.Homesteads.{HasNumber, state_seen}
 use Rattle.seize_book.specs.Tokens.{pass_owns, told_of}
 use Rattle.seize_book.specs.contracts.book.pass.Pass as Pass
 use Rattle.seize_book.proofs.Fields.{Token, token, token_made, ends}
+use Rattle.seize_book.proofs.Lists.{the_store}
 use Rattle.seize_book.proofs.Looks.{finds_row, looked}
 use Rattle.seize_book.proofs.Passes.{IsDistinct}
 use Rattle.seize_book.specs.contracts.book.pass.Pass.row_of.{ended, clauses}
 use Rattle.seize_book.specs.contracts.book.pass.Pass.row_of.Key.{name as #self}
 use Rattle.seize_book.proofs.book.pass.Pass.row_of.Statement.{statement}
 use Rattle.seize_book.proofs.book.pass.Pass.row_of.Code as code
-
-the_store : (o : Option (List ℕ)) → is_some o ≡ true → (store : List ℕ) × (o ≡ Some store)
-the_store None h = absurd (cc)
-the_store (Some store) h = (store, refl)
 
 pub row_of_spec : {M : Type 1} → statement M
 row_of_spec 𝓤 𝓛 𝓜 𝓡 wired =
