@@ -214,6 +214,9 @@ module _ (value : ValueKey) (renamed : Keys) (is : Renames value.keys renamed) w
   pub renamed_place : place_of (label_of renamed.held) ≡ place_of u
   renamed_place = ap place_of its_value ∙ is.place
 
+  pub renamed_cell : cell_of (label_of renamed.held) ≡ cell_of u
+  renamed_cell = ap cell_of its_value ∙ is.cell
+
   pub renamed_free : CarriesNone (label_of renamed.held)
   renamed_free = ap loan_of its_value ∙ is.free
 
@@ -307,6 +310,9 @@ module _ (value : ValueKey) (pool : Pool) (lent : Keys) (is : Lends value.keys p
   pub lent_next : (has (label_of lent.held) (state_of lent).named ≡ false) × IsVacant (state_of lent) (home_of (label_of lent.held)) × (block_of (label_of lent.held) ≡ block_of (value_of value))
   lent_next = new_next value lent is.value is.book is.held is.home is.numbered is.unnamed next
 
+  pub lent_cell : cell_of (label_of lent.held) ≡ cell_of (value_of value)
+  lent_cell = ap cell_of (new_value value lent is.value is.book is.held is.home is.numbered is.unnamed next) ∙ is.cell
+
   pub lent_goes : Carries (label_of lent.held) pool.name pool.value
   lent_goes = subst (λ (v : ℕ). Carries v pool.name pool.value) (sym (new_value value lent is.value is.book is.held is.home is.numbered is.unnamed next)) is.carries
 
@@ -323,6 +329,9 @@ module _ (value : ValueKey) (back : Keys) (is : Renames value.keys back) (next :
 
   pub back_place : place_of (label_of back.held) ≡ place_of (value_of value)
   back_place = ap place_of back_value ∙ is.place
+
+  pub back_cell : cell_of (label_of back.held) ≡ cell_of (value_of value)
+  back_cell = ap cell_of back_value ∙ is.cell
 
   pub back_free : CarriesNone (label_of back.held)
   back_free = ap loan_of back_value ∙ is.free

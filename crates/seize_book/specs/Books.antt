@@ -21,6 +21,7 @@ use Rattle.seize_book.specs.Blocks.{block_of}
 use Rattle.seize_book.specs.Chains.{told}
 use Rattle.seize_book.specs.Deposits.{deposit}
 use Rattle.seize_book.specs.Homes.{IsVacant, count_in, home_of}
+use Rattle.seize_book.specs.Loans.{cell_of}
 use Rattle.seize_book.specs.Book.{after}
 use Rattle.seize_book.specs.Others.{IsLastIn, book_of, is_named, state_of, value_of}
 use Rattle.seize_book.specs.Tokens.{many, IsSole, start}
@@ -107,6 +108,7 @@ MaySettle value pass =
 abbrev pub MakesNext : ValueKey → Pass → ValueKey → Pass → Type 0
 MakesNext value pass value' pass' =
     LooksOn pass pass' × (value'.keys.name ≡ value.keys.name) × (home_of (value_of value') ≡ home_of (value_of value))
+    × (cell_of (value_of value') ≡ cell_of (value_of value))
 
 abbrev pub home_in : CountKey → ℕ
 home_in key = key_of key.keys.held

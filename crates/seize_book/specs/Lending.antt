@@ -12,7 +12,7 @@
 --                                       named, as it knows
 --     IsRowAt n v known                 it is the row of the value's number, in the store where the blocks of book n lie; and the chunk of
 --                                       that number has the label of the value's home and cell, and the content that is the value's place
---     IsInBlockOf value value'          it is of a value in the same block of the same book
+--     IsInBlockOf value value'          it is of a value in the same block of the same book, with the same cell
 --     GoesWith value pool               the pool's content is lent with the value
 --     IsFreeKey value, IsLentKey value  nothing is lent with it;  something is
 --     IsLentInBook value                something is, if the blocks of its book lie in a store
@@ -84,7 +84,9 @@ abbrev pub GoesWith : ValueKey → Pool → Type 0
 GoesWith value pool = Carries (value_of value) pool.name pool.value
 
 abbrev pub IsInBlockOf : ValueKey → ValueKey → Type 0
-IsInBlockOf value value' = (book_of value' ≡ book_of value) × (home_of (value_of value') ≡ home_of (value_of value))
+IsInBlockOf value value' =
+    (book_of value' ≡ book_of value) × (home_of (value_of value') ≡ home_of (value_of value))
+    × (cell_of (value_of value') ≡ cell_of (value_of value))
 
 abbrev pub IsFreeKey : ValueKey → Type 0
 IsFreeKey value = CarriesNone (value_of value)

@@ -243,7 +243,7 @@ module _ (key0 : SlotKey) (at : BeginsToMark key0) (pass0 : Pass) (key : SlotKey
       pub has_front : HasNumber front (state_seen pass2)
       has_front = (front_two.0, named_two pass2 book_two knows2, sym front_two.2)
 
-      module _ (pass3 : Pass) {N : Type 0} (header : Header N) (looks : LooksOn pass2 pass3) (is : IsHeaderOf header front pass3) where
+      module _ (pass3 : Pass) (header : Header) (looks : LooksOn pass2 pass3) (is : IsHeaderOf header front pass3) where
         pub book_three : IsOf key2 pass3
         book_three = book_two ∙ sym looks.same.0
 

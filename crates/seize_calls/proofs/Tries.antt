@@ -29,7 +29,7 @@ use Rattle.seize_calls.proofs.Keeps.{Goes, call_after, call_before, insert_lost,
 abbrev pub front_same : (key key' : SlotKey) (b front : ℕ) → plan_in key' b ≡ plan_in key b → IsFrontBlock key b front → IsFrontBlock key' b front
 front_same key key' b front same is = (is.0, ap (λ (p : Plan). first_of p.values) same ∙ is.1, is.2)
 
-module _ (key : SlotKey) (pass : Pass) (head : Head) {N : Type 0} (header : Header N) (seen block front : ℕ) (at : IsAtTry key head header seen block front) (book : IsOf key pass) where
+module _ (key : SlotKey) (pass : Pass) (head : Head) (header : Header) (seen block front : ℕ) (at : IsAtTry key head header seen block front) (book : IsOf key pass) where
   abbrev t : IsTrying (start_of key) (number_of key) (own_list key) (slot head) seen block
   t = at.tries
 

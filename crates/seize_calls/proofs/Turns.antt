@@ -75,7 +75,7 @@ same_turns pass pass' same s (m ∷ ms) (turn ∷ turns) =
     ∙ ap (λ (log : List (Deed × Answer)). turn_at pass s m turn ++ log) (same_turns pass pass' same s ms turns)
 
 -- the header is that of the block for the slot
-pub its_home : (key : SlotKey) (pass : Pass) (m block front : ℕ) {N : Type 0} (header : Header N) (at : IsAtSlot key m block front) → IsOf key pass → Knows key pass → IsHeaderOf header block pass
+pub its_home : (key : SlotKey) (pass : Pass) (m block front : ℕ) (header : Header) (at : IsAtSlot key m block front) → IsOf key pass → Knows key pass → IsHeaderOf header block pass
     → home_of (serving m (plan_in key at.batch).slots (plan_in key at.batch).values) ≡ header_home header
 its_home key pass m block front header at book knows is =
     is.1 (serving m (plan_in key at.batch).slots (plan_in key at.batch).values) (looked_named key pass book knows at.batch at.won m at.later at.queue at.looking) (sym at.its_block)
@@ -186,7 +186,7 @@ module _ (key0 : SlotKey) (pass0 : Pass) (head : Head) (block front : ℕ) (at :
         is_block = at.its_block ∙ ap (λ (plan : Plan). block_in plan m) (sym planned_read);
       }
 
-      module _ {N : Type 0} (header : Header N) (home : home_of (serving m (plan_in key0 at.batch).slots (plan_in key0 at.batch).values) ≡ header_home header) where
+      module _ (header : Header) (home : home_of (serving m (plan_in key0 at.batch).slots (plan_in key0 at.batch).values) ≡ header_home header) where
         abbrev pub at_try : IsAtTry key' head header v block front
         at_try = record {
           tries = now_trying;

@@ -83,13 +83,13 @@ pub record Keeps (key : SlotKey) (pass : Pass) (key' : SlotKey) (pass' : Pass) :
   pub life : life_of key' ≡ life_of key
   pub seen : slots_seen pass ≤ slots_seen pass'
 
-pub record IsAtTry (key : SlotKey) (head : Head) {N : Type 0} (header : Header N) (seen block front : ℕ) : Type 0 where
+pub record IsAtTry (key : SlotKey) (head : Head) (header : Header) (seen block front : ℕ) : Type 0 where
   pub tries : IsTrying (start_of key) (number_of key) (own_list key) (slot head) seen block
   pub fits : block + 2 < 2 ^ 64
   pub its_home : home_of (let plan = plan_in key tries.batch in serving (slot head) plan.slots plan.values) ≡ header_home header
   pub its_front : IsFrontBlock key tries.batch front
 
-pub record Tried {key : SlotKey} {head : Head} {N : Type 0} {header : Header N} {seen block front : ℕ} (at : IsAtTry key head header seen block front)
+pub record Tried {key : SlotKey} {head : Head} {header : Header} {seen block front : ℕ} (at : IsAtTry key head header seen block front)
     (pass : Pass) (key' : SlotKey) (pass' : Pass) (won : Bool) : Type 0 where
   pub keeps : Keeps key pass key' pass'
   pub made : events_by pass' ≡ events_by pass ++ trying pass (number_of key) (slot head) (if won then Won else Lost) ∷ []

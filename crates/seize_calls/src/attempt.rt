@@ -35,9 +35,9 @@ pub enum Attempted {
 /// batch, unless it stays.
 ///
 /// It takes no memory. An insertion is tried again as often as others change the head between a look at it and the try.
-pub fn attempt<T: Drop, N: Copy + Default>(
+pub fn attempt<T: Drop>(
     slots: &Slots,
-    blocks: &Blocks<T, N>,
+    blocks: &Blocks<T>,
     entries: &mut [Entry],
     key: &mut SlotKey,
     values: &mut ValueKeys,

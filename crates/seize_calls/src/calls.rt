@@ -28,9 +28,9 @@ use std::sync::Wait;
 
 // Attempts the batch, hands its values if they are given up, and returns. It says whether the batch was retired: if it was, no keys are
 // left, and the entries are of no batch.
-fn settle<T: Drop, N: Copy + Default, H: Hands>(
+fn settle<T: Drop, H: Hands>(
     slots: &Slots,
-    blocks: &Blocks<T, N>,
+    blocks: &Blocks<T>,
     entries: &mut [Entry],
     key: &mut SlotKey,
     values: &mut ValueKeys,
@@ -69,9 +69,9 @@ fn settle<T: Drop, N: Copy + Default, H: Hands>(
 ///
 /// It takes no memory, but for what the handing does. An insertion is tried again as often as others change the head between a look at it
 /// and the try.
-pub fn flush<T: Drop, N: Copy + Default, H: Hands>(
+pub fn flush<T: Drop, H: Hands>(
     slots: &Slots,
-    blocks: &Blocks<T, N>,
+    blocks: &Blocks<T>,
     entries: &mut [Entry],
     key: &mut SlotKey,
     values: &mut ValueKeys,
@@ -101,9 +101,9 @@ pub fn flush<T: Drop, N: Copy + Default, H: Hands>(
 ///
 /// It takes no memory, but for what the handing does. An insertion is tried again as often as others change the head between a look at it
 /// and the try.
-pub fn retire<T: Drop, N: Copy + Default, H: Hands>(
+pub fn retire<T: Drop, H: Hands>(
     slots: &Slots,
-    blocks: &Blocks<T, N>,
+    blocks: &Blocks<T>,
     entries: &mut [Entry],
     size: usize,
     value: ValueKey,
@@ -137,9 +137,9 @@ pub fn retire<T: Drop, N: Copy + Default, H: Hands>(
 /// The slot leaves, by its own head. It counts down what waited for it, and hands what is given up.
 ///
 /// It takes no memory and waits for nobody, but for what the handing does.
-pub fn leave<T: Drop, N: Copy + Default, H: Hands>(
+pub fn leave<T: Drop, H: Hands>(
     head: &Head,
-    blocks: &Blocks<T, N>,
+    blocks: &Blocks<T>,
     activation: Activation,
     key: &mut SlotKey,
     hands: &mut H,
@@ -160,9 +160,9 @@ pub fn leave<T: Drop, N: Copy + Default, H: Hands>(
 /// The slot refreshes, by its own head, and stays active. It counts down what waited for it, and hands what is given up.
 ///
 /// It takes no memory and waits for nobody, but for what the handing does.
-pub fn refresh<T: Drop, N: Copy + Default, H: Hands>(
+pub fn refresh<T: Drop, H: Hands>(
     head: &Head,
-    blocks: &Blocks<T, N>,
+    blocks: &Blocks<T>,
     activation: &mut Activation,
     key: &mut SlotKey,
     hands: &mut H,

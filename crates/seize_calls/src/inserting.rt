@@ -21,9 +21,9 @@ use std::sync::Wait;
 /// many insertions were won. `front` is the number of the batch's first block.
 ///
 /// It takes no memory. An insertion is tried again as often as others change the head between a look at it and the try.
-pub fn insert_each<T: Drop, N: Copy + Default>(
+pub fn insert_each<T: Drop>(
     slots: &Slots,
-    blocks: &Blocks<T, N>,
+    blocks: &Blocks<T>,
     entries: &[Entry],
     front: u64,
     key: &mut SlotKey,
@@ -48,9 +48,9 @@ pub fn insert_each<T: Drop, N: Copy + Default>(
 
 /// Inserts the batch at the slot of this entry, with its block. It says whether an insertion was won; where the slot is inactive it is
 /// skipped.
-pub fn insert_at<T: Drop, N: Copy + Default>(
+pub fn insert_at<T: Drop>(
     slots: &Slots,
-    blocks: &Blocks<T, N>,
+    blocks: &Blocks<T>,
     entry: Entry,
     front: u64,
     key: &mut SlotKey,
@@ -71,9 +71,9 @@ pub fn insert_at<T: Drop, N: Copy + Default>(
 }
 
 // The same, with the words in hand.
-fn insert_by<N>(
+fn insert_by(
     head: &Head,
-    header: &Header<N>,
+    header: &Header,
     block: u64,
     front: u64,
     key: &mut SlotKey,
@@ -101,9 +101,9 @@ fn insert_by<N>(
 }
 
 // Stores what leads on from the block, and inserts the batch with it if the head's word is still what was seen. It says whether it was.
-fn try_once<N>(
+fn try_once(
     head: &Head,
-    header: &Header<N>,
+    header: &Header,
     seen: u64,
     block: u64,
     front: u64,

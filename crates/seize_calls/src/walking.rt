@@ -24,8 +24,8 @@ pub enum Walked {
 /// Counts down the batches to which this word leads, until one is given up to the slot's call. The keys of its values come out then.
 ///
 /// It takes no memory and waits for nobody: for each batch, what `Blocks::count_down` does.
-pub fn walk<T: Drop, N: Copy + Default>(
-    blocks: &Blocks<T, N>,
+pub fn walk<T: Drop>(
+    blocks: &Blocks<T>,
     word: u64,
     key: &mut SlotKey,
     values: &mut ValueKeys,
@@ -52,8 +52,8 @@ pub fn walk<T: Drop, N: Copy + Default>(
 /// Counts down all the batches to which this word leads. What one of them gives up is handed before the walk goes on.
 ///
 /// It takes no memory and waits for nobody, but for what the handing does.
-pub fn walk_all<T: Drop, N: Copy + Default, H: Hands>(
-    blocks: &Blocks<T, N>,
+pub fn walk_all<T: Drop, H: Hands>(
+    blocks: &Blocks<T>,
     word: u64,
     key: &mut SlotKey,
     hands: &mut H,

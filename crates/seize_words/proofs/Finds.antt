@@ -15,10 +15,11 @@ use Rattle.std.specs.Prelude.{slice_index_or, unwrap_or}
 use Rattle.seize_book.specs.Book.{IsLegalList, after}
 use Rattle.seize_book.specs.Chains.{served}
 use Rattle.seize_book.specs.Entry.{Entry}
+use Rattle.seize_book.specs.Loans.{cell_of}
 use Rattle.seize_book.specs.Homes.{home_of}
 use Rattle.seize_book.specs.Homesteads.{AreAt, state_seen}
 use Rattle.seize_book.specs.Slots.{IsOf, number_of, own_list, slot_of, start_of}
-use Rattle.seize_book.specs.Tokens.{Name, label_at, start}
+use Rattle.seize_book.specs.Tokens.{Name, chunk_label, start}
 use Rattle.seize_book.specs.declared.book.pass.Pass.{Pass}
 use Rattle.seize_book.specs.declared.book.slot_key.SlotKey.{SlotKey}
 use Rattle.seize_book.proofs.Fronts.{held_values}
@@ -74,7 +75,7 @@ module _ (known : Known) (key : SlotKey) (pass : Pass) (book : IsOf key pass) (g
   walks = subst (λ (z : Name). Walks (after (start z) own) (number_of key) b) book (subst (λ o. Contains (walk_of o) b) (sym walking) (zero, omega arith, refl))
 
   -- the label is the home of a living value with this number
-  living_home : (v number : ℕ) → number ≡ block_of v → IsLiving v (after st own) → IsPlace number known.row (entry_of known.row number) → label_in known.chunks (entry_of known.row number) ≡ label_at pass.name (home_of v)
+  living_home : (v number : ℕ) → number ≡ block_of v → IsLiving v (after st own) → IsPlace number known.row (entry_of known.row number) → label_in known.chunks (entry_of known.row number) ≡ chunk_label pass.name (home_of v) (cell_of v)
   living_home v number is living placed =
       let named : has v (state_seen pass).named ≡ true = named_later st own pass.seen v grows legal living.0 in
       ap (λ (k : ℕ). label_in known.chunks (entry_of known.row k)) is
@@ -82,12 +83,12 @@ module _ (known : Known) (key : SlotKey) (pass : Pass) (book : IsOf key pass) (g
 
   -- the block with which the batch waited for the slot
   pub next_home : IsPlace (block_for (start_of key) own b (number_of key)) known.row (entry_of known.row (block_for (start_of key) own b (number_of key)))
-      → label_in known.chunks (entry_of known.row (block_for (start_of key) own b (number_of key))) ≡ label_at pass.name (home_of (served (plans (start_of key) own) b (number_of key)))
+      → label_in known.chunks (entry_of known.row (block_for (start_of key) own b (number_of key))) ≡ chunk_label pass.name (home_of (served (plans (start_of key) own) b (number_of key))) (cell_of (served (plans (start_of key) own) b (number_of key)))
   next_home = subst (λ (z : Name). IsPlace (block_for (start z) own b (number_of key)) known.row (entry_of known.row (block_for (start z) own b (number_of key)))
-      → label_in known.chunks (entry_of known.row (block_for (start z) own b (number_of key))) ≡ label_at pass.name (home_of (served (plans (start z) own) b (number_of key)))) (sym book)
+      → label_in known.chunks (entry_of known.row (block_for (start z) own b (number_of key))) ≡ chunk_label pass.name (home_of (served (plans (start z) own) b (number_of key))) (cell_of (served (plans (start z) own) b (number_of key)))) (sym book)
       (living_home (served (plans st own) b (number_of key)) (block_for st own b (number_of key)) refl (walked_living pass.name own distinct its_own b (number_of key) walks))
 
   -- and the first block of the batch
   pub front_home : (front number : ℕ) → front_of (start_of key) own b ≡ Some front → number ≡ block_of front → IsPlace number known.row (entry_of known.row number)
-      → label_in known.chunks (entry_of known.row number) ≡ label_at pass.name (home_of front)
+      → label_in known.chunks (entry_of known.row number) ≡ chunk_label pass.name (home_of front) (cell_of front)
   front_home front number is its = living_home front number its (front_living pass.name own distinct its_own b front (number_of key) walks (subst (λ (z : Name). front_of (start z) own b ≡ Some front) book is))

@@ -9,7 +9,7 @@ use Rattle.seize_book.specs.Tokens.{Name, label_at, slot_labels, start}
 use Rattle.seize_words.specs.Totals.{slots_seen}
 use Rattle.seize_book.specs.declared.book.pass.Pass.{Pass}
 use Rattle.seize_words.specs.declared.slots.Reservation.{Reservation}
-use Rattle.seize_words.proofs.Chunked.{same_family, same_home}
+use Rattle.seize_words.proofs.Chunked.{same_family, same_number}
 use Rattle.seize_words.proofs.Facts.{more_seen}
 use Rattle.seize_book.proofs.Tables.{label_of_slot, labels_long}
 
@@ -32,7 +32,7 @@ module _ (n : Name) (m s : ℕ) (labels : List ℕ) (are : labels ≡ slot_label
   of_family = same_family r.book.name n (slot (padded_value r.head)) s its_label
 
   pub of_slot : slot (padded_value r.head) ≡ s
-  of_slot = same_home r.book.name n (slot (padded_value r.head)) s its_label
+  of_slot = same_number r.book.name n (slot (padded_value r.head)) s its_label
 
 -- the labels of so many slots, by how many there are
 pub long_labels : (n : Name) (m : ℕ) (labels : List ℕ) → labels ≡ slot_labels n m → length labels ≡ m

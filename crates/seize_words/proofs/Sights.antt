@@ -20,7 +20,7 @@ use Rattle.seize_book.specs.Ledger.{Held, reached}
 use Rattle.seize_book.specs.Loans.{Carries, IsReader, Loan, lent_as, loan, loan_if, loan_of, reader, reader_by, readers}
 use Rattle.seize_book.specs.Tokens.{Name, keys_own, leads, start, way}
 use Rattle.seize_words.specs.Words.{IsKeyOf}
-use Rattle.seize_book.proofs.Ways.{way_closes, way_opens}
+use Rattle.seize_book.proofs.Ways.{block_ways, way_closes, way_opens}
 use base.Shift.{Keyless}
 use denote.Laws.{Is, Tells}
 use denote.Ref.{NamedLft}
@@ -88,12 +88,12 @@ module _ {M : Type 1} {𝓤 : Ura M} (𝓛 : Logic 𝓤) (n : Name) where
 
     key_reads : (h : Held Entry) (v : ℕ) → (h.kind == blocks) ≡ true → h.label ≡ v → Reader st log v a → ⟦ had log ⟧ ∗ ⟦ way n h ⟧ ∗ ⟦ ready γ ⟧ ∗ ⟦ right_to ⟧ ⊢ upd 𝓤 (⟦ way n h ⟧ ∗ ⟦ taken γ (Some v) ⟧)
     key_reads h v one label r = let Z : Pr = ⟦ way n h ⟧ ∗ ⟦ taken γ (Some v) ⟧ in qed 𝓛 (‵ (had log) ∷ ‵ (way n h) ∷ ‵ (ready γ) ∷ ‵ right_to ∷ []) ∵ move ! (1 ∷ []) $
-        use1 𝓛 (‵ (fsep (leads n h.label) (loan st n.log h.label))) (way_opens 𝓛 n h one) $ fsplit ! $ rewrite ! 1 (λ (w : ℕ). ‵ (loan st n.log w)) label refl $
-        -- [where it leads; the loan; the list; the escrow; the right to it]
-        move ! (2 ∷ 1 ∷ 3 ∷ 4 ∷ []) $ group ! 4 $ use1 𝓛 (raw (upd 𝓤 (⟦ lends (loan_of v) v ⟧ ∗ ⟦ taken_if (loan_of v) γ v ⟧))) (loan_reads (loan_of v) v r) $
+        use1 𝓛 (‵ (block_ways 𝓛 n h.label h.note)) (way_opens 𝓛 n h one) $ fsplit ! $ fsplit ! $ rewrite ! 1 (λ (w : ℕ). ‵ (loan st n.log w)) label refl $
+        -- [where it leads; the loan; the note; the list; the escrow; the right to it]
+        move ! (3 ∷ 1 ∷ 4 ∷ 5 ∷ []) $ group ! 4 $ use1 𝓛 (raw (upd 𝓤 (⟦ lends (loan_of v) v ⟧ ∗ ⟦ taken_if (loan_of v) γ v ⟧))) (loan_reads (loan_of v) v r) $
         settle 𝓛 Z (‵ (lends (loan_of v) v) ⊛ ‵ (taken_if (loan_of v) γ v)) $ suffices ! _ (upd_i 𝓤 Z) $ split ! $
-        -- [the loan; what was taken; where it leads]
-        rewrite ! 0 (λ (w : ℕ). ‵ (loan st n.log w)) (sym label) refl $ move ! (2 ∷ 0 ∷ []) $ fjoin ! $ use1 𝓛 (‵ (way n h)) (way_closes 𝓛 n h one) $ keep ! (0 ∷ 1 ∷ []) $ done !
+        -- [the loan; what was taken; where it leads; the note]
+        rewrite ! 0 (λ (w : ℕ). ‵ (loan st n.log w)) (sym label) refl $ move ! (2 ∷ 0 ∷ []) $ fjoin ! $ move ! (0 ∷ 2 ∷ []) $ fjoin ! $ use1 𝓛 (‵ (way n h)) (way_closes 𝓛 n h one) $ keep ! (0 ∷ 1 ∷ []) $ done !
 
     abbrev ReadBy : Option ℕ → Type 0
     ReadBy o = (w : ℕ) → o ≡ Some w → Reader st log w a

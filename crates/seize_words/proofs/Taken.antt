@@ -10,7 +10,7 @@ use Rattle.seize_book.specs.Entry.{Entry, Made}
 use Rattle.seize_book.specs.Ledger.{Held}
 use Rattle.seize_book.specs.Others.{state_of}
 use Rattle.seize_book.specs.Passes.{IsSame}
-use Rattle.seize_book.specs.Private.{is_one, key_of, label_of, own_of}
+use Rattle.seize_book.specs.Private.{is_one, key_of, label_of, note_of, own_of}
 use Rattle.seize_words.specs.Stepping.{FoundAs, MayStepWith, SteppedWith}
 use Rattle.seize_book.specs.Tokens.{Name, Noted, start}
 use Rattle.seize_book.specs.Tables.{IsPlaced}

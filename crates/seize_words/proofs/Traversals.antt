@@ -149,13 +149,13 @@ module _ (key : SlotKey) (pass : Pass) (word : ℕ) (book : IsOf key pass) (know
   at_number = (its_value key pass book knows at.batch at_walks, value_named key pass book knows at.batch at_walks, at_block)
 
   -- the header that is found there is that of the block with which it waited
-  pub at_header : (pass' : Pass) {N : Type 0} (header : Header N) → LooksOn pass pass' → IsHeaderOf header (word - 2) pass' → home_of (its_value key pass book knows at.batch at_walks) ≡ header_home header
+  pub at_header : (pass' : Pass) (header : Header) → LooksOn pass pass' → IsHeaderOf header (word - 2) pass' → home_of (its_value key pass book knows at.batch at_walks) ≡ header_home header
   at_header pass' header looks is =
       is.1 (its_value key pass book knows at.batch at_walks)
       (named_seen pass pass' (its_value key pass book knows at.batch at_walks) looks (value_named key pass book knows at.batch at_walks)) at_block
 
   -- so its fields may be loaded
-  pub at_field : (which : ℕ → ℕ) (f : ℕ) {N : Type 0} (header : Header N) → home_of (its_value key pass book knows at.batch at_walks) ≡ header_home header → f ≡ which (home header.count)
+  pub at_field : (which : ℕ → ℕ) (f : ℕ) (header : Header) → home_of (its_value key pass book knows at.batch at_walks) ≡ header_home header → f ≡ which (home header.count)
       → f ≡ which (home_of (its_value key pass book knows at.batch at_walks))
   at_field which f header its is = is ∙ ap which (sym its)
 
@@ -163,7 +163,7 @@ module _ (key : SlotKey) (pass : Pass) (word : ℕ) (book : IsOf key pass) (know
   front_number front is = (is.0, front_named key pass book knows at.batch at_walks is.0 is.1, sym is.2)
 
   -- the header that is found by the first field's number is that of the batch's first block
-  pub front_home : (front : ℕ) (is : IsFrontBlock key at.batch front) (pass' : Pass) {N : Type 0} (header : Header N) → LooksOn pass pass' → IsHeaderOf header front pass' → home_of is.0 ≡ home header.count
+  pub front_home : (front : ℕ) (is : IsFrontBlock key at.batch front) (pass' : Pass) (header : Header) → LooksOn pass pass' → IsHeaderOf header front pass' → home_of is.0 ≡ home header.count
   front_home front is pass' header looks found =
       found.1 is.0 (named_seen pass pass' is.0 looks (front_named key pass book knows at.batch at_walks is.0 is.1)) (sym is.2)
 

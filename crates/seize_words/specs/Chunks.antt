@@ -37,30 +37,30 @@ use Rattle.seize_book.specs.declared.book.value_key.ValueKey.{ValueKey}
 use Rattle.seize_words.specs.declared.chunk.Header.{Header}
 use Rattle.seize_words.specs.declared.chunk.Part.{Part}
 
-abbrev pub header_book : {N : Type 0} → Header N → Name
+abbrev pub header_book : Header → Name
 header_book header = header.book.name
 
-abbrev pub header_home : {N : Type 0} → Header N → ℕ
+abbrev pub header_home : Header → ℕ
 header_home header = home header.count
 
 -- the name of the cell where the holder of the key of the block's values makes notes
-abbrev pub header_cell : {N : Type 0} → Header N → ℕ
+abbrev pub header_cell : Header → ℕ
 header_cell header = header.note.name
 
-abbrev pub book_in : {T N : Type 0} → Blocks T N → Name
+abbrev pub book_in : {T : Type 0} → Blocks T → Name
 book_in blocks = blocks.book.name
 
-abbrev pub OpensIn : {T N : Type 0} → Blocks T N → BookKeys → ℕ → ℕ → Type 0
+abbrev pub OpensIn : {T : Type 0} → Blocks T → BookKeys → ℕ → ℕ → Type 0
 OpensIn blocks keys links size = Opens blocks.book keys links size blocks.book.name.store None
 
-abbrev pub OpensAloneIn : {T N : Type 0} → Blocks T N → Pass → BookKeys → ℕ → ℕ → Type 0
+abbrev pub OpensAloneIn : {T : Type 0} → Blocks T → Pass → BookKeys → ℕ → ℕ → Type 0
 OpensAloneIn blocks pass keys links size = OpensAlone blocks.book pass keys links size blocks.book.name.store None
 
 abbrev pub LiesIn : {H P T : Type 0} → ValueKey → Bare H P T → Type 0
 LiesIn key block = chunk_label (book_of key) (home_of (value_of key)) (cell_in key) ≡ bare_label block
 
-pub record IsBlockAs {T N : Type 0} (Is : ValueKey → ℕ → Type 0) (blocks : Blocks T N) (value : T) (key : ValueKey)
-    (block : Bare (Header N) Part T) : Type 0 where
+pub record IsBlockAs {T : Type 0} (Is : ValueKey → ℕ → Type 0) (blocks : Blocks T) (value : T) (key : ValueKey)
+    (block : Bare Header Part T) : Type 0 where
   pub holds : bare_value block ≡ value
   pub store : (book_in blocks).store ≡ Some (bare_store block)
   pub book : book_of key ≡ book_in blocks
@@ -72,17 +72,17 @@ pub record IsBlockAs {T N : Type 0} (Is : ValueKey → ℕ → Type 0) (blocks :
   -- words hold the number beside 2
   pub fits : bare_number block + 2 < 2 ^ 64
 
-abbrev pub IsBlockIn : {T N : Type 0} → Blocks T N → T → ValueKey → Bare (Header N) Part T → Type 0
+abbrev pub IsBlockIn : {T : Type 0} → Blocks T → T → ValueKey → Bare Header Part T → Type 0
 IsBlockIn blocks value key block = IsBlockAs IsNextIn blocks value key block
 
-abbrev pub IsBlockAfter : {T : Type 0} → ℕ → Blocks T → T → ValueKey → Bare (Header N) Part T → Type 0
+abbrev pub IsBlockAfter : {T : Type 0} → ℕ → Blocks T → T → ValueKey → Bare Header Part T → Type 0
 IsBlockAfter last blocks value key block = IsBlockAs (λ k number. IsNextAfter k last number) blocks value key block
 
 -- a value of the code g is lent with v
 abbrev pub IsLentAs : ℕ → Gv → Type 0
 IsLentAs v g = loan_of v ≡ loan_number g
 
-pub record LendsIn {T N : Type 0} (blocks : Blocks T N) (key : ValueKey) (number : ℕ) (g : Gv) : Type 0 where
+pub record LendsIn {T : Type 0} (blocks : Blocks T) (key : ValueKey) (number : ℕ) (g : Gv) : Type 0 where
   pub book : book_of key ≡ book_in blocks
   pub next : IsNextIn key number
   pub code : IsLentAs (value_of key) g
@@ -99,7 +99,7 @@ pub record IsFoundAt (o : Option ℕ) (number : ℕ) (pass : Pass) : Type 0 wher
 abbrev pub IsFoundAs : Option ℕ → Gv → Type 0
 IsFoundAs o g = (v : ℕ) × (o ≡ Some v) × IsLentAs v g
 
-abbrev pub IsHeaderOf : {N : Type 0} → Header N → ℕ → Pass → Type 0
+abbrev pub IsHeaderOf : Header → ℕ → Pass → Type 0
 IsHeaderOf header number pass =
     (header_book header ≡ pass.name)
     × ((v : ℕ) → has v (state_seen pass).named ≡ true → block_of v ≡ number → home_of v ≡ header_home header)

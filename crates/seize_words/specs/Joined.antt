@@ -40,7 +40,7 @@ use Rattle.seize_words.specs.declared.reservation.Head.{Head}
 use Rattle.seize_words.specs.declared.slots.next.NextSlot.{NextSlot}
 use Rattle.seize_words.specs.declared.words.Words.{Words}
 
-abbrev pub words_book : {T N : Type 0} → Words T N → Name
+abbrev pub words_book : {T : Type 0} → Words T → Name
 words_book words = words.blocks.book.name
 
 -- the book has just begun, with as many links and this batch size, and the keys are those of its first slot
@@ -49,10 +49,10 @@ pub record HasBegun (book : Book) (numbers : NumbersKey) (next : NextSlot) (many
   pub numbers_are : (numbers.keys.name ≡ book.name) × (made_of numbers ≡ 0)
   pub next_is : HasNext numbers next
 
-abbrev pub OpensWords : {T N : Type 0} → Words T N → NumbersKey → NextSlot → ℕ → ℕ → Type 0
+abbrev pub OpensWords : {T : Type 0} → Words T → NumbersKey → NextSlot → ℕ → ℕ → Type 0
 OpensWords words numbers next many size = IsMany words.blocks.book × HasBegun words.blocks.book numbers next many size
 
-abbrev pub OpensWordsAlone : {T N : Type 0} → Words T N → Pass → NumbersKey → NextSlot → ℕ → ℕ → Type 0
+abbrev pub OpensWordsAlone : {T : Type 0} → Words T → Pass → NumbersKey → NextSlot → ℕ → ℕ → Type 0
 OpensWordsAlone words pass numbers next many size =
     IsAlone words.blocks.book pass × HasBegun words.blocks.book numbers next many size
 

@@ -13,15 +13,15 @@ use std::marker::Brand;
 
 /// A book, with the store where its blocks lie. Threads share it by `&`.
 #[derive(Drop)]
-pub struct Blocks<T, N> {
-    store: Store<Header<N>, Part, T>,
+pub struct Blocks<T> {
+    store: Store<Header, Part, T>,
     /// The book.
     pub book: Book,
     ghost stands: { book.name.store ≡ Some (name_of store) },
     ghost kin: { family_in (name_of store) ≡ book.name.family },
 }
 
-impl<T: Drop, N: Copy + Default> Blocks<T, N> {
+impl<T: Drop> Blocks<T> {
     ghost use Rattle.seize_book.specs.Books.{IsNextIn, Opens, OpensAlone};
     ghost use Rattle.seize_store.specs.Named.{bare_number, bare_value};
     ghost use Rattle.seize_table.specs.declared.refusal.Refusal.TheVariants.{NoMemory};
@@ -37,7 +37,7 @@ impl<T: Drop, N: Copy + Default> Blocks<T, N> {
     ghost use Rattle.seize_words.specs.Walks.{CountsDown, IsAtBatch, Knows};
 
     /// Those of a book whose blocks lie in this store.
-    pub(crate) fn of(store: Store<Header<N>, Part, T>, book: Book) -> Blocks<T, N>
+    pub(crate) fn of(store: Store<Header, Part, T>, book: Book) -> Blocks<T>
         requires lies { book.name.store ≡ Some (name_of store) }
         requires kin { family_in (name_of store) ≡ book.name.family }
         ensures { result.book ≡ book }
@@ -46,7 +46,7 @@ impl<T: Drop, N: Copy + Default> Blocks<T, N> {
     }
 
     /// A new book, as one of `Book::open`, with its keys; and a store with no rows for its blocks. It takes no memory.
-    pub fn new(alloc: Global, links: usize, size: usize) -> (Blocks<T, N>, BookKeys)
+    pub fn new(alloc: Global, links: usize, size: usize) -> (Blocks<T>, BookKeys)
         ensures { OpensIn result.0 result.1 links size }
     {
         let (unopened, family) = Unopened::new();
@@ -56,7 +56,7 @@ impl<T: Drop, N: Copy + Default> Blocks<T, N> {
     }
 
     /// The same of a book as one of `Book::open_alone`: its one pass is alone, so only who has it appends, and it has seen all there is.
-    pub fn new_alone(alloc: Global, links: usize, size: usize) -> (Blocks<T, N>, Pass, BookKeys)
+    pub fn new_alone(alloc: Global, links: usize, size: usize) -> (Blocks<T>, Pass, BookKeys)
         ensures { OpensAloneIn result.0 result.1 result.2 links size }
     {
         let (unopened, family) = Unopened::new();
@@ -67,7 +67,7 @@ impl<T: Drop, N: Copy + Default> Blocks<T, N> {
 
     // A book whose blocks lie in this store.
     fn open<K: Keeps>(
-        _store: &Store<Header<N>, Part, T>,
+        _store: &Store<Header, Part, T>,
         unopened: Unopened,
         links: usize,
         size: usize,
@@ -81,7 +81,7 @@ impl<T: Drop, N: Copy + Default> Blocks<T, N> {
 
     // The same, with its one pass.
     fn open_alone<K: Keeps>(
-        _store: &Store<Header<N>, Part, T>,
+        _store: &Store<Header, Part, T>,
         unopened: Unopened,
         links: usize,
         size: usize,
@@ -103,7 +103,7 @@ impl<T: Drop, N: Copy + Default> Blocks<T, N> {
         &self,
         value: T,
         pass: &mut Pass,
-    ) -> Result<(ValueKey, Bare<Header<N>, Part, T>), (Refusal, T)>
+    ) -> Result<(ValueKey, Bare<Header, Part, T>), (Refusal, T)>
         requires { book_in self.now ≡ pass.old.name }
         ensures pass { pass.new ≡ pass.old }
         ensures made { IfOk result (λ made. IsBlockIn self.now value made.0 made.1) }
@@ -120,7 +120,7 @@ impl<T: Drop, N: Copy + Default> Blocks<T, N> {
     /// The block is lent: who finds its value in a link sees what lies there, by its number (`see`), and it comes back by its number when
     /// a slot's call is about to hand the value (`redeem`). The key is for another value of the block then, which stands for what is lent. The block is in
     /// nobody's hands until then. It does nothing when the program runs but for a look-up, and takes no memory.
-    pub fn lend(&self, key: &mut ValueKey, block: Bare<Header<N>, Part, T>)
+    pub fn lend(&self, key: &mut ValueKey, block: Bare<Header, Part, T>)
         requires block { IsBlockIn self.now (bare_value block) key.old block }
         ensures block { IsInBlockOf key.old key.new }
         ensures lent { LendsIn self.now key.new (bare_number block) (T.row.coded.code (bare_value block)) }
@@ -153,7 +153,7 @@ impl<T: Drop, N: Copy + Default> Blocks<T, N> {
         key: &mut ValueKey,
         slot: &mut SlotKey,
         pass: &mut Pass,
-    ) -> Bare<Header<N>, Part, T>
+    ) -> Bare<Header, Part, T>
         requires book { IsValueOf key.old pass.old × IsOf slot.old pass.old × (book_in self.now ≡ pass.old.name) }
         requires knows { Knows slot.old pass.old }
         requires soon { hands_next (slot_of slot.old) ≡ Some (value_of key.old) }
@@ -178,7 +178,7 @@ impl<T: Drop, N: Copy + Default> Blocks<T, N> {
         number: u64,
         key: &mut ValueKey,
         pass: &mut Pass,
-    ) -> Bare<Header<N>, Part, T>
+    ) -> Bare<Header, Part, T>
         requires book { IsValueOf key.old pass.old × (book_in self.now ≡ pass.old.name) }
         requires new { IsNextIn key.old number }
         requires lent { IsLentKey key.old }
@@ -194,7 +194,7 @@ impl<T: Drop, N: Copy + Default> Blocks<T, N> {
 
     /// The value of a block whose values were all reclaimed. Its chunk is in again, with the block's key, by one swap; where the store is
     /// gone, the chunk's memory goes back.
-    pub fn take_back(&self, key: ValueKey, block: Bare<Header<N>, Part, T>) -> T
+    pub fn take_back(&self, key: ValueKey, block: Bare<Header, Part, T>) -> T
         requires book { book_of key ≡ book_in self.now }
         requires vacant { IsVacated key }
         requires lies { LiesIn key block }
@@ -210,7 +210,7 @@ impl<T: Drop, N: Copy + Default> Blocks<T, N> {
     /// The header of the block with this number, which is that of a value that was named, as the pass has seen. The pass looks at the list.
     ///
     /// It takes no memory: three loads, each of which waits for the one before, with that of the word that is read in the header.
-    pub fn header(&self, number: u64, pass: &mut Pass) -> &Header<N>
+    pub fn header(&self, number: u64, pass: &mut Pass) -> &Header
         requires book { book_in self.now ≡ pass.old.name }
         requires named { HasNumber number (state_seen pass.old) }
         ensures looks { LooksOn pass.old pass.new }

@@ -8,13 +8,14 @@ ghost use Rattle.seize_book.specs.Tokens.{chunk_label};
 
 use crate::batch::Count;
 use crate::header::Field;
+use crate::note::Note;
 use seize_book::book::{BareKey, Book, ChunkKeys};
 use seize_content::TokenCell;
 use seize_store::{Labelled, Maker};
 
 /// The header of a chunk: the words of its block, which stay there for good. Its label says the book, and the home of the block's values.
 #[derive(Drop)]
-pub struct Header<N> {
+pub struct Header {
     /// The count of the batch whose first value lies in the block.
     pub count: Count,
     /// What comes next in the list of the slot for which a batch was inserted with the block.
@@ -22,7 +23,7 @@ pub struct Header<N> {
     /// The first block of that batch.
     pub first: Field,
     /// What is noted of the block, by who has the key of its values.
-    pub note: TokenCell<N>,
+    pub note: TokenCell<Note>,
     /// The book whose words they are.
     pub book: Book,
     ghost counted: { HasCount book count },
@@ -30,7 +31,7 @@ pub struct Header<N> {
     ghost its_first: { HasField first_field book count first },
 }
 
-impl<N> Labelled for Header<N> {
+impl Labelled for Header {
     ghost label = { λ header. chunk_label header.book.name (home header.count) header.note.name };
 }
 
@@ -49,11 +50,11 @@ impl Labelled for Part {
 }
 
 /// Each chunk has a block of its own: the words of its header are new, and no value of the block was ever named.
-impl<N: Copy + Default> Maker<Header<N>, Part> for Book {
+impl Maker<Header, Part> for Book {
     ghost family = { λ book. book.name.family };
 
-    fn make(&self, _number: usize) -> (Header<N>, Part) {
-        let (note, token) = TokenCell::new(N::default());
+    fn make(&self, _number: usize) -> (Header, Part) {
+        let (note, token) = TokenCell::new(Note::new());
         let ChunkKeys {
             value,
             count,

@@ -12,6 +12,7 @@ pub mod chunk;
 pub mod glimpse;
 pub mod header;
 pub mod link;
+pub mod note;
 pub mod reservation;
 pub mod slots;
 pub mod total;

@@ -21,18 +21,18 @@ use std::marker::Brand;
 
 /// The words of one book, whose blocks have values of type `T`. Threads share them by `&`.
 #[derive(Drop)]
-pub struct Words<T, N> {
+pub struct Words<T> {
     /// The links, by their numbers.
     pub links: Links,
     /// The slots that there are, with their heads, by their numbers.
     pub slots: Slots,
     /// The blocks, with their counts and fields, by their numbers.
-    pub blocks: Blocks<T, N>,
+    pub blocks: Blocks<T>,
     ghost linked: { links_name links ≡ book_in blocks },
     ghost slotted: { slots_book slots ≡ book_in blocks },
 }
 
-impl<T: Drop, N: Copy + Default> Words<T, N> {
+impl<T: Drop> Words<T> {
     ghost use Rattle.std.specs.Prelude.{ℕ, ◌<◌, ◌⊎◌, IfErr, IfOk, Some, false, true};
     ghost use Rattle.seize_machine.specs.Machine.Event.{Enter, Insert, ReadHead, SwapOut};
     ghost use Rattle.seize_machine.specs.Machine.State.{is_idle};
@@ -60,7 +60,7 @@ impl<T: Drop, N: Copy + Default> Words<T, N> {
         capacity: usize,
         links: usize,
         size: usize,
-    ) -> Result<(Words<T, N>, NumbersKey, NextSlot), Refusal>
+    ) -> Result<(Words<T>, NumbersKey, NextSlot), Refusal>
         ensures made { IfOk result (λ opened. OpensWords opened.0 opened.1 opened.2 links size) }
         ensures refused { IfErr result (λ e. ((e ≡ NoNumbers) × (MAX_INDEX < capacity)) ⊎ (e ≡ NoMemory)) }
     {
@@ -81,7 +81,7 @@ impl<T: Drop, N: Copy + Default> Words<T, N> {
         capacity: usize,
         links: usize,
         size: usize,
-    ) -> Result<(Words<T, N>, Pass, NumbersKey, NextSlot), Refusal>
+    ) -> Result<(Words<T>, Pass, NumbersKey, NextSlot), Refusal>
         ensures made { IfOk result (λ opened. OpensWordsAlone opened.0 opened.1 opened.2 opened.3 links size) }
         ensures refused { IfErr result (λ e. ((e ≡ NoNumbers) × (MAX_INDEX < capacity)) ⊎ (e ≡ NoMemory)) }
     {
@@ -95,7 +95,7 @@ impl<T: Drop, N: Copy + Default> Words<T, N> {
 
     // A book whose blocks lie in this store, and whose heads lie in this table.
     fn open<K: Keeps>(
-        _store: &Store<Header<N>, Part, T>,
+        _store: &Store<Header, Part, T>,
         _table: &ThreadLocal<Reservation>,
         unopened: Unopened,
         links: usize,
@@ -110,7 +110,7 @@ impl<T: Drop, N: Copy + Default> Words<T, N> {
 
     // The same, with its one pass.
     fn open_alone<K: Keeps>(
-        _store: &Store<Header<N>, Part, T>,
+        _store: &Store<Header, Part, T>,
         _table: &ThreadLocal<Reservation>,
         unopened: Unopened,
         links: usize,
@@ -127,12 +127,12 @@ impl<T: Drop, N: Copy + Default> Words<T, N> {
     // made with.
     fn of(
         alloc: Global,
-        store: Store<Header<N>, Part, T>,
+        store: Store<Header, Part, T>,
         table: ThreadLocal<Reservation>,
         book: Book,
         keys: BookKeys,
         links: usize,
-    ) -> Result<(Words<T, N>, NumbersKey, NextSlot), Refusal>
+    ) -> Result<(Words<T>, NumbersKey, NextSlot), Refusal>
         requires lie { IsStoreOf store book × (book.name.table ≡ Some (name_of table)) }
         requires keys { (size : ℕ) × HasKeys book keys links size book.name.store book.name.table }
         ensures made { IfOk result (λ made. (made.0.blocks.book ≡ book) × (made.1 ≡ keys.numbers) × HasNext made.1 made.2) }

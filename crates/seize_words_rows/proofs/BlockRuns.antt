@@ -189,7 +189,7 @@ is_named n pass stage v sees named = ap (λ (m : Name). has v (after (start m) p
 
 -- The header that is found by the number of a value is that of its block.
 
-pub header_at : (n : Name) (key : SlotKey) (pass pass' : Pass) (s : ℕ) (stage : Stage) (v number : ℕ) {N : Type 0} (header : Header N) → LooksOn pass pass' → Sees n pass stage → Knows n key s stage → has v stage.state.named ≡ true → block_of v ≡ number
+pub header_at : (n : Name) (key : SlotKey) (pass pass' : Pass) (s : ℕ) (stage : Stage) (v number : ℕ) (header : Header) → LooksOn pass pass' → Sees n pass stage → Knows n key s stage → has v stage.state.named ≡ true → block_of v ≡ number
     → IsHeaderOf header number pass' → (home_of v ≡ header_home header) × Sees n pass' stage
 header_at n key pass pass' s stage v number header looks sees knows named numbered its =
     let after = looks_on n key key pass pass' s stage looks refl sees knows in

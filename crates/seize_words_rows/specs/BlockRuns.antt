@@ -49,7 +49,7 @@ Two = ℕ × ℕ
 abbrev pub both : Two → List ℕ
 both p = p.0 ∷ p.1 ∷ []
 
-pub record IsIn (n : Name) (block : Bare (Header (Unit {0})) Part ℕ) (v : ℕ) : Type 0 where
+pub record IsIn (n : Name) (block : Bare Header Part ℕ) (v : ℕ) : Type 0 where
   pub number : block_of v ≡ bare_number block
   pub label : label_at n (home_of v) ≡ bare_label block
   pub fits : bare_number block + 2 < 2 ^ 64
@@ -62,7 +62,7 @@ AreAllIn n [] [] = Unit {0}
 AreAllIn n (pair ∷ pairs) (p ∷ ps) = AreIn n pair p × AreAllIn n pairs ps
 AreAllIn n _ _ = ⊥
 
-abbrev IsNew : Name → Bare (Header (Unit {0})) Part ℕ → ValueKey → Type 0
+abbrev IsNew : Name → Bare Header Part ℕ → ValueKey → Type 0
 IsNew n block key = (others.book_of key ≡ n) × IsNextIn key (bare_number block) × LiesIn key block × (bare_number block + 2 < 2 ^ 64)
 
 abbrev pub AreNew : Name → Pair → ValueKey → ValueKey → Type 0
@@ -250,7 +250,7 @@ pub record AreReady (keys : ValueKeys) (pass : Pass) : Type 0 where
   pub gone : (v : ℕ) → Contains (values.values_of keys) v → has v (state_seen pass).gone ≡ true
 
 -- the first of these values lies in this block, which is of the book
-abbrev pub LiesFirst : Name → ValueKeys → Bare (Header (Unit {0})) Part ℕ → Type 0
+abbrev pub LiesFirst : Name → ValueKeys → Bare Header Part ℕ → Type 0
 LiesFirst n keys block = (v : ℕ) × (vs : List ℕ) × (values.values_of keys ≡ v ∷ vs) × IsIn n block v
 
 -- the first of some values is left out

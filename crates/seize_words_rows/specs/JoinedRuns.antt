@@ -93,11 +93,11 @@ pub record IsInside (n : Name) (key : SlotKey) (s : ℕ) (a : Activation) : Type
   pub active : is_active (head_at last.state s) ≡ true
   pub its : IsLastOf key a
 
-abbrev pub IsLinked : Shared → Bare (Header (Unit {0})) Part ℕ → Pass → Type 0
+abbrev pub IsLinked : Shared → Bare Header Part ℕ → Pass → Type 0
 IsLinked words block pass = let n = words_book words in (v : ℕ) × IsIn n block v × Sees n pass (linked v)
 
 -- the value of this block came out, with this key
-abbrev pub IsOut : Shared → Bare (Header (Unit {0})) Part ℕ → ValueKey → Pass → Type 0
+abbrev pub IsOut : Shared → Bare Header Part ℕ → ValueKey → Pass → Type 0
 IsOut words block key pass =
     let n = words_book words in IsIn n block (value_of key) × (book_of key ≡ n) × Sees n pass (left 0 (value_of key))
 

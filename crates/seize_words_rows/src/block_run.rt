@@ -28,8 +28,8 @@ use std::alloc::Global;
 /// Two blocks, whose values make a batch.
 #[derive(Drop)]
 pub struct Pair {
-    pub first: Bare<Header<()>, Part, u64>,
-    pub second: Bare<Header<()>, Part, u64>,
+    pub first: Bare<Header, Part, u64>,
+    pub second: Bare<Header, Part, u64>,
 }
 
 /// A batch that is not inserted yet: its blocks, and the keys of the values in them.
@@ -43,7 +43,7 @@ pub struct Batch {
 #[derive(Drop)]
 pub struct Run {
     pub heads: Heads,
-    pub blocks: Blocks<u64, ()>,
+    pub blocks: Blocks<u64>,
 }
 
 /// A store of blocks, and two slots, of which the first has entered. It gives the key of the slot that reads with its activation, the key
@@ -88,7 +88,7 @@ fn make_slots(maker: Maker, pass: &mut Pass) -> (SlotKey, Activation, SlotKey, H
 
 /// Two blocks with these values, and their keys. Nothing comes where a growth of the store was refused, and no block stays out then.
 pub fn take(
-    blocks: &Blocks<u64, ()>,
+    blocks: &Blocks<u64>,
     one: u64,
     other: u64,
     pass: &mut Pass,
@@ -280,9 +280,9 @@ pub fn walk_on(
 
 // Lays the block of the first of these values back, and gives what lay in it.
 fn lay_back(
-    blocks: &Blocks<u64, ()>,
+    blocks: &Blocks<u64>,
     values: &mut ValueKeys,
-    block: Bare<Header<()>, Part, u64>,
+    block: Bare<Header, Part, u64>,
     pass: &mut Pass,
 ) -> u64
     requires ready { AreReady values.old pass.old × (blocks_book blocks.now ≡ pass.old.name) }

@@ -42,7 +42,7 @@ pub struct Entered {
 }
 
 /// The words of a new book, and what its slots are made with. Nothing comes where memory was refused.
-pub fn open(alloc: Global) -> Option<(Words<u64, ()>, Source)>
+pub fn open(alloc: Global) -> Option<(Words<u64>, Source)>
     ensures { IfSome result (λ opened. CanMake opened.1 opened.0 × (made_by opened.1 ≡ 0)) }
 {
     let Ok((words, numbers, next)) = Words::new(alloc, 0, LINKS as usize, 32) else {
@@ -61,7 +61,7 @@ pub fn open(alloc: Global) -> Option<(Words<u64, ()>, Source)>
 ///
 /// What came out was not retired, so its block can't go back, and its chunk stays out: the memory of such rows is never given back.
 pub fn put_in(
-    words: &Words<u64, ()>,
+    words: &Words<u64>,
     link: usize,
     value: u64,
     activation: &Activation,
@@ -80,7 +80,7 @@ pub fn put_in(
 }
 
 /// Takes out what the link holds. It gives its word.
-pub fn take_out(words: &Words<u64, ()>, link: usize, activation: &Activation, pass: &mut Pass) -> u64
+pub fn take_out(words: &Words<u64>, link: usize, activation: &Activation, pass: &mut Pass) -> u64
     requires within { (words_book words.now ≡ pass.old.name) × IsInAt activation.now pass.old link }
     ensures goes_on { GoesOn pass.old pass.new }
 {
@@ -90,7 +90,7 @@ pub fn take_out(words: &Words<u64, ()>, link: usize, activation: &Activation, pa
 
 /// Leaves. It says whether nothing was waiting: then the call is over.
 pub fn leave(
-    words: &Words<u64, ()>,
+    words: &Words<u64>,
     slot: usize,
     activation: Activation,
     key: &mut SlotKey,
@@ -110,7 +110,7 @@ pub fn leave(
 
 // Begins to leave, and swaps the head out. It gives the head's word.
 fn swap_out(
-    words: &Words<u64, ()>,
+    words: &Words<u64>,
     slot: usize,
     activation: Activation,
     key: &mut SlotKey,
@@ -129,7 +129,7 @@ fn swap_out(
 // Enters, swaps the value of a new block into the link, and leaves. It gives the word that it put in and that of what came out. Nothing
 // comes where memory was refused, or where something waited.
 fn swap_once(
-    words: &Words<u64, ()>,
+    words: &Words<u64>,
     link: usize,
     value: u64,
     slot: usize,
@@ -150,7 +150,7 @@ fn swap_once(
 }
 
 // Reads the link until it holds something. It says whether it ever did.
-fn wait_for(words: &Words<u64, ()>, link: usize, activation: &Activation, pass: &mut Pass) -> bool
+fn wait_for(words: &Words<u64>, link: usize, activation: &Activation, pass: &mut Pass) -> bool
     requires within { (words_book words.now ≡ pass.old.name) × IsInAt activation.now pass.old link }
     ensures goes_on { GoesOn pass.old pass.new }
 {
@@ -165,7 +165,7 @@ fn wait_for(words: &Words<u64, ()>, link: usize, activation: &Activation, pass: 
 
 impl Source {
     /// Makes the next slot. Nothing comes where the growth of the table was refused.
-    pub fn make(self, words: &Words<u64, ()>) -> Option<(Entrant, Source)>
+    pub fn make(self, words: &Words<u64>) -> Option<(Entrant, Source)>
         requires can { CanMake self words.now }
         ensures may { IfSome result (λ made. MayEnter words.now made.0) }
         ensures made { IfSome result (λ made. HasOneMore self made.1 words.now) }
@@ -196,7 +196,7 @@ impl Source {
 impl Entrant {
     /// Enters, swaps the value of a new block into a link, and leaves, so often, with one link after the other. It gives the sum of the
     /// words that it put in, less those that came out, modulo 2^64. Nothing comes where memory was refused, or something waited.
-    pub fn swap_many(self, words: &Words<u64, ()>, turns: u64) -> Option<u64>
+    pub fn swap_many(self, words: &Words<u64>, turns: u64) -> Option<u64>
         requires may { MayEnter words.now self }
     {
         let Entrant {
@@ -214,7 +214,7 @@ impl Entrant {
     }
 
     /// Enters, and takes out what each link holds. It gives the sum of the words, modulo 2^64, and how many links held something.
-    pub fn empty_links(self, words: &Words<u64, ()>) -> (u64, u64)
+    pub fn empty_links(self, words: &Words<u64>) -> (u64, u64)
         requires may { MayEnter words.now self }
     {
         let Entrant {
@@ -233,7 +233,7 @@ impl Entrant {
     }
 
     /// Enters, swaps a value into one link, reads the other until that holds something, and leaves. It says whether it ever did.
-    pub fn swap_and_wait(self, words: &Words<u64, ()>, into: usize, from: usize) -> bool
+    pub fn swap_and_wait(self, words: &Words<u64>, into: usize, from: usize) -> bool
         requires may { MayEnter words.now self }
         requires links { (into < 8) × (from < 8) }
     {
@@ -249,7 +249,7 @@ impl Entrant {
     }
 
     /// Enters, and swaps a value into the link. It gives the word that it put in, and 0 where memory was refused.
-    pub fn enter_and_put(self, words: &Words<u64, ()>, link: usize) -> (Entered, u64)
+    pub fn enter_and_put(self, words: &Words<u64>, link: usize) -> (Entered, u64)
         requires may { MayEnter words.now self }
         requires link { link < 8 }
         ensures may { MayReadAll words.now result.0 }
@@ -277,7 +277,7 @@ pub fn meet(one: &mut Entered, two: &mut Entered)
 }
 
 /// Reads the link under another slot's activation, with a pass that has seen that begin. It gives the word.
-pub fn read_under(words: &Words<u64, ()>, link: usize, activation: &Activation, pass: Pass) -> u64
+pub fn read_under(words: &Words<u64>, link: usize, activation: &Activation, pass: Pass) -> u64
     requires may { HasLinks words.now × MayRead words.now activation.now pass }
     requires link { link < 8 }
 {

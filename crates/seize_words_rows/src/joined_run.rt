@@ -25,7 +25,7 @@ use std::alloc::Global;
 
 /// The words of a new book with two links, and two slots. It gives the key of the slot that finds, that of the other one, and the one pass.
 /// Nothing comes where memory was refused.
-pub fn begin(alloc: Global) -> Option<(Words<u64, ()>, SlotKey, SlotKey, Pass)>
+pub fn begin(alloc: Global) -> Option<(Words<u64>, SlotKey, SlotKey, Pass)>
     ensures words { IfSome result (λ begun. HasTwo begun.0) }
     ensures finder { IfSome result (λ begun. Knows (words_book begun.0) begun.1 0 one_made) }
     ensures other { IfSome result (λ begun. Leads (words_book begun.0) begun.3 begun.2 1 two_made) }
@@ -39,7 +39,7 @@ pub fn begin(alloc: Global) -> Option<(Words<u64, ()>, SlotKey, SlotKey, Pass)>
 
 // Makes the slot that finds, and the other one.
 fn make_slots(
-    words: &Words<u64, ()>,
+    words: &Words<u64>,
     numbers: NumbersKey,
     next: NextSlot,
     pass: &mut Pass,
@@ -61,7 +61,7 @@ fn make_slots(
 
 /// Both slots enter.
 pub fn enter(
-    words: &Words<u64, ()>,
+    words: &Words<u64>,
     finder: &mut SlotKey,
     other: &mut SlotKey,
     pass: &mut Pass,
@@ -80,11 +80,11 @@ pub fn enter(
 /// The value goes into a block of the store, and that into link 1. It gives the link's word before, and the block. Nothing comes where a
 /// growth of the store was refused.
 pub fn put_in(
-    words: &Words<u64, ()>,
+    words: &Words<u64>,
     value: u64,
     activation: &Activation,
     pass: &mut Pass,
-) -> Option<(u64, Bare<Header<()>, Part, u64>)>
+) -> Option<(u64, Bare<Header, Part, u64>)>
     requires words { HasTwo words.now × HasBegun words.now activation.now pass.old 1 }
     requires sees { Sees (words_book words.now) pass.old both_in }
     ensures found { IfSome result (λ put. (put.0 ≡ 0) × (bare_value put.1 ≡ value)) }
@@ -102,8 +102,8 @@ pub fn put_in(
 
 /// The slot that finds reads both links.
 pub fn find(
-    words: &Words<u64, ()>,
-    _block: &Bare<Header<()>, Part, u64>,
+    words: &Words<u64>,
+    _block: &Bare<Header, Part, u64>,
     activation: &Activation,
     pass: &mut Pass,
 ) -> (u64, u64)
@@ -121,8 +121,8 @@ pub fn find(
 /// An exchange at link 1 that takes it to be empty, and so loses. What would have gone in is in hand again: its block goes back into the
 /// store. It gives the word that was found, and the value. Nothing comes where a growth of the store was refused.
 pub fn lose(
-    words: &Words<u64, ()>,
-    _block: &Bare<Header<()>, Part, u64>,
+    words: &Words<u64>,
+    _block: &Bare<Header, Part, u64>,
     value: u64,
     activation: &Activation,
     pass: &mut Pass,
@@ -144,8 +144,8 @@ pub fn lose(
 
 /// An exchange at link 1 of what was found there, which wins: the value comes out. It gives the word that was found, and the value's key.
 pub fn take_out(
-    words: &Words<u64, ()>,
-    block: &Bare<Header<()>, Part, u64>,
+    words: &Words<u64>,
+    block: &Bare<Header, Part, u64>,
     activation: &Activation,
     pass: &mut Pass,
 ) -> (u64, ValueKey)
@@ -162,7 +162,7 @@ pub fn take_out(
 
 /// The slot leaves, after those with lower numbers. Nothing waits for it.
 pub fn leave(
-    words: &Words<u64, ()>,
+    words: &Words<u64>,
     slot: usize,
     activation: Activation,
     key: &mut SlotKey,

@@ -87,7 +87,7 @@ fn words_have_eight_bytes(rt: HostRuntime) {
 // A chunk's header is its block's three words.
 #[test]
 fn a_header_has_three_words(rt: HostRuntime) {
-    assert_eq!(rt; size_of::<Header<()>>(), 24);
+    assert_eq!(rt; size_of::<Header>(), 24);
 }
 
 // Slots are made one after the other, and whoever loads the total knows how many there are.

@@ -1,7 +1,8 @@
 //! The key of a count. It is `Keys` with one key.
 ghost use Rattle.std.specs.Prelude.{◌≡◌, true};
+ghost use base.Stored.{Gv-set, gnil};
 ghost use Rattle.seize_book.specs.Book.{counts};
-ghost use Rattle.seize_book.specs.Private.{is_one, label_of};
+ghost use Rattle.seize_book.specs.Private.{is_one, label_of, note_of};
 
 use crate::book::keys::Keys;
 
@@ -13,4 +14,5 @@ pub struct CountKey {
     pub keys: Keys,
     ghost one: { is_one counts keys.held ≡ true },
     ghost unlabelled: { label_of keys.held ≡ 0 },
+    ghost unnoted: { note_of keys.held ≡ gnil } by { Gv-set (note_of keys.held) gnil },
 }

@@ -1,7 +1,8 @@
 //! The key of a head. It is `Keys` with one key.
 ghost use Rattle.std.specs.Prelude.{◌≡◌, true};
+ghost use base.Stored.{Gv-set, gnil};
 ghost use Rattle.seize_book.specs.Book.{heads};
-ghost use Rattle.seize_book.specs.Private.{is_one, label_of};
+ghost use Rattle.seize_book.specs.Private.{is_one, label_of, note_of};
 
 use crate::book::keys::Keys;
 
@@ -12,4 +13,5 @@ pub struct HeadKey {
     pub keys: Keys,
     ghost one: { is_one heads keys.held ≡ true },
     ghost unlabelled: { label_of keys.held ≡ 0 },
+    ghost unnoted: { note_of keys.held ≡ gnil } by { Gv-set (note_of keys.held) gnil },
 }

@@ -73,7 +73,7 @@ fn each_thread_sees_what_the_other_put_in(rt: HostRuntime) {
 // Two threads swap. It gives the sum of the words put in, less those that came out.
 fn swap_both<R: Threads + Wait + Sync>(
     rt: &R,
-    words: &Words<u64, ()>,
+    words: &Words<u64>,
     a: Entrant,
     b: Entrant,
 ) -> Option<u64>
@@ -93,7 +93,7 @@ fn swap_both<R: Threads + Wait + Sync>(
 
 fn swap_all<R: Threads + Wait + Sync>(
     rt: &R,
-    words: &Words<u64, ()>,
+    words: &Words<u64>,
     first: (Entrant, Entrant),
     last: (Entrant, Entrant),
 ) -> Option<u64>
@@ -143,7 +143,7 @@ fn four_threads_lose_and_invent_no_block(rt: HostRuntime) {
 // Two threads enter, and put a value into a link each. It gives the words too.
 fn enter_both<R: Threads + Wait + Sync>(
     rt: &R,
-    words: &Words<u64, ()>,
+    words: &Words<u64>,
     a: Entrant,
     b: Entrant,
 ) -> ((Entered, u64), (Entered, u64))
@@ -166,7 +166,7 @@ fn enter_both<R: Threads + Wait + Sync>(
 // Their passes meet, and then each of two threads reads with the pass of one of them, under the activation of the other, what that put in.
 fn read_both<R: Threads + Wait + Sync>(
     rt: &R,
-    words: &Words<u64, ()>,
+    words: &Words<u64>,
     one: Entered,
     two: Entered,
 ) -> (u64, u64)

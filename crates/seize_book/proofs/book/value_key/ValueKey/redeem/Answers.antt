@@ -1,5 +1,5 @@
 use Rattle.std.proofs.Common.{sym, ◌∙◌}
-use Rattle.seize_book.proofs.Renames.{may_redeem, next_after, others_still, renamed_free, renamed_home, renamed_place, renames_first, was_lent}
+use Rattle.seize_book.proofs.Renames.{may_redeem, next_after, others_still, renamed_free, renamed_cell, renamed_home, renamed_place, renames_first, was_lent}
 use Rattle.seize_book.proofs.book.value_key.ValueKey.redeem.Goals as goal
 
 pub redeem-lent-requires : goal.redeem-lent-requires
@@ -18,7 +18,7 @@ returns-clause-value c =
 pub returns-clause-block : goal.returns-clause-block
 returns-clause-block c =
     let a = c.args.self.now.keys in let b = c.args.slot.now.keys in let all = c.join.new.self in let lent = c.redeem-lent.new.self in let out = c.redeem-lent.result in let part = c.part.new in
-    let is = renames_first a b all c.join.new.other lent part.self part.other out.0 out.1 c.args.self.now.one c.join.ensures c.redeem-lent.ensures.1 c.part.ensures in (is.book, renamed_home c.args.self.now part.self is)
+    let is = renames_first a b all c.join.new.other lent part.self part.other out.0 out.1 c.args.self.now.one c.join.ensures c.redeem-lent.ensures.1 c.part.ensures in (is.book, renamed_home c.args.self.now part.self is, renamed_cell c.args.self.now part.self is)
 
 pub returns-clause-free : goal.returns-clause-free
 returns-clause-free c =

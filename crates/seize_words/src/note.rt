@@ -1,0 +1,24 @@
+//! Notes: what the holder of the key of a block's values keeps beside the block, in plain memory of its chunk, while others may see the value.
+
+/// What is noted of a block by its owner of the moment. Who retires a value notes what comes next in its batch, and so whoever is given the
+/// batch finds its blocks one after the other; a batch takes no memory.
+#[derive(Clone, Copy, PartialEq, Eq, Debug)]
+pub struct Note {
+    /// The number of the block whose value comes next in the batch.
+    pub next: u64,
+    /// The number of the slot at which the batch is to be inserted with the block.
+    pub slot: usize,
+    /// What the owner adds: which reclaimer the value is for.
+    pub kept: u64,
+}
+
+impl Note {
+    /// Nothing is noted.
+    pub fn new() -> Note {
+        Note {
+            next: 0,
+            slot: 0,
+            kept: 0,
+        }
+    }
+}
