@@ -6,11 +6,10 @@ use base.Fraction.{full_share}
 use base.Share
 use base.Stored.{Gv}
 use base.Logic.{SProp, ent, sep, wand, ex, all, guard, upd, upd_i, apply∗}
-use base.Before.{before}
 use base.Fml.{Lft, Share, Fml, ftrue, flft, fbor, fnamed}
 use types.Logic.{Logic, sem}
 use types.Tokens.{name_agree}
-use types.Kit.{‵, raw, ◌⊛◌, some as exists, given as when, later, ◌$◌, ◌∵◌, !, qed, move, keep, drop, split, group, join, fsplit, fjoin, fpick, fpack, pick, learn, show, check, each, assume, frame, suffices, settle, use1, use2, rewrite, updating, await, now, done}
+use types.Kit.{‵, raw, ◌⊛◌, some as exists, given as when, later, ◌$◌, ◌∵◌, !, qed, move, drop, split, group, fsplit, fjoin, fpick, fpack, pick, learn, show, check, each, assume, frame, suffices, settle, use1, use2, rewrite, updating, await, now, done}
 use denote.Memory.{part_at}
 use denote.RattleType.{RattleType}
 use denote.RawPtr.{block_ptr}
@@ -18,7 +17,6 @@ use denote.Steps.{nothing}
 use contract.Shared.{Lends-one}
 use contract.Running.{Running}
 use prog.Model.{Model}
-use Rattle.seize_content.specs.Contents.{fact}
 use Rattle.seize_content.specs.Cells.{Turn, there, away, turn_coded, token_says, cell_says, cell_token, lying, lies, turned, turning, cell_shares}
 use Rattle.seize_content.proofs.Places.{opened}
 

@@ -9,7 +9,7 @@ use Rattle.seize_content.specs.contracts.ticket.Site as site
 use Rattle.seize_content.specs.contracts.ticket.Space as space
 use Rattle.seize_content.specs.contracts.ticket.Start as start
 use Rattle.seize_content.specs.contracts.ticket.Ticket as ticket
-use Rattle.seize_content.specs.contracts.token_cell.CellToken as cell_token
+use Rattle.seize_content.specs.contracts.token_cell.CellToken as right
 use Rattle.seize_content.proofs.Fields.{token, hand}
 
 abbrev pub no_bytes : {D : Type 0} → D → List Val
@@ -24,7 +24,7 @@ site_tells d vs is = is.0.1.0 ∙ (λ i. vstruct (of_list (is.0.1.1.0.1.0 i ++ [
 pub start_tells : Tells start.the_row (Is start.the_row) no_bytes
 start_tells d vs is = is.0.1.0 ∙ (λ i. vstruct (of_list (is.0.1.1.0.1.0 i ++ [])) ∷ [])
 
-pub cell_token_tells : Tells cell_token.the_row (Is cell_token.the_row) no_bytes
+pub cell_token_tells : Tells right.the_row (Is right.the_row) no_bytes
 cell_token_tells d vs is = is.0.1.0 ∙ (λ i. vstruct (of_list (is.0.1.1.0.1.0 i ++ [])) ∷ [])
 
 pub pool_tells : Tells pool.the_row (Is pool.the_row) no_bytes

@@ -1,10 +1,10 @@
 -- A cell whose value lies in place, and its token. Threads share the cell by `&`; whoever has the token reads and writes the value.
 --     CellName            what a cell is in a clause: its name, which nothing else has
---     Turn                there g: the value lies there and has the code g;  away r: it is in the token holder's hands, who left the share r
---                         of the sharing's lifetime for it, so that it is back before that lifetime ends
+--     Turn                there g: the value lies there and has the code g;  away r: the token's holder has it, and left the share r of the
+--                         sharing's lifetime for it, so that it is back before that lifetime ends
 --     cell_token γ g      the token of the cell γ, whose value has the code g. It knows nothing of the value's type
 --     cell_owns R γ f     a cell by value, with the fields f x for the value x of row R;  cell_shares    what a `&` to it is
-use Rattle.core.specs.Prelude.{◌≡◌, ℕ, [], ◌∷◌}
+use Rattle.core.specs.Prelude.{◌≡◌, ℕ}
 use Rattle.std.specs.Coded.{code_by}
 use mathlib.Core.Logic.{◌⊎◌, inl, inr}
 use mathlib.Core.Path.{refl, sym, ap, ◌∙◌}

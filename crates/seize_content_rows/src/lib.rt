@@ -2,6 +2,7 @@
 //! own type.
 #![tactic(auto)]
 
+pub mod cells;
 pub mod life;
 pub mod node;
 pub mod seen;

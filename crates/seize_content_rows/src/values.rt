@@ -1,4 +1,4 @@
-//! Values that count their ends.
+//! Values that count their ends, and values that are copied.
 use std::sync::atomic::{AtomicU64, Ordering};
 
 /// A value with a name of its own, which counts its end.
@@ -12,4 +12,11 @@ impl Drop for Counted<'_> {
         let Counted { ends, name: _ } = self;
         ends.fetch_add(1, Ordering::SeqCst);
     }
+}
+
+/// What the owner of a block has in its header.
+#[derive(Clone, Copy)]
+pub(crate) struct Fields {
+    pub(crate) next: u64,
+    pub(crate) slot: u32,
 }

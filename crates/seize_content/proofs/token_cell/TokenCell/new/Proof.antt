@@ -1,5 +1,5 @@
 -- `new` begins a name, and lays the value beside the cell's half of it.
-use Rattle.seize_content.proofs.Kit.{◌≡◌, ℕ, List, [], ◌∷◌, ◌++◌, refl, sym, subst, true, proved_at, leaves, Val, SProp, ent, emp, id⊢, Fml, ftrue, fsep, flft, ‵, raw, ◌⊛◌, ◌$◌, ◌∵◌, !, qed, by, move, keep, split, join, fsplit, fjoin, fpack, feq_i, rewrite, use0, use2, suffices, of_opd, no_more, and_then, returns, enter, alloc_all, pass_all, free_all, look_at, get, sets, agg, fact, fact_i, tables, no, RattleType, Valss, owns, types_at, plain, nothing, Stays, stay_dropped, walk_of, Goes-dropped}
+use Rattle.seize_content.proofs.Kit.{◌≡◌, List, [], ◌∷◌, ◌++◌, refl, sym, subst, true, proved_at, leaves, Val, SProp, ent, emp, id⊢, ftrue, flft, ‵, raw, ◌⊛◌, ◌$◌, ◌∵◌, !, qed, by, move, keep, split, fsplit, fjoin, fpack, feq_i, rewrite, use0, use2, suffices, of_opd, no_more, and_then, returns, enter, alloc_all, pass_all, free_all, look_at, get, sets, agg, fact, fact_i, tables, no, RattleType, Valss, owns, types_at, plain, nothing, Stays, stay_dropped, walk_of, Goes-dropped}
 use Rattle.std.proofs.Common.{◌&&◌, T}
 use mir.Syntax.{a_type}
 use mir.Val.{has_ty, WT}

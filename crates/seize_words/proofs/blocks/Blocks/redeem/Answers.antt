@@ -7,7 +7,7 @@ use Rattle.seize_book.specs.Books.{IsNextAfter}
 use Rattle.seize_book.specs.Homesteads.{HasNumber, state_seen}
 use Rattle.seize_book.specs.Others.{book_of, value_of}
 use Rattle.seize_book.specs.Passes.{LooksOn}
-use Rattle.seize_book.specs.Tokens.{Name, label_at}
+use Rattle.seize_book.specs.Tokens.{Name, chunk_label}
 use Rattle.seize_book.specs.declared.book.pass.Pass.{Pass}
 use Rattle.seize_book.specs.declared.book.slot_key.SlotKey.{SlotKey}
 use Rattle.seize_words.specs.Chunks.{book_in}
@@ -57,7 +57,7 @@ returns-clause-block g c =
         book = book;
         next = subst (IsNextAfter key' v) (c.requires.lent.1 ∙ sym title.0) redeemed.ensures.value;
         lies =
-            ap (λ (t : Name × ℕ). label_at t.0 t.1) (λ j. ((book ∙ sym (looks.same.0 ∙ sym c.requires.book.2)) j, redeemed.ensures.block.1 j))
+            ap (λ (t : Name × (ℕ × ℕ)). chunk_label t.0 t.1.0 t.1.1) (λ j. ((book ∙ sym (looks.same.0 ∙ sym c.requires.book.2)) j, (redeemed.ensures.block.1 j, redeemed.ensures.block.2 j)))
             ∙ (sym label ∙ ap (λ (t : Known × ℕ). label_in t.0.chunks (entry_of t.0.row t.1)) (sym its));
         content = redeemed.ensures.place ∙ (sym content ∙ ap (λ (t : Known × ℕ). content_in t.0.chunks (entry_of t.0.row t.1)) (sym its));
         free = redeemed.ensures.free;
