@@ -13,6 +13,7 @@ pub mod Makes
 pub mod Taken
 pub mod Links
 pub mod LinkRows
+pub mod Noted
 pub mod Joined
 pub mod Exchanges
 pub mod Exchanged

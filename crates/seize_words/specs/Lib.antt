@@ -14,6 +14,7 @@ pub mod LinkRows
 pub mod Reserved
 pub mod Chunk
 pub mod Chunks
+pub mod Noted
 pub mod Walks
 pub mod Named
 pub mod Joined

@@ -5,6 +5,7 @@ ghost use Rattle.seize_store.specs.Named.{name_of};
 
 use crate::chunk::{Header, Part};
 use crate::glimpse::Glimpse;
+use crate::note::Note;
 use seize_book::book::{Book, BookKeys, Keeps, Pass, SlotKey, Unopened, ValueKey, ValueKeys};
 use seize_store::{Bare, Store};
 use seize_table::Refusal;
@@ -28,6 +29,8 @@ impl<T: Drop> Blocks<T> {
     ghost use Rattle.seize_words.specs.Chunks.{IsBlockAfter, IsBlockIn, IsFoundAs, IsFoundAt, IsHeaderOf, IsLentAs, LendsIn, LiesIn, OpensAloneIn, OpensIn, book_in};
     ghost use Rattle.seize_book.specs.Others.{IsLast, IsVacated, IsValueOf, book_of, value_of};
     ghost use Rattle.seize_book.specs.Blocks.{block_of};
+    ghost use Rattle.seize_book.specs.Notes.{HasNoted, IsUnchanged};
+    ghost use Rattle.seize_words.specs.Noted.{IsNoted, IsSeenAt, note_code};
     ghost use Rattle.seize_book.specs.Lending.{IsInBlockOf, IsLentKey};
     ghost use Rattle.seize_book.specs.Homesteads.{HasNumber, state_seen};
     ghost use Rattle.seize_words.specs.Headers.{IsFrontBlock};
@@ -221,6 +224,35 @@ impl<T: Drop> Blocks<T> {
         let header = place.header();
         pass.agree(&header.book);
         header
+    }
+
+    /// What is noted of the block with this number, whose value this key is for. The value was named, as the pass has seen. The pass looks
+    /// at the list.
+    ///
+    /// It takes no memory: a look-up, as `header`, and a plain read.
+    pub fn note(&self, number: u64, key: &mut ValueKey, pass: &mut Pass) -> Note
+        requires book { IsValueOf key.old pass.old × (book_in self.now ≡ pass.old.name) }
+        requires number { IsSeenAt key.old number pass.old }
+        ensures looks { LooksOn pass.old pass.new }
+        ensures same { IsUnchanged key.old key.new }
+        ensures note { IsNoted result key.old }
+    {
+        let header = self.header(number, pass);
+        key.note(&header.note)
+    }
+
+    /// Notes this of the block with this number, in the place of what was noted before. Whoever may see the block's value meanwhile sees
+    /// nothing of it. The pass looks at the list.
+    ///
+    /// It takes no memory: a look-up, as `header`, and a plain write.
+    pub fn set_note(&self, number: u64, note: Note, key: &mut ValueKey, pass: &mut Pass)
+        requires book { IsValueOf key.old pass.old × (book_in self.now ≡ pass.old.name) }
+        requires number { IsSeenAt key.old number pass.old }
+        ensures looks { LooksOn pass.old pass.new }
+        ensures noted { HasNoted (note_code note) key.old key.new }
+    {
+        let header = self.header(number, pass);
+        key.set_note(&header.note, note);
     }
 
     /// Counts down the next batch of a walk, to which this word leads: that of the slot's head as it came out, or what the step before

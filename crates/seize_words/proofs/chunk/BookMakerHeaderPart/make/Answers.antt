@@ -7,4 +7,4 @@ use Rattle.seize_words.proofs.chunk.BookMakerHeaderPart.make.Goals as goal
 
 -- src/chunk.rt:52:5
 pub returns-clause-kin : goal.returns-clause-kin
-returns-clause-kin c = left_pair c.again.result.name.family (pair (home c.new-2.result) c.new.result.0.name) ∙ ap (λ (n : Name). n.family) c.again.ensures.0
+returns-clause-kin c = left_pair c.again.result.name.family (pair (home c.new-2.result) c.new-note.result.0.name) ∙ ap (λ (n : Name). n.family) c.again.ensures.0
