@@ -304,11 +304,11 @@ module _ (value : ValueKey) (pool : Pool) (lent : Keys) (is : Lends value.keys p
 pub may_redeem : (value : ValueKey) (slot : SlotKey) (pass : Pass) (both : Keys) → value.keys.name ≡ pass.name → slot.keys.name ≡ pass.name → both.name ≡ value.keys.name → both.held ≡ value.keys.held ++ slot.keys.held
     → hands_next (slot_of slot) ≡ Some (value_of value) → IsLentKey value → MayRedeem both pass
 may_redeem value slot pass both book of name held soon lent = (
-    name ∙ book,
-    subst (IsHandedBy pass.name) (sym (held ∙ ap (λ (t : List (Held Entry) × List (Held Entry)). t.0 ++ t.1) (λ j. (only_is blocks value.keys.held value.one j, only_is slots slot.keys.held slot.one j)))) (
-        refl,
-        refl,
-        lent,
-        subst (λ (n : Name). hands_next (slot_at (after (start n) (own_list slot)) (number_of slot)) ≡ Some (value_of value)) of soon,
-    ),
-  )
+  name ∙ book,
+  subst (IsHandedBy pass.name) (sym (held ∙ ap (λ (t : List (Held Entry) × List (Held Entry)). t.0 ++ t.1) (λ j. (only_is blocks value.keys.held value.one j, only_is slots slot.keys.held slot.one j)))) (
+    refl,
+    refl,
+    lent,
+    subst (λ (n : Name). hands_next (slot_at (after (start n) (own_list slot)) (number_of slot)) ≡ Some (value_of value)) of soon,
+  ),
+)

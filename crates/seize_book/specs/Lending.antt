@@ -6,7 +6,7 @@
 --                                       which the pool's content is lent
 --     IsHandedBy n held                 there are two keys: one of a block, with whose value something is lent, and one of a slot, whose
 --                                       call is about to hand this value;  MayRedeem keys pass   these are such, of the pass's book
---     Redeems keys keys' ticket pool    the ticket is that of the pool, which is of what was lent with the first key's value; and see Renames
+--     Redeems keys keys' ticket pool    the ticket is that of the pool, which is of what was lent with the first's value; and see Renames
 --     IsInBlockOf value value'          it is of a value in the same block of the same book
 --     GoesWith value pool               the pool's content is lent with the value
 --     IsFreeKey value, IsLentKey value  nothing is lent with it;  something is

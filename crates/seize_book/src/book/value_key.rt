@@ -32,8 +32,8 @@ impl ValueKey {
     ghost use Rattle.seize_book.specs.Slots.{IsOf, IsStill, hands_next, slot_of};
 
     /// The key is for the next value of its block then, which words hold by the same number. The last one was reclaimed, as the pass has
-    /// seen. Where something is lent with the last one, `redeem` and `settle` do this, and it is lost here. The pass and the key look at the
-    /// list with no event.
+    /// seen. Where something is lent with the last one, `redeem` and `settle` do this, and it is lost here. The pass and the key look at
+    /// the list with no event.
     pub fn next(&mut self, pass: &mut Pass)
         requires book { IsValueOf self.old pass.old }
         requires last { IsLast self.old × HasGone self.old pass.old }
@@ -80,8 +80,8 @@ impl ValueKey {
         lent
     }
 
-    /// The key's value is the next of its block, as after `next`, when the one before was handed too, as the pass has seen. The pass and the
-    /// key look at the list with no event.
+    /// The key's value is the next of its block, as after `next`, when the one before was handed too, as the pass has seen. The pass and
+    /// the key look at the list with no event.
     pub fn settle(&mut self, pass: &mut Pass)
         requires book { IsValueOf self.old pass.old }
         requires handed { MaySettle self.old pass.old }
