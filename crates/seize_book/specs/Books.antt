@@ -93,7 +93,7 @@ abbrev pub IsFirstIn : ValueKey → ℕ → Type 0
 IsFirstIn value number =
     IsNextIn value number × ((w : ℕ) → home_of w ≡ home_of (value_of value) → has w (state_of value.keys).named ≡ false)
 
--- it was never named, all others than this last one that were ever named in its block were reclaimed, and words hold the block by this number
+-- it was never named, all others than this last one that were named in its block were reclaimed, and words hold the block by this number
 abbrev pub IsNextAfter : ValueKey → ℕ → ℕ → Type 0
 IsNextAfter value last number =
     (is_named value ≡ false) × IsLastIn last (state_of value.keys) × (home_of (value_of value) ≡ home_of last)

@@ -11,15 +11,22 @@ use Rattle.seize_table.specs.Place.{IsPlace}
 use Rattle.seize_table.proofs.Pairs.{left_pair, right_pair}
 use Rattle.seize_book.specs.Blocks.{block_of}
 use Rattle.seize_book.specs.Book.{after}
+use Rattle.seize_book.specs.Books.{IsNextIn}
 use Rattle.seize_book.specs.Homes.{home_of}
 use Rattle.seize_book.specs.Homesteads.{AreAt, state_seen}
-use Rattle.seize_book.specs.Loans.{cell_of, place_of}
+use Rattle.seize_book.specs.Loans.{CarriesNone, cell_of, place_of}
+use Rattle.seize_book.specs.Others.{FollowsValue, value_of}
 use Rattle.seize_book.specs.Passes.{LooksOn}
 use Rattle.seize_book.specs.Tokens.{Name, chunk_label, label_at, start}
 use Rattle.seize_book.specs.declared.book.pass.Pass.{Pass}
-use Rattle.seize_machine.proofs.Facts.{gone_named}
-use Rattle.seize_book.proofs.Lists.{reached_after}
-use Rattle.seize_book.proofs.Sound.{gone_later, named_later}
+use Rattle.seize_book.specs.declared.book.value_key.ValueKey.{ValueKey}
+use Rattle.seize_store.specs.declared.bare.Bare.{Bare}
+use Rattle.seize_words.specs.Chunks.{IsBlockAfter, IsBlockIn}
+use Rattle.seize_words.specs.declared.blocks.Blocks.{Blocks}
+use Rattle.seize_words.specs.declared.chunk.Header.{Header}
+use Rattle.seize_words.specs.declared.chunk.Part.{Part}
+use Rattle.seize_book.proofs.Renames.{follows_value}
+use Rattle.seize_book.proofs.Sound.{named_later}
 
 -- labels that are equal say one family and one home
 
@@ -64,15 +71,23 @@ found_content known pass number homes placed v named is =
     ap (λ (k : ℕ). content_in known.chunks (entry_of known.row k)) (sym is)
     ∙ (homes v named (subst (λ (k : ℕ). IsPlace k known.row (entry_of known.row k)) (sym is) placed)).1
 
--- a value that was reclaimed was named
-pub gone_seen : (pass pass' : Pass) (v : ℕ) → LooksOn pass pass' → has v (state_seen pass).gone ≡ true → has v (state_seen pass').named ≡ true
-gone_seen pass pass' v looks gone =
-    subst (λ (n : Name). has v (after (start n) pass'.seen).named ≡ true) (sym looks.same.0)
-    (gone_named (after (start pass.name) pass'.seen) (reached_after pass.name pass'.seen looks.distinct looks.legal) v
-    (gone_later (start pass.name) pass.seen pass'.seen v looks.grows looks.legal gone))
-
 -- a number of the store fits into a word beside 2
 pub number_fits : (known : Known) (number : ℕ) → IsPlace number known.row (entry_of known.row number) → number + 2 < 2 ^ 64
 number_fits known number placed =
     let row : known.row < 59 = known.made.0 in let below : 2 ^ (known.row + 5) ≤ 2 ^ 63 = pow_mono {i = known.row + 5} {j = 63} (omega (arith, row)) in
     let is = placed.place in let within = placed.within in omega (arith, below, is, within)
+
+-- a block that came back by `redeem` is as one that was added, once its key is settled
+pub settles_block : {T : Type 0} (last : ℕ) (blocks : Blocks T) (value : T) (key key' : ValueKey) (block : Bare Header Part T) (pass' : Pass) → IsBlockAfter last blocks value key block
+    → FollowsValue key pass' key' → IsNextIn key' (block_of (value_of key)) → IsBlockIn blocks value key' block
+settles_block last blocks value key key' block pass' is follows next = let same : value_of key' ≡ value_of key = follows_value key key' pass' follows in
+    record {
+      holds = is.holds;
+      store = is.store;
+      book = follows.0 ∙ is.book;
+      next = subst (IsNextIn key') (is.next.3) next;
+      lies = ap (λ (t : Name × ℕ). label_at t.0 (home_of t.1)) (λ j. (follows.0 j, same j)) ∙ is.lies;
+      content = ap place_of same ∙ is.content;
+      free = subst CarriesNone (sym same) is.free;
+      fits = is.fits;
+    }

@@ -35,13 +35,17 @@ pub use Rattle.seize_book.proofs.Written.{plans_used}
 pub use Rattle.seize_words.proofs.Inserts.{detached_named, knows_used, looked_named, own_reached}
 -- what a sight shows by a value's name is what was lent with the value
 pub use Rattle.seize_words.proofs.Contents.{same_content}
-pub use Rattle.seize_book.proofs.Hands.{hands_soon}
+-- what is known of a value that a slot's call is about to hand, and when it was handed: what was lent with it comes back in between, and then
+-- the key may be settled
+pub use Rattle.seize_book.proofs.Hands.{hands_gone, hands_soon, settles_after, soon_named}
+pub use Rattle.seize_book.proofs.Renames.{follows_value}
+pub use Rattle.seize_words.proofs.Chunked.{settles_block}
 -- with a value that was named something is lent, if the blocks of its book lie in a store
 pub use Rattle.seize_book.proofs.LentValues.{gone_lent, lent_key, named_lent}
--- a value that was named stays so
-pub use Rattle.seize_book.proofs.Sound.{named_later}
+-- a value that was named stays so, and one that was reclaimed
+pub use Rattle.seize_book.proofs.Sound.{gone_later, named_later}
 -- looks, a slot's key, and the walk of its call, in what the key knows later
-pub use Rattle.seize_words.proofs.Traversals.{batch_next, hand_leaves, knows_noted, knows_still, looks_twice, same_key, walk_kept, word_stays}
+pub use Rattle.seize_words.proofs.Traversals.{batch_next, hand_leaves, handing_named, knows_noted, knows_still, looks_twice, same_key, walk_kept, word_stays}
 use Rattle.seize_book.proofs.Plans.{AllLess, blocks_stay, legal_prefix, plan_stays, plans_append, plans_long, saw_there, tried_there}
 use Rattle.seize_words.proofs.Stepped.{life_push}
 use Rattle.seize_words.specs.declared.activation.Activation.{Activation}

@@ -5,8 +5,8 @@
 --     OpensIn blocks keys links size    a new book, to which many may append, with so many links, which are empty, and its keys;  see Opens
 --     OpensAloneIn blocks pass keys links size     the same of a book to which this pass alone may append
 --     LiesIn key block                  the key is that of the values of this block
---     IsBlockAs Is blocks value key block     it is one of these blocks and has the value, and the key is for a value in it of which this is
---                                       so for the block's number, and for the content of its chunk; nothing is lent with it
+--     IsBlockAs Is blocks value key block     it is one of these blocks and has the value, and the key is for a value in it of which this
+--                                       is so, by the block's number, and for the content of its chunk; nothing is lent with it
 --     IsBlockIn blocks value key block  and the key's is the next value of the block;  IsBlockAfter last blocks value key block   it is so
 --                                       once the last one was reclaimed
 --     IsLentAs v g                      a value of code g is lent with v

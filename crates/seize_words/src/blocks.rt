@@ -121,8 +121,8 @@ impl<T: Drop> Blocks<T> {
     }
 
     /// The block is lent: who finds its value in a link sees what lies there, by its number (`see`), and it comes back by its number when
-    /// a slot's call is about to hand the value (`redeem`). The key is for another value of the block then, which stands for what is lent. The block is in
-    /// nobody's hands until then. It does nothing when the program runs but for a look-up, and takes no memory.
+    /// a slot's call is about to hand the value (`redeem`). The key is for another value of the block then, which stands for what is lent.
+    /// The block is in nobody's hands until it comes back. It does nothing when the program runs but for a look-up, and takes no memory.
     pub fn lend(&self, key: &mut ValueKey, block: Bare<Header, Part, T>)
         requires block { IsBlockIn self.now (bare_value block) key.old block }
         ensures block { IsInBlockOf key.old key.new }

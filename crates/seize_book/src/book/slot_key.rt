@@ -202,7 +202,8 @@ impl SlotKey {
     }
 
     /// Looks at the list with no event, where the slot's call is about to hand a value to its reclaimer. What `hand` says of the value then
-    /// holds already: it was not handed before, and nobody sees it any more. So its reclaimer may have it before that names further ones.
+    /// holds already: it was not handed before, and nobody sees it any more. So what is lent with it comes back now (`ValueKey::redeem`),
+    /// and its reclaimer may have it before that names further ones.
     pub fn about_to_hand(&mut self, pass: &mut Pass)
         requires book { IsOf self.old pass.old }
         requires next { is_some (hands_next (slot_of self.old)) ≡ true }

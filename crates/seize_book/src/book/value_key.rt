@@ -34,7 +34,8 @@ impl ValueKey {
     ghost use Rattle.seize_book.specs.Slots.{IsOf, IsStill, hands_next, slot_of};
 
     /// The key is for the next value of its block then, which words hold by the same number. The last one was reclaimed, as the pass has
-    /// seen. The pass and the key look at the list with no event.
+    /// seen. Where something is lent with the last one, `redeem` and `settle` do this, and it is lost here. The pass and the key look at
+    /// the list with no event.
     pub fn next(&mut self, pass: &mut Pass)
         requires book { IsValueOf self.old pass.old }
         requires last { IsLast self.old × HasGone self.old pass.old }
@@ -62,7 +63,7 @@ impl ValueKey {
 
     /// The content that is lent with the value comes back, when the slot's call is about to hand the value to its reclaimer: whoever found
     /// it in a link has left or refreshed since, so nobody sees it any more. The key is for another value of its block then, with which
-    /// nothing is lent. It may be named when the value before it was handed (`settle`).
+    /// nothing is lent, and which may be named when this one was handed (`settle`).
     pub fn redeem(&mut self, slot: &mut SlotKey, pass: &mut Pass) -> (Ticket, Pool)
         requires book { IsValueOf self.old pass.old × IsOf slot.old pass.old }
         requires soon { hands_next (slot_of slot.old) ≡ Some (value_of self.old) }
@@ -81,8 +82,8 @@ impl ValueKey {
         lent
     }
 
-    /// The key is as `next` makes it, when the value was handed with which it was redeemed, as the pass has seen. The pass and the key look
-    /// at the list with no event.
+    /// The key's value is the next of its block, as after `next`, when the one before was handed too, as the pass has seen. The pass and
+    /// the key look at the list with no event.
     pub fn settle(&mut self, pass: &mut Pass)
         requires book { IsValueOf self.old pass.old }
         requires handed { MaySettle self.old pass.old }
