@@ -34,7 +34,7 @@ pub use Rattle.seize_book.proofs.Written.{plans_used}
 -- what a call knows that has still to insert its batch
 pub use Rattle.seize_words.proofs.Inserts.{detached_named, knows_used, looked_named, own_reached}
 -- what a sight shows by a value's name is what was lent with the value
-pub use Rattle.seize_words.proofs.Contents.{same_content}
+pub use Rattle.seize_words.proofs.Contents.{is_lent, same_content}
 pub use Rattle.seize_book.proofs.Hands.{hands_soon}
 -- with a value that was named something is lent, if the blocks of its book lie in a store
 pub use Rattle.seize_book.proofs.LentValues.{gone_lent, lent_key, named_lent}

@@ -6,6 +6,7 @@ ghost use Rattle.seize_words.specs.Reservations.{IsLastOf};
 ghost use Rattle.seize_words_rows.specs.Entrants.{CanMake, GoesOn, HasLinks, HasOneMore, IsOutOrOver, MayCross, MayEnter, MayRead, MayReadAll, made_by};
 ghost use Rattle.seize_words_rows.specs.Leaves.{IsInside, IsOutside};
 
+use crate::block_run::lend;
 use crate::exchanges::TURNS;
 use seize_words::activation::Activation;
 use seize_words::book::{NumbersKey, Pass, SlotKey};
@@ -56,7 +57,7 @@ pub fn open(alloc: Global) -> Option<(Words<u64>, Source)>
     Some((words, source))
 }
 
-/// Swaps the value of a new block into the link. It gives the word that it put in and that of what came out. Nothing comes where a growth
+/// Swaps the value of a new block, which is lent, into the link. It gives the word that it put in and that of what came out. Nothing comes where a growth
 /// of the store was refused, and then nothing was put in.
 ///
 /// What came out was not retired, so its block can't go back, and its chunk stays out: the memory of such rows is never given back.
@@ -70,10 +71,10 @@ pub fn put_in(
     requires within { (words_book words.now ≡ pass.old.name) × IsInAt activation.now pass.old link }
     ensures goes_on { GoesOn pass.old pass.new }
 {
-    let Ok((key, block)) = words.blocks.add(value, pass) else {
+    let Ok((mut key, block)) = words.blocks.add(value, pass) else {
         return None;
     };
-    let word = block.number() as u64 + 1;
+    let word = lend(&words.blocks, &mut key, block).number + 1;
     let mut value = MaybeKey::some(key);
     let old = words.swap_link(link, word, &mut value, activation, pass);
     Some((word, old))
