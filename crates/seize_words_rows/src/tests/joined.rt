@@ -46,7 +46,7 @@ fn a_block_goes_through_a_link(rt: HostRuntime) {
     );
 }
 
-// Each of two threads swaps a value into one link and then waits for that of the other: it holds only where both run.
+// Each of two threads swaps a value into one link, and then waits for that of the other and sees it: it holds only where both run.
 #[test]
 fn each_thread_sees_what_the_other_put_in(rt: HostRuntime) {
     let Some((words, source)) = open(rt.alloc()) else {
@@ -61,14 +61,14 @@ fn each_thread_sees_what_the_other_put_in(rt: HostRuntime) {
     let words = &words;
     let (saw_1, saw_2) = thread::join(
         &rt,
-        move || -> bool
+        move || -> Option<u64>
             requires { MayEnter words.now one }
-        { one.swap_and_wait(words, 0, 1) },
-        move || -> bool
+        { one.swap_and_wait(words, 0, 1, 70) },
+        move || -> Option<u64>
             requires { MayEnter words.now two }
-        { two.swap_and_wait(words, 1, 0) },
+        { two.swap_and_wait(words, 1, 0, 71) },
     );
-    assert!(rt; saw_1 && saw_2);
+    assert_eq!(rt; (saw_1, saw_2), (Some(71), Some(70)));
 }
 
 // Two threads swap. It gives the sum of the words put in, less those that came out.

@@ -41,8 +41,8 @@ module _ (words : Shared) (lent : Lent) (a : Activation) (pass mid pass' : Pass)
       steps_at n link a pass mid (λ _. ReadLink a.slot (number link)) w one 0 first (linked v) sees (linked v) (Link_ None)
       (said_of (linked v) (linked v) (Link_ None) (λ s l. ReadLink s l) a.slot (number link) 0 0 slot first (reads_first v))
 
-  then_ : Sees n pass' (linked v)
-  then_ =
+  both_read : Sees n pass' (linked v)
+  both_read =
       steps_at n other a mid pass' (λ _. ReadLink a.slot (number other)) w' two 1 second (linked v) between (linked v) (Link_ (Some v))
       (said_of (linked v) (linked v) (Link_ (Some v)) (λ s l. ReadLink s l) a.slot (number other) 0 1 slot second (reads_second v))
 
@@ -57,7 +57,7 @@ module _ (words : Shared) (lent : Lent) (a : Activation) (pass mid pass' : Pass)
   found its glimpse is = record {
     value = v;
     is = is ∙ held;
-    named = is_named n pass' (linked v) v then_ (has_among [] v []);
+    named = is_named n pass' (linked v) v both_read (has_among [] v []);
     numbered = let shows = word in omega (arith, shows);
     lent = is_lent v (u64.coded.code lent.value) its.code;
   }
@@ -65,7 +65,7 @@ module _ (words : Shared) (lent : Lent) (a : Activation) (pass mid pass' : Pass)
 pub see-value-requires : goal.see-value-requires
 see-value-requires c =
     let words = c.args.words.now in let is = c.requires.linked in let one = c.read_link-first in let two = c.read_link-second in let first = one.ensures.sees in let second = two.ensures.sees in let a = c.args.activation.now in let pass = c.args.pass.now in let slot = c.requires.words.1.1 in
-    let sees = then_ words c.args.lent a pass one.new.pass two.new.pass first.0 second.0 is.0 one.result.0 two.result.0 is.2 slot first.1.1 second.1.1 first.2.0 second.2.0 in
+    let sees = both_read words c.args.lent a pass one.new.pass two.new.pass first.0 second.0 is.0 one.result.0 two.result.0 is.2 slot first.1.1 second.1.1 first.2.0 second.2.0 in
     let at = found words c.args.lent a pass one.new.pass two.new.pass first.0 second.0 is.0 one.result.0 two.result.0 is.2 slot first.1.1 second.1.1 first.2.0 second.2.0 is.1 two.result.1 second.2.1 in
     (omega arith, (sym sees.book, at))
 
@@ -86,5 +86,5 @@ returns-clause-seen c =
 pub returns-clause-linked : goal.returns-clause-linked
 returns-clause-linked c =
     let words = c.args.words.now in let is = c.requires.linked in let one = c.read_link-first in let two = c.read_link-second in let three = c.see-value in let first = one.ensures.sees in let second = two.ensures.sees in
-    let sees = then_ words c.args.lent c.args.activation.now c.args.pass.now one.new.pass two.new.pass first.0 second.0 is.0 one.result.0 two.result.0 is.2 c.requires.words.1.1 first.1.1 second.1.1 first.2.0 second.2.0 in
+    let sees = both_read words c.args.lent c.args.activation.now c.args.pass.now one.new.pass two.new.pass first.0 second.0 is.0 one.result.0 two.result.0 is.2 c.requires.words.1.1 first.1.1 second.1.1 first.2.0 second.2.0 in
     (is.0, is.1, sees_on (words_book words) two.new.pass three.new.pass (linked is.0) three.ensures.looks sees)
