@@ -290,7 +290,8 @@ pub fn leave(
 }
 
 /// The reader counts down the batch to which the word leads, and is given its values, which it hands to their reclaimers. Then the blocks
-/// are in hand again, and go back into the store with their keys. It gives the values, and the word that leads on through the rest of the walk.
+/// are in hand again, and go back into the store with their keys. It gives the values, and the word that leads on through the rest of the
+/// walk.
 pub fn walk_on(
     run: &Run,
     before: Option<&Pair>,

@@ -57,8 +57,8 @@ pub fn open(alloc: Global) -> Option<(Words<u64>, Source)>
     Some((words, source))
 }
 
-/// Swaps the value of a new block, which is lent, into the link. It gives the word that it put in and that of what came out. Nothing comes where a growth
-/// of the store was refused, and then nothing was put in.
+/// Swaps the value of a new block, which is lent, into the link. It gives the word that it put in and that of what came out. Nothing comes
+/// where a growth of the store was refused, and then nothing was put in.
 ///
 /// What came out was not retired, so its block can't go back, and its chunk stays out: the memory of such rows is never given back.
 pub fn put_in(

@@ -75,8 +75,8 @@ pub fn enter(
     (first, second)
 }
 
-/// The value goes into a block of the store, which is lent, and that into link 1. It gives the link's word before, and what is lent. Nothing
-/// comes where a growth of the store was refused.
+/// The value goes into a block of the store, which is lent, and that into link 1. It gives the link's word before, and what is lent.
+/// Nothing comes where a growth of the store was refused.
 pub fn put_in(
     words: &Words<u64>,
     value: u64,

@@ -293,8 +293,14 @@ fn blocks_of_two_batches_are_laid_back(rt: HostRuntime) {
     };
     assert_eq!(rt; pair.first.number, front);
     let block_run::Pair { first, second } = pair;
-    assert_eq!(rt; block_run::give_back(&run.blocks, one, first, &mut pass), 74);
-    assert_eq!(rt; block_run::give_back(&run.blocks, other, second, &mut pass), 75);
+    assert_eq!(rt;
+        block_run::give_back(&run.blocks, one, first, &mut pass),
+        74
+    );
+    assert_eq!(rt;
+        block_run::give_back(&run.blocks, other, second, &mut pass),
+        75
+    );
     drop((reader, retirer, run));
 }
 

@@ -12,9 +12,9 @@ use std::thread::Threads;
 // How often each thread swaps.
 const SWAPS: u64 = 5_000;
 
-// Two slots enter by their heads in the table. A value in a block of the store, which is lent, goes into one of two links, is found and seen
-// there, stays where an exchange loses, and comes out where one wins. What was lent for the exchange that loses is had back. Both slots
-// leave, and nothing waited.
+// Two slots enter by their heads in the table. A value in a block of the store, which is lent, goes into one of two links, is found and
+// seen there, stays where an exchange loses, and comes out where one wins. What was lent for the exchange that loses is had back. Both
+// slots leave, and nothing waited.
 #[test]
 fn a_block_goes_through_a_link(rt: HostRuntime) {
     let Some((words, mut finder, mut other, mut pass)) = joined_run::begin(rt.alloc()) else {
