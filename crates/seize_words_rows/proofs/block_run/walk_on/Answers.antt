@@ -1,12 +1,11 @@
-use Rattle.std.proofs.Common.{◌∷◌, [], sym, subst, ap, ◌∙◌}
+use Rattle.std.proofs.Common.{◌∷◌, [], sym, ap, ◌∙◌}
 use Rattle.std.specs.Prelude.{is_some}
 use Rattle.seize_machine.specs.Machine.State.{Slot}
 use Rattle.seize_machine.specs.Machine.Event.{Hand}
 use Rattle.seize_machine.specs.declared.machine.event.Answer.TheVariants.{Handed}
 use Rattle.seize_book.specs.Slots.{hands_next}
-use Rattle.seize_book.specs.Tokens.{Name}
 use Rattle.seize_book.specs.Values.{values_of}
-use Rattle.seize_words_rows.specs.BlockRuns.{IsIn, at_walk, book_of, given_up, handed_one}
+use Rattle.seize_words_rows.specs.BlockRuns.{at_walk, book_of, given_up, handed_one}
 use Rattle.seize_words_rows.proofs.BlockRuns.{hands_first, hands_second}
 use Rattle.seize_words_rows.proofs.BlockWalks.{are_ready, gives, only_other, sees_on}
 use Rattle.seize_words_rows.proofs.Stages.{record_is, steps}

@@ -2,9 +2,7 @@ use Rattle.std.proofs.Common.{ℕ, Option, None, sym, ap, ◌∙◌, subst, arit
 use Rattle.seize_machine.specs.Machine.Event.{ExchangeLink}
 use Rattle.seize_machine.specs.declared.machine.event.Answer.TheVariants.{Link}
 use Rattle.seize_machine.specs.declared.machine.event.Exchange.TheVariants.{Swap}
-use Rattle.seize_book.specs.Homes.{home_of}
 use Rattle.seize_book.specs.Others.{value_of}
-use Rattle.seize_book.specs.Tokens.{Name, label_at}
 use Rattle.seize_book.specs.declared.book.keys.Keys.{Keys}
 use Rattle.seize_words.specs.Joined.{IsInAt, words_book}
 use Rattle.seize_book.specs.declared.book.pass.Pass.{Pass}
