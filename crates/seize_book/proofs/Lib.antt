@@ -33,6 +33,8 @@ pub mod Fronts
 pub mod Chains
 pub mod Serves
 pub mod Written
+pub mod Linked
+pub mod Lasts
 pub mod Values
 pub mod Apart
 pub mod Further

@@ -1,12 +1,14 @@
 -- Keys of several values.
-use Rattle.std.proofs.Common.{◌≡◌, ℕ, Bool, true, ◌&&◌, ◌==◌, List, [], ◌∷◌, ◌++◌, refl, ◌∙◌, ap, arith}
+use Rattle.std.proofs.Common.{◌≡◌, ℕ, Bool, true, ◌&&◌, ◌==◌, List, [], ◌∷◌, ◌++◌, Option, refl, ◌∙◌, ap, arith}
 use mathlib.Core.List.{cons≢nil}
 use Rattle.seize_machine.proofs.Facts.{and_true, eq_true}
 use Rattle.seize_book.specs.Book.{blocks, kinds}
 use Rattle.seize_book.specs.Entry.{Entry}
 use Rattle.seize_book.specs.Homes.{home_of}
 use Rattle.seize_book.specs.Ledger.{Held, WithKinds, renewed}
-use Rattle.seize_book.specs.Private.{AreKeysOf, are_of_blocks, labels_of}
+use Rattle.seize_book.specs.Private.{AreKeysOf, are_of_blocks, is_one, key_of, label_of, labels_of}
+use Rattle.seize_book.specs.declared.book.value_key.ValueKey.{ValueKey}
+use Rattle.seize_book.proofs.Linked.{are_later}
 
 -- keys of blocks are of a kind
 pub blocks_within : (vs : List (Held Entry)) → are_of_blocks vs ≡ true → WithKinds kinds vs
@@ -24,8 +26,8 @@ pub blocks_later : (vs : List (Held Entry)) (log : List Entry) → are_of_blocks
 blocks_later [] log = refl
 blocks_later (x ∷ vs) log = ap (λ (b : Bool). ((x.kind == blocks) && (x.key == home_of x.label)) && b) (blocks_later vs log)
 
-pub keys_later : (values : List ℕ) (vs : List (Held Entry)) (log : List Entry) → AreKeysOf values vs → AreKeysOf values (renewed vs log)
-keys_later values vs log are = (labels_later vs log ∙ are.0, blocks_later vs log ∙ are.1)
+pub keys_later : (store : Option (List ℕ)) (values : List ℕ) (vs : List (Held Entry)) (log : List Entry) → AreKeysOf store values vs → AreKeysOf store values (renewed vs log)
+keys_later store values vs log are = (labels_later vs log ∙ are.0, blocks_later vs log ∙ are.1, are_later store vs log ∙ are.2)
 
 pub none_of : (vs : List (Held Entry)) → labels_of vs ≡ [] → vs ≡ []
 none_of [] e = refl
@@ -39,3 +41,19 @@ labels_append (x ∷ a) b = ap (λ (ls : List ℕ). x.label ∷ ls) (labels_appe
 pub blocks_append : (a b : List (Held Entry)) → are_of_blocks a ≡ true → are_of_blocks b ≡ true → are_of_blocks (a ++ b) ≡ true
 blocks_append [] b h k = k
 blocks_append (x ∷ a) b h k = let both = and_true _ _ h in ap (λ (c : Bool). c && are_of_blocks (a ++ b)) both.0 ∙ blocks_append a b both.1 k
+
+pub blocks_apart : (a b : List (Held Entry)) → are_of_blocks (a ++ b) ≡ true → (are_of_blocks a ≡ true) × (are_of_blocks b ≡ true)
+blocks_apart [] b h = (refl, h)
+blocks_apart (x ∷ a) b h = let both = and_true _ _ h in let rest = blocks_apart a b both.1 in (ap (λ (c : Bool). c && are_of_blocks a) both.0 ∙ rest.0, rest.1)
+
+equal : (a b : ℕ) → a ≡ b → (a == b) ≡ true
+equal a b e = grind arith
+
+-- the key of one value is that of a block
+pub value_blocks : (value : ValueKey) → are_of_blocks value.keys.held ≡ true
+value_blocks value = go value.keys.held value.one value.home
+  where
+    go : (held : List (Held Entry)) → is_one blocks held ≡ true → key_of held ≡ home_of (label_of held) → are_of_blocks held ≡ true
+    go [] one home = refl
+    go (h ∷ []) one home = λ j. (one j && equal h.key (home_of h.label) home j) && true
+    go (h ∷ k ∷ held) one home = absurd (cc)

@@ -6,8 +6,8 @@
 --     Looks keys pass keys' pass'      the pass has seen a legal list, as in Before, and nothing was made with it; the keys know all of it;
 --                                      the links of the book's opening are distinct
 --     Joins keys other keys' other'    the other's keys come after its own, and the other has none
---     Parts keys keys' other'          the other has all but the first
-use Rattle.std.specs.Prelude.{◌≡◌, true, [], ◌++◌, take, drop}
+--     Parts keys keys' other'          the other has all but the first;  PartsLast keys keys' other'    the other has the last
+use Rattle.std.specs.Prelude.{◌≡◌, ℕ, suc, true, List, [], ◌∷◌, ◌++◌, take, drop}
 use Rattle.seize_machine.specs.Machine.Event.{Event}
 use Rattle.seize_machine.specs.Machine.State.{are_distinct, linked}
 use Rattle.seize_book.specs.Entry.{Deed}
@@ -43,3 +43,14 @@ Joins keys other keys' other' =
 abbrev pub Parts : Keys → Keys → Keys → Type 0
 Parts keys keys' other' =
     (keys'.name ≡ keys.name) × (other'.name ≡ keys.name) × (keys'.held ≡ take 1 keys.held) × (other'.held ≡ drop 1 keys.held)
+
+-- how many there are before the last
+abbrev pub before_last : {X : Type 0} → List X → ℕ
+before_last [] = 0
+before_last (x ∷ []) = 0
+before_last (x ∷ y ∷ xs) = suc (before_last (y ∷ xs))
+
+abbrev pub PartsLast : Keys → Keys → Keys → Type 0
+PartsLast keys keys' other' =
+    (keys'.name ≡ keys.name) × (other'.name ≡ keys.name) × (keys'.held ≡ take (before_last keys.held) keys.held)
+    × (other'.held ≡ drop (before_last keys.held) keys.held)

@@ -1,5 +1,5 @@
--- The words in which contracts speak of contents that are lent with values: before a value is named, when it was reclaimed, and where it is not
--- to be named after all.
+-- The words in which contracts speak of contents that are lent with values: before a value is named, when it was reclaimed, and where it
+-- was never named and is not to be.
 --     MayLend keys ticket pool          there is one key of a block, with whose value nothing is lent; and the ticket is that of the pool
 --     IsOfPlace n v ticket              the ticket is of the content that the block of the value v has in the store of book n, if it has
 --                                       one

@@ -9,6 +9,7 @@ pub mod Loans
 pub mod Tokens
 pub mod Begin
 pub mod Fair
+pub mod Linked
 pub mod Private
 pub mod Passes
 pub mod Adding

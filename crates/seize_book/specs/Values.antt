@@ -4,7 +4,10 @@
 --     IsEmpty keys pass, IsOfBook value keys     there are none, of the pass's book;  the value's key is of the same book
 --     IsKeyOfOne value keys          it is the value's alone
 --     Pushes keys value keys'        the value's key comes last
+--     LeadsTo keys value, LeadsOn keys other    the last key leads on to this one, or to the first of the others
+--     Appends keys other keys' other'   the others come after its own, and none are left there
 --     Nexts keys value keys'         the value's was the first, and the others are left
+--     Pops keys value keys'          the value's was the last, and the others are left
 --     AreStill keys keys'            they are the same, and know what they knew
 --     LieApart values                no two of them lie in one block
 --     AllNew n held, AreNew keys     each of the values was never named, and all that lay in its block before were reclaimed, as its key
@@ -19,6 +22,7 @@ use Rattle.seize_book.specs.Book.{after}
 use Rattle.seize_book.specs.Entry.{Entry}
 use Rattle.seize_book.specs.Homes.{IsVacant, home_of}
 use Rattle.seize_book.specs.Ledger.{Held, renewed}
+use Rattle.seize_book.specs.Linked.{are_joined}
 use Rattle.seize_book.specs.Others.{IsLastIn, IsSpent, book_of, value_of}
 use Rattle.seize_book.specs.Tokens.{Name, start, IsLentIn}
 use Rattle.seize_book.specs.Private.{labels_of}
@@ -49,6 +53,18 @@ Pushes keys value keys' =
     (book_in keys' ≡ book_in keys) × (values_of keys' ≡ values_of keys ++ value_of value ∷ [])
     × (keys'.keys.held ≡ keys.keys.held ++ value.keys.held)
 
+-- what is noted of the last one's block says the number of this block, where their blocks lie in a store
+abbrev pub LeadsTo : ValueKeys → ValueKey → Type 0
+LeadsTo keys value = are_joined (book_in keys).store keys.keys.held value.keys.held ≡ true
+
+abbrev pub LeadsOn : ValueKeys → ValueKeys → Type 0
+LeadsOn keys other = are_joined (book_in keys).store keys.keys.held other.keys.held ≡ true
+
+abbrev pub Appends : ValueKeys → ValueKeys → ValueKeys → ValueKeys → Type 0
+Appends keys other keys' other' =
+    (book_in keys' ≡ book_in keys) × (values_of keys' ≡ values_of keys ++ values_of other)
+    × (keys'.keys.held ≡ keys.keys.held ++ other.keys.held) × (book_in other' ≡ book_in other) × (other'.keys.held ≡ [])
+
 abbrev pub Nexts : ValueKeys → ValueKey → ValueKeys → Type 0
 Nexts keys value keys' =
     (book_in keys' ≡ book_in keys) × (book_of value ≡ book_in keys) × (values_of keys ≡ value_of value ∷ values_of keys')
@@ -59,6 +75,11 @@ AreStill keys keys' = keys'.keys ≡ keys.keys
 
 abbrev pub LieApart : List ℕ → Type 0
 LieApart values = are_distinct (map home_of values) ≡ true
+
+abbrev pub Pops : ValueKeys → ValueKey → ValueKeys → Type 0
+Pops keys value keys' =
+    (book_in keys' ≡ book_in keys) × (book_of value ≡ book_in keys) × (values_of keys ≡ values_of keys' ++ value_of value ∷ [])
+    × (keys.keys.held ≡ keys'.keys.held ++ value.keys.held)
 
 -- as each key knows, of its own value
 abbrev pub AllNew : Name → List (Held Entry) → Type 0

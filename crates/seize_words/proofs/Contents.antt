@@ -3,7 +3,8 @@ use Rattle.std.proofs.Common.{◌≡◌, ℕ, suc, refl, sym, ◌∙◌, ap, ari
 use base.Stored.{Gv, gnil, gnum, gcons}
 use Rattle.seize_table.specs.Pairs.{left_of, pair, right_of}
 use Rattle.seize_table.proofs.Pairs.{left_pair, right_pair}
-use Rattle.seize_book.specs.Loans.{Carries, number_of}
+use Rattle.seize_book.specs.Loans.{Carries, CarriesNone, number_of}
+use Rattle.seize_words.specs.Chunks.{IsLentAs}
 
 kinds : (a b c d : ℕ) → pair a b ≡ pair c d → a ≡ c
 kinds a b c d e = sym (left_pair a b) ∙ (ap left_of e ∙ left_pair c d)
@@ -31,3 +32,7 @@ same_content v c d g h one two = (
   sym one.0 ∙ two.0,
   same_code g h (let e : suc (number_of g) ≡ suc (number_of h) = sym one.1 ∙ two.1 in omega (arith, e)),
 )
+
+-- and where one of some code is lent, something is
+pub is_lent : (v : ℕ) (g : Gv) → IsLentAs v g → ¬ (CarriesNone v)
+is_lent v g lent none = let e : suc (number_of g) ≡ 0 = sym lent ∙ none in omega (arith, e)

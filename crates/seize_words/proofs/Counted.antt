@@ -1,5 +1,5 @@
 -- What is known after a step on a count's word by a slot's holder.
-use Rattle.std.proofs.Common.{◌≡◌, ℕ, zero, suc, ◌^◌, ◌<◌, arith, ℤ, pos, ◌-ℤ◌, Bool, true, false, not, ◌==◌, if◌then◌else◌, List, [], ◌∷◌, ◌++◌, take, Some, refl, sym, ◌∙◌, ap, subst, ◌⊎◌, inl, inr}
+use Rattle.std.proofs.Common.{◌≡◌, ℕ, zero, suc, ◌^◌, ◌<◌, arith, ℤ, pos, ◌-ℤ◌, Bool, true, false, not, ◌==◌, if◌then◌else◌, List, [], ◌∷◌, ◌++◌, take, Some, refl, sym, ◌∙◌, ap, subst, ◌⊎◌, inl, inr, Option}
 use Rattle.std.specs.Prelude.{drop, slice_index_or}
 use Rattle.std.specs.List.{Contains}
 use Rattle.std.proofs.lemmas.List.{get_or-set_same}
@@ -35,7 +35,9 @@ use Rattle.seize_book.proofs.Lists.{after_push, equal, reached_after, unequal}
 use Rattle.seize_book.proofs.Moves.{moves}
 use Rattle.seize_book.proofs.Plans.{plan_stays}
 use Rattle.seize_book.proofs.Private.{after_one, only, only_is}
-use Rattle.seize_book.proofs.Values.{keys_later, labels_later, none_of}
+use Rattle.seize_book.proofs.Values.{blocks_later, keys_later, labels_later, none_of}
+use Rattle.seize_book.proofs.Linked.{are_later, none_linked}
+use Rattle.seize_book.specs.Linked.{are_linked}
 
 -- a count's word, named by the pass's book
 pub is_at_count : (word : Site) (n : Name) → word.name ≡ n → word.kind ≡ counts → word ≡ at_count n word.number
@@ -88,7 +90,7 @@ module _ (k : ℕ) (key : SlotKey) (more held' : List (Held Entry)) (pass pass' 
   its_word = same pass.name k v pass.id pass.seen (key.keys.held ++ more) step.since step.log step.found
 
   -- the keys that stood beside the count
-  stood : AreKeysOf (deposit now k) step.since.1
+  stood : AreKeysOf pass.name.store (deposit now k) step.since.1
   stood = deposited pass.name k v pass.id pass.seen (key.keys.held ++ more) step.since step.log step.found
 
   -- the slot's key comes first afterwards, and then those that stood beside the count, if they were traded
@@ -265,15 +267,22 @@ module _ (k : ℕ) (key : SlotKey) (held' : List (Held Entry)) (pass pass' : Pas
   labels_are = ap labels_of others_are ∙ either (minus 1 v == 0) refl
     where
       either : (z : Bool) → (minus 1 v == 0) ≡ z → labels_of (renewed (if z then step.since.1 else []) pass'.seen) ≡ (if z then (batch_at before a.batch).values else [])
-      either true done = (keys_later _ step.since.1 pass'.seen (stood k key [] held' pass pass' (minus 1) v (SubCount (number_of key)) (λ v. minus 1 v == 0) step)).0 ∙ at_zero done
+      either true done = (keys_later pass.name.store _ step.since.1 pass'.seen (stood k key [] held' pass pass' (minus 1) v (SubCount (number_of key)) (λ v. minus 1 v == 0) step)).0 ∙ at_zero done
       either false done = refl
 
   pub all_blocks : are_of_blocks (drop 1 held') ≡ true
   all_blocks = ap are_of_blocks others_are ∙ either (minus 1 v == 0)
     where
       either : (z : Bool) → are_of_blocks (renewed (if z then step.since.1 else []) pass'.seen) ≡ true
-      either true = (keys_later _ step.since.1 pass'.seen (stood k key [] held' pass pass' (minus 1) v (SubCount (number_of key)) (λ v. minus 1 v == 0) step)).1
+      either true = (keys_later pass.name.store _ step.since.1 pass'.seen (stood k key [] held' pass pass' (minus 1) v (SubCount (number_of key)) (λ v. minus 1 v == 0) step)).1
       either false = refl
+
+  pub all_linked : are_linked pass.name.store (drop 1 held') ≡ true
+  all_linked = ap (are_linked pass.name.store) others_are ∙ either (minus 1 v == 0)
+    where
+      either : (z : Bool) → are_linked pass.name.store (renewed (if z then step.since.1 else []) pass'.seen) ≡ true
+      either true = (keys_later pass.name.store _ step.since.1 pass'.seen (stood k key [] held' pass pass' (minus 1) v (SubCount (number_of key)) (λ v. minus 1 v == 0) step)).2
+      either false = none_linked pass.name.store
 
 -- The steps as the calls on a count take them: with the slot's key and others joined, and the word as it is.
 
@@ -296,10 +305,14 @@ joined_step word key more both held' pass pass' f v event trades name kind joine
     subst (λ (t : Site × (List (Held Entry) × ℕ)). Stepped t.0 pass.id pass.seen pass'.seen t.1.0 held' [] v (f v) (entries pass 0 (λ v log. event t.1.1)) trades)
     (λ i. (is_at_count word pass.name name kind i, (joined i, number i))) step
 
--- keys that stay, or none, are of blocks
+-- keys that stay, or none, are of blocks, and lead on
 pub still_blocks : (done : Bool) (vs : List (Held Entry)) (log : List Entry) → are_of_blocks vs ≡ true → are_of_blocks (renewed (if done then vs else []) log) ≡ true
-still_blocks true vs log are = (keys_later (labels_of vs) vs log (refl, are)).1
+still_blocks true vs log are = blocks_later vs log ∙ are
 still_blocks false vs log are = refl
+
+pub still_linked : (store : Option (List ℕ)) (done : Bool) (vs : List (Held Entry)) (log : List Entry) → are_linked store vs ≡ true → are_linked store (renewed (if done then vs else []) log) ≡ true
+still_linked store true vs log are = are_later store vs log ∙ are
+still_linked store false vs log are = none_linked store
 
 -- those that came out know all that was seen
 pub renewed_twice : (done : Bool) (vs held : List (Held Entry)) (log : List Entry) → held ≡ renewed (if done then vs else []) log → held ≡ renewed held log

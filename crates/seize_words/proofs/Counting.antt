@@ -30,6 +30,7 @@ use Rattle.seize_book.proofs.Chains.{unled}
 use Rattle.seize_book.proofs.Counts.{batch_near, count_added, count_alone, count_near, count_subtracted, in_range, word_added, word_subtracted, word_zero}
 use Rattle.seize_book.proofs.Deposits.{deposit_added, deposit_subtracted}
 use Rattle.seize_book.proofs.Fronts.{added_held, front_grows, front_there, held_front, held_values, walked_held}
+use Rattle.seize_book.proofs.Linked.{none_linked}
 use Rattle.seize_book.proofs.Lists.{after_push, reached_after}
 use Rattle.seize_book.proofs.Plans.{plan_stays}
 use Rattle.seize_book.proofs.Private.{differ, only_is, makes_none, no_place}
@@ -93,8 +94,8 @@ module _ (n : Name) (k : ℕ) where
   pub same : (v p : ℕ) (seen : List Entry) (held : List (Held Entry)) (t : At) (log : List Entry) → FoundAs (at_count n k) v p seen held [] t log → v ≡ count_word (count_in (after st log) k)
   same v p seen held t log found = found.shows ∙ ap count_word found.before.kept.0.1.0
 
-  pub deposited : (v p : ℕ) (seen : List Entry) (held : List (Held Entry)) (t : At) (log : List Entry) → FoundAs (at_count n k) v p seen held [] t log → AreKeysOf (deposit (after st log) k) t.1
-  deposited v p seen held t log found = (found.stands.0 ∙ found.before.kept.0.1.1, found.stands.1)
+  pub deposited : (v p : ℕ) (seen : List Entry) (held : List (Held Entry)) (t : At) (log : List Entry) → FoundAs (at_count n k) v p seen held [] t log → AreKeysOf n.store (deposit (after st log) k) t.1
+  deposited v p seen held t log found = (found.stands.0 ∙ found.before.kept.0.1.1, found.stands.1, found.stands.2)
 
   -- One event of the slot that counts batch b, which is of this block. The holder has other keys after the slot's, and others stand beside
   -- the count.
@@ -127,7 +128,7 @@ module _ (n : Name) (k : ℕ) where
     )
 
     made : (trades : Bool) → Does st log (Made e) d → EndsAmong [] log (Made e) → w ≡ count_word (count_in (after st (log ++ Made e ∷ [])) k)
-        → AreKeysOf (deposit (after st (log ++ Made e ∷ [])) k) (renewed (if trades then more else vs) (log ++ Made e ∷ []))
+        → AreKeysOf n.store (deposit (after st (log ++ Made e ∷ [])) k) (renewed (if trades then more else vs) (log ++ Made e ∷ []))
         → IsStep (at_count n k) p held_all [] w (Made e) trades (since, vs) own log
     made trades does ends shows stands = record {
       fair = record { done = d; legal = does; covers = covers; names = names; one = none_named e.size (after st log) e.event d (step_of _ _ _ _ does) (λ j. c.home (after st log) j); leads = unled (after st log) (plans st log) (told log) e.event (λ j. c.head j); labels = no_labels n (pass_key p own ∷ in_step (at_count n k) held_all (since, vs)) e.size (after st log) e.event d (step_of _ _ _ _ does) (λ j. c.home (after st log) j); places = no_place (after st log) (pass_key p own ∷ in_step (at_count n k) held_all (since, vs)) (Made e) (makes_none (after st log) e.event c.used) };
@@ -142,7 +143,7 @@ module _ (n : Name) (k : ℕ) where
   MayStepAs : (p s : ℕ) (x : Tag) (seen slots_own : List Entry) (more : List (Held Entry)) (f : ℕ → ℕ) (e : Deed) (trades : ℕ → Bool) → Type 0
   MayStepAs p s x seen slots_own more f e trades =
       (v : ℕ) (t : At) (own log : List Entry) → FoundAs (at_count n k) v p seen (key s x slots_own ++ more) [] t log → Kept st TheSlot s slots_own log
-      → v ≡ count_word (count_in (after st log) k) → AreKeysOf (deposit (after st log) k) t.1
+      → v ≡ count_word (count_in (after st log) k) → AreKeysOf n.store (deposit (after st log) k) t.1
       → IsStep (at_count n k) p (key s x slots_own ++ more) [] (f v) (Made e) (trades v) t own log
 
   may_step : (p : ℕ) (seen : List Entry) (held more : List (Held Entry)) (f : ℕ → ℕ) (e : Deed) (trades : ℕ → Bool) → is_one slots held ≡ true → are_of_blocks more ≡ true → MayStepAs p (key_of held) (tag_of held) seen (own_of held) more f e trades
@@ -250,20 +251,20 @@ module _ (n : Name) (k : ℕ) where
 
   -- whoever counts may take the step
   counting_step : (p : ℕ) (x : Tag) (v b : ℕ) (own mine since log : List Entry) (vs more : List (Held Entry)) (f : ℕ → ℕ) (s : ℕ) (e : Deed) (walk queue : List ℕ) (trades : Bool) → e.pass ≡ p → IsLegalList st log → EndsAmong [] log (Made e)
-      → (c : Counting s own log e f v b walk queue) → AreKeysOf (deposit (come (after st log) s b c.count walk queue).0 k) (if trades then more else vs)
+      → (c : Counting s own log e f v b walk queue) → AreKeysOf n.store (deposit (come (after st log) s b c.count walk queue).0 k) (if trades then more else vs)
       → IsStep (at_count n k) p (key s x own ++ more) [] (f v) (Made e) trades (since, vs) mine log
   counting_step p x v b own mine since log vs more f s e walk queue trades pe legal ends c stands =
       let d : State × Answer = come (after st log) s b c.count walk queue in let push = after_push st log (Made e) d legal c.does in
       made p s x b own mine since log vs more (f v) e pe c.counts_it d c.touched c.in_it trades c.does ends
       (c.word ∙ ap count_word (sym c.is_count) ∙ ap (λ (z : State). count_word (count_in z k)) (sym push))
-      (keys_later _ _ (log ++ Made e ∷ []) (subst (λ (z : State). AreKeysOf (deposit z k) (if trades then more else vs)) (sym push) stands))
+      (keys_later n.store _ _ (log ++ Made e ∷ []) (subst (λ (z : State). AreKeysOf n.store (deposit z k) (if trades then more else vs)) (sym push) stands))
 
   module _ (s : ℕ) (own log : List Entry) (distinct : are_distinct (linked n.links) ≡ true) (legal : IsLegalList st log) (sound : IsSound (after st log)) (kept : Kept st TheSlot s own log) where
     abbrev before : State
     before = after st log
 
-    added_keys : (p size won v : ℕ) (a : IsAdding st s own k won) (c : Counting s own log (record { pass = p; size = size; event = AddCount s; life = 0 }) (plus won) v a.batch [] a.queue) (vs more : List (Held Entry)) → AreKeysOf (deposit before k) vs → AreKeysOf (slice_index_or (plans st own) a.batch no_plan).values more
-        → AreKeysOf (deposit (come before s a.batch c.count [] a.queue).0 k) (if not (plus won v == 0) then more else vs)
+    added_keys : (p size won v : ℕ) (a : IsAdding st s own k won) (c : Counting s own log (record { pass = p; size = size; event = AddCount s; life = 0 }) (plus won) v a.batch [] a.queue) (vs more : List (Held Entry)) → AreKeysOf n.store (deposit before k) vs → AreKeysOf n.store (slice_index_or (plans st own) a.batch no_plan).values more
+        → AreKeysOf n.store (deposit (come before s a.batch c.count [] a.queue).0 k) (if not (plus won v == 0) then more else vs)
     added_keys p size won v a c vs more are these =
         let b = a.batch in let r = reached_after n log distinct legal in let stands : Stands before s (Add b won) a.queue = ap (λ slot. slot.call) (sym kept.1.1) ∙ a.adding in
         let so = deposit_added size before s b won a.queue (come before s b c.count [] a.queue) k r sound.one stands c.does c.in_it in
@@ -272,29 +273,29 @@ module _ (n : Name) (k : ℕ) where
         held_values n log distinct legal b c.held ∙ ap (λ (plan : Plan). plan.values) (sym (plan_stays st own log b kept.0 c.planned)) in
         let zero : (plus won v == 0) ≡ is_zero c.count = ap (λ (x : ℕ). x == 0) c.word ∙ word_zero c.count c.near in
         let none : vs ≡ [] = none_of vs (are.0 ∙ so.0) in
-        subst (λ (z : Bool). AreKeysOf (deposit (come before s b c.count [] a.queue).0 k) (if not z then more else vs)) (sym zero)
-        (subst (λ (values' : List ℕ). AreKeysOf values' (if not (is_zero c.count) then more else vs)) (sym (so.1 ∙ ap (λ (x : ℤ). if is_zero x then [] else (batch_at before b).values) count_is ∙ ap (λ (vals : List ℕ). if is_zero c.count then [] else vals) values))
+        subst (λ (z : Bool). AreKeysOf n.store (deposit (come before s b c.count [] a.queue).0 k) (if not z then more else vs)) (sym zero)
+        (subst (λ (values' : List ℕ). AreKeysOf n.store values' (if not (is_zero c.count) then more else vs)) (sym (so.1 ∙ ap (λ (x : ℤ). if is_zero x then [] else (batch_at before b).values) count_is ∙ ap (λ (vals : List ℕ). if is_zero c.count then [] else vals) values))
         (either (is_zero c.count) none))
       where
-        either : (z : Bool) → vs ≡ [] → AreKeysOf (if z then [] else (slice_index_or (plans st own) a.batch no_plan).values) (if not z then more else vs)
-        either true none = (ap labels_of none, are.1)
+        either : (z : Bool) → vs ≡ [] → AreKeysOf n.store (if z then [] else (slice_index_or (plans st own) a.batch no_plan).values) (if not z then more else vs)
+        either true none = (ap labels_of none, are.1, are.2)
         either false none = these
 
-    taken_keys : (p size v : ℕ) (a : IsWalking st s own k) (c : Counting s own log (record { pass = p; size = size; event = SubCount s; life = 0 }) (minus 1) v a.batch a.walk a.queue) (vs : List (Held Entry)) → AreKeysOf (deposit before k) vs
-        → AreKeysOf (deposit (come before s a.batch c.count a.walk a.queue).0 k) (if minus 1 v == 0 then [] else vs)
+    taken_keys : (p size v : ℕ) (a : IsWalking st s own k) (c : Counting s own log (record { pass = p; size = size; event = SubCount s; life = 0 }) (minus 1) v a.batch a.walk a.queue) (vs : List (Held Entry)) → AreKeysOf n.store (deposit before k) vs
+        → AreKeysOf n.store (deposit (come before s a.batch c.count a.walk a.queue).0 k) (if minus 1 v == 0 then [] else vs)
     taken_keys p size v a c vs are =
         let b = a.batch in let r = reached_after n log distinct legal in let stands : Stands before s (Rest [] (b ∷ a.walk)) a.queue = ap (λ slot. slot.call) (sym kept.1.1) ∙ a.walking in
         let so = deposit_subtracted size before s b a.walk a.queue (come before s b c.count a.walk a.queue) k r sound.one stands c.does c.in_it in
         let count_is : (batch_at before b).count -ℤ pos 1 ≡ c.count = ap (λ (x : ℤ). x -ℤ pos 1) (sym (count_alone before r sound.one k b c.in_it)) ∙ sym (count_subtracted size before s b a.walk a.queue (come before s b c.count a.walk a.queue) k r sound.one stands c.does c.in_it).1 ∙ c.is_count in
         let zero : (minus 1 v == 0) ≡ is_zero c.count = ap (λ (x : ℕ). x == 0) c.word ∙ word_zero c.count c.near in
-        subst (λ (z : Bool). AreKeysOf (deposit (come before s b c.count a.walk a.queue).0 k) (if z then [] else vs)) (sym zero)
-        (subst (λ (values : List ℕ). AreKeysOf values (if is_zero c.count then [] else vs)) (sym (so.0 ∙ ap (λ (x : ℤ). if is_zero x then [] else deposit before k) count_is)) (either (is_zero c.count)))
+        subst (λ (z : Bool). AreKeysOf n.store (deposit (come before s b c.count a.walk a.queue).0 k) (if z then [] else vs)) (sym zero)
+        (subst (λ (values : List ℕ). AreKeysOf n.store values (if is_zero c.count then [] else vs)) (sym (so.0 ∙ ap (λ (x : ℤ). if is_zero x then [] else deposit before k) count_is)) (either (is_zero c.count)))
       where
-        either : (z : Bool) → AreKeysOf (if z then [] else deposit before k) (if z then [] else vs)
-        either true = (refl, refl)
+        either : (z : Bool) → AreKeysOf n.store (if z then [] else deposit before k) (if z then [] else vs)
+        either true = (refl, refl, none_linked n.store)
         either false = are
 
-  pub may_add_count : (p size won : ℕ) (seen : List Entry) (held more : List (Held Entry)) → is_one slots held ≡ true → (a : IsAdding st (key_of held) (own_of held) k won) → AreKeysOf (slice_index_or (plans st (own_of held)) a.batch no_plan).values more
+  pub may_add_count : (p size won : ℕ) (seen : List Entry) (held more : List (Held Entry)) → is_one slots held ≡ true → (a : IsAdding st (key_of held) (own_of held) k won) → AreKeysOf n.store (slice_index_or (plans st (own_of held)) a.batch no_plan).values more
       → MayStep (at_count n k) p seen (held ++ more) [] [] (plus won) (λ v log. Made (record { pass = p; size = size; event = AddCount (key_of held); life = 0 })) (λ v. not (plus won v == 0))
   unfolding MayStepAs
   may_add_count p size won seen held more one a these =

@@ -1,5 +1,5 @@
 -- What other crates may build on. All else in `proofs` is no interface, and may change.
-use Rattle.std.proofs.Common.{◌≡◌, ℕ, ◌<◌, ◌≤◌, Bool, true, false, if◌then◌else◌, List, [], ◌∷◌, ◌++◌, Option, Some, refl, sym, ap, ◌∙◌, subst, append-nil, length, unwrap_or, arith}
+use Rattle.std.proofs.Common.{◌≡◌, ◌≢◌, ℕ, ◌+◌, ◌-◌, ◌<◌, ◌≤◌, Bool, true, false, if◌then◌else◌, List, [], ◌∷◌, ◌++◌, Option, None, Some, is_some, refl, sym, ap, ◌∙◌, subst, append-nil, length, unwrap_or, arith}
 use Rattle.std.specs.Prelude.{slice_index_or}
 use base.Growing.{prefix_trans}
 use mathlib.Core.List.{IsPrefix}
@@ -10,13 +10,15 @@ use Rattle.seize_machine.specs.Machine.Next.{next}
 use Rattle.seize_machine.specs.declared.machine.event.Answer.{Answer}
 use Rattle.seize_machine.proofs.Facts.{linked_named, note_within, some_is}
 use Rattle.seize_book.specs.Adding.{private}
-use Rattle.seize_book.specs.Blocks.{Plan, block_for, block_in, block_of, front_of, list_word, no_plan, planned_by, plans, serving}
+use Rattle.seize_book.specs.Blocks.{Plan, block_for, block_in, block_of, front_of, link_word, list_word, no_plan, planned_by, plans, serving}
 use Rattle.seize_book.specs.Book.{IsLegalList, after, mine}
 use Rattle.seize_book.specs.Chains.{front_block, served}
 use Rattle.seize_book.specs.Entry.{Deed, Entry, Made, Used}
+use Rattle.seize_words.specs.Chunks.{IsFoundAt}
 use Rattle.seize_words.specs.Headers.{Stores, Uses, using}
 use Rattle.seize_words.specs.Heads.{IsTrying}
 use Rattle.seize_book.specs.Homes.{home_of}
+use Rattle.seize_book.specs.Homesteads.{state_seen}
 use Rattle.seize_book.specs.Laws.{life, starts}
 use Rattle.seize_words.specs.LinkWords.{IsIn, Sees, Takes, held_before, number}
 use Rattle.seize_words.specs.Links.{IsWithin}
@@ -34,14 +36,14 @@ pub use Rattle.seize_book.proofs.Written.{plans_used}
 -- what a call knows that has still to insert its batch
 pub use Rattle.seize_words.proofs.Inserts.{detached_named, knows_used, looked_named, own_reached}
 -- what a sight shows by a value's name is what was lent with the value
-pub use Rattle.seize_words.proofs.Contents.{same_content}
+pub use Rattle.seize_words.proofs.Contents.{is_lent, same_content}
 -- what is known of a value that a slot's call is about to hand, and when it was handed: what was lent with it comes back in between, and then
 -- the key may be settled
 pub use Rattle.seize_book.proofs.Hands.{hands_gone, hands_soon, settles_after, soon_named}
 pub use Rattle.seize_book.proofs.Renames.{follows_value}
 pub use Rattle.seize_words.proofs.Chunked.{settles_block}
 -- with a value that was named something is lent, if the blocks of its book lie in a store
-pub use Rattle.seize_book.proofs.LentValues.{gone_lent, lent_key, named_lent}
+pub use Rattle.seize_book.proofs.LentValues.{gone_lent, lent_in, lent_key, named_lent}
 -- a value that was named stays so, and one that was reclaimed
 pub use Rattle.seize_book.proofs.Sound.{gone_later, named_later}
 -- looks, a slot's key, and the walk of its call, in what the key knows later
@@ -220,15 +222,37 @@ known_in link a pass pass' in_ name grows = record {
 pub still_in : (link other : Link) (a : Activation) (pass pass' : Pass) (event : Option ℕ → Event) (v : ℕ) → IsIn other a pass → Takes link a pass pass' event v → IsIn other a pass'
 still_in link other a pass pass' event v in_ t = known_in other a pass pass' in_ t.same.0 (seen_grows pass.name pass.id pass.seen pass'.seen _ t.noted)
 
--- and with a value that was found in a link
-pub held_lent : (link : Link) (a : Activation) (pass pass' : Pass) (event : Option ℕ → Event) (v w : ℕ) (t : Takes link a pass pass' event v) → held_before t ≡ Some w → IsLentIn pass.name w
-held_lent link a pass pass' event v w t is =
-    let st : State = start pass.name in let noted = t.noted in let e : Entry = Made (private pass (event (link_at (after st t.before) (number link)))) in
-    let appended : pass'.seen ≡ t.before ++ e ∷ [] = noted.appended ∙ ap (λ (log : List Entry). log ++ e ∷ []) t.is_before in
-    let legal = legal_front st t.before e (subst (IsLegalList st) appended noted.legal) in
-    let named = (linked_named (after st t.before) (reached_after pass.name t.before noted.distinct legal) (number link) w is).0 in
-    noted.lent w (subst (λ (z : State). has w z.named ≡ true) noted.leads (named_later st t.before pass'.seen w (e ∷ [], sym appended) noted.legal named))
+-- A value that was found in a link was named, as the pass has seen by then.
+module _ (link : Link) (a : Activation) (pass pass' : Pass) (event : Option ℕ → Event) (v w : ℕ) (t : Takes link a pass pass' event v) (is : held_before t ≡ Some w) where
+  named_now : has w (after (start pass.name) pass'.seen).named ≡ true
+  named_now =
+      let st : State = start pass.name in let noted = t.noted in let e : Entry = Made (private pass (event (link_at (after st t.before) (number link)))) in
+      let appended : pass'.seen ≡ t.before ++ e ∷ [] = noted.appended ∙ ap (λ (log : List Entry). log ++ e ∷ []) t.is_before in
+      let legal = legal_front st t.before e (subst (IsLegalList st) appended noted.legal) in
+      let named = (linked_named (after st t.before) (reached_after pass.name t.before noted.distinct legal) (number link) w is).0 in
+      named_later st t.before pass'.seen w (e ∷ [], sym appended) noted.legal named
+
+  pub held_named : has w (state_seen pass').named ≡ true
+  held_named = subst (λ (n : Name). has w (after (start n) pass'.seen).named ≡ true) (sym t.same.0) named_now
+
+  -- and something is lent with it, if the blocks of the book lie in a store
+  pub held_lent : IsLentIn pass.name w
+  held_lent = t.noted.lent w (subst (λ (z : State). has w z.named ≡ true) t.noted.leads named_now)
 
 -- so whoever has a glimpse of it knows that it can be seen
 pub glimpse_lent : (link : Link) (a : Activation) (pass pass' : Pass) (v w : ℕ) (glimpse : Glimpse) → Sees link a pass pass' v glimpse → glimpse.value ≡ Some w → IsLentIn pass.name w
 glimpse_lent link a pass pass' v w glimpse sees is = held_lent link a pass pass' (λ _. ReadLink a.slot (number link)) v w sees.0 (sym sees.1 ∙ is)
+
+-- and by which number, where the link's word was not 0
+pub glimpse_found : (link : Link) (a : Activation) (pass pass' : Pass) (v : ℕ) (glimpse : Glimpse) → Sees link a pass pass' v glimpse → is_some pass.name.store ≡ true → v ≢ 0 → IsFoundAt glimpse.value (v - 1) pass'
+glimpse_found link a pass pass' v glimpse sees store some = go (held_before sees.0) refl
+  where
+    go : (o : Option ℕ) → held_before sees.0 ≡ o → IsFoundAt glimpse.value (v - 1) pass'
+    go None is = absurd (some (sees.0.found ∙ ap link_word is))
+    go (Some w) is = record {
+      value = w;
+      is = sees.1 ∙ is;
+      named = held_named link a pass pass' (λ _. ReadLink a.slot (number link)) v w sees.0 is;
+      numbered = let shows : v ≡ block_of w + 1 = sees.0.found ∙ ap link_word is in omega (arith, shows);
+      lent = lent_in pass.name w store (glimpse_lent link a pass pass' v w glimpse sees (sees.1 ∙ is));
+    }

@@ -70,7 +70,7 @@ module _ {M : Type 1} {𝓤 : Ura M} (𝓛 : Logic 𝓤) where
     old v log = link_at (after (start n) (log_of v log)) site.number
 
     is_key : site.kind ≡ links → (v : ℕ) (t : At) (log : List Entry) → Stands site (log_of v log) (left v t log) → IsKeyOf (old v log) (left v t log)
-    is_key link v t log stands = subst (λ (k : ℕ). StandsOf (start n) (kind_of k) site.number (log_of v log) (left v t log)) link stands
+    is_key link v t log stands = subst (λ (k : ℕ). StandsOf n (kind_of k) site.number (log_of v log) (left v t log)) link stands
 
     Shares : ℕ → At → List Entry → Bool → Type 1
     Shares v t log b =

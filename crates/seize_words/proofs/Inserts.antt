@@ -1,13 +1,12 @@
 -- What a slot's call knows that has detached its batch and has still to insert it: the values of the batch were named, so the blocks with
 -- which it is inserted are found by their numbers. These facts are for callers.
-use Rattle.std.proofs.Common.{◌≡◌, ℕ, true, List, ◌∷◌, [], Some, refl, sym, ap, subst, ◌∙◌, inr, zero, arith, append-nil}
+use Rattle.std.proofs.Common.{◌≡◌, ℕ, true, List, ◌∷◌, [], Some, refl, sym, ap, subst, inr, zero, arith, append-nil}
 use Rattle.std.specs.List.{Contains}
-use Rattle.std.specs.Prelude.{slice_index_or}
 use mathlib.Core.List.{IsPrefix}
 use Rattle.seize_machine.specs.Machine.State.{Look, are_distinct, has, linked}
 use Rattle.seize_machine.specs.Machine.History.{IsReached}
 use Rattle.seize_machine.specs.Machine.Laws.{detached_by}
-use Rattle.seize_book.specs.Blocks.{no_plan, plans}
+use Rattle.seize_book.specs.Blocks.{plans}
 use Rattle.seize_book.specs.Book.{IsLegalList, after}
 use Rattle.seize_book.specs.Chains.{served}
 use Rattle.seize_book.specs.Entry.{Entry}

@@ -1,8 +1,7 @@
 -- Steps on words that are found by numbers: a look goes before the step, and adds nothing.
-use Rattle.std.proofs.Common.{◌≡◌, ℕ, ◌<◌, List, [], ◌∷◌, ◌++◌, length, Some, sym, ◌∙◌, ap, subst, refl, true}
+use Rattle.std.proofs.Common.{◌≡◌, ℕ, ◌<◌, List, [], ◌∷◌, ◌++◌, length, sym, ◌∙◌, ap, subst}
 use Rattle.seize_machine.specs.Machine.Event.{Event}
-use Rattle.seize_machine.specs.Machine.State.{are_distinct, linked}
-use Rattle.seize_book.specs.Blocks.{link_word, plans}
+use Rattle.seize_book.specs.Blocks.{plans}
 use Rattle.seize_book.specs.Book.{Does, IsLegalList, after, mine}
 use Rattle.seize_book.specs.Chains.{Chained, told}
 use Rattle.seize_book.specs.Entry.{Deed, Entry, Made}
@@ -10,7 +9,7 @@ use Rattle.seize_book.specs.Homes.{IsSound}
 use Rattle.seize_words.specs.Joined.{TriesAtSlot}
 use Rattle.seize_book.specs.Passes.{LooksOn}
 use Rattle.seize_words.specs.Reservations.{TriesAt, beginning, slot}
-use Rattle.seize_book.specs.Slots.{NotesAs, number_of, own_list, start_of}
+use Rattle.seize_book.specs.Slots.{NotesAs}
 use Rattle.seize_book.specs.Tokens.{AllLentIn, IsSole, Name, Noted, start}
 use Rattle.seize_words.specs.Totals.{slots_seen}
 use Rattle.seize_book.specs.declared.book.pass.Pass.{Pass}

@@ -52,17 +52,17 @@ linked_within None vs is = subst (WithKinds kinds) (sym is) tt
 linked_within (Some v) vs is = one_within vs is.0
 
 -- and so are the kinds of the keys beside it
-beside_within : (st : State) (kind : Kind) (k : ℕ) (log : List Entry) (vs : List (Held Entry)) → StandsOf st kind k log vs → WithKinds kinds vs
-beside_within st TheLink l log vs so = linked_within (link_at (after st log) l) vs so
-beside_within st ThePass k log vs so = subst (WithKinds kinds) (sym so) tt
-beside_within st TheNumbers k log vs so = subst (WithKinds kinds) (sym so) tt
-beside_within st TheSlot k log vs so = subst (WithKinds kinds) (sym so) tt
-beside_within st TheHead k log vs so = subst (WithKinds kinds) (sym so) tt
-beside_within st TheCount k log vs so = blocks_within vs so.1
-beside_within st TheBlock k log vs so = subst (WithKinds kinds) (sym so) tt
-beside_within st TheField f log vs so = subst (WithKinds kinds) (sym so) tt
-beside_within st TheTotal k log vs so = subst (WithKinds kinds) (sym so) tt
-beside_within st Nothing k log vs so = subst (WithKinds kinds) (sym so) tt
+beside_within : (n : Name) (kind : Kind) (k : ℕ) (log : List Entry) (vs : List (Held Entry)) → StandsOf n kind k log vs → WithKinds kinds vs
+beside_within n TheLink l log vs so = linked_within (link_at (after (start n) log) l) vs so
+beside_within n ThePass k log vs so = subst (WithKinds kinds) (sym so) tt
+beside_within n TheNumbers k log vs so = subst (WithKinds kinds) (sym so) tt
+beside_within n TheSlot k log vs so = subst (WithKinds kinds) (sym so) tt
+beside_within n TheHead k log vs so = subst (WithKinds kinds) (sym so) tt
+beside_within n TheCount k log vs so = blocks_within vs so.1
+beside_within n TheBlock k log vs so = subst (WithKinds kinds) (sym so) tt
+beside_within n TheField f log vs so = subst (WithKinds kinds) (sym so) tt
+beside_within n TheTotal k log vs so = subst (WithKinds kinds) (sym so) tt
+beside_within n Nothing k log vs so = subst (WithKinds kinds) (sym so) tt
 
 both_within : (a b : List (Held Entry)) → WithKinds kinds a → WithKinds kinds b → WithKinds kinds (a ++ b)
 both_within [] b h k = k
@@ -184,7 +184,7 @@ module _ {M : Type 1} {𝓤 : Ura M} (𝓛 : Logic 𝓤) (site : Site) where
       step own log before none = may.1 v t own log (found log before none)
 
       within : WithKinds kinds all
-      within = (kind_within st site.kind site.number v t.0 so.0, both_within t.1 held (beside_within st (kind_of site.kind) site.number t.0 t.1 so.1) may.0)
+      within = (kind_within st site.kind site.number v t.0 so.0, both_within t.1 held (beside_within site.name (kind_of site.kind) site.number t.0 t.1 so.1) may.0)
 
       tells : (log : List Entry) → Before n p seen all log → ⟦ over (ended log) ⟧ ∗ (⟦ over lives ⟧ ∗ ⟦ living 𝓛 alive r ⟧) ⊢ guard 𝓤 (told log) (⟦ over (ended log) ⟧ ∗ (⟦ over lives ⟧ ∗ ⟦ living 𝓛 alive r ⟧))
       tells log before = qed 𝓛 (‵ (over (ended log)) ∷ (‵ (over lives) ⊛ ‵ (living 𝓛 alive r)) ∷ []) ∵ move ! (1 ∷ []) $ split ! $ move ! (2 ∷ 1 ∷ []) $
@@ -264,7 +264,7 @@ module _ {M : Type 1} {𝓤 : Ura M} (𝓛 : Logic 𝓤) (site : Site) where
       its = in_step site held t
 
       its_within : WithKinds kinds held → WithKinds kinds its
-      its_within w = (kind_within st site.kind site.number v t.0 so.0, both_within t.1 held (beside_within st (kind_of site.kind) site.number t.0 t.1 so.1) w)
+      its_within w = (kind_within st site.kind site.number v t.0 so.0, both_within t.1 held (beside_within site.name (kind_of site.kind) site.number t.0 t.1 so.1) w)
 
       looks : (log : List Entry) → Before n p seen its log → LooksAt site p seen log held v
       looks log before = record { since = t; found = record { shows = so.0; stands = so.1; before = before; none_ended = λ a x. absurd x; distinct = distinct } }

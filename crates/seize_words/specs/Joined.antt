@@ -27,7 +27,7 @@ use Rattle.seize_words.specs.Links.{IsNewIn, IsWithin}
 use Rattle.seize_words.specs.Reservations.{slot}
 use Rattle.seize_words.specs.Reserved.{HasNext}
 use Rattle.seize_book.specs.Slots.{IsOf, number_of, own_list, slot_of, start_of}
-use Rattle.seize_book.specs.Tokens.{Name, start}
+use Rattle.seize_book.specs.Tokens.{Name}
 use Rattle.seize_words.specs.Totals.{made_of, slots_seen}
 use Rattle.seize_words.specs.declared.activation.Activation.{Activation}
 use Rattle.seize_book.specs.declared.book.numbers_key.NumbersKey.{NumbersKey}

@@ -5,7 +5,7 @@
 --     IsField site, IsCount site     it is that of a field, of a count;  IsTotal site    it is the one that says how many slots there are
 --     Shows site v log       the value v is what the list says
 --     Stands site log vs     these are the other keys that stand beside it: of a link that of the block of the value in it, of a count
---                            those of the blocks of the batch's values, once its call has added to it
+--                            those of the blocks of the batch's values, which lead on, once its call has added to it
 --     site_keys site since vs     its keys, its own first, which knows the list as it was at the last step on the word
 --     word_owns site v       what stands beside the memory of a word with this value;  word_shares    what a `&` to it is
 use Rattle.std.specs.Prelude.{◌≡◌, ℕ, true, List, [], ◌∷◌, length, Option, Some, None}
@@ -62,13 +62,13 @@ abbrev pub IsKeyOf : Option ℕ → List (Held Entry) → Type 0
 IsKeyOf None vs = vs ≡ []
 IsKeyOf (Some v) vs = (is_one blocks vs ≡ true) × (key_of vs ≡ home_of v) × (label_of vs ≡ v)
 
-abbrev pub StandsOf : State → Kind → ℕ → List Entry → List (Held Entry) → Type 0
-StandsOf st TheLink l log vs = IsKeyOf (link_at (after st log) l) vs
-StandsOf st TheCount k log vs = AreKeysOf (deposit (after st log) k) vs
-StandsOf st _ k log vs = vs ≡ []
+abbrev pub StandsOf : Name → Kind → ℕ → List Entry → List (Held Entry) → Type 0
+StandsOf n TheLink l log vs = IsKeyOf (link_at (after (start n) log) l) vs
+StandsOf n TheCount k log vs = AreKeysOf n.store (deposit (after (start n) log) k) vs
+StandsOf n _ k log vs = vs ≡ []
 
 abbrev pub Stands : Site → List Entry → List (Held Entry) → Type 0
-Stands site log vs = StandsOf (start site.name) (kind_of site.kind) site.number log vs
+Stands site log vs = StandsOf site.name (kind_of site.kind) site.number log vs
 
 abbrev pub site_keys : Site → List Entry → List (Held Entry) → List (Held Entry)
 site_keys site since vs = record { kind = site.kind; key = site.number; own = since; label = 0; note = gnil } ∷ vs

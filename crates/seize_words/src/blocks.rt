@@ -173,9 +173,9 @@ impl<T: Drop> Blocks<T> {
         self.store.back(number as usize, &known, ticket, pool)
     }
 
-    /// The block of a value that was lent and never named, in hand again: nobody can have found it in a link, as where an exchange was lost.
-    /// It has a value of the code that was lent. The key is for another value of the block then, with which nothing is lent. It makes no
-    /// event, and does nothing when the program runs but for a look-up.
+    /// The block of a value that was lent and never named, as where an exchange was lost, in hand again: nobody can have found it in a
+    /// link. It has a value of the code that was lent. The key is for another value of the block then, with which nothing is lent. It
+    /// makes no event, waits for nobody, and does nothing when the program runs but for a look-up.
     pub fn withdraw(
         &self,
         number: u64,

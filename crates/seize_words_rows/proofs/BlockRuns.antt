@@ -2,6 +2,7 @@
 use Rattle.std.proofs.Common.{◌≡◌, ℕ, ◌+◌, ◌==◌, length, map, arith, pos, Bool, true, false, not, ◌||◌, if◌then◌else◌, Option, Some, None, List, [], ◌∷◌, ◌++◌, append-nil, refl, sym, ap, ◌∙◌, subst, inl, inr}
 use Rattle.std.specs.Prelude.{slice_index_or}
 use denote.Bor.{Bor}
+use denote.Builtin.{u64}
 use Rattle.seize_machine.specs.Machine.State.{State, Slot, Batch, Head, Inactive, Active, Append, Rest, has}
 use Rattle.seize_machine.specs.Machine.Event.{Take, Enter, Begin, Put, ReadHead, Detach, Insert, SwapOut, SubCount, AddCount, Hand, Return}
 use Rattle.seize_machine.specs.Machine.Next.{next}
@@ -13,20 +14,24 @@ use Rattle.seize_machine.proofs.Facts.{Step, step_of}
 use Rattle.seize_book.specs.Blocks.{Plan, block_in, block_of, list_word, no_plan}
 use Rattle.seize_book.specs.Book.{after}
 use Rattle.seize_book.specs.Chains.{served}
-use Rattle.seize_words.specs.Chunks.{IsHeaderOf, header_home}
+use Rattle.seize_words.specs.Chunks.{IsHeaderOf, IsLentAs, header_home}
 use Rattle.seize_book.specs.Homes.{home_of}
 use Rattle.seize_book.specs.Homesteads.{state_seen}
+use Rattle.seize_book.specs.Loans.{place_of}
+use Rattle.seize_book.specs.Others.{MayRetire, value_of}
 use Rattle.seize_book.specs.Passes.{LooksOn}
 use Rattle.seize_book.specs.Slots.{Looks, Notes, number_of}
 use Rattle.seize_book.specs.Tokens.{IsSole, Name, start}
 use Rattle.seize_book.specs.Entry.{Entry}
-use Rattle.seize_store.specs.Named.{bare_number}
 use Rattle.seize_book.specs.declared.book.pass.Pass.{Pass}
 use Rattle.seize_book.specs.declared.book.slot_key.SlotKey.{SlotKey}
+use Rattle.seize_book.specs.declared.book.value_key.ValueKey.{ValueKey}
+use Rattle.seize_words.proofs.Facts.{is_lent, same_content}
 use Rattle.seize_words.specs.declared.chunk.Header.{Header}
 use Rattle.seize_words_rows.specs.Runs.{calls, idle}
 use Rattle.seize_words_rows.specs.Stages.{Goes, IsAt, Knows, Leads, Sees, Stage, word_at}
-use Rattle.seize_words_rows.specs.BlockRuns.{AreAllIn, AreIn, Two, added, at_walk, begun_first, begun_second, both, counted, detached, emptied, entered, given_up, gone_in, handed_one, inserted, leaving, listed, looked, marked, named_in, one_made, one_put, one_read, opened, over, planned, put, put_first, rests, retires, stage_of, waiting, word_over}
+use Rattle.seize_words_rows.specs.BlockRuns.{AreAllIn, AreIn, IsNew, Two, added, at_walk, begun_first, begun_second, both, counted, detached, emptied, entered, given_up, gone_in, handed_one, inserted, leaving, listed, looked, marked, named_in, one_made, one_put, one_read, opened, over, planned, put, put_first, rests, retires, stage_of, waiting, word_over}
+use Rattle.seize_words_rows.specs.declared.block_run.Lent.{Lent}
 use Rattle.seize_words_rows.specs.declared.block_run.Pair.{Pair}
 use Rattle.seize_words_rows.proofs.Stages.{looks_on}
 
@@ -37,12 +42,12 @@ IsFew (x ∷ []) = Unit {0}
 IsFew (x ∷ y ∷ ps) = ⊥
 
 -- the batches before lie in these blocks, of which there is one pair at most
-pub few_before : (n : Name) (before : Option (Bor Pair)) (ps : List Two) → AreAllIn n (listed before) ps → IsFew ps
-few_before n None [] are = tt
-few_before n None (p ∷ ps) are = absurd are
-few_before n (Some x) [] are = absurd are
-few_before n (Some x) (p ∷ []) are = tt
-few_before n (Some x) (p ∷ q ∷ ps) are = absurd are.1
+pub few_before : (before : Option (Bor Pair)) (ps : List Two) → AreAllIn (listed before) ps → IsFew ps
+few_before None [] are = tt
+few_before None (p ∷ ps) are = absurd are
+few_before (Some x) [] are = absurd are
+few_before (Some x) (p ∷ []) are = tt
+few_before (Some x) (p ∷ q ∷ ps) are = absurd are.1
 
 -- A value that a call begins to retire was never named, where none is loose.
 
@@ -144,20 +149,20 @@ leaves p q = record { size = refl; legal = refl; planned = refl }
 
 -- Words of the reader's head.
 
-pub word_before : (n : Name) (before : Option (Bor Pair)) (ps : List Two) (retirer : Slot) (more : List ℕ) → AreAllIn n (listed before) ps → word_at (retires retirer ps more) 0 ≡ word_over (listed before)
-word_before n None [] retirer more are = refl
-word_before n None (p ∷ ps) retirer more are = absurd are
-word_before n (Some x) [] retirer more are = absurd are
-word_before n (Some x) (p ∷ []) retirer more are = ap (λ (k : ℕ). k + 2) are.0.0.number
-word_before n (Some x) (p ∷ q ∷ ps) retirer more are = absurd are.1
+pub word_before : (before : Option (Bor Pair)) (ps : List Two) (retirer : Slot) (more : List ℕ) → AreAllIn (listed before) ps → word_at (retires retirer ps more) 0 ≡ word_over (listed before)
+word_before None [] retirer more are = refl
+word_before None (p ∷ ps) retirer more are = absurd are
+word_before (Some x) [] retirer more are = absurd are
+word_before (Some x) (p ∷ []) retirer more are = ap (λ (k : ℕ). k + 2) are.0.0.number
+word_before (Some x) (p ∷ q ∷ ps) retirer more are = absurd are.1
 
 -- beside a batch that was detached
-pub word_looked : (n : Name) (before : Option (Bor Pair)) (ps : List Two) (p : Two) → AreAllIn n (listed before) ps → word_at (looked ps p) 0 ≡ word_over (listed before)
-word_looked n None [] p are = refl
-word_looked n None (x ∷ ps) p are = absurd are
-word_looked n (Some x) [] p are = absurd are
-word_looked n (Some x) (y ∷ []) p are = ap (λ (k : ℕ). k + 2) are.0.0.number
-word_looked n (Some x) (y ∷ z ∷ ps) p are = absurd are.1
+pub word_looked : (before : Option (Bor Pair)) (ps : List Two) (p : Two) → AreAllIn (listed before) ps → word_at (looked ps p) 0 ≡ word_over (listed before)
+word_looked None [] p are = refl
+word_looked None (x ∷ ps) p are = absurd are
+word_looked (Some x) [] p are = absurd are
+word_looked (Some x) (y ∷ []) p are = ap (λ (k : ℕ). k + 2) are.0.0.number
+word_looked (Some x) (y ∷ z ∷ ps) p are = absurd are.1
 
 -- The batch that was detached last.
 
@@ -197,17 +202,17 @@ header_at n key pass pass' s stage v number header looks sees knows named number
 
 -- Blocks of batches, one more, and two.
 
-pub all_push : (n : Name) (pairs : List Pair) (pair : Pair) (ps : List Two) (p : Two) → AreAllIn n pairs ps → AreIn n pair p → AreAllIn n (pairs ++ pair ∷ []) (ps ++ p ∷ [])
-all_push n [] pair [] p are is = (is, tt)
-all_push n [] pair (q ∷ ps) p are is = absurd are
-all_push n (x ∷ pairs) pair [] p are is = absurd are
-all_push n (x ∷ pairs) pair (q ∷ ps) p are is = (are.0, all_push n pairs pair ps p are.1 is)
+pub all_push : (pairs : List Pair) (pair : Pair) (ps : List Two) (p : Two) → AreAllIn pairs ps → AreIn pair p → AreAllIn (pairs ++ pair ∷ []) (ps ++ p ∷ [])
+all_push [] pair [] p are is = (is, tt)
+all_push [] pair (q ∷ ps) p are is = absurd are
+all_push (x ∷ pairs) pair [] p are is = absurd are
+all_push (x ∷ pairs) pair (q ∷ ps) p are is = (are.0, all_push pairs pair ps p are.1 is)
 
-pub all_two : (n : Name) (first second : Pair) (ps : List Two) → AreAllIn n (first ∷ second ∷ []) ps → (p : Two) × (q : Two) × (ps ≡ p ∷ q ∷ []) × AreIn n first p × AreIn n second q
-all_two n first second [] are = absurd are
-all_two n first second (p ∷ []) are = absurd are.1
-all_two n first second (p ∷ q ∷ []) are = (p, q, refl, are.0, are.1.0)
-all_two n first second (p ∷ q ∷ r ∷ ps) are = absurd are.1.1
+pub all_two : (first second : Pair) (ps : List Two) → AreAllIn (first ∷ second ∷ []) ps → (p : Two) × (q : Two) × (ps ≡ p ∷ q ∷ []) × AreIn first p × AreIn second q
+all_two first second [] are = absurd are
+all_two first second (p ∷ []) are = absurd are.1
+all_two first second (p ∷ q ∷ []) are = (p, q, refl, are.0, are.1.0)
+all_two first second (p ∷ q ∷ r ∷ ps) are = absurd are.1.1
 
 -- The walk.
 
@@ -234,17 +239,17 @@ pub returns_last : (done : List Two) → Goes (at_walk [] done) (Return 0) (over
 returns_last done = record { size = refl; legal = refl; planned = append-nil _ }
 
 -- the batches of a walk, and the last of them
-pub all_last : (n : Name) (pairs : List Pair) (pair : Pair) (qs : List Two) → AreAllIn n (pairs ++ pair ∷ []) qs → (ps : List Two) × (p : Two) × (qs ≡ ps ++ p ∷ []) × AreAllIn n pairs ps × AreIn n pair p
-all_last n [] pair [] are = absurd are
-all_last n [] pair (q ∷ []) are = ([], q, refl, tt, are.0)
-all_last n [] pair (q ∷ r ∷ qs) are = absurd are.1
-all_last n (x ∷ pairs) pair [] are = absurd are
-all_last n (x ∷ pairs) pair (q ∷ qs) are = let rest = all_last n pairs pair qs are.1 in
+pub all_last : (pairs : List Pair) (pair : Pair) (qs : List Two) → AreAllIn (pairs ++ pair ∷ []) qs → (ps : List Two) × (p : Two) × (qs ≡ ps ++ p ∷ []) × AreAllIn pairs ps × AreIn pair p
+all_last [] pair [] are = absurd are
+all_last [] pair (q ∷ []) are = ([], q, refl, tt, are.0)
+all_last [] pair (q ∷ r ∷ qs) are = absurd are.1
+all_last (x ∷ pairs) pair [] are = absurd are
+all_last (x ∷ pairs) pair (q ∷ qs) are = let rest = all_last pairs pair qs are.1 in
     (q ∷ rest.0, rest.1, ap (λ (rs : List Two). q ∷ rs) rest.2, (are.0, rest.3), rest.4)
 
-pub none_left : (n : Name) (ps : List Two) → AreAllIn n [] ps → ps ≡ []
-none_left n [] are = refl
-none_left n (p ∷ ps) are = absurd are
+pub none_left : (ps : List Two) → AreAllIn [] ps → ps ≡ []
+none_left [] are = refl
+none_left (p ∷ ps) are = absurd are
 
 pub walk_last : (ps : List Two) → IsFew ps → (p : Two) → waiting (ps ++ p ∷ []) ≡ length ps ∷ waiting ps
 walk_last [] few p = refl
@@ -256,17 +261,17 @@ plan_last [] few p done = refl
 plan_last (x ∷ []) few p done = refl
 plan_last (x ∷ y ∷ ps) few p done = absurd few
 
-pub word_last : (before : Option (Bor Pair)) (pair : Pair) → word_over (listed before ++ pair ∷ []) ≡ bare_number pair.first + 2
+pub word_last : (before : Option (Bor Pair)) (pair : Pair) → word_over (listed before ++ pair ∷ []) ≡ pair.first.number + 2
 word_last None pair = refl
 word_last (Some x) pair = refl
 
-pub word_rest : (n : Name) (before : Option (Bor Pair)) (ps more : List Two) → AreAllIn n (listed before) ps
+pub word_rest : (before : Option (Bor Pair)) (ps more : List Two) → AreAllIn (listed before) ps
     → list_word (λ b. block_in (slice_index_or (map planned (ps ++ more)) b no_plan) 0) (waiting ps) ≡ word_over (listed before)
-word_rest n None [] more are = refl
-word_rest n None (p ∷ ps) more are = absurd are
-word_rest n (Some x) [] more are = absurd are
-word_rest n (Some x) (p ∷ []) more are = ap (λ (k : ℕ). k + 2) are.0.0.number
-word_rest n (Some x) (p ∷ q ∷ ps) more are = absurd are.1
+word_rest None [] more are = refl
+word_rest None (p ∷ ps) more are = absurd are
+word_rest (Some x) [] more are = absurd are
+word_rest (Some x) (p ∷ []) more are = ap (λ (k : ℕ). k + 2) are.0.0.number
+word_rest (Some x) (p ∷ q ∷ ps) more are = absurd are.1
 
 -- a look of the slot's holder
 pub looked_leads : (n : Name) (key key' : SlotKey) (pass pass' : Pass) (s : ℕ) (stage known : Stage) → Looks key pass key' pass' → Sees n pass stage → Knows n key s known → Leads n pass' key' s stage
@@ -276,3 +281,13 @@ looked_leads n key key' pass pass' s stage known looks sees knows =
       record { book = looks.on.same.0 ∙ sees.book; alone = sees.alone; leads = now },
       record { book = looks.seen_by.0 ∙ knows.book; number = looks.seen_by.1 ∙ knows.number; leads = subst (λ (log : List Entry). IsAt n log stage) (sym looks.seen_by.2) now },
     )
+
+-- What is lent.
+
+-- two values that are lent with one are the same
+pub same_lent : (v x y : ℕ) → IsLentAs v (u64.coded.code x) → IsLentAs v (u64.coded.code y) → x ≡ y
+same_lent v x y one two = u64.coded.inj x y (same_content v (place_of v) (place_of v) (u64.coded.code x) (u64.coded.code y) (refl, one) (refl, two)).1
+
+-- so a new value may be retired
+pub may_retire : (n : Name) (lent : Lent) (key : ValueKey) → IsNew n lent key → MayRetire key
+may_retire n lent key new = inl (new.next.0, new.next.1, inr (is_lent (value_of key) (u64.coded.code lent.value) new.its.code))

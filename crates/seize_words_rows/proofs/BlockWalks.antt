@@ -15,7 +15,7 @@ use Rattle.seize_book.specs.Homesteads.{state_seen}
 use Rattle.seize_book.specs.Ledger.{Held, renewed}
 use Rattle.seize_book.specs.Others.{IsSpent}
 use Rattle.seize_book.specs.Passes.{LooksOn}
-use Rattle.seize_book.specs.Private.{is_one}
+use Rattle.seize_book.specs.Private.{is_one, own_of}
 use Rattle.seize_book.specs.Slots.{Looks, number_of, own_list, start_of}
 use Rattle.seize_book.specs.Tokens.{IsSole, Name, start}
 use Rattle.seize_words.specs.Walks.{CountsDown, IsAtBatch}
@@ -60,7 +60,7 @@ pub record Counted (n : Name) (before : Option (Bor Pair)) (ps : List Two) (p : 
   pub last : AreLast values' pass'
   pub word : rest ≡ word_over (listed before)
 
-pub counted_so : (n : Name) (before : Option (Bor Pair)) (ps : List Two) → IsFew ps → (p : Two) (done : List Two) → AreAllIn n (listed before) ps → (key key' : SlotKey) (pass pass' : Pass) (word rest : ℕ) (ended : Bool) (values' : ValueKeys)
+pub counted_so : (n : Name) (before : Option (Bor Pair)) (ps : List Two) → IsFew ps → (p : Two) (done : List Two) → AreAllIn (listed before) ps → (key key' : SlotKey) (pass pass' : Pass) (word rest : ℕ) (ended : Bool) (values' : ValueKeys)
     → Sees n pass (at_walk (ps ++ p ∷ []) done) → Knows n key 0 (at_walk (ps ++ p ∷ []) done) → (at : IsAtBatch key word) → at.batch ≡ length ps → at.walk ≡ waiting ps → at.queue ≡ []
     → CountsDown at pass key' values' pass' rest ended → Counted n before ps p done key' pass' values' rest
 counted_so n before ps few p done are key key' pass pass' word rest ended values' sees knows at batch walk queue d =
@@ -83,7 +83,7 @@ counted_so n before ps few p done are key key' pass pass' word rest ended values
           d.leads
           ∙ (ap (λ (w : List ℕ). list_word (λ b. block_in (slice_index_or (plans (start_of key') (own_list key')) b no_plan) (number_of key')) w) walk
           ∙ (ap (λ (all : List Plan). list_word (λ b. block_in (slice_index_or all b no_plan) (number_of key')) (waiting ps)) (planned_is n key' 0 to after.1)
-          ∙ (ap (λ (m : ℕ). list_word (λ b. block_in (slice_index_or to.plans b no_plan) m) (waiting ps)) after.1.number ∙ word_rest n before ps (p ∷ done) are)));
+          ∙ (ap (λ (m : ℕ). list_word (λ b. block_in (slice_index_or to.plans b no_plan) m) (waiting ps)) after.1.number ∙ word_rest before ps (p ∷ done) are)));
     }
 
 -- The values of a batch that was given up were named; and both are gone when both were handed.
@@ -140,8 +140,17 @@ others_know (h ∷ []) rest seen one same = ap tail_of same
     tail_of (x ∷ xs) = xs
 others_know (h ∷ g ∷ held) rest seen one same = absurd (cc)
 
+-- and what the first knows
+pub own_is : (held rest : List (Held Entry)) (seen : List Entry) → is_one blocks held ≡ true → held ++ rest ≡ renewed (held ++ rest) seen → own_of held ≡ seen
+own_is [] rest seen one same = absurd (cc)
+own_is (h ∷ []) rest seen one same = ap own_of same
+own_is (h ∷ g ∷ held) rest seen one same = absurd (cc)
+
 pub among_all : (v u : ℕ) (us vs : List ℕ) → vs ≡ u ∷ us → Contains us v → Contains vs v
 among_all v u us vs is among = subst (λ (ws : List ℕ). Contains ws v) (sym is) (suc among.0, let less = among.1 in omega (arith, less), among.2)
+
+pub first_is : (a b : ℕ) (us vs ws : List ℕ) → ws ≡ a ∷ us → ws ≡ b ∷ vs → a ≡ b
+first_is a b us vs ws one other = ap (λ (xs : List ℕ). slice_index_or xs 0 0) (sym one ∙ other)
 
 pub only_other : (a b v : ℕ) (vs ws : List ℕ) → vs ≡ a ∷ b ∷ [] → vs ≡ v ∷ ws → ws ≡ b ∷ []
 only_other a b v vs ws one other = ap tail_of (sym other ∙ one)
@@ -156,15 +165,15 @@ pub record Given (n : Name) (before : Option (Bor Pair)) (pair : Pair) (done : L
   pub ps : List Two
   pub p : Two
   pub few : IsFew ps
-  pub are : AreAllIn n (listed before) ps
-  pub is : AreIn n pair p
+  pub are : AreAllIn (listed before) ps
+  pub is : AreIn pair p
   pub counted : Counted n before ps p done key' pass' values' rest
 
-pub gives : (n : Name) (before : Option (Bor Pair)) (pair : Pair) (qs done : List Two) → AreAllIn n (listed before ++ pair ∷ []) qs → (key mid key' : SlotKey) (pass looked same pass' : Pass) (word rest : ℕ) (ended : Bool) (values' : ValueKeys)
+pub gives : (n : Name) (before : Option (Bor Pair)) (pair : Pair) (qs done : List Two) → AreAllIn (listed before ++ pair ∷ []) qs → (key mid key' : SlotKey) (pass looked same pass' : Pass) (word rest : ℕ) (ended : Bool) (values' : ValueKeys)
     → Sees n pass (at_walk qs done) → Knows n key 0 (at_walk qs done) → word ≡ word_over (listed before ++ pair ∷ []) → Looks key pass mid looked → same ≡ looked → ((at : IsAtBatch mid word) → CountsDown at same key' values' pass' rest ended)
     → Given n before pair done key' pass' values' rest
 gives n before pair qs done are key mid key' pass looked same pass' word rest ended values' sees knows leads looks unchanged counts =
-    let all = all_last n (listed before) pair qs are in let ps = all.0 in let p = all.1 in let few = few_before n before ps all.3 in let stage = at_walk (ps ++ p ∷ []) done in
+    let all = all_last (listed before) pair qs are in let ps = all.0 in let p = all.1 in let few = few_before before ps all.3 in let stage = at_walk (ps ++ p ∷ []) done in
     let sees_pass = subst (λ (rs : List Two). Sees n pass (at_walk rs done)) all.2 sees in
     let knows_key = subst (λ (rs : List Two). Knows n key 0 (at_walk rs done)) all.2 knows in
     let now = looked_leads n key mid pass looked 0 stage stage looks sees_pass knows_key in

@@ -1,5 +1,5 @@
 -- The steps of the run over all words of one book, from stage to stage.
-use Rattle.std.proofs.Common.{◌≡◌, ℕ, zero, suc, ◌+◌, ◌<◌, ◌==◌, Bool, true, false, not, if◌then◌else◌, List, [], ◌∷◌, length, Option, Some, None, refl, sym, ap, ◌∙◌, subst, arith}
+use Rattle.std.proofs.Common.{◌≡◌, ℕ, zero, suc, ◌+◌, ◌<◌, ◌==◌, Bool, true, false, not, if◌then◌else◌, List, [], ◌∷◌, length, Option, Some, None, inr, refl, sym, ap, ◌∙◌, subst, arith}
 use Rattle.seize_machine.specs.Machine.State.{State, head_at, has, is_active, is_idle, link_at}
 use Rattle.seize_machine.specs.Machine.Event.{Event, Take, Enter, Begin, SwapOut, Return, ReadLink, ExchangeLink}
 use Rattle.seize_machine.specs.Machine.Next.{next}
@@ -13,15 +13,16 @@ use Rattle.seize_book.specs.Book.{after}
 use Rattle.seize_book.specs.Entry.{Entry}
 use Rattle.seize_book.specs.Slots.{number_of, own_list}
 use Rattle.seize_book.specs.Tokens.{IsSole, Name, start}
-use Rattle.seize_book.specs.Books.{IsNextIn}
-use Rattle.seize_book.specs.Others.{book_of}
+use denote.Builtin.{u64}
+use Rattle.seize_book.specs.Others.{state_of, value_of}
+use Rattle.seize_words.proofs.Facts.{is_lent}
 use Rattle.seize_words.specs.Joined.{IsNewTo, words_book}
-use Rattle.seize_words.specs.LinkWords.{IsKeyIn, Takes, held_before, number}
+use Rattle.seize_words.specs.LinkWords.{IsKeyIn, Takes, held_before, holds, number}
 use Rattle.seize_words.specs.Links.{IsNewIn, compared, value_in, value_with}
 use Rattle.seize_book.specs.Homes.{IsVacant, home_of}
 use Rattle.seize_book.specs.Private.{label_of, own_of}
 use Rattle.seize_book.specs.declared.book.keys.Keys.{Keys}
-use Rattle.seize_words_rows.proofs.Lent.{value_of_one}
+use Rattle.seize_words_rows.proofs.Lent.{label_is, value_of_one}
 use Rattle.seize_words.specs.Reserved.{MakesNext, next_key}
 use Rattle.seize_words.specs.Totals.{made_of, slots_seen}
 use Rattle.seize_words.specs.declared.activation.Activation.{Activation}
@@ -32,10 +33,12 @@ use Rattle.seize_words.specs.declared.link.Link.{Link}
 use Rattle.seize_words.specs.declared.link.MaybeKey.{MaybeKey}
 use Rattle.seize_book.specs.declared.book.value_key.ValueKey.{ValueKey}
 use Rattle.seize_words.specs.declared.slots.next.NextSlot.{NextSlot}
+use Rattle.seize_words_rows.specs.BlockRuns.{IsIn, IsNew}
 use Rattle.seize_words_rows.specs.Entrants.{GoesOn, Shared}
 use Rattle.seize_words_rows.specs.JoinedRuns.{HasTwo, IsInside, Stay, both_in, left, leaving, linked, one_in, one_made, opened, swapped, two_made}
 use Rattle.seize_words_rows.specs.Leaves as leaves
 use Rattle.seize_words_rows.specs.Stages.{Goes, IsAt, Leads, Sees, Stage}
+use Rattle.seize_words_rows.specs.declared.block_run.Lent.{Lent}
 use Rattle.seize_words_rows.proofs.Shared.{may_still}
 use Rattle.seize_words_rows.proofs.Stages.{legal_at, passes, record_is}
 
@@ -170,16 +173,33 @@ slots_there n pass m v sees less = subst (λ (k : ℕ). m < k) (sym (ap (λ (z :
     two zero = refl
     two (suc m) = refl
 
--- a new block's value may go into a link
-pub new_to : (n : Name) (value : ValueKey) (key : MaybeKey) (number word : ℕ) → IsKeyIn value key → book_of value ≡ n → IsNextIn value number → word ≡ number + 1 → IsNewTo n key word
-new_to n value key number word is book next shows =
-    let held = value.keys.held in let v : ℕ = label_of held in let word_is : word ≡ link_word (Some v) = shows ∙ (ap (λ (m : ℕ). m + 1) (sym next.2) ∙ (let e : block_of v + 1 ≡ link_word (Some v) = omega arith in e)) in
-    subst (λ (ks : Keys). (ks.name ≡ n) × IsNewIn (start n) (value_in ks.held) ks.held × (word ≡ link_word (value_in ks.held))) (sym is) (
-      book,
-      subst (λ (o : Option ℕ). IsNewIn (start n) o held) (sym (value_of_one held value.one)) (
+-- a new value with which something is lent may go into a link
+pub new_to : (n : Name) (lent : Lent) (value : ValueKey) (key : MaybeKey) → IsKeyIn value key → IsNew n lent value → IsNewTo n key (lent.number + 1)
+new_to n lent value key is new =
+    let held = value.keys.held in let v : ℕ = label_of held in
+    let word_is : lent.number + 1 ≡ link_word (Some v) = ap (λ (m : ℕ). m + 1) (sym new.its.number) ∙ (let e : block_of v + 1 ≡ link_word (Some v) = omega arith in e) in
+    subst (λ (ks : Keys). (ks.name ≡ n) × IsNewIn n (value_in ks.held) ks.held × (lent.number + 1 ≡ link_word (value_in ks.held))) (sym is) (
+      new.book,
+      subst (λ (o : Option ℕ). IsNewIn n o held) (sym (value_of_one held value.one)) (
         (value.one, value.home, refl),
-        subst (λ (m : Name). has v (after (start m) (own_of held)).named ≡ false) book next.0,
-        subst (λ (m : Name). IsVacant (after (start m) (own_of held)) (home_of v)) book next.1,
+        subst (λ (m : Name). has v (after (start m) (own_of held)).named ≡ false) new.book new.next.0,
+        subst (λ (m : Name). IsVacant (after (start m) (own_of held)) (home_of v)) new.book new.next.1,
+        inr (is_lent v (u64.coded.code lent.value) new.its.code),
       ),
       word_is ∙ ap link_word (sym (value_of_one held value.one)),
     )
+
+-- and comes back with its key, where the exchange was lost
+pub still_new : (n : Name) (lent : Lent) (value value' : ValueKey) (key : MaybeKey) → IsKeyIn value' key → key.keys.name ≡ n → holds key ≡ Some (value_of value) → IsNewIn key.keys.name (holds key) key.keys.held → IsIn lent (value_of value) → IsNew n lent value'
+still_new n lent value value' key is book held new its =
+    let v : ℕ = value_of value in let new_v = subst (λ (o : Option ℕ). IsNewIn key.keys.name o key.keys.held) held new in
+    let label : value_of value' ≡ v = sym (ap (λ (ks : Keys). label_of ks.held) is) ∙ label_is key.keys.held v held in
+    record {
+      book = sym (ap (λ (ks : Keys). ks.name) is) ∙ book;
+      next = (
+        subst (λ (t : ℕ × State). has t.0 t.1.named ≡ false) (λ j. (sym label j, state_of (is j))) new_v.1,
+        subst (λ (t : ℕ × State). IsVacant t.1 (home_of t.0)) (λ j. (sym label j, state_of (is j))) new_v.2,
+        ap block_of label ∙ its.number,
+      );
+      its = subst (IsIn lent) (sym label) its;
+    }

@@ -10,7 +10,7 @@ use Rattle.seize_book.specs.Blocks.{list_word}
 use Rattle.seize_book.specs.Book.{after}
 use Rattle.seize_book.specs.Entry.{Deed, Entry}
 use Rattle.seize_book.specs.Laws.{starts}
-use Rattle.seize_book.specs.Passes.{IsSame, Longer}
+use Rattle.seize_book.specs.Passes.{IsSame, Longer, LooksOn}
 use Rattle.seize_book.specs.Private.{IsOver}
 use Rattle.seize_book.specs.Slots.{Notes, NotesAs, active_of, number_of, own_list, slot_of}
 use Rattle.seize_book.specs.Tokens.{Name, Noted, start}
@@ -21,7 +21,7 @@ use Rattle.seize_words.specs.Totals.{slots_seen}
 use Rattle.seize_words.specs.declared.activation.Activation.{Activation}
 use Rattle.seize_book.specs.declared.book.pass.Pass.{Pass}
 use Rattle.seize_book.specs.declared.book.slot_key.SlotKey.{SlotKey}
-use Rattle.seize_words.proofs.Facts.{life_kept, more_slots, seen_grows}
+use Rattle.seize_words.proofs.Facts.{life_kept, more_seen, more_slots, seen_grows}
 use Rattle.seize_words_rows.specs.Entrants.{GoesOn, MayRead, Shared}
 use Rattle.seize_words_rows.specs.Leaves.{IsInside}
 use Rattle.seize_words_rows.proofs.Leaves.{begun_out, gone_out}
@@ -35,6 +35,10 @@ goes_noted pass pass' e same noted =
       seen = grows;
       slots = subst (λ (n : Name). slots_seen pass ≤ length (after (start n) pass'.seen).slots) (sym same.0) (more_slots pass.name pass.seen pass'.seen grows noted.legal);
     }
+
+-- and after a look
+pub goes_looked : (pass pass' : Pass) → LooksOn pass pass' → GoesOn pass pass'
+goes_looked pass pass' looks = record { same = looks.same; seen = looks.grows; slots = more_seen pass pass' looks }
 
 pub goes_twice : (one two three : Pass) → GoesOn one two → GoesOn two three → GoesOn one three
 goes_twice one two three first last =

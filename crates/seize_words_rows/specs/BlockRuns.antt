@@ -1,7 +1,8 @@
 -- The stages of the worked run of blocks in a store. Slot 0 reads; slot 1 retires batches of two values each, which it inserts at slot 0.
 --     Two, both p         the values of a batch, in order
---     IsIn n block v      the value of book n lies in this block, and words hold it by the block's number
---     AreIn n pair p, AreAllIn n pairs ps     so do the values of a batch;  and those of each of some batches
+--     IsIn lent v         words hold the value by this number, and this is lent with it
+--     AreIn pair p, AreAllIn pairs ps     so it is with the values of a batch;  and with those of each of some batches
+--     IsNew n lent key    the key is for a value of book n, which was never named, by this number, and this is lent with it
 --     AreNew n pair one other      these keys of the book are for the first values of the blocks
 --     listed before       the pairs of blocks before, of which there is one at most
 --     book_of run, AreWords run     the book of the run;  its heads are of it, and so are its blocks
@@ -16,30 +17,27 @@
 --     AreReady, LiesFirst, LeavesOut     of keys whose blocks are laid back: see below
 use Rattle.std.specs.Prelude.{◌≡◌, ℕ, zero, suc, ◌+◌, ◌^◌, ◌<◌, ℤ, pos, true, false, Option, Some, None, List, [], ◌∷◌, ◌++◌, length, map}
 use denote.Bor.{Bor}
+use denote.Builtin.{u64}
 use Rattle.std.specs.List.{Contains}
 use Rattle.seize_machine.specs.Machine.State.{Slot, Head, has, slot_at, Inactive, Active, Batch, Append, Mark, Look, Try, Add, Out, Rest}
-use Rattle.seize_store.specs.Named.{bare_label, bare_number}
-use Rattle.seize_store.specs.declared.bare.Bare.{Bare}
 use Rattle.seize_book.specs.Blocks.{Plan, block_of}
 use Rattle.seize_book.specs.Books.{IsNextIn}
-use Rattle.seize_words.specs.Chunks.{LiesIn}
+use Rattle.seize_words.specs.Chunks.{IsLentAs}
 use Rattle.seize_words.specs.Chunks as chunks
 use Rattle.seize_book.specs.Values.{AreLast}
-use Rattle.seize_book.specs.Homes.{home_of}
 use Rattle.seize_book.specs.Homesteads.{state_seen}
 use Rattle.seize_book.specs.Ledger.{renewed}
 use Rattle.seize_book.specs.Others as others
-use Rattle.seize_book.specs.Tokens.{IsSole, Name, label_at}
+use Rattle.seize_book.specs.Tokens.{IsSole, Name}
 use Rattle.seize_book.specs.Values as values
 use Rattle.seize_book.specs.declared.book.pass.Pass.{Pass}
 use Rattle.seize_book.specs.declared.book.slot_key.SlotKey.{SlotKey}
 use Rattle.seize_book.specs.declared.book.value_key.ValueKey.{ValueKey}
 use Rattle.seize_book.specs.declared.book.value_keys.ValueKeys.{ValueKeys}
-use Rattle.seize_words.specs.declared.chunk.Header.{Header}
-use Rattle.seize_words.specs.declared.chunk.Part.{Part}
 use Rattle.seize_words_rows.specs.Runs.{AreHeads, book_in, calls, idle}
 use Rattle.seize_words_rows.specs.Stages.{Knows, Sees, Stage}
 use Rattle.seize_words_rows.specs.declared.block_run.Batch.{Batch as Retired}
+use Rattle.seize_words_rows.specs.declared.block_run.Lent.{Lent}
 use Rattle.seize_words_rows.specs.declared.block_run.Pair.{Pair}
 use Rattle.seize_words_rows.specs.declared.block_run.Run.{Run}
 
@@ -49,21 +47,23 @@ Two = ℕ × ℕ
 abbrev pub both : Two → List ℕ
 both p = p.0 ∷ p.1 ∷ []
 
-pub record IsIn (n : Name) (block : Bare Header Part ℕ) (v : ℕ) : Type 0 where
-  pub number : block_of v ≡ bare_number block
-  pub label : label_at n (home_of v) ≡ bare_label block
-  pub fits : bare_number block + 2 < 2 ^ 64
+pub record IsIn (lent : Lent) (v : ℕ) : Type 0 where
+  pub number : block_of v ≡ lent.number
+  pub code : IsLentAs v (u64.coded.code lent.value)
+  pub fits : lent.number + 2 < 2 ^ 64
 
-abbrev pub AreIn : Name → Pair → Two → Type 0
-AreIn n pair p = IsIn n pair.first p.0 × IsIn n pair.second p.1
+abbrev pub AreIn : Pair → Two → Type 0
+AreIn pair p = IsIn pair.first p.0 × IsIn pair.second p.1
 
-abbrev pub AreAllIn : Name → List Pair → List Two → Type 0
-AreAllIn n [] [] = Unit {0}
-AreAllIn n (pair ∷ pairs) (p ∷ ps) = AreIn n pair p × AreAllIn n pairs ps
-AreAllIn n _ _ = ⊥
+abbrev pub AreAllIn : List Pair → List Two → Type 0
+AreAllIn [] [] = Unit {0}
+AreAllIn (pair ∷ pairs) (p ∷ ps) = AreIn pair p × AreAllIn pairs ps
+AreAllIn _ _ = ⊥
 
-abbrev IsNew : Name → Bare Header Part ℕ → ValueKey → Type 0
-IsNew n block key = (others.book_of key ≡ n) × IsNextIn key (bare_number block) × LiesIn key block × (bare_number block + 2 < 2 ^ 64)
+pub record IsNew (n : Name) (lent : Lent) (key : ValueKey) : Type 0 where
+  pub book : others.book_of key ≡ n
+  pub next : IsNextIn key lent.number
+  pub its : IsIn lent (others.value_of key)
 
 abbrev pub AreNew : Name → Pair → ValueKey → ValueKey → Type 0
 AreNew n pair one other = IsNew n pair.first one × IsNew n pair.second other
@@ -80,7 +80,7 @@ AreWords run = AreHeads run.heads × (chunks.book_in run.blocks ≡ book_of run)
 
 abbrev pub word_over : List Pair → ℕ
 word_over [] = 1
-word_over (pair ∷ []) = bare_number pair.first + 2
+word_over (pair ∷ []) = pair.first.number + 2
 word_over (pair ∷ other ∷ pairs) = word_over (other ∷ pairs)
 
 -- no call of the slot is under way
@@ -89,12 +89,12 @@ Rests n key s = (last : Stage) × Knows n key s last × (slot_at last.state s �
 
 abbrev pub StandsAt : Run → List Pair → Pass → (List Two → Stage) → Type 0
 StandsAt run pairs pass now =
-    let n = book_of run in (ps : List Two) × AreWords run × AreAllIn n pairs ps × Sees n pass (now ps)
+    let n = book_of run in (ps : List Two) × AreWords run × AreAllIn pairs ps × Sees n pass (now ps)
 
 abbrev pub StandsWith : Run → List Pair → Retired → Pass → (List Two → Two → Stage) → SlotKey → (List Two → Two → Stage) → Type 0
 StandsWith run pairs batch pass now key last =
     let n = book_of run in
-    (ps : List Two) × (p : Two) × AreWords run × AreAllIn n pairs ps × AreIn n batch.pair p
+    (ps : List Two) × (p : Two) × AreWords run × AreAllIn pairs ps × AreIn batch.pair p
     × ((values.book_in batch.values ≡ n) × (values.values_of batch.values ≡ both p))
     × Sees n pass (now ps p) × Knows n key 1 (last ps p)
 
@@ -233,7 +233,7 @@ over done = walks idle (map emptied done) (gone_in done) done
 abbrev pub Walks : Run → List Pair → Pass → SlotKey → ℕ → Type 0
 Walks run pairs pass reader word =
     let n = book_of run in
-    (ps : List Two) × (done : List Two) × AreWords run × AreAllIn n pairs ps × Sees n pass (at_walk ps done)
+    (ps : List Two) × (done : List Two) × AreWords run × AreAllIn pairs ps × Sees n pass (at_walk ps done)
     × Knows n reader 0 (at_walk ps done) × (word ≡ word_over pairs)
 
 -- Blocks are laid back.
@@ -249,9 +249,9 @@ pub record AreReady (keys : ValueKeys) (pass : Pass) : Type 0 where
   pub last : AreLast keys since
   pub gone : (v : ℕ) → Contains (values.values_of keys) v → has v (state_seen pass).gone ≡ true
 
--- the first of these values lies in this block, which is of the book
-abbrev pub LiesFirst : Name → ValueKeys → Bare Header Part ℕ → Type 0
-LiesFirst n keys block = (v : ℕ) × (vs : List ℕ) × (values.values_of keys ≡ v ∷ vs) × IsIn n block v
+-- the first of these values lies in the block of this number, and this is lent with it
+abbrev pub LiesFirst : ValueKeys → Lent → Type 0
+LiesFirst keys lent = (v : ℕ) × (vs : List ℕ) × (values.values_of keys ≡ v ∷ vs) × IsIn lent v
 
 -- the first of some values is left out
 abbrev pub LeavesOut : ValueKeys → ValueKeys → Type 0

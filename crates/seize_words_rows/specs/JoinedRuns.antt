@@ -4,13 +4,12 @@
 --     HasBegun words a pass s          it is an activation of slot s, which the pass has seen begin: each link may be stepped on
 --     Stay words pass pass'            whatever activation the first pass has seen begin, so has the second
 --     IsInside n key s a               it is the key of slot s of book n, which is active, in this activation, and has no call under way
---     IsLinked words block pass        link 1 holds the value of this block, and link 0 none, and the pass has seen just that
---     IsOut words block key pass       the value of this block came out, with this key
+--     IsLinked words lent pass         link 1 holds the value with which this is lent, and link 0 none, and the pass has seen just that
+--     IsOut words lent key pass        the value with which this is lent came out, with this key
 --     IsLeft words m pass              so did one, and the first m slots have left
 --     opened .. left m v               the stages, in order; in the last ones the first m slots have left
 use Rattle.std.specs.Prelude.{◌≡◌, ℕ, zero, suc, ◌+◌, true, false, Option, Some, None, List, [], ◌∷◌, length}
 use Rattle.seize_machine.specs.Machine.State.{Slot, Head, Inactive, Active, Out, Rest, slot_at, head_at, is_active}
-use Rattle.seize_store.specs.declared.bare.Bare.{Bare}
 use Rattle.seize_book.specs.Others.{book_of, value_of}
 use Rattle.seize_book.specs.Tokens.{Name}
 use Rattle.seize_words.specs.Joined.{words_book}
@@ -19,12 +18,11 @@ use Rattle.seize_words.specs.declared.activation.Activation.{Activation}
 use Rattle.seize_book.specs.declared.book.pass.Pass.{Pass}
 use Rattle.seize_book.specs.declared.book.slot_key.SlotKey.{SlotKey}
 use Rattle.seize_book.specs.declared.book.value_key.ValueKey.{ValueKey}
-use Rattle.seize_words.specs.declared.chunk.Header.{Header}
-use Rattle.seize_words.specs.declared.chunk.Part.{Part}
 use Rattle.seize_words_rows.specs.BlockRuns.{IsIn}
 use Rattle.seize_words_rows.specs.Entrants.{MayRead, Shared}
 use Rattle.seize_words_rows.specs.Runs.{calls, idle}
 use Rattle.seize_words_rows.specs.Stages.{Knows, Sees, Stage}
+use Rattle.seize_words_rows.specs.declared.block_run.Lent.{Lent}
 
 abbrev pub HasTwo : Shared → Type 0
 HasTwo words = length (words_book words).links ≡ 2
@@ -93,13 +91,13 @@ pub record IsInside (n : Name) (key : SlotKey) (s : ℕ) (a : Activation) : Type
   pub active : is_active (head_at last.state s) ≡ true
   pub its : IsLastOf key a
 
-abbrev pub IsLinked : Shared → Bare Header Part ℕ → Pass → Type 0
-IsLinked words block pass = let n = words_book words in (v : ℕ) × IsIn n block v × Sees n pass (linked v)
+abbrev pub IsLinked : Shared → Lent → Pass → Type 0
+IsLinked words lent pass = (v : ℕ) × IsIn lent v × Sees (words_book words) pass (linked v)
 
--- the value of this block came out, with this key
-abbrev pub IsOut : Shared → Bare Header Part ℕ → ValueKey → Pass → Type 0
-IsOut words block key pass =
-    let n = words_book words in IsIn n block (value_of key) × (book_of key ≡ n) × Sees n pass (left 0 (value_of key))
+-- the value came out, with this key
+abbrev pub IsOut : Shared → Lent → ValueKey → Pass → Type 0
+IsOut words lent key pass =
+    let n = words_book words in IsIn lent (value_of key) × (book_of key ≡ n) × Sees n pass (left 0 (value_of key))
 
 abbrev pub IsLeft : Shared → ℕ → Pass → Type 0
 IsLeft words m pass = (v : ℕ) × Sees (words_book words) pass (left m v)

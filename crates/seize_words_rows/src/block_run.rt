@@ -1,16 +1,16 @@
 //! A worked run of blocks in a store: one slot reads, and another retires two batches of two values each. The values lie in blocks that
-//! come out of the store with their keys; each batch is inserted at the reader's head by the words in the headers of its blocks. Then the
-//! reader leaves and walks both batches by words alone. It is given both up, hands their values to their reclaimers and lays the blocks
-//! back.
+//! come out of the store with their keys, and are lent; each batch is inserted at the reader's head by the words in the headers of its
+//! blocks. Then the reader leaves and walks both batches by words alone. It is given both up, hands their values to their reclaimers, has
+//! the blocks back by their numbers and lays them back.
 //!
 //! As in `worked_run`, each function makes a few of the events, and the book is open to one pass alone, so its holder knows the whole list.
 //! No contract fixes a block's number here: each is the one that the store gave.
 ghost use Rattle.std.specs.Prelude.{◌≡◌, ◌+◌, [], ◌∷◌, ◌++◌, IfSome, false, true};
-ghost use Rattle.seize_store.specs.Named.{bare_number, bare_value};
-ghost use Rattle.seize_words.specs.Chunks.{book_in as blocks_book};
+ghost use Rattle.seize_store.specs.Named.{bare_value};
+ghost use Rattle.seize_words.specs.Chunks.{IsBlockIn, book_in as blocks_book};
 ghost use Rattle.seize_book.specs.Passes.{LooksOn};
 ghost use Rattle.seize_words.specs.Reservations.{IsLastOf};
-ghost use Rattle.seize_words_rows.specs.BlockRuns.{AreNew, AreReady, LeavesOut, LiesFirst, Rests, StandsAt, StandsWith, Walks, book_of, listed, word_over, entered, inserted, looked, marked, opened, put, rests};
+ghost use Rattle.seize_words_rows.specs.BlockRuns.{AreNew, AreReady, IsNew, LeavesOut, LiesFirst, Rests, StandsAt, StandsWith, Walks, book_of, listed, word_over, entered, inserted, looked, marked, opened, put, rests};
 ghost use Rattle.seize_words_rows.specs.Making.{CanMake, made_by, name_by};
 ghost use Rattle.seize_words_rows.specs.Runs.{AreHeads, book_in};
 ghost use Rattle.seize_words_rows.specs.Stages.{Knows, Sees};
@@ -25,11 +25,18 @@ use seize_words::book::{BookKeys, Pass, SlotKey, ValueKey, ValueKeys};
 use seize_words::chunk::{Header, Part};
 use std::alloc::Global;
 
+/// What is known of a block that is lent: its number, and the value there.
+#[derive(Clone, Copy)]
+pub struct Lent {
+    pub number: u64,
+    pub value: u64,
+}
+
 /// Two blocks, whose values make a batch.
-#[derive(Drop)]
+#[derive(Clone, Copy)]
 pub struct Pair {
-    pub first: Bare<Header, Part, u64>,
-    pub second: Bare<Header, Part, u64>,
+    pub first: Lent,
+    pub second: Lent,
 }
 
 /// A batch that is not inserted yet: its blocks, and the keys of the values in them.
@@ -86,7 +93,34 @@ fn make_slots(maker: Maker, pass: &mut Pass) -> (SlotKey, Activation, SlotKey, H
     (reader, activation, retirer, heads)
 }
 
-/// Two blocks with these values, and their keys. Nothing comes where a growth of the store was refused, and no block stays out then.
+/// The block is lent, and the key is for what is lent.
+pub fn lend(blocks: &Blocks<u64>, key: &mut ValueKey, block: Bare<Header, Part, u64>) -> Lent
+    requires block { IsBlockIn blocks.now (bare_value block) key.old block }
+    ensures value { result.value ≡ bare_value block }
+    ensures new { IsNew (blocks_book blocks.now) result key.new }
+{
+    let lent = Lent {
+        number: block.number() as u64,
+        value: *block,
+    };
+    blocks.lend(key, block);
+    lent
+}
+
+/// A block whose value was never named goes back into the store. It gives what was lent there.
+pub fn give_back(blocks: &Blocks<u64>, key: ValueKey, lent: Lent, pass: &mut Pass) -> u64
+    requires book { blocks_book blocks.now ≡ pass.old.name }
+    requires new { IsNew (blocks_book blocks.now) lent key }
+    ensures pass { pass.new ≡ pass.old }
+    ensures value { result ≡ lent.value }
+{
+    let mut key = key;
+    let block = blocks.withdraw(lent.number, &mut key, pass);
+    blocks.take_back(key, block)
+}
+
+/// Two blocks with these values, which are lent, and their keys. Nothing comes where a growth of the store was refused, and no block stays
+/// out then.
 pub fn take(
     blocks: &Blocks<u64>,
     one: u64,
@@ -95,16 +129,18 @@ pub fn take(
 ) -> Option<(Pair, ValueKey, ValueKey)>
     requires { blocks_book blocks.now ≡ pass.old.name }
     ensures pass { pass.new ≡ pass.old }
-    ensures values { IfSome result (λ taken. (bare_value taken.0.first ≡ one) × (bare_value taken.0.second ≡ other)) }
+    ensures values { IfSome result (λ taken. (taken.0.first.value ≡ one) × (taken.0.second.value ≡ other)) }
     ensures new { IfSome result (λ taken. AreNew (blocks_book blocks.now) taken.0 taken.1 taken.2) }
 {
-    let Ok((one_key, first)) = blocks.add(one, pass) else {
+    let Ok((mut one_key, first)) = blocks.add(one, pass) else {
         return None;
     };
-    let Ok((other_key, second)) = blocks.add(other, pass) else {
+    let Ok((mut other_key, second)) = blocks.add(other, pass) else {
         blocks.take_back(one_key, first);
         return None;
     };
+    let first = lend(blocks, &mut one_key, first);
+    let second = lend(blocks, &mut other_key, second);
     Some((Pair { first, second }, one_key, other_key))
 }
 
@@ -183,7 +219,7 @@ pub fn insert(
     ensures found { result ≡ seen }
     ensures stands { StandsWith run.now (listed before.entry) batch.now pass.new inserted retirer.new inserted }
 {
-    let block = batch.pair.first.number() as u64;
+    let block = batch.pair.first.number;
     let header = run.blocks.header(block, pass);
     prepare(&header.next, &header.first, seen, block, retirer, pass);
     run.heads.reader.insert(seen, block, retirer, pass)
@@ -204,7 +240,7 @@ pub fn add(
     ensures stands { StandsAt run.now (listed before.entry ++ result.0 ∷ []) pass.new rests × Rests (book_of run.now) retirer.new 1 }
 {
     let Batch { pair, mut values } = batch;
-    let header = run.blocks.header(pair.first.number() as u64, pass);
+    let header = run.blocks.header(pair.first.number, pass);
     let zero = header.count.add(1, retirer, &mut values, pass);
     retirer.finish(pass);
     (pair, zero)
@@ -221,7 +257,7 @@ pub fn retire_both(
     pass: &mut Pass,
 ) -> Option<Pair>
     requires stands { StandsAt run.now (listed before) pass.old rests × Rests (book_of run.now) retirer.old 1 }
-    ensures values { IfSome result (λ pair. (bare_value pair.first ≡ one) × (bare_value pair.second ≡ other)) }
+    ensures values { IfSome result (λ pair. (pair.first.value ≡ one) × (pair.second.value ≡ other)) }
     ensures stands { IfSome result (λ pair. StandsAt run.now (listed before.entry ++ pair ∷ []) pass.new rests) }
     ensures rests { Rests (book_of run.now) retirer.new 1 }
 {
@@ -246,7 +282,7 @@ pub fn leave(
     requires stands { StandsAt run.now (first.now ∷ second.now ∷ []) pass.old rests }
     requires reader { Knows (book_of run.now) reader.old 0 entered }
     requires last { IsLastOf reader.old activation }
-    ensures found { result ≡ bare_number second.now.first + 2 }
+    ensures found { result ≡ second.now.first.number + 2 }
     ensures walks { Walks run.now (first.now ∷ second.now ∷ []) pass.new reader.new result }
 {
     reader.begin_leave(pass);
@@ -254,7 +290,8 @@ pub fn leave(
 }
 
 /// The reader counts down the batch to which the word leads, and is given its values, which it hands to their reclaimers. Then the blocks
-/// go back into the store with their keys. It gives the values, and the word that leads on through the rest of the walk.
+/// are in hand again, and go back into the store with their keys. It gives the values, and the word that leads on through the rest of the
+/// walk.
 pub fn walk_on(
     run: &Run,
     before: Option<&Pair>,
@@ -264,7 +301,7 @@ pub fn walk_on(
     pass: &mut Pass,
 ) -> (u64, u64, u64)
     requires walks { Walks run.now (listed before ++ pair ∷ []) pass.old reader.old word }
-    ensures values { (result.0 ≡ bare_value pair.first) × (result.1 ≡ bare_value pair.second) }
+    ensures values { (result.0 ≡ pair.first.value) × (result.1 ≡ pair.second.value) }
     ensures walks { Walks run.now (listed before.entry) pass.new reader.new result.2 }
 {
     let Pair { first, second } = pair;
@@ -278,21 +315,16 @@ pub fn walk_on(
     (one, other, rest)
 }
 
-// Lays the block of the first of these values back, and gives what lay in it.
-fn lay_back(
-    blocks: &Blocks<u64>,
-    values: &mut ValueKeys,
-    block: Bare<Header, Part, u64>,
-    pass: &mut Pass,
-) -> u64
+// Has the block of the first of these values back and lays it back, and gives what lay in it.
+fn lay_back(blocks: &Blocks<u64>, values: &mut ValueKeys, lent: Lent, pass: &mut Pass) -> u64
     requires ready { AreReady values.old pass.old × (blocks_book blocks.now ≡ pass.old.name) }
-    requires lies { LiesFirst pass.old.name values.old block }
-    ensures value { result ≡ bare_value block }
+    requires lies { LiesFirst values.old lent }
+    ensures value { result ≡ lent.value }
     ensures left { LeavesOut values.old values.new }
     ensures ready { AreReady values.new pass.new × LooksOn pass.old pass.new }
 {
     let mut key = values.next();
-    key.next(pass);
+    let block = blocks.redeem(lent.number, &mut key, pass);
     blocks.take_back(key, block)
 }
 

@@ -1,11 +1,12 @@
-//! Slots over all words of one book, as each of several threads has one: it enters, swaps the values of new blocks into links, reads links,
-//! and leaves. All words are found by their numbers.
+//! Slots over all words of one book, as each of several threads has one: it enters, swaps the values of new blocks into links, reads links
+//! and sees what is lent with the values there, and leaves. All words are found by their numbers.
 ghost use Rattle.std.specs.Prelude.{◌≡◌, ◌<◌, IfSome, length, true};
 ghost use Rattle.seize_words.specs.Joined.{IsHolder, IsInAt, words_book};
 ghost use Rattle.seize_words.specs.Reservations.{IsLastOf};
 ghost use Rattle.seize_words_rows.specs.Entrants.{CanMake, GoesOn, HasLinks, HasOneMore, IsOutOrOver, MayCross, MayEnter, MayRead, MayReadAll, made_by};
 ghost use Rattle.seize_words_rows.specs.Leaves.{IsInside, IsOutside};
 
+use crate::block_run::lend;
 use crate::exchanges::TURNS;
 use seize_words::activation::Activation;
 use seize_words::book::{NumbersKey, Pass, SlotKey};
@@ -56,8 +57,8 @@ pub fn open(alloc: Global) -> Option<(Words<u64>, Source)>
     Some((words, source))
 }
 
-/// Swaps the value of a new block into the link. It gives the word that it put in and that of what came out. Nothing comes where a growth
-/// of the store was refused, and then nothing was put in.
+/// Swaps the value of a new block, which is lent, into the link. It gives the word that it put in and that of what came out. Nothing comes
+/// where a growth of the store was refused, and then nothing was put in.
 ///
 /// What came out was not retired, so its block can't go back, and its chunk stays out: the memory of such rows is never given back.
 pub fn put_in(
@@ -70,10 +71,10 @@ pub fn put_in(
     requires within { (words_book words.now ≡ pass.old.name) × IsInAt activation.now pass.old link }
     ensures goes_on { GoesOn pass.old pass.new }
 {
-    let Ok((key, block)) = words.blocks.add(value, pass) else {
+    let Ok((mut key, block)) = words.blocks.add(value, pass) else {
         return None;
     };
-    let word = block.number() as u64 + 1;
+    let word = lend(&words.blocks, &mut key, block).number + 1;
     let mut value = MaybeKey::some(key);
     let old = words.swap_link(link, word, &mut value, activation, pass);
     Some((word, old))
@@ -149,18 +150,24 @@ fn swap_once(
     found
 }
 
-// Reads the link until it holds something. It says whether it ever did.
-fn wait_for(words: &Words<u64>, link: usize, activation: &Activation, pass: &mut Pass) -> bool
+// Reads the link until it holds something, and sees what is lent with that. Nothing comes where it never did.
+fn wait_for(
+    words: &Words<u64>,
+    link: usize,
+    activation: &Activation,
+    pass: &mut Pass,
+) -> Option<u64>
     requires within { (words_book words.now ≡ pass.old.name) × IsInAt activation.now pass.old link }
     ensures goes_on { GoesOn pass.old pass.new }
 {
     for _ in 0..TURNS {
-        if words.read_link(link, activation, pass).0 != 0 {
-            return true;
+        let (word, glimpse) = words.read_link(link, activation, pass);
+        if word != 0 {
+            return Some(*words.blocks.see(word - 1, glimpse, pass));
         }
         thread::yield_now();
     }
-    false
+    None
 }
 
 impl Source {
@@ -232,8 +239,15 @@ impl Entrant {
         (sum, held)
     }
 
-    /// Enters, swaps a value into one link, reads the other until that holds something, and leaves. It says whether it ever did.
-    pub fn swap_and_wait(self, words: &Words<u64>, into: usize, from: usize) -> bool
+    /// Enters, swaps a value into one link, reads the other until that holds something, and leaves. It gives the value that it saw there.
+    /// Nothing comes where it never held one.
+    pub fn swap_and_wait(
+        self,
+        words: &Words<u64>,
+        into: usize,
+        from: usize,
+        value: u64,
+    ) -> Option<u64>
         requires may { MayEnter words.now self }
         requires links { (into < 8) × (from < 8) }
     {
@@ -243,9 +257,13 @@ impl Entrant {
             mut pass,
         } = self;
         let activation = words.enter_head(slot, &mut key, &mut pass);
-        let put = put_in(words, into, 0, &activation, &mut pass).is_some();
-        let saw = put && wait_for(words, from, &activation, &mut pass);
-        saw && leave(words, slot, activation, &mut key, &mut pass)
+        put_in(words, into, value, &activation, &mut pass)?;
+        let seen = wait_for(words, from, &activation, &mut pass)?;
+        if leave(words, slot, activation, &mut key, &mut pass) {
+            Some(seen)
+        } else {
+            None
+        }
     }
 
     /// Enters, and swaps a value into the link. It gives the word that it put in, and 0 where memory was refused.

@@ -1,12 +1,11 @@
 //! A run over all words of one book, each found by its number. There are two slots, which enter by their heads in the table. The one puts
-//! the value of a block of the store into link 1, where the other finds it. An exchange loses there and another one wins, by which the
-//! value comes out. Then both leave, and nothing waited.
+//! the value of a block of the store, which is lent, into link 1, where the other finds it and sees what is lent. An exchange loses there,
+//! and what would have gone in is had back; another one wins, by which the value comes out. Then both leave, and nothing waited.
 //!
 //! As in `worked_run`, the book is open to one pass alone, so its holder knows the whole list, and the contracts say which words are found:
 //! they are those of the number that the store gave.
 ghost use Rattle.std.specs.Prelude.{◌≡◌, ◌+◌, ◌<◌, IfSome};
 ghost use Rattle.seize_book.specs.Others.{MayRetire, book_of};
-ghost use Rattle.seize_store.specs.Named.{bare_number, bare_value};
 ghost use Rattle.seize_words.specs.Joined.{words_book};
 ghost use Rattle.seize_words.specs.Named.{numbers_book};
 ghost use Rattle.seize_words.specs.Reserved.{HasNext};
@@ -14,10 +13,9 @@ ghost use Rattle.seize_words.specs.Totals.{made_of};
 ghost use Rattle.seize_words_rows.specs.JoinedRuns.{HasBegun, HasTwo, IsInside, IsLeft, IsLinked, IsOut, Stay, both_in, one_made, opened, two_made};
 ghost use Rattle.seize_words_rows.specs.Stages.{Knows, Leads, Sees};
 
-use seize_store::Bare;
+use crate::block_run::{Lent, give_back, lend};
 use seize_words::activation::Activation;
 use seize_words::book::{NumbersKey, Pass, SlotKey, ValueKey};
-use seize_words::chunk::{Header, Part};
 use seize_words::link::MaybeKey;
 use seize_words::slots::NextSlot;
 use seize_words::words::Words;
@@ -77,85 +75,88 @@ pub fn enter(
     (first, second)
 }
 
-/// The value goes into a block of the store, and that into link 1. It gives the link's word before, and the block. Nothing comes where a
-/// growth of the store was refused.
+/// The value goes into a block of the store, which is lent, and that into link 1. It gives the link's word before, and what is lent.
+/// Nothing comes where a growth of the store was refused.
 pub fn put_in(
     words: &Words<u64>,
     value: u64,
     activation: &Activation,
     pass: &mut Pass,
-) -> Option<(u64, Bare<Header, Part, u64>)>
+) -> Option<(u64, Lent)>
     requires words { HasTwo words.now × HasBegun words.now activation.now pass.old 1 }
     requires sees { Sees (words_book words.now) pass.old both_in }
-    ensures found { IfSome result (λ put. (put.0 ≡ 0) × (bare_value put.1 ≡ value)) }
+    ensures found { IfSome result (λ put. (put.0 ≡ 0) × (put.1.value ≡ value)) }
     ensures begun { Stay words.now pass.old pass.new }
     ensures linked { IfSome result (λ put. IsLinked words.now put.1 pass.new) }
 {
-    let Ok((key, block)) = words.blocks.add(value, pass) else {
+    let Ok((mut key, block)) = words.blocks.add(value, pass) else {
         return None;
     };
-    let word = block.number() as u64 + 1;
+    let lent = lend(&words.blocks, &mut key, block);
     let mut key = MaybeKey::some(key);
-    let before = words.swap_link(1, word, &mut key, activation, pass);
-    Some((before, block))
+    let before = words.swap_link(1, lent.number + 1, &mut key, activation, pass);
+    Some((before, lent))
 }
 
-/// The slot that finds reads both links.
+/// The slot that finds reads both links, and sees what is lent with the value in the second. It gives the links' words, and what it saw.
 pub fn find(
     words: &Words<u64>,
-    _block: &Bare<Header, Part, u64>,
+    lent: Lent,
     activation: &Activation,
     pass: &mut Pass,
-) -> (u64, u64)
+) -> (u64, u64, u64)
     requires words { HasTwo words.now × HasBegun words.now activation.now pass.old 0 }
-    requires linked { IsLinked words.now _block.now pass.old }
-    ensures found { (result.0 ≡ 0) × (result.1 ≡ bare_number _block.now + 1) }
+    requires linked { IsLinked words.now lent pass.old }
+    ensures found { (result.0 ≡ 0) × (result.1 ≡ lent.number + 1) }
+    ensures seen { result.2 ≡ lent.value }
     ensures begun { Stay words.now pass.old pass.new }
-    ensures linked { IsLinked words.now _block.now pass.new }
+    ensures linked { IsLinked words.now lent pass.new }
 {
     let (first, _) = words.read_link(0, activation, pass);
-    let (second, _) = words.read_link(1, activation, pass);
-    (first, second)
+    let (second, glimpse) = words.read_link(1, activation, pass);
+    let value = words.blocks.see(second - 1, glimpse, pass);
+    (first, second, *value)
 }
 
-/// An exchange at link 1 that takes it to be empty, and so loses. What would have gone in is in hand again: its block goes back into the
-/// store. It gives the word that was found, and the value. Nothing comes where a growth of the store was refused.
+/// An exchange at link 1 that takes it to be empty, and so loses. What would have gone in was lent and never named: it is had back, and its
+/// block goes back into the store. It gives the word that was found, and the value. Nothing comes where a growth of the store was refused.
 pub fn lose(
     words: &Words<u64>,
-    _block: &Bare<Header, Part, u64>,
+    lent: Lent,
     value: u64,
     activation: &Activation,
     pass: &mut Pass,
 ) -> Option<(u64, u64)>
     requires words { HasTwo words.now × HasBegun words.now activation.now pass.old 1 }
-    requires linked { IsLinked words.now _block.now pass.old }
-    ensures found { IfSome result (λ lost. (lost.0 ≡ bare_number _block.now + 1) × (lost.1 ≡ value)) }
+    requires linked { IsLinked words.now lent pass.old }
+    ensures found { IfSome result (λ lost. (lost.0 ≡ lent.number + 1) × (lost.1 ≡ value)) }
     ensures begun { Stay words.now pass.old pass.new }
-    ensures linked { IsLinked words.now _block.now pass.new }
+    ensures linked { IsLinked words.now lent pass.new }
 {
-    let Ok((key, block)) = words.blocks.add(value, pass) else {
+    let Ok((mut key, block)) = words.blocks.add(value, pass) else {
         return None;
     };
-    let word = block.number() as u64 + 1;
+    let new = lend(&words.blocks, &mut key, block);
     let mut key = MaybeKey::some(key);
-    let (found, _) = words.exchange_link(1, 0, word, &mut key, activation, pass);
-    Some((found, words.blocks.take_back(key.value(), block)))
+    let (found, _) = words.exchange_link(1, 0, new.number + 1, &mut key, activation, pass);
+    Some((found, give_back(&words.blocks, key.value(), new, pass)))
 }
 
 /// An exchange at link 1 of what was found there, which wins: the value comes out. It gives the word that was found, and the value's key.
+/// What is lent stays so.
 pub fn take_out(
     words: &Words<u64>,
-    block: &Bare<Header, Part, u64>,
+    lent: Lent,
     activation: &Activation,
     pass: &mut Pass,
 ) -> (u64, ValueKey)
     requires words { HasTwo words.now × HasBegun words.now activation.now pass.old 1 }
-    requires linked { IsLinked words.now block.now pass.old }
-    ensures found { result.0 ≡ bare_number block.now + 1 }
-    ensures out { IsOut words.now block.now result.1 pass.new × MayRetire result.1 }
+    requires linked { IsLinked words.now lent pass.old }
+    ensures found { result.0 ≡ lent.number + 1 }
+    ensures out { IsOut words.now lent result.1 pass.new × MayRetire result.1 }
 {
     let mut none = MaybeKey::none(pass);
-    let seen = block.number() as u64 + 1;
+    let seen = lent.number + 1;
     let (found, _) = words.exchange_link(1, seen, 0, &mut none, activation, pass);
     (found, none.value())
 }

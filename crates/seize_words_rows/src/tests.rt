@@ -260,7 +260,7 @@ fn blocks_of_two_batches_are_laid_back(rt: HostRuntime) {
     let Some((pair, one, other)) = block_run::take(&run.blocks, 70, 71, &mut pass) else {
         panic!(rt; "no memory");
     };
-    let front = pair.first.number() as u64;
+    let front = pair.first.number;
     let batch = block_run::retire(&run, None, pair, one, other, &mut retirer, &mut pass);
     assert_eq!(rt;
         block_run::mark(&run, None, &batch, &mut retirer, &mut pass),
@@ -280,7 +280,7 @@ fn blocks_of_two_batches_are_laid_back(rt: HostRuntime) {
     let Some(second) = second else {
         panic!(rt; "no memory");
     };
-    let last = second.first.number() as u64;
+    let last = second.first.number;
     let word = block_run::leave(&run, &first, &second, &mut reader, activation, &mut pass);
     assert_eq!(rt; word, last + 2);
     let walked = block_run::walk_on(&run, Some(&first), second, word, &mut reader, &mut pass);
@@ -291,10 +291,16 @@ fn blocks_of_two_batches_are_laid_back(rt: HostRuntime) {
     let Some((pair, one, other)) = block_run::take(&run.blocks, 74, 75, &mut pass) else {
         panic!(rt; "no memory");
     };
-    assert_eq!(rt; pair.first.number() as u64, front);
+    assert_eq!(rt; pair.first.number, front);
     let block_run::Pair { first, second } = pair;
-    assert_eq!(rt; run.blocks.take_back(one, first), 74);
-    assert_eq!(rt; run.blocks.take_back(other, second), 75);
+    assert_eq!(rt;
+        block_run::give_back(&run.blocks, one, first, &mut pass),
+        74
+    );
+    assert_eq!(rt;
+        block_run::give_back(&run.blocks, other, second, &mut pass),
+        75
+    );
     drop((reader, retirer, run));
 }
 

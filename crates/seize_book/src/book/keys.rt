@@ -41,7 +41,7 @@ impl Picks for Brand {
 }
 
 impl Keys {
-    ghost use Rattle.seize_book.specs.Adding.{Adds, Asks, Joins, Looks, MayLook, Parts};
+    ghost use Rattle.seize_book.specs.Adding.{Adds, Asks, Joins, Looks, MayLook, Parts, PartsLast};
     ghost use Rattle.seize_book.specs.Ledger.{AllApart};
     ghost use Rattle.seize_book.specs.Lending.{IsRowAt, Lends, MayLend, MayRedeem, MayWithdraw, Redeems};
     ghost use Rattle.seize_book.specs.Notes.{MayOpen, Opens};
@@ -176,6 +176,12 @@ impl Keys {
     pub fn join(&mut self, other: &mut Keys)
         requires { other.old.name ≡ self.old.name }
         ensures { Joins self.old other.old self.new other.new }
+    {}
+
+    /// Gives the last to the other, which had none.
+    pub(crate) fn part_last(&mut self, other: &mut Keys)
+        requires { (other.old.name ≡ self.old.name) × (other.old.held ≡ []) }
+        ensures { PartsLast self.old self.new other.new }
     {}
 
     /// Gives all but the first to the other, which had none.

@@ -12,28 +12,29 @@ use std::thread::Threads;
 // How often each thread swaps.
 const SWAPS: u64 = 5_000;
 
-// Two slots enter by their heads in the table. A value in a block of the store goes into one of two links, is found there, stays where an
-// exchange loses, and comes out where one wins. Both slots leave, and nothing waited.
+// Two slots enter by their heads in the table. A value in a block of the store, which is lent, goes into one of two links, is found and
+// seen there, stays where an exchange loses, and comes out where one wins. What was lent for the exchange that loses is had back. Both
+// slots leave, and nothing waited.
 #[test]
 fn a_block_goes_through_a_link(rt: HostRuntime) {
     let Some((words, mut finder, mut other, mut pass)) = joined_run::begin(rt.alloc()) else {
         panic!(rt; "no memory");
     };
     let (first, second) = joined_run::enter(&words, &mut finder, &mut other, &mut pass);
-    let Some((before, block)) = joined_run::put_in(&words, 70, &second, &mut pass) else {
+    let Some((before, lent)) = joined_run::put_in(&words, 70, &second, &mut pass) else {
         panic!(rt; "no memory");
     };
-    let word = block.number() as u64 + 1;
-    assert_eq!(rt; (before, *block), (0, 70));
+    let word = lent.number + 1;
+    assert_eq!(rt; (before, lent.value), (0, 70));
     assert_eq!(rt;
-        joined_run::find(&words, &block, &first, &mut pass),
-        (0, word)
+        joined_run::find(&words, lent, &first, &mut pass),
+        (0, word, 70)
     );
-    let Some(lost) = joined_run::lose(&words, &block, 71, &second, &mut pass) else {
+    let Some(lost) = joined_run::lose(&words, lent, 71, &second, &mut pass) else {
         panic!(rt; "no memory");
     };
     assert_eq!(rt; lost, (word, 71));
-    let (found, _) = joined_run::take_out(&words, &block, &second, &mut pass);
+    let (found, _) = joined_run::take_out(&words, lent, &second, &mut pass);
     assert_eq!(rt; found, word);
     assert_eq!(rt;
         joined_run::leave(&words, 0, first, &mut finder, &mut pass),
@@ -45,7 +46,7 @@ fn a_block_goes_through_a_link(rt: HostRuntime) {
     );
 }
 
-// Each of two threads swaps a value into one link and then waits for that of the other: it holds only where both run.
+// Each of two threads swaps a value into one link, and then waits for that of the other and sees it: it holds only where both run.
 #[test]
 fn each_thread_sees_what_the_other_put_in(rt: HostRuntime) {
     let Some((words, source)) = open(rt.alloc()) else {
@@ -60,14 +61,14 @@ fn each_thread_sees_what_the_other_put_in(rt: HostRuntime) {
     let words = &words;
     let (saw_1, saw_2) = thread::join(
         &rt,
-        move || -> bool
+        move || -> Option<u64>
             requires { MayEnter words.now one }
-        { one.swap_and_wait(words, 0, 1) },
-        move || -> bool
+        { one.swap_and_wait(words, 0, 1, 70) },
+        move || -> Option<u64>
             requires { MayEnter words.now two }
-        { two.swap_and_wait(words, 1, 0) },
+        { two.swap_and_wait(words, 1, 0, 71) },
     );
-    assert!(rt; saw_1 && saw_2);
+    assert_eq!(rt; (saw_1, saw_2), (Some(71), Some(70)));
 }
 
 // Two threads swap. It gives the sum of the words put in, less those that came out.

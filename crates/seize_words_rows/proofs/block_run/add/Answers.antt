@@ -10,9 +10,9 @@ use Rattle.seize_words_rows.proofs.block_run.add.Goals as goal
 
 pub add-zero-requires-clause-adds : goal.add-zero-requires-clause-adds
 add-zero-requires-clause-adds c =
-    let n = book_of c.args.run.now in let stands = c.requires.stands in let ps = stands.0 in let p = stands.1 in let few = few_before n c.args.before ps stands.3 in let key = c.args.retirer.now in
-    let at = header_at n key c.args.pass.now c.header-header.new.pass 1 (inserted ps p) p.0 c.number.result c.header-header.result.now c.header-header.ensures.looks stands.6 stands.7 (has_among (named_in ps) p.0 (p.1 ∷ []))
-    (stands.4.0.number ∙ sym c.number.ensures) c.header-header.ensures.header in (
+    let n = book_of c.args.run.now in let stands = c.requires.stands in let ps = stands.0 in let p = stands.1 in let few = few_before c.args.before ps stands.3 in let key = c.args.retirer.now in
+    let at = header_at n key c.args.pass.now c.header-header.new.pass 1 (inserted ps p) p.0 c.args.batch.pair.first.number c.header-header.result.now c.header-header.ensures.looks stands.6 stands.7 (has_among (named_in ps) p.0 (p.1 ∷ []))
+    stands.4.0.number c.header-header.ensures.header in (
       record {
         batch = length ps;
         front = p.0;
@@ -26,10 +26,10 @@ add-zero-requires-clause-adds c =
 
 pub returns-clause-stands : goal.returns-clause-stands
 returns-clause-stands c =
-    let n = book_of c.args.run.now in let stands = c.requires.stands in let ps = stands.0 in let p = stands.1 in let few = few_before n c.args.before ps stands.3 in let key = c.args.retirer.now in
-    let at = header_at n key c.args.pass.now c.header-header.new.pass 1 (inserted ps p) p.0 c.number.result c.header-header.result.now c.header-header.ensures.looks stands.6 stands.7 (has_among (named_in ps) p.0 (p.1 ∷ []))
-    (stands.4.0.number ∙ sym c.number.ensures) c.header-header.ensures.header in
+    let n = book_of c.args.run.now in let stands = c.requires.stands in let ps = stands.0 in let p = stands.1 in let few = few_before c.args.before ps stands.3 in let key = c.args.retirer.now in
+    let at = header_at n key c.args.pass.now c.header-header.new.pass 1 (inserted ps p) p.0 c.args.batch.pair.first.number c.header-header.result.now c.header-header.ensures.looks stands.6 stands.7 (has_among (named_in ps) p.0 (p.1 ∷ []))
+    stands.4.0.number c.header-header.ensures.header in
     let one = c.add-zero in let two = c.finish in
     let first = steps n key one.new.key c.header-header.new.pass one.new.pass 1 0 (λ s. AddCount s) (inserted ps p) (inserted ps p) (added ps p) (Count (pos 1)) one.ensures.counts.0 at.1 stands.7 (adds ps few p) in
     let last = steps n one.new.key two.new.self one.new.pass two.new.pass 1 0 (λ s. Return s) (added ps p) (added ps p) (rests (ps ++ p ∷ [])) Done two.ensures.noted first.0 first.1 (returns_second ps few p) in
-    ((ps ++ p ∷ [], stands.2, all_push n (listed c.args.before) _ ps p stands.3 stands.4, last.0), (rests (ps ++ p ∷ []), last.1, refl))
+    ((ps ++ p ∷ [], stands.2, all_push (listed c.args.before) _ ps p stands.3 stands.4, last.0), (rests (ps ++ p ∷ []), last.1, refl))

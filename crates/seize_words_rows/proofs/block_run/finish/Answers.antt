@@ -9,7 +9,7 @@ use Rattle.seize_words_rows.proofs.block_run.finish.Goals as goal
 
 pub returns-clause-rests : goal.returns-clause-rests
 returns-clause-rests c =
-    let n = book_of c.args.run.now in let walks = c.requires.walks in let done = walks.1 in let none = none_left n walks.0 walks.3 in let one = c.finish in
+    let n = book_of c.args.run.now in let walks = c.requires.walks in let done = walks.1 in let none = none_left walks.0 walks.3 in let one = c.finish in
     let sees = subst (λ (ps : List Two). Sees n c.args.pass.now (at_walk ps done)) none walks.4 in
     let knows = subst (λ (ps : List Two). Knows n c.args.reader.now 0 (at_walk ps done)) none walks.5 in
     let last = steps n c.args.reader.now one.new.self c.args.pass.now one.new.pass 0 0 (λ s. Return s) (at_walk [] done) (at_walk [] done) (over done) Done one.ensures.noted sees knows (returns_last done) in

@@ -1,10 +1,8 @@
-use Rattle.std.proofs.Common.{ℕ, List, [], ◌∷◌, ◌++◌, sym, ap, ◌∙◌, refl}
+use Rattle.std.proofs.Common.{ℕ, List, [], ◌∷◌, ◌++◌, ap, ◌∙◌, refl}
 use Rattle.seize_machine.specs.Machine.Event.{Begin, Put, Return}
 use Rattle.seize_machine.specs.declared.machine.event.Answer.TheVariants.{Done}
 use Rattle.seize_machine.specs.declared.machine.event.Job.TheVariants.{Retire}
-use Rattle.seize_book.specs.Homes.{home_of}
 use Rattle.seize_book.specs.Others.{value_of}
-use Rattle.seize_book.specs.Tokens.{Name, label_at}
 use Rattle.seize_words_rows.specs.BlockRuns.{Two, begun_first, begun_second, book_of, both, one_put, put, put_first, rests}
 use Rattle.seize_words_rows.proofs.BlockRuns.{begins_first, begins_second, few_before, fresh_now, puts_first, puts_second, returns_first}
 use Rattle.seize_words_rows.proofs.Stages.{same_value, steps}
@@ -13,7 +11,7 @@ use Rattle.seize_words_rows.proofs.block_run.retire.Goals as goal
 pub returns-clause-stands : goal.returns-clause-stands
 returns-clause-stands c =
     let run = c.args.run.now in let n = book_of run in let stands = c.requires.stands.0 in let rest = c.requires.stands.1 in let new = c.requires.new in
-    let ps = stands.0 in let few = few_before n c.args.before ps stands.2 in
+    let ps = stands.0 in let few = few_before c.args.before ps stands.2 in
     let p : Two = (value_of c.args.one, value_of c.args.other) in
     let one = c.begin_retire in let two = c.put in let three = c.finish in let four = c.begin_retire-2 in let five = c.put-2 in
     let fresh_first = fresh_now n c.args.retirer.now one.new.self c.args.pass.now one.new.pass p.0 (rests ps) one.ensures.noted stands.3 refl in
@@ -26,15 +24,12 @@ returns-clause-stands c =
     let first_value = same_value c.args.one one.new.value one.new.pass one.ensures.value in
     let second_value = same_value c.args.other four.new.value four.new.pass four.ensures.value in
     let keys = c.push.ensures.1 ∙ (ap (λ (vs : List ℕ). vs ++ value_of four.new.value ∷ []) c.of-values.ensures.1 ∙ ap (λ (q : Two). both q) (λ j. (first_value j, second_value j))) in
-    let book = c.push.ensures.0 ∙ (ap (λ k. k.name) c.of-values.ensures.0 ∙ (one.ensures.value.0 ∙ new.0.0)) in (
+    let book = c.push.ensures.0 ∙ (ap (λ k. k.name) c.of-values.ensures.0 ∙ (one.ensures.value.0 ∙ new.0.book)) in (
       ps,
       p,
       stands.1,
       stands.2,
-      (
-        record { number = new.0.1.2; label = ap (λ (m : Name). label_at m (home_of p.0)) (sym new.0.0) ∙ new.0.2; fits = new.0.3 },
-        record { number = new.1.1.2; label = ap (λ (m : Name). label_at m (home_of p.1)) (sym new.1.0) ∙ new.1.2; fits = new.1.3 },
-      ),
+      (new.0.its, new.1.its),
       (book, keys),
       last.0,
       last.1,

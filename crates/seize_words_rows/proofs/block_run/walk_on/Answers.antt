@@ -1,12 +1,11 @@
-use Rattle.std.proofs.Common.{◌∷◌, [], sym, subst, ap, ◌∙◌}
+use Rattle.std.proofs.Common.{◌∷◌, [], sym, ap, ◌∙◌}
 use Rattle.std.specs.Prelude.{is_some}
 use Rattle.seize_machine.specs.Machine.State.{Slot}
 use Rattle.seize_machine.specs.Machine.Event.{Hand}
 use Rattle.seize_machine.specs.declared.machine.event.Answer.TheVariants.{Handed}
 use Rattle.seize_book.specs.Slots.{hands_next}
-use Rattle.seize_book.specs.Tokens.{Name}
 use Rattle.seize_book.specs.Values.{values_of}
-use Rattle.seize_words_rows.specs.BlockRuns.{IsIn, at_walk, book_of, given_up, handed_one}
+use Rattle.seize_words_rows.specs.BlockRuns.{at_walk, book_of, given_up, handed_one}
 use Rattle.seize_words_rows.proofs.BlockRuns.{hands_first, hands_second}
 use Rattle.seize_words_rows.proofs.BlockWalks.{are_ready, gives, only_other, sees_on}
 use Rattle.seize_words_rows.proofs.Stages.{record_is, steps}
@@ -61,7 +60,7 @@ lay_back-one-requires-clause-lies c =
     let first = steps n key c.hand.new.self pass c.hand.new.pass 0 0 (λ s. Hand s []) (given_up ps p done) (given_up ps p done) (handed_one ps p done) (Handed p.0) c.hand.ensures.noted leads.0 leads.1 (hands_first ps g.few p done) in
     let second = steps n c.hand.new.self c.hand-2.new.self c.hand.new.pass c.hand-2.new.pass 0 0 (λ s. Hand s []) (handed_one ps p done) (handed_one ps p done) (at_walk ps (p ∷ done)) (Handed p.1) c.hand-2.ensures.noted first.0 first.1
     (hands_second ps g.few p done) in
-    (p.0, p.1 ∷ [], g.counted.values, subst (λ (m : Name). IsIn m c.args.pair.first p.0) (sym second.0.book) g.is.0)
+    (p.0, p.1 ∷ [], g.counted.values, g.is.0)
 
 pub lay_back-other-requires-clause-ready : goal.lay_back-other-requires-clause-ready
 lay_back-other-requires-clause-ready c =
@@ -85,7 +84,7 @@ lay_back-other-requires-clause-lies c =
       p.1,
       [],
       only_other p.0 p.1 left.0 (values_of values) (values_of c.lay_back-one.new.values) g.counted.values left.1,
-      subst (λ (m : Name). IsIn m c.args.pair.second p.1) (sym (c.lay_back-one.ensures.ready.1.same.0 ∙ second.0.book)) g.is.1,
+      g.is.1,
     )
 
 pub returns-clause-walks : goal.returns-clause-walks

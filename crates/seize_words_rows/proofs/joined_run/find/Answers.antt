@@ -1,11 +1,27 @@
-use Rattle.std.proofs.Common.{Some, None, arith}
+use Rattle.std.proofs.Common.{◌≡◌, ℕ, ◌+◌, ◌-◌, [], Some, None, sym, ◌∙◌, subst, arith}
+use denote.Builtin.{u64}
+use Rattle.seize_machine.proofs.Facts.{some_is}
+use Rattle.seize_book.specs.Blocks.{block_of}
+use Rattle.seize_book.specs.Tokens.{Name}
+use Rattle.seize_words.specs.Chunks.{IsFoundAt, IsLentAs}
+use Rattle.seize_words.specs.declared.glimpse.Glimpse.{Glimpse}
+use Rattle.seize_words.proofs.Facts.{is_lent}
 use Rattle.seize_machine.specs.Machine.Event.{ReadLink}
-use Rattle.seize_machine.specs.declared.machine.event.Answer.TheVariants.{Link}
+use Rattle.seize_machine.specs.declared.machine.event.Answer.TheVariants.{Link as Link_}
 use Rattle.seize_words.specs.Joined.{words_book}
-use Rattle.seize_words.specs.LinkWords.{number}
+use Rattle.seize_words.specs.LinkWords.{Reads, held_before, number}
+use Rattle.seize_words.specs.declared.activation.Activation.{Activation}
+use Rattle.seize_words.specs.declared.link.Link.{Link}
+use Rattle.seize_book.specs.declared.book.pass.Pass.{Pass}
+use Rattle.seize_words_rows.specs.BlockRuns.{IsIn}
+use Rattle.seize_words_rows.specs.Entrants.{Shared}
+use Rattle.seize_words_rows.specs.Stages.{Sees}
+use Rattle.seize_words_rows.specs.declared.block_run.Lent.{Lent}
+use Rattle.seize_words_rows.proofs.BlockRuns.{has_among, is_named, same_lent}
+use Rattle.seize_words_rows.proofs.BlockWalks.{sees_on}
 use Rattle.seize_words_rows.specs.JoinedRuns.{linked}
-use Rattle.seize_words_rows.proofs.JoinedRuns.{all_stay, reads_first, reads_second, said_of, steps_at, within_two}
-use Rattle.seize_words_rows.proofs.Shared.{goes_noted, goes_twice, may_still}
+use Rattle.seize_words_rows.proofs.JoinedRuns.{all_stay, held_at, reads_first, reads_second, said_of, steps_at, within_two, word_at_link}
+use Rattle.seize_words_rows.proofs.Shared.{goes_looked, goes_noted, goes_twice, may_still}
 use Rattle.seize_words_rows.proofs.joined_run.find.Goals as goal
 
 pub read_link-second-requires : goal.read_link-second-requires
@@ -14,20 +30,61 @@ read_link-second-requires c =
     let may = may_still words c.args.activation.now c.args.pass.now one.new.pass goes.same.0 goes.seen c.requires.words.1.0 in
     (omega arith, (may.0, may.1 1 (within_two words one.new.pass 1 c.requires.words.0 may.0 (omega arith))))
 
+-- both links were read
+module _ (words : Shared) (lent : Lent) (a : Activation) (pass mid pass' : Pass) (link other : Link) (v w w' : ℕ) (sees : Sees (words_book words) pass (linked v)) (slot : a.slot ≡ 0) (first : number link ≡ 0) (second : number other ≡ 1)
+    (one : Reads link a pass mid w) (two : Reads other a mid pass' w') where
+  abbrev n : Name
+  n = words_book words
+
+  between : Sees n mid (linked v)
+  between =
+      steps_at n link a pass mid (λ _. ReadLink a.slot (number link)) w one 0 first (linked v) sees (linked v) (Link_ None)
+      (said_of (linked v) (linked v) (Link_ None) (λ s l. ReadLink s l) a.slot (number link) 0 0 slot first (reads_first v))
+
+  both_read : Sees n pass' (linked v)
+  both_read =
+      steps_at n other a mid pass' (λ _. ReadLink a.slot (number other)) w' two 1 second (linked v) between (linked v) (Link_ (Some v))
+      (said_of (linked v) (linked v) (Link_ (Some v)) (λ s l. ReadLink s l) a.slot (number other) 0 1 slot second (reads_second v))
+
+  held : held_before two ≡ Some v
+  held = held_at n other a mid pass' (λ _. ReadLink a.slot (number other)) w' two 1 second (linked v) between
+
+  word : w' ≡ block_of v + 1
+  word = word_at_link n other a mid pass' (λ _. ReadLink a.slot (number other)) w' two 1 second (linked v) between
+
+  -- and something is lent with what the second holds
+  found : IsIn lent v → (glimpse : Glimpse) → glimpse.value ≡ held_before two → IsFoundAt glimpse.value (w' - 1) pass'
+  found its glimpse is = record {
+    value = v;
+    is = is ∙ held;
+    named = is_named n pass' (linked v) v both_read (has_among [] v []);
+    numbered = let shows = word in omega (arith, shows);
+    lent = is_lent v (u64.coded.code lent.value) its.code;
+  }
+
+pub see-value-requires : goal.see-value-requires
+see-value-requires c =
+    let words = c.args.words.now in let is = c.requires.linked in let one = c.read_link-first in let two = c.read_link-second in let first = one.ensures.sees in let second = two.ensures.sees in let a = c.args.activation.now in let pass = c.args.pass.now in let slot = c.requires.words.1.1 in
+    let sees = both_read words c.args.lent a pass one.new.pass two.new.pass first.0 second.0 is.0 one.result.0 two.result.0 is.2 slot first.1.1 second.1.1 first.2.0 second.2.0 in
+    let at = found words c.args.lent a pass one.new.pass two.new.pass first.0 second.0 is.0 one.result.0 two.result.0 is.2 slot first.1.1 second.1.1 first.2.0 second.2.0 is.1 two.result.1 second.2.1 in
+    (omega arith, (sym sees.book, at))
+
 pub returns-clause-begun : goal.returns-clause-begun
 returns-clause-begun c =
-    let one = c.read_link-first in let two = c.read_link-second in let first = one.ensures.sees.2.0 in let second = two.ensures.sees.2.0 in
-    all_stay c.args.words.now c.args.pass.now two.new.pass
-    (goes_twice c.args.pass.now one.new.pass two.new.pass (goes_noted c.args.pass.now one.new.pass _ first.same first.noted) (goes_noted one.new.pass two.new.pass _ second.same second.noted))
+    let one = c.read_link-first in let two = c.read_link-second in let three = c.see-value in let first = one.ensures.sees.2.0 in let second = two.ensures.sees.2.0 in let pass = c.args.pass.now in
+    all_stay c.args.words.now pass three.new.pass
+    (goes_twice pass two.new.pass three.new.pass (goes_twice pass one.new.pass two.new.pass (goes_noted pass one.new.pass _ first.same first.noted) (goes_noted one.new.pass two.new.pass _ second.same second.noted))
+    (goes_looked two.new.pass three.new.pass three.ensures.looks))
+
+pub returns-clause-seen : goal.returns-clause-seen
+returns-clause-seen c =
+    let words = c.args.words.now in let is = c.requires.linked in let one = c.read_link-first in let two = c.read_link-second in let first = one.ensures.sees in let second = two.ensures.sees in let code = c.see-value.ensures.code in
+    let here = held words c.args.lent c.args.activation.now c.args.pass.now one.new.pass two.new.pass first.0 second.0 is.0 one.result.0 two.result.0 is.2 c.requires.words.1.1 first.1.1 second.1.1 first.2.0 second.2.0 in
+    let same : code.0 ≡ is.0 = some_is _ _ (sym code.1 ∙ (second.2.1 ∙ here)) in
+    same_lent is.0 c.see-value.result.now c.args.lent.value (subst (λ (v : ℕ). IsLentAs v (u64.coded.code c.see-value.result.now)) same code.2) is.1.code
 
 pub returns-clause-linked : goal.returns-clause-linked
 returns-clause-linked c =
-    let n = words_book c.args.words.now in let a = c.args.activation.now in let is = c.requires.linked in let v = is.0 in let slot = c.requires.words.1.1 in
-    let one = c.read_link-first in let two = c.read_link-second in let first = one.ensures.sees in let second = two.ensures.sees in
-    let mid = steps_at n first.0 a c.args.pass.now one.new.pass (λ _. ReadLink a.slot (number first.0)) one.result.0 first.2.0 0 first.1.1 (linked v) is.2 (linked v) (Link None)
-    (said_of (linked v) (linked v) (Link None) (λ s l. ReadLink s l) a.slot (number first.0) 0 0 slot first.1.1 (reads_first v)) in (
-      v,
-      is.1,
-      steps_at n second.0 a one.new.pass two.new.pass (λ _. ReadLink a.slot (number second.0)) two.result.0 second.2.0 1 second.1.1 (linked v) mid (linked v) (Link (Some v))
-          (said_of (linked v) (linked v) (Link (Some v)) (λ s l. ReadLink s l) a.slot (number second.0) 0 1 slot second.1.1 (reads_second v)),
-    )
+    let words = c.args.words.now in let is = c.requires.linked in let one = c.read_link-first in let two = c.read_link-second in let three = c.see-value in let first = one.ensures.sees in let second = two.ensures.sees in
+    let sees = both_read words c.args.lent c.args.activation.now c.args.pass.now one.new.pass two.new.pass first.0 second.0 is.0 one.result.0 two.result.0 is.2 c.requires.words.1.1 first.1.1 second.1.1 first.2.0 second.2.0 in
+    (is.0, is.1, sees_on (words_book words) two.new.pass three.new.pass (linked is.0) three.ensures.looks sees)

@@ -1,4 +1,4 @@
-use Rattle.std.proofs.Common.{subst, ◌==◌, not, [], sym, refl, ◌∙◌, ap}
+use Rattle.std.proofs.Common.{List, subst, ◌==◌, not, [], sym, refl, ◌∙◌, ap}
 use Rattle.seize_machine.specs.Machine.Event.{AddCount}
 use Rattle.seize_words.specs.Atomic.{plus}
 use Rattle.seize_book.specs.Book.{after}
@@ -8,7 +8,10 @@ use Rattle.seize_book.specs.Private.{key_of, own_of, are_of_blocks, labels_of}
 use Rattle.seize_book.specs.Tokens.{Name, start}
 use Rattle.seize_book.specs.declared.book.slot_key.SlotKey.{SlotKey}
 use Rattle.seize_words.proofs.Counting.{may_add_count}
-use Rattle.seize_words.proofs.Counted.{added, adding_in, all_last, counts_so, gives_so, in_pass, joined_may, joined_step, labels_stay, left_with, of_those, still_blocks}
+use Rattle.seize_book.specs.Entry.{Entry}
+use Rattle.seize_book.specs.Ledger.{Held}
+use Rattle.seize_book.specs.Linked.{are_linked}
+use Rattle.seize_words.proofs.Counted.{still_linked, added, adding_in, all_last, counts_so, gives_so, in_pass, joined_may, joined_step, labels_stay, left_with, of_those, still_blocks}
 use Rattle.seize_words.proofs.batch.Count.add.Goals as goal
 
 pub add-old-requires : goal.add-old-requires
@@ -16,7 +19,7 @@ add-old-requires c =
     let count = c.args.self.now in let key = c.args.key.now in let pass = c.args.pass.now in let held = key.keys.held in let values = c.args.values.now in let book = c.requires.book in let s = key_of held in
     let adds = adding_in key.keys.name pass.name s (own_of held) (home count) c.args.won book.0 c.requires.adds.0 in
     let these = in_pass key.keys.name pass.name (own_of held) adds.batch book.0 in
-    let may = may_add_count pass.name (home count) pass.id pass.name.size c.args.won pass.seen held values.keys.held key.one adds (c.requires.adds.1 ∙ these, values.each) in (
+    let may = may_add_count pass.name (home count) pass.id pass.name.size c.args.won pass.seen held values.keys.held key.one adds (c.requires.adds.1 ∙ these, values.each, ap (λ (n : Name). are_linked n.store values.keys.held) (sym c.requires.book.2) ∙ values.linked) in (
       book.1,
       c.join.ensures.0 ∙ book.0,
       joined_may count.word key values.keys.held c.join.new.self.held pass (plus c.args.won) (λ s. AddCount s) (λ v. not (plus c.args.won v == 0)) book.1 count.count c.join.ensures.2 may,
@@ -27,7 +30,14 @@ invariant_of-values c =
     let count = c.args.self.now in let key = c.args.key.now in let pass = c.args.pass.now in let pass' = c.add-old.new.pass in let keys' = c.add-old.new.keys in let v = c.add-old.result in let values = c.args.values.now in let won = c.args.won in
     let step = joined_step count.word key values.keys.held c.join.new.self.held keys'.held pass pass' (plus won) v (λ s. AddCount s) (λ v. not (plus won v == 0)) c.requires.book.1 count.count c.join.ensures.2 c.add-old.ensures.2 in
     let adds = adding_in key.keys.name pass.name (key_of key.keys.held) (own_of key.keys.held) (home count) won c.requires.book.0 c.requires.adds.0 in
-    record { each = ap are_of_blocks (c.part.ensures.3 ∙ left_with (home count) won key values.keys.held keys'.held pass pass' v step adds) ∙ still_blocks (plus won v == 0) values.keys.held pass'.seen values.each }
+    let left = c.part.ensures.3 ∙ left_with (home count) won key values.keys.held keys'.held pass pass' v step adds in
+    let name = c.part.ensures.1 ∙ c.add-old.ensures.1 ∙ c.join.ensures.0 ∙ c.requires.book.0 ∙ sym c.requires.book.2 in
+    record {
+      each = ap are_of_blocks left ∙ still_blocks (plus won v == 0) values.keys.held pass'.seen values.each;
+      linked =
+          ap (λ (t : Name × List (Held Entry)). are_linked t.0.store t.1) (λ j. (name j, left j))
+          ∙ still_linked values.keys.name.store (plus won v == 0) values.keys.held pass'.seen values.linked;
+    }
 
 pub returns-clause-counts : goal.returns-clause-counts
 returns-clause-counts c =

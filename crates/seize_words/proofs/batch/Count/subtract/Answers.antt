@@ -8,7 +8,10 @@ use Rattle.seize_book.specs.Private.{key_of, own_of, are_of_blocks, labels_of}
 use Rattle.seize_book.specs.Tokens.{Name, start}
 use Rattle.seize_book.specs.declared.book.slot_key.SlotKey.{SlotKey}
 use Rattle.seize_words.proofs.Counting.{may_subtract_count}
-use Rattle.seize_words.proofs.Counted.{all_blocks, all_last, counts_so, gives_so, joined_may, joined_step, labels_are, of_those, others_are, renewed_twice, subtracted, values_known, walking_in, was_one}
+use Rattle.seize_book.specs.Entry.{Entry}
+use Rattle.seize_book.specs.Ledger.{Held}
+use Rattle.seize_book.specs.Linked.{are_linked}
+use Rattle.seize_words.proofs.Counted.{all_linked, all_blocks, all_last, counts_so, gives_so, joined_may, joined_step, labels_are, of_those, others_are, renewed_twice, subtracted, values_known, walking_in, was_one}
 use Rattle.seize_words.proofs.batch.Count.subtract.Goals as goal
 
 pub subtract-old-requires : goal.subtract-old-requires
@@ -26,7 +29,12 @@ invariant_of-values c =
     let count = c.args.self.now in let key = c.args.key.now in let pass = c.args.pass.now in let pass' = c.subtract-old.new.pass in let keys' = c.subtract-old.new.keys in let v = c.subtract-old.result in let held = key.keys.held in
     let step = joined_step count.word key [] held keys'.held pass pass' (minus 1) v (λ s. SubCount s) (λ v. minus 1 v == 0) c.requires.book.1 count.count (sym (append-nil held)) c.subtract-old.ensures.2 in
     let walks = walking_in key.keys.name pass.name (key_of held) (own_of held) (home count) c.requires.book.0 c.requires.walks in
-    record { each = ap are_of_blocks c.part.ensures.3 ∙ all_blocks (home count) key keys'.held pass pass' v step walks c.requires.book.0 }
+    record {
+      each = ap are_of_blocks c.part.ensures.3 ∙ all_blocks (home count) key keys'.held pass pass' v step walks c.requires.book.0;
+      linked =
+          ap (λ (t : Name × List (Held Entry)). are_linked t.0.store t.1) (λ j. ((c.part.ensures.1 ∙ c.subtract-old.ensures.1 ∙ c.requires.book.0) j, c.part.ensures.3 j))
+          ∙ all_linked (home count) key keys'.held pass pass' v step walks c.requires.book.0;
+    }
 
 pub returns-clause-counts : goal.returns-clause-counts
 returns-clause-counts c =

@@ -6,7 +6,7 @@ use Rattle.seize_words.specs.Atomic.{Takes as Took, entries}
 use Rattle.seize_words.specs.LinkWords.{holds, number}
 use Rattle.seize_words.specs.Links.{IsNewIn}
 use Rattle.seize_words.specs.Stepping.{MayStep}
-use Rattle.seize_book.specs.Tokens.{Name, start}
+use Rattle.seize_book.specs.Tokens.{Name}
 use Rattle.seize_words.specs.Words.{Site}
 use Rattle.seize_words.proofs.Exchanged.{came_out, is_at, is_out, knows_all, still_one, taken}
 use Rattle.seize_words.proofs.Exchanges.{may_swap_link}

@@ -1,4 +1,4 @@
-use Rattle.std.proofs.Common.{sym, ◌∙◌, ap, subst}
+use Rattle.std.proofs.Common.{sym, ◌∙◌, ap, subst, List}
 use Rattle.seize_machine.specs.Machine.Event.{Hand}
 use Rattle.seize_book.specs.Ledger.{renewed}
 use Rattle.seize_book.specs.Others.{IsWith, Knew}
@@ -8,6 +8,11 @@ use Rattle.seize_book.specs.declared.book.keys.Keys.{Keys}
 use Rattle.seize_book.proofs.Further.{known_then, may_hand_with}
 use Rattle.seize_book.proofs.Hands.{hands_once, if_some}
 use Rattle.seize_book.proofs.Values.{blocks_later, labels_later}
+use Rattle.seize_book.specs.Entry.{Entry}
+use Rattle.seize_book.specs.Ledger.{Held}
+use Rattle.seize_book.specs.Linked.{are_linked}
+use Rattle.seize_book.specs.Tokens.{Name}
+use Rattle.seize_book.proofs.Linked.{are_later}
 use Rattle.seize_book.proofs.book.slot_key.SlotKey.hand_with.Goals as goal
 
 pub note_with-requires-clause-may : goal.note_with-requires-clause-may
@@ -19,7 +24,12 @@ note_with-requires-clause-may c =
 pub invariant_of-further : goal.invariant_of-further
 invariant_of-further c =
     let keys = c.apart.new.self in
-    record { each = ap are_of_blocks c.note_with.ensures.other.0.1 ∙ blocks_later keys.keys.held c.note_with.new.pass.seen ∙ keys.each }
+    record {
+      each = ap are_of_blocks c.note_with.ensures.other.0.1 ∙ blocks_later keys.keys.held c.note_with.new.pass.seen ∙ keys.each;
+      linked =
+          ap (λ (t : Name × List (Held Entry)). are_linked t.0.store t.1) (λ j. (c.note_with.ensures.other.0.0 j, c.note_with.ensures.other.0.1 j))
+          ∙ (are_later keys.keys.name.store keys.keys.held c.note_with.new.pass.seen ∙ keys.linked);
+    }
 
 pub returns-clause-noted : goal.returns-clause-noted
 returns-clause-noted c =

@@ -1,10 +1,9 @@
-use Rattle.std.proofs.Common.{List, length, ◌≡◌, ℕ, zero, suc, ◌+◌, ◌<◌, ◌++◌, [], ◌∷◌, Option, None, slice_index_or, drop, Bool, true, if◌then◌else◌, refl, sym, ap, ◌∙◌, subst, arith}
+use Rattle.std.proofs.Common.{List, length, ◌≡◌, ℕ, suc, ◌+◌, ◌++◌, [], ◌∷◌, Option, None, slice_index_or, drop, Bool, true, if◌then◌else◌, sym, ap, ◌∙◌, arith}
 use Rattle.std.specs.Result.{is_ok}
 use Rattle.std.proofs.lemmas.List.{length_push, get_or-replicate}
 use Rattle.seize_book.specs.Begin.{first_links}
 use Rattle.seize_book.specs.Ledger.{Held}
 use Rattle.seize_words.specs.LinkRows.{IsLinkAt}
-use Rattle.seize_words.specs.LinkWords.{number}
 use Rattle.seize_book.specs.Private.{key_of}
 use Rattle.seize_book.specs.Entry.{Entry}
 use Rattle.seize_book.specs.Tokens.{Name}

@@ -1,4 +1,4 @@
-use Rattle.std.proofs.Common.{◌≡◌, ℕ, ◌+◌, ◌<◌, List, length, slice_index_or}
+use Rattle.std.proofs.Common.{◌≡◌, ℕ, ◌+◌, ◌<◌, length, slice_index_or}
 use Rattle.seize_book.specs.Begin.{first_links}
 use Rattle.seize_words.specs.LinkRows.{IsLinkAt}
 use Rattle.seize_words.specs.declared.link.Link.{Link}

@@ -1,0 +1,19 @@
+use Rattle.std.proofs.Common.{◌≡◌, List, ◌++◌, Option, true, sym, ap, ◌∙◌, subst}
+use Rattle.seize_book.specs.Entry.{Entry}
+use Rattle.seize_book.specs.Ledger.{Held}
+use Rattle.seize_book.specs.Linked.{are_linked}
+use Rattle.seize_book.specs.Private.{are_of_blocks}
+use Rattle.seize_book.specs.Tokens.{Name}
+use Rattle.seize_book.proofs.Linked.{append_linked, value_linked}
+use Rattle.seize_book.proofs.Values.{blocks_append, value_blocks}
+use Rattle.seize_book.proofs.book.value_keys.ValueKeys.push.Goals as goal
+
+pub invariant_of-self : goal.invariant_of-self
+invariant_of-self c =
+    let self = c.args.self.now in let value = c.args.value in let a = self.keys.held in let b = value.keys.held in let store = self.keys.name.store in
+    record {
+      each = ap are_of_blocks c.join.ensures.2 ∙ blocks_append a b self.each (value_blocks value);
+      linked =
+          ap (λ (t : Name × List (Held Entry)). are_linked t.0.store t.1) (λ j. (c.join.ensures.0 j, c.join.ensures.2 j))
+          ∙ append_linked store a b self.linked (value_linked store value) c.requires.leads;
+    }
