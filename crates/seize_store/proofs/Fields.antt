@@ -23,12 +23,13 @@ use Rattle.seize_store.specs.Chunk.{chunk_owns, placed}
 use Rattle.seize_content.specs.Contents.{ticket_owns}
 use Rattle.seize_content.specs.Stages.{held as unlent}
 use Rattle.seize_table.specs.Pairs.{right_of}
-use Rattle.seize_store.specs.Block.{bare, empty, full, lain_owns, out_owns}
+use Rattle.seize_store.specs.Block.{bare, empty, full, hollow, lain_owns, out_owns}
 use Rattle.seize_store.specs.Titled.{tag_of, place_of}
 use Rattle.seize_store.specs.contracts.chunk.Chunk as chunk
 use Rattle.seize_table.specs.declared.labelled.Labelled.{Ghosts}
 use Rattle.seize_store.specs.contracts.block.Hull as hull
 use Rattle.seize_store.specs.contracts.block.Out as room
+use Rattle.seize_store.specs.contracts.block.Shell as shell
 use Rattle.seize_store.specs.contracts.block.Block as block
 use Rattle.seize_store.specs.contracts.known.Title as title
 use Rattle.seize_store.proofs.known.Title.TheLaws as title_laws
@@ -63,6 +64,9 @@ module _ (X U R : RattleType) (g : Ghosts U.Denot) where
 
   abbrev pub Hull : RattleType
   Hull = hull.the_row X U R g
+
+  abbrev pub Shell : RattleType
+  Shell = shell.the_row X U R g
 
   abbrev pub Data : RattleType
   Data = Struct (shape (chunk.the_type X U R g))
@@ -139,3 +143,17 @@ module _ (X U R : RattleType) (g : Ghosts U.Denot) where
     hull_in t b o k x t' = step (λ s. let v : Val = single (vptr b o) in
         fpack t (ℕ × (ℕ × ℕ)) (bare X U R b o g.label k x) t' $ fjoin t $ nothing t $ feq_i t (List Val) (vptr b o ∷ []) (vptr b o ∷ []) refl $ fjoin t $ feq_i t (List Val) (v ∷ []) (v ∷ []) refl $ fjoin t $
         fpack t (Valss (RawPtr ∷ [])) (within (shape (hull.the_type X U R g)) (block_ptr b o, tt) (v ∷ [])) (vptr b o ∷ [], tt) $ fjoin t $ s)
+
+    pub shell_out : K → (d : Shell.Denot) (vs : List Val)
+        → ((b o : ℕ) (t' : ℕ × (ℕ × ℕ)) → d.at ≡ block_ptr b o → vs ≡ single (vptr b o) ∷ [] → Seq K 𝓛 (‵ (hollow X U R b o g.label d.tag t') ∷ ‵ (ticket_owns (right_of d.tag) unlent) ∷ Γ) G)
+        → Seq K 𝓛 (‵ (Shell.own_val d vs) ∷ Γ) G
+    shell_out t d vs k =
+        fsplit t $ fpick t (λ vss. fsplit t $ feq_l t (λ ev. fsplit t $ feq_l t (λ ep. drop t $
+        fsplit t $ in_a_block t d.at (λ s. placed s (λ b o. fex (ℕ × (ℕ × ℕ)) (hollow X U R b o g.label d.tag))) (id⊢ 𝓤 (never 𝓤)) (λ b o e. fpick t (λ t'. k b o t' e
+        (subst (λ (s : Ptr). vs ≡ single (ptr_val s) ∷ []) e (ev ∙ (λ i. vstruct (of_list (ep i ++ [])) ∷ []))))))))
+
+    pub shell_in : K → (b o k : ℕ) (t' : ℕ × (ℕ × ℕ))
+        → Step K 𝓛 (‵ (Shell.own_val (record { at = block_ptr b o; tag = k }) (single (vptr b o) ∷ [])) ∷ Γ) G (‵ (hollow X U R b o g.label k t') ∷ ‵ (ticket_owns (right_of k) unlent) ∷ Γ) G
+    shell_in t b o k t' = step (λ s. let v : Val = single (vptr b o) in
+        fpack t (ℕ × (ℕ × ℕ)) (hollow X U R b o g.label k) t' $ fjoin t $ nothing t $ feq_i t (List Val) (vptr b o ∷ []) (vptr b o ∷ []) refl $ fjoin t $ feq_i t (List Val) (v ∷ []) (v ∷ []) refl $ fjoin t $
+        fpack t (Valss (RawPtr ∷ [])) (within (shape (shell.the_type X U R g)) (block_ptr b o, tt) (v ∷ [])) (vptr b o ∷ [], tt) $ fjoin t $ s)

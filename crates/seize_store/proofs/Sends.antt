@@ -15,7 +15,7 @@ use Rattle.std_alloc.proofs.SendSync.{seen}
 use Rattle.seize_store.specs.Body.{row_ty, stride, rim, header_at, owner_at, room_at}
 use Rattle.seize_store.specs.Row.{Deed, Marks, Stage, stands, gone, held_all, laid_one, laid, stage, due}
 use Rattle.seize_store.specs.Chunk.{Phase, free, taken, left, spent, dues, held, part_of, state, piece_owns, chunk_owns, chunk_shares}
-use Rattle.seize_store.specs.Block.{out_owns, block_owns, block_shares, hull_owns, hull_shares, lain_owns}
+use Rattle.seize_store.specs.Block.{out_owns, block_owns, block_shares, hull_owns, hull_shares, lain_owns, shell_owns}
 
 held_keyless : (γs : List ℕ) → Keyless (held_all γs)
 held_keyless [] = tt
@@ -95,6 +95,10 @@ module _ (X U R : RattleType) (f : U.Denot → ℕ) where
 
   pub hull_owned : IsSend U → IsSend R → (p : Ptr) (k : ℕ) (x : R.Denot) → Keyless (hull_owns X U R f p k x)
   hull_owned u s p k x = (lain_owned u s p k x, ticket_sent (right_of k) unlent)
+
+  pub shell_owned : IsSend U → (p : Ptr) (k : ℕ) → Keyless (shell_owns X U R f p k)
+  shell_owned u (block_ptr b o) k = (λ t. (((tt, tt), (tt, (tt, tt))), state_keyless X U R b o u f k t.0 t.1.0 t.1.1), ticket_sent (right_of k) unlent)
+  shell_owned u null_ptr k = (tt, ticket_sent (right_of k) unlent)
 
   pub hull_seen : IsSync R → (p : Ptr) (x : R.Denot) (κ : Lft) → Keyless (hull_shares X U R f p x κ)
   hull_seen y (block_ptr b o) x κ = seen R y (block_ptr b (room_at X U R o)) x κ

@@ -16,6 +16,8 @@
 --     lies o, label_of o     where the chunk of the block o lies, and the label of its header
 --     bare_value b, bare_title b, bare_store b, bare_number b, bare_label b     the same of a block b without its owner's part
 --     bare_known b, bare_content b     the token of its row, and the name of the content of its chunk
+--     hollow_title o, hollow_store o, hollow_number o, hollow_label o, hollow_known o, hollow_content o     the same of what has no value
+--                     either
 use Rattle.std.specs.Prelude.{◌≡◌, ℕ, ◌+◌, ◌==◌, if◌then◌else◌, List, [], ◌∷◌, ◌++◌, All, map, length, take, vec_len}
 use denote.RawPtr.{Ptr}
 use Rattle.seize_table.specs.Place.{IsPlace}
@@ -23,6 +25,7 @@ use Rattle.seize_store.specs.Known.{entry_of, label_in, place_in}
 use Rattle.seize_store.specs.Titled.{names_of, place_of}
 use Rattle.seize_store.specs.Titled as titled
 use Rattle.seize_store.specs.declared.bare.Bare.{Bare}
+use Rattle.seize_store.specs.declared.hollow.Hollow.{Hollow}
 use Rattle.seize_store.specs.declared.known.Known.{Known}
 use Rattle.seize_table.specs.declared.labelled.Labelled.{Ghosts}
 use Rattle.seize_store.specs.declared.known.Title.{Title}
@@ -124,6 +127,24 @@ bare_known bare = bare.title.known
 
 abbrev pub bare_content : {H P T : Type 0} → Bare H P T → ℕ
 bare_content bare = titled.content_of bare.title
+
+abbrev pub hollow_title : {H P T : Type 0} → Hollow H P T → Title
+hollow_title hollow = hollow.title
+
+abbrev pub hollow_number : {H P T : Type 0} → Hollow H P T → ℕ
+hollow_number hollow = hollow.title.number
+
+abbrev pub hollow_store : {H P T : Type 0} → Hollow H P T → List ℕ
+hollow_store hollow = hollow.title.known.store
+
+abbrev pub hollow_label : {H P T : Type 0} → Hollow H P T → ℕ
+hollow_label hollow = titled.label_of hollow.title
+
+abbrev pub hollow_known : {H P T : Type 0} → Hollow H P T → Known
+hollow_known hollow = hollow.title.known
+
+abbrev pub hollow_content : {H P T : Type 0} → Hollow H P T → ℕ
+hollow_content hollow = titled.content_of hollow.title
 
 abbrev pub count_of : {H P T : Type 0} → Spots H P T → ℕ
 count_of spots = vec_len spots.list

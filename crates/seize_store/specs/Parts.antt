@@ -1,7 +1,7 @@
 -- The words in which the contracts of a store's own parts speak.
 --     room_at o, chunk_at c, piece_at p     where the room o, the chunk c and the chunk's memory p lie
---     room_with o, lies_with c, hull_with h, lent_from l   where the room o, the chunk c, the hull h and what the lender l lends lie, with
---                     the chunk's tag
+--     room_with o, lies_with c, hull_with h, shell_with s, lent_from l   where the room o, the chunk c, the hull h, the shell s and what the
+--                     lender l lends lie, with the chunk's tag
 --     room_count r    for how many chunks the memory r is
 --     block_title b   the title of the block b
 --     spot_title s    the title of the spot s;  spot_number s and spot_store s are its number and its store
@@ -10,6 +10,7 @@ use denote.RawPtr.{Ptr}
 use Rattle.seize_store.specs.declared.block.Block.{Block}
 use Rattle.seize_store.specs.declared.block.Hull.{Hull}
 use Rattle.seize_store.specs.declared.block.Out.{Out}
+use Rattle.seize_store.specs.declared.block.Shell.{Shell}
 use Rattle.seize_store.specs.declared.chunk.Chunk.{Chunk}
 use Rattle.seize_store.specs.declared.known.Title.{Title}
 use Rattle.seize_store.specs.declared.lender.Lender.{Lender}
@@ -31,6 +32,9 @@ lies_with chunk = (chunk.at, chunk.tag)
 
 abbrev pub hull_with : {H P T : Type 0} → Hull H P T → Ptr × ℕ
 hull_with hull = (hull.at, hull.tag)
+
+abbrev pub shell_with : {H P T : Type 0} → Shell H P T → Ptr × ℕ
+shell_with shell = (shell.at, shell.tag)
 
 abbrev pub lent_from : {H P T : Type 0} → Lender H P T → Ptr × ℕ
 lent_from lender = (lender.at, lender.tag)

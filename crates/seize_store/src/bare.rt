@@ -3,6 +3,7 @@ ghost use Rattle.std.specs.Prelude.{◌≡◌};
 ghost use Rattle.seize_store.specs.Titled.{chunk_of};
 
 use crate::block::Hull;
+use crate::hollow::Hollow;
 use crate::known::{Known, Title};
 use crate::owned::Owned;
 use seize_table::Labelled;
@@ -20,7 +21,7 @@ pub struct Bare<H, P: Labelled + Drop, T: Drop> {
 
 impl<H, P: Labelled + Drop, T: Drop> Bare<H, P, T> {
     ghost use Rattle.seize_store.specs.Known.{content_in, entry_of, label_in};
-    ghost use Rattle.seize_store.specs.Named.{IsRowOf, bare_content, bare_known, bare_label, bare_number, bare_store, bare_title, bare_value, title_of, value_of};
+    ghost use Rattle.seize_store.specs.Named.{IsRowOf, bare_content, bare_known, bare_label, bare_number, bare_store, bare_title, bare_value, hollow_title, title_of, value_of};
 
     /// The block's number. No other block of its store has it while this one stands.
     pub fn number(&self) -> usize
@@ -48,6 +49,16 @@ impl<H, P: Labelled + Drop, T: Drop> Bare<H, P, T> {
         Owned {
             block: hull.with(title, part),
         }
+    }
+
+    /// The value by value, and the chunk without value and part. It takes no memory and no atomic step.
+    pub fn take(self) -> (T, Hollow<H, P, T>)
+        ensures value { result.0 ≡ bare_value self }
+        ensures hollow { hollow_title result.1 ≡ bare_title self }
+    {
+        let Bare { hull, title } = self;
+        let (value, shell) = hull.take();
+        (value, Hollow { shell, title })
     }
 }
 
@@ -78,7 +89,7 @@ impl<H, P: Labelled + Drop, T: Drop> Deref for Bare<H, P, T> {
 
 impl<H, P: Labelled + Drop, T: Drop> Drop for Bare<H, P, T> {
     fn drop(self) {
-        let Bare { hull, title: _ } = self;
-        drop(hull.end());
+        let (value, _) = self.take();
+        drop(value);
     }
 }

@@ -1,9 +1,9 @@
-//! A chunk's room in its holder's hands: an empty room, a block, which is a value in a room, and a hull, which is a block without the
-//! owner's part. Each has the ticket of the chunk's content. It uses `chunk` for the memory and `known` for titles; `spot`, `owned` and
-//! `bare` wrap these for who holds them.
+//! A chunk's room in its holder's hands: an empty room, a block, which is a value in a room, and each of these without the owner's part,
+//! a shell and a hull. Each has the ticket of the chunk's content. It uses `chunk` for the memory and `known` for titles; `spot`, `owned`,
+//! `hollow` and `bare` wrap these for who holds them.
 ghost use Rattle.std.specs.Prelude.{◌≡◌, ◌≢◌, ℕ};
 ghost use Rattle.std.specs.Borrow.{sem};
-ghost use Rattle.seize_store.specs.Block.{out_owns, block_owns, block_shares, hull_owns, hull_shares};
+ghost use Rattle.seize_store.specs.Block.{out_owns, block_owns, block_shares, hull_owns, hull_shares, shell_owns};
 ghost use Rattle.seize_store.specs.Titled.{place_of, tag_of};
 ghost use Rattle.seize_table.specs.Pairs.{left_of};
 
@@ -138,7 +138,7 @@ impl<H, P: Labelled, T> Model for Hull<H, P, T> {
 }
 
 impl<H, P: Labelled, T> Hull<H, P, T> {
-    ghost use Rattle.seize_store.specs.Parts.{block_title, hull_with};
+    ghost use Rattle.seize_store.specs.Parts.{block_title, hull_with, shell_with};
     ghost use Rattle.seize_store.specs.Titled.{chunk_of};
 
     /// The block, with the owner's part in it. It takes no memory and no atomic step.
@@ -159,12 +159,39 @@ impl<H, P: Labelled, T> Hull<H, P, T> {
         unsafe { &(*at).room }
     }
 
-    /// The value by value. The chunk stays out for good.
-    pub(crate) fn end(self) -> T
-        ensures { result ≡ self.value }
+    /// The value by value, and the room where it lay.
+    pub(crate) fn take(self) -> (T, Shell<H, P, T>)
+        ensures { (result.0 ≡ self.value) × (shell_with result.1 ≡ hull_with self) }
     {
         let Hull { at } = self;
-        unsafe { (&raw const (*at).room).read() }
+        let value = unsafe { (&raw const (*at).room).read() };
+        (value, Shell { at })
+    }
+}
+
+/// The room of a chunk that is out, and empty, while the owner's part is elsewhere, with the ticket of the chunk's content. Where it ends,
+/// the chunk stays out for good.
+#[derive(Drop)]
+pub(crate) struct Shell<H, P: Labelled, T> {
+    pub(crate) at: *mut Body<H, P, T>,
+    pub(crate) ghost tag: { ℕ },
+}
+
+impl<H, P: Labelled, T> Model for Shell<H, P, T> {
+    ghost also_owns = { λ o. shell_owns H.row P.row T.row P.label o.at o.tag };
+}
+
+impl<H, P: Labelled, T> Shell<H, P, T> {
+    ghost use Rattle.seize_store.specs.Parts.{room_with, shell_with};
+
+    /// The room with the owner's part. It takes no memory and no atomic step.
+    pub(crate) fn with(self, part: P) -> Out<H, P, T>
+        requires { P.label part ≡ left_of self.tag }
+        ensures { room_with result ≡ shell_with self }
+    {
+        let Shell { at } = self;
+        unsafe { (&raw mut (*at).part).write(part) };
+        Out { at }
     }
 }
 
@@ -177,3 +204,5 @@ unsafe impl<H, P: Labelled + Sync, T: Sync> Sync for Block<H, P, T> {}
 unsafe impl<H, P: Labelled + Send, T: Send> Send for Hull<H, P, T> {}
 
 unsafe impl<H, P: Labelled, T: Sync> Sync for Hull<H, P, T> {}
+
+unsafe impl<H, P: Labelled + Send, T> Send for Shell<H, P, T> {}

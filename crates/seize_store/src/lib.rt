@@ -6,6 +6,7 @@ mod bare;
 mod block;
 mod chunk;
 mod family;
+mod hollow;
 mod identity;
 mod kin;
 mod known;
@@ -22,6 +23,7 @@ mod strip;
 
 pub use bare::Bare;
 pub use family::Family;
+pub use hollow::Hollow;
 pub use known::Known;
 pub use maker::{Empty, Maker};
 pub use owned::{Owned, apart};

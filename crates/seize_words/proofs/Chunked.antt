@@ -1,6 +1,6 @@
 -- What the label of a chunk says, which a pass has found by the number of a value. These facts are for callers.
 use Rattle.std.proofs.Math.Pow.{pow_mono}
-use Rattle.std.proofs.Common.{◌≡◌, ℕ, ◌+◌, ◌<◌, ◌≤◌, ◌^◌, true, length, sym, ◌∙◌, ap, subst, arith}
+use Rattle.std.proofs.Common.{◌≡◌, ℕ, ◌+◌, ◌<◌, ◌≤◌, ◌^◌, Some, true, length, sym, ◌∙◌, ap, subst, arith}
 use Rattle.std.proofs.lemmas.List.Elements.{All-get_or}
 use denote.RawPtr.{Ptr, null_ptr}
 use Rattle.seize_machine.specs.Machine.State.{has}
@@ -20,8 +20,12 @@ use Rattle.seize_book.specs.Passes.{LooksOn}
 use Rattle.seize_book.specs.Tokens.{Name, chunk_label, label_at, start}
 use Rattle.seize_book.specs.declared.book.pass.Pass.{Pass}
 use Rattle.seize_book.specs.declared.book.value_key.ValueKey.{ValueKey}
+use Rattle.seize_store.specs.Named.{bare_title, hollow_title}
+use Rattle.seize_store.specs.Titled.{content_of, label_of}
 use Rattle.seize_store.specs.declared.bare.Bare.{Bare}
-use Rattle.seize_words.specs.Chunks.{IsBlockAfter, IsBlockIn}
+use Rattle.seize_store.specs.declared.hollow.Hollow.{Hollow}
+use Rattle.seize_store.specs.declared.known.Title.{Title}
+use Rattle.seize_words.specs.Chunks.{IsBlockAfter, IsBlockAs, IsBlockIn, IsHollowAfter, IsHollowAs, IsHollowIn}
 use Rattle.seize_words.specs.declared.blocks.Blocks.{Blocks}
 use Rattle.seize_words.specs.declared.chunk.Header.{Header}
 use Rattle.seize_words.specs.declared.chunk.Part.{Part}
@@ -87,6 +91,34 @@ settles_block last blocks value key key' block pass' is follows next = let same 
       book = follows.0 ∙ is.book;
       next = subst (IsNextIn key') (is.next.3) next;
       lies = ap (λ (t : Name × ℕ). chunk_label t.0 (home_of t.1) (cell_of t.1)) (λ j. (follows.0 j, same j)) ∙ is.lies;
+      content = ap place_of same ∙ is.content;
+      free = subst CarriesNone (sym same) is.free;
+      fits = is.fits;
+    }
+
+-- what `Bare::take` leaves of a block: all that is known of it but the value
+pub takes_block : {T : Type 0} (Is : ValueKey → ℕ → Type 0) (blocks : Blocks T) (value : T) (key : ValueKey) (block : Bare Header Part T) (hollow : Hollow Header Part T) → hollow_title hollow ≡ bare_title block
+    → IsBlockAs Is blocks value key block → IsHollowAs Is blocks key hollow
+takes_block Is blocks value key block hollow taken is = let same : bare_title block ≡ hollow_title hollow = sym taken in
+    record {
+      store = is.store ∙ ap (λ (t : Title). Some t.known.store) same;
+      book = is.book;
+      next = subst (λ (t : Title). Is key t.number) same is.next;
+      lay = is.lies ∙ ap label_of same;
+      content = is.content ∙ ap content_of same;
+      free = is.free;
+      fits = subst (λ (t : Title). t.number + 2 < 2 ^ 64) same is.fits;
+    }
+
+-- and once the key is settled, it may be laid back
+pub settles_hollow : {T : Type 0} (last : ℕ) (blocks : Blocks T) (key key' : ValueKey) (hollow : Hollow Header Part T) (pass' : Pass) → IsHollowAfter last blocks key hollow
+    → FollowsValue key pass' key' → IsNextIn key' (block_of (value_of key)) → IsHollowIn blocks key' hollow
+settles_hollow last blocks key key' hollow pass' is follows next = let same : value_of key' ≡ value_of key = follows_value key key' pass' follows in
+    record {
+      store = is.store;
+      book = follows.0 ∙ is.book;
+      next = subst (IsNextIn key') (is.next.3) next;
+      lay = ap (λ (t : Name × ℕ). chunk_label t.0 (home_of t.1) (cell_of t.1)) (λ j. (follows.0 j, same j)) ∙ is.lay;
       content = ap place_of same ∙ is.content;
       free = subst CarriesNone (sym same) is.free;
       fits = is.fits;

@@ -41,7 +41,7 @@ pub use Rattle.seize_words.proofs.Contents.{is_lent, same_content}
 -- the key may be settled
 pub use Rattle.seize_book.proofs.Hands.{hands_gone, hands_soon, settles_after, soon_named}
 pub use Rattle.seize_book.proofs.Renames.{follows_value}
-pub use Rattle.seize_words.proofs.Chunked.{settles_block}
+pub use Rattle.seize_words.proofs.Chunked.{settles_block, settles_hollow, takes_block}
 -- with a value that was named something is lent, if the blocks of its book lie in a store
 pub use Rattle.seize_book.proofs.LentValues.{gone_lent, lent_in, lent_key, named_lent}
 -- a value that was named stays so, and one that was reclaimed

@@ -4,11 +4,15 @@
 --     book_in blocks                    the book whose blocks these are
 --     OpensIn blocks keys links size    a new book, to which many may append, with so many links, which are empty, and its keys;  see Opens
 --     OpensAloneIn blocks pass keys links size     the same of a book to which this pass alone may append
---     LiesIn key block                  the key is that of the values of this block
+--     LiesIn key block                  the key is that of the values of this block;  LayIn key hollow     of the block whose value was taken
+--                                       out of this chunk
 --     IsBlockAs Is blocks value key block     it is one of these blocks and has the value, and the key is for a value in it of which this
 --                                       is so, by the block's number, and for the content of its chunk; nothing is lent with it
 --     IsBlockIn blocks value key block  and the key's is the next value of the block;  IsBlockAfter last blocks value key block   it is so
 --                                       once the last one was reclaimed
+--     IsHollowAs Is blocks key hollow   it is of one of these blocks, whose value was taken out, and the key is for a value in it of which
+--                                       this is so, by its number, and for the content of its chunk; nothing is lent with it
+--     IsHollowIn blocks key hollow, IsHollowAfter last blocks key hollow     the same as IsBlockIn and IsBlockAfter, without the value
 --     IsLentAs v g                      a value of code g is lent with v
 --     LendsIn blocks key number g       the key is for a value that was never named, by this number, and a value of code g is lent with it
 --     IsFoundAt o number pass           it is a value, which was named, as the pass has seen, by this number, and something is lent with it
@@ -18,8 +22,9 @@
 use Rattle.std.specs.Prelude.{◌≡◌, ℕ, ◌+◌, ◌<◌, ◌^◌, Option, Some, None, true}
 use base.Stored.{Gv}
 use Rattle.seize_machine.specs.Machine.State.{has}
-use Rattle.seize_store.specs.Named.{bare_content, bare_label, bare_number, bare_store, bare_value}
+use Rattle.seize_store.specs.Named.{bare_content, bare_label, bare_number, bare_store, bare_value, hollow_content, hollow_label, hollow_number, hollow_store}
 use Rattle.seize_store.specs.declared.bare.Bare.{Bare}
+use Rattle.seize_store.specs.declared.hollow.Hollow.{Hollow}
 use Rattle.seize_book.specs.Blocks.{block_of}
 use Rattle.seize_book.specs.Books.{IsNextAfter, IsNextIn, Opens, OpensAlone}
 use Rattle.seize_words.specs.Counts.{home}
@@ -59,6 +64,9 @@ OpensAloneIn blocks pass keys links size = OpensAlone blocks.book pass keys link
 abbrev pub LiesIn : {H P T : Type 0} → ValueKey → Bare H P T → Type 0
 LiesIn key block = chunk_label (book_of key) (home_of (value_of key)) (cell_in key) ≡ bare_label block
 
+abbrev pub LayIn : {H P T : Type 0} → ValueKey → Hollow H P T → Type 0
+LayIn key hollow = chunk_label (book_of key) (home_of (value_of key)) (cell_in key) ≡ hollow_label hollow
+
 pub record IsBlockAs {T : Type 0} (Is : ValueKey → ℕ → Type 0) (blocks : Blocks T) (value : T) (key : ValueKey)
     (block : Bare Header Part T) : Type 0 where
   pub holds : bare_value block ≡ value
@@ -77,6 +85,23 @@ IsBlockIn blocks value key block = IsBlockAs IsNextIn blocks value key block
 
 abbrev pub IsBlockAfter : {T : Type 0} → ℕ → Blocks T → T → ValueKey → Bare Header Part T → Type 0
 IsBlockAfter last blocks value key block = IsBlockAs (λ k number. IsNextAfter k last number) blocks value key block
+
+-- what is left of a block when its value was taken out
+pub record IsHollowAs {T : Type 0} (Is : ValueKey → ℕ → Type 0) (blocks : Blocks T) (key : ValueKey)
+    (hollow : Hollow Header Part T) : Type 0 where
+  pub store : (book_in blocks).store ≡ Some (hollow_store hollow)
+  pub book : book_of key ≡ book_in blocks
+  pub next : Is key (hollow_number hollow)
+  pub lay : LayIn key hollow
+  pub content : place_of (value_of key) ≡ hollow_content hollow
+  pub free : IsFreeKey key
+  pub fits : hollow_number hollow + 2 < 2 ^ 64
+
+abbrev pub IsHollowIn : {T : Type 0} → Blocks T → ValueKey → Hollow Header Part T → Type 0
+IsHollowIn blocks key hollow = IsHollowAs IsNextIn blocks key hollow
+
+abbrev pub IsHollowAfter : {T : Type 0} → ℕ → Blocks T → ValueKey → Hollow Header Part T → Type 0
+IsHollowAfter last blocks key hollow = IsHollowAs (λ k number. IsNextAfter k last number) blocks key hollow
 
 -- a value of the code g is lent with v
 abbrev pub IsLentAs : ℕ → Gv → Type 0

@@ -7,7 +7,7 @@ use crate::chunk::{Header, Part};
 use crate::glimpse::Glimpse;
 use crate::note::Note;
 use seize_book::book::{Book, BookKeys, Keeps, Pass, SlotKey, Unopened, ValueKey, ValueKeys};
-use seize_store::{Bare, Store};
+use seize_store::{Bare, Hollow, Store};
 use seize_table::Refusal;
 use std::alloc::Global;
 use std::marker::Brand;
@@ -26,7 +26,7 @@ impl<T: Drop> Blocks<T> {
     ghost use Rattle.seize_book.specs.Books.{IsNextIn, Opens, OpensAlone};
     ghost use Rattle.seize_store.specs.Named.{bare_number, bare_value};
     ghost use Rattle.seize_table.specs.declared.refusal.Refusal.TheVariants.{NoMemory};
-    ghost use Rattle.seize_words.specs.Chunks.{IsBlockAfter, IsBlockIn, IsFoundAs, IsFoundAt, IsHeaderOf, IsLentAs, LendsIn, LiesIn, OpensAloneIn, OpensIn, book_in};
+    ghost use Rattle.seize_words.specs.Chunks.{IsBlockAfter, IsBlockIn, IsFoundAs, IsFoundAt, IsHeaderOf, IsLentAs, LayIn, LendsIn, LiesIn, OpensAloneIn, OpensIn, book_in};
     ghost use Rattle.seize_book.specs.Others.{IsLast, IsVacated, IsValueOf, book_of, value_of};
     ghost use Rattle.seize_book.specs.Blocks.{block_of};
     ghost use Rattle.seize_book.specs.Notes.{HasNoted, IsUnchanged};
@@ -203,11 +203,23 @@ impl<T: Drop> Blocks<T> {
         requires lies { LiesIn key block }
         ensures { result ≡ bare_value block }
     {
+        let (value, hollow) = block.take();
+        self.lay_back(key, hollow);
+        value
+    }
+
+    /// The same where the value was taken out before (`Bare::take`), as by a reclaimer that has it before it names further ones: when all
+    /// values of the block were reclaimed, its chunk is in again with the block's key.
+    pub fn lay_back(&self, key: ValueKey, hollow: Hollow<Header, Part, T>)
+        requires book { book_of key ≡ book_in self.now }
+        requires vacant { IsVacated key }
+        requires lay { LayIn key hollow }
+    {
         let part = Part {
             key: key.bare(),
             book: self.book.again(),
         };
-        block.with(part).into_inner()
+        hollow.give_back(part);
     }
 
     /// The header of the block with this number, which is that of a value that was named, as the pass has seen. The pass looks at the list.
