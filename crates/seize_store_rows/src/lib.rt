@@ -3,6 +3,8 @@
 #![tactic(auto)]
 
 #[cfg(test)]
+mod hollow;
+#[cfg(test)]
 mod lent;
 mod loans;
 #[cfg(test)]
@@ -12,6 +14,7 @@ mod node;
 mod parts;
 #[cfg(test)]
 mod store;
+mod taken;
 #[cfg(test)]
 mod threads;
 mod values;

@@ -5,7 +5,7 @@ ghost use Rattle.seize_store.specs.Named.{AreOf, name_of, title_of, value_of};
 
 use crate::node::Node;
 use crate::values::{Counted, Numbered, Pairs, Tallies, Tally, Zero};
-use seize_store::{Bare, Family, Known, Labelled, Owned, Place, SPOTS, Seen, Spots, Store};
+use seize_store::{Bare, Family, Hollow, Known, Labelled, Owned, Place, SPOTS, Seen, Spots, Store};
 use seize_table::Refusal;
 use std::alloc::Global;
 use std::mem::size_of;
@@ -439,6 +439,7 @@ fn tokens_have_no_bytes(rt: HostRuntime) {
     assert_eq!(rt; size_of::<Seen<u64, (), u64>>(), 0);
     assert_eq!(rt; size_of::<Owned<u64, (), [u64; 9]>>(), 16);
     assert_eq!(rt; size_of::<Place<u64, (), u64>>(), 16);
+    assert_eq!(rt; size_of::<Hollow<u64, (), [u64; 9]>>(), 16);
 }
 
 fn is_sent<T: Send>(value: T) -> T
@@ -485,6 +486,10 @@ fn block_shares<H, P: Labelled + Drop + Sync, T: Drop + Sync>(
 
 fn bare_sends<H, P: Labelled + Drop + Send, T: Drop + Send>(bare: Bare<H, P, T>) -> Bare<H, P, T> {
     is_sent(bare)
+}
+
+fn hollow_sends<H, P: Labelled + Drop + Send, T>(hollow: Hollow<H, P, T>) -> Hollow<H, P, T> {
+    is_sent(hollow)
 }
 
 fn spots_send<H, P: Labelled + Drop + Send, T>(spots: Spots<H, P, T>) -> Spots<H, P, T> {

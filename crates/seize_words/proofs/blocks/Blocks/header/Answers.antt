@@ -26,8 +26,8 @@ pub returns-clause-header : goal.returns-clause-header
 returns-clause-header g c =
     let seen = c.seek-known.new.self in let header = c.header-header.result.now in
     let labelled = λ (v : ℕ) (named : has v (state_seen c.agree.new.self).named ≡ true) (is : block_of v ≡ c.args.number).
-        found_label c.seek-known.result seen (label header) c.args.number c.seek-known.ensures.homes c.seek-known.ensures.row.1
-        (ap label c.header-header.ensures ∙ c.place-place.ensures.label) v (subst (λ (p : Pass). has v (state_seen p).named ≡ true) c.agree.ensures.0 named) is in (
+    found_label c.seek-known.result seen (label header) c.args.number c.seek-known.ensures.homes c.seek-known.ensures.row.1
+    (ap label c.header-header.ensures ∙ c.place-place.ensures.label) v (subst (λ (p : Pass). has v (state_seen p).named ≡ true) c.agree.ensures.0 named) is in (
       c.agree.ensures.1,
       (λ v named is. sym (same_home header.book.name seen.name (home header.count) header.note.name (home_of v) (cell_of v) (labelled v named is))),
       (λ v named is. sym (same_cell header.book.name seen.name (home header.count) header.note.name (home_of v) (cell_of v) (labelled v named is))),
