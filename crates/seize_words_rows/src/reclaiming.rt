@@ -21,12 +21,12 @@ pub fn reclaim<T: Drop>(
     slot: &mut SlotKey,
     pass: &mut Pass,
 ) -> T
-    requires book { IsValueOf key pass.old × IsOf slot.old pass.old × AreOfBook further.old pass.old × (book_in blocks.now ≡ pass.old.name) }
+    requires book { IsValueOf key pass.old × IsOf slot.old pass.old × (book_in blocks.now ≡ pass.old.name) }
+    requires further { AreOfBook further.old pass.old × AreNew further.old }
     requires knows { Knows slot.old pass.old }
     requires soon { hands_next (slot_of slot.old) ≡ Some (value_of key) }
     requires last { IsLast key }
     requires lent { IsLentKey key × (block_of (value_of key) ≡ number) }
-    requires new { AreNew further.old }
     ensures code { IsLentAs (value_of key) (T.row.coded.code result) }
 {
     let mut key = key;
