@@ -28,7 +28,6 @@ use Rattle.seize_book.specs.Values as values
 use Rattle.seize_book.specs.declared.book.pass.Pass.{Pass}
 use Rattle.seize_book.specs.declared.book.slot_key.SlotKey.{SlotKey}
 use Rattle.seize_book.specs.declared.book.value_key.ValueKey.{ValueKey}
-use Rattle.seize_book.specs.declared.book.value_keys.ValueKeys.{ValueKeys}
 use Rattle.seize_words_rows.specs.Runs.{AreHeads, book_in, calls, idle}
 use Rattle.seize_words_rows.specs.Stages.{Knows, Sees, Stage}
 use Rattle.seize_words_rows.specs.declared.block_run.Batch.{Batch as Retired}
