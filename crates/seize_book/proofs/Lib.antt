@@ -34,6 +34,7 @@ pub mod Chains
 pub mod Serves
 pub mod Written
 pub mod Linked
+pub mod Leading
 pub mod Lasts
 pub mod Values
 pub mod Apart

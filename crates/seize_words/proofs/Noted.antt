@@ -1,8 +1,16 @@
--- The code of a note.
+-- The code of a note, and that there is a cell for it.
 use Rattle.std.proofs.Common.{◌≡◌, refl}
+use Rattle.seize_book.specs.Notes.{IsStored}
+use Rattle.seize_store.specs.Named.{name_of}
+use Rattle.seize_words.specs.Chunks.{book_in}
 use Rattle.seize_words.specs.Noted.{note_code}
+use Rattle.seize_words.specs.declared.blocks.Blocks.{Blocks}
 use Rattle.seize_words.specs.declared.note.Note.{Note as Noted}
 use Rattle.seize_words.specs.contracts.note.Note as Note
 
 pub its_code : (note : Noted) → Note.the_row.coded.code note ≡ note_code note
 its_code note = refl
+
+-- the blocks of a book that has a store lie there
+pub blocks_stored : {T : Type 0} (blocks : Blocks T) → IsStored (book_in blocks)
+blocks_stored blocks = (name_of blocks.store, blocks.stands)

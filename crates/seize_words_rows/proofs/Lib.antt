@@ -17,3 +17,4 @@ pub mod Runs
 pub mod Shared
 pub mod Lent
 pub mod Puts
+pub mod Reclaimed

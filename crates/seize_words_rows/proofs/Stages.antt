@@ -121,6 +121,12 @@ looks_on n key key' pass pass' s now looks still sees knows =
       },
     )
 
+-- and a pass alone
+pub sees_on : (n : Name) (pass pass' : Pass) (stage : Stage) → LooksOn pass pass' → Sees n pass stage → Sees n pass' stage
+sees_on n pass pass' stage looks sees =
+    let seen : pass'.seen ≡ pass.seen = looks.alone (subst (λ (m : Name). IsSole m.gate) (sym sees.book) sees.alone) in
+    record { book = looks.same.0 ∙ sees.book; alone = sees.alone; leads = subst (λ (log : List Entry). IsAt n log stage) (sym seen) sees.leads }
+
 -- The slot's record, as its key knows it.
 
 pub record_is : (n : Name) (key : SlotKey) (s : ℕ) (stage : Stage) → Knows n key s stage → slot_of key ≡ slot_at stage.state s

@@ -14,26 +14,20 @@
 --     Walks run pairs pass reader word     the reader's call walks the batches with these blocks, after others that it counted down, and
 --                         this word leads to them
 --     opened .. over      the stages, in order
---     AreReady, LiesFirst, LeavesOut     of keys whose blocks are laid back: see below
 use Rattle.std.specs.Prelude.{◌≡◌, ℕ, zero, suc, ◌+◌, ◌^◌, ◌<◌, ℤ, pos, true, false, Option, Some, None, List, [], ◌∷◌, ◌++◌, length, map}
 use denote.Bor.{Bor}
 use denote.Builtin.{u64}
-use Rattle.std.specs.List.{Contains}
-use Rattle.seize_machine.specs.Machine.State.{Slot, Head, has, slot_at, Inactive, Active, Batch, Append, Mark, Look, Try, Add, Out, Rest}
+use Rattle.seize_machine.specs.Machine.State.{Slot, Head, slot_at, Inactive, Active, Batch, Append, Mark, Look, Try, Add, Out, Rest}
 use Rattle.seize_book.specs.Blocks.{Plan, block_of}
 use Rattle.seize_book.specs.Books.{IsNextIn}
 use Rattle.seize_words.specs.Chunks.{IsLentAs}
 use Rattle.seize_words.specs.Chunks as chunks
-use Rattle.seize_book.specs.Values.{AreLast}
-use Rattle.seize_book.specs.Homesteads.{state_seen}
-use Rattle.seize_book.specs.Ledger.{renewed}
 use Rattle.seize_book.specs.Others as others
-use Rattle.seize_book.specs.Tokens.{IsSole, Name}
+use Rattle.seize_book.specs.Tokens.{Name}
 use Rattle.seize_book.specs.Values as values
 use Rattle.seize_book.specs.declared.book.pass.Pass.{Pass}
 use Rattle.seize_book.specs.declared.book.slot_key.SlotKey.{SlotKey}
 use Rattle.seize_book.specs.declared.book.value_key.ValueKey.{ValueKey}
-use Rattle.seize_book.specs.declared.book.value_keys.ValueKeys.{ValueKeys}
 use Rattle.seize_words_rows.specs.Runs.{AreHeads, book_in, calls, idle}
 use Rattle.seize_words_rows.specs.Stages.{Knows, Sees, Stage}
 use Rattle.seize_words_rows.specs.declared.block_run.Batch.{Batch as Retired}
@@ -95,7 +89,7 @@ abbrev pub StandsWith : Run → List Pair → Retired → Pass → (List Two →
 StandsWith run pairs batch pass now key last =
     let n = book_of run in
     (ps : List Two) × (p : Two) × AreWords run × AreAllIn pairs ps × AreIn batch.pair p
-    × ((values.book_in batch.values ≡ n) × (values.values_of batch.values ≡ both p))
+    × ((values.book_in batch.values ≡ n) × (values.values_of batch.values ≡ both p) × values.AreClosed batch.values)
     × Sees n pass (now ps p) × Knows n key 1 (last ps p)
 
 -- The stages.
@@ -235,24 +229,3 @@ Walks run pairs pass reader word =
     let n = book_of run in
     (ps : List Two) × (done : List Two) × AreWords run × AreAllIn pairs ps × Sees n pass (at_walk ps done)
     × Knows n reader 0 (at_walk ps done) × (word ≡ word_over pairs)
-
--- Blocks are laid back.
-
--- the values were handed, and all others that lay in their blocks were reclaimed, as their keys know since this pass was there
-pub record AreReady (keys : ValueKeys) (pass : Pass) : Type 0 where
-  pub since : Pass
-  pub book : values.book_in keys ≡ since.name
-  pub same : since.name ≡ pass.name
-  pub alone : IsSole pass.name.gate
-  pub knows : keys.keys.held ≡ renewed keys.keys.held since.seen
-  pub spent : values.AreSpent keys since
-  pub last : AreLast keys since
-  pub gone : (v : ℕ) → Contains (values.values_of keys) v → has v (state_seen pass).gone ≡ true
-
--- the first of these values lies in the block of this number, and this is lent with it
-abbrev pub LiesFirst : ValueKeys → Lent → Type 0
-LiesFirst keys lent = (v : ℕ) × (vs : List ℕ) × (values.values_of keys ≡ v ∷ vs) × IsIn lent v
-
--- the first of some values is left out
-abbrev pub LeavesOut : ValueKeys → ValueKeys → Type 0
-LeavesOut keys keys' = (v : ℕ) × (values.values_of keys ≡ v ∷ values.values_of keys')

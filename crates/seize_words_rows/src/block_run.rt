@@ -8,21 +8,22 @@
 ghost use Rattle.std.specs.Prelude.{◌≡◌, ◌+◌, [], ◌∷◌, ◌++◌, IfSome, false, true};
 ghost use Rattle.seize_store.specs.Named.{bare_value};
 ghost use Rattle.seize_words.specs.Chunks.{IsBlockIn, book_in as blocks_book};
-ghost use Rattle.seize_book.specs.Passes.{LooksOn};
 ghost use Rattle.seize_words.specs.Reservations.{IsLastOf};
-ghost use Rattle.seize_words_rows.specs.BlockRuns.{AreNew, AreReady, IsNew, LeavesOut, LiesFirst, Rests, StandsAt, StandsWith, Walks, book_of, listed, word_over, entered, inserted, looked, marked, opened, put, rests};
+ghost use Rattle.seize_words_rows.specs.BlockRuns.{AreNew, IsNew, Rests, StandsAt, StandsWith, Walks, book_of, listed, word_over, entered, inserted, looked, marked, opened, put, rests};
 ghost use Rattle.seize_words_rows.specs.Making.{CanMake, made_by, name_by};
 ghost use Rattle.seize_words_rows.specs.Runs.{AreHeads, book_in};
 ghost use Rattle.seize_words_rows.specs.Stages.{Knows, Sees};
 
 use crate::attempts::prepare;
 use crate::making::Maker;
+use crate::reclaiming::reclaim_next;
 use crate::worked_run::Heads;
 use seize_store::Bare;
 use seize_words::activation::Activation;
 use seize_words::blocks::Blocks;
 use seize_words::book::{BookKeys, Pass, SlotKey, ValueKey, ValueKeys};
 use seize_words::chunk::{Header, Part};
+use seize_words::note::Note;
 use std::alloc::Global;
 
 /// What is known of a block that is lent: its number, and the value there.
@@ -144,8 +145,19 @@ pub fn take(
     Some((Pair { first, second }, one_key, other_key))
 }
 
-/// The two calls of the retiring slot by which the values are retired. The first call only puts its value. With the second the batch is
-/// full, so that call is to read the heads.
+// What is noted of a block that this word follows.
+fn note_of(next: u64) -> Note
+    ensures { result ≡ record { next = next; slot = 0; kept = 0 } }
+{
+    Note {
+        next,
+        slot: 0,
+        kept: 0,
+    }
+}
+
+/// The two calls of the retiring slot by which the values are retired. The first call only puts its value, and of its block it is noted which
+/// the other one is. With the second the batch is full, so that call is to read the heads; of the other block it is noted that none follows.
 pub fn retire(
     run: &Run,
     before: Option<&Pair>,
@@ -165,8 +177,10 @@ pub fn retire(
     retirer.begin_retire(&mut one, pass);
     retirer.put(pass);
     retirer.finish(pass);
+    run.blocks.set_note(pair.first.number, note_of(pair.second.number + 1), &mut one, pass);
     retirer.begin_retire(&mut other, pass);
     retirer.put(pass);
+    run.blocks.set_note(pair.second.number, note_of(0), &mut other, pass);
     let mut values = ValueKeys::of(one);
     values.push(other);
     Batch { pair, values }
@@ -289,43 +303,27 @@ pub fn leave(
     run.heads.reader.leave(activation, reader, pass)
 }
 
-/// The reader counts down the batch to which the word leads, and is given its values, which it hands to their reclaimers. Then the blocks
-/// are in hand again, and go back into the store with their keys. It gives the values, and the word that leads on through the rest of the
-/// walk.
+/// The reader counts down the batch to which the word leads, and is given its values. The first one lies in the block at which the batch's
+/// count stands, and the second one in the block that is noted there. Each comes out of its block, goes to its reclaimer, and its block goes
+/// back into the store with its key. It gives the values, and the word that leads on through the rest of the walk.
 pub fn walk_on(
     run: &Run,
-    before: Option<&Pair>,
-    pair: Pair,
+    _before: Option<&Pair>,
+    _pair: Pair,
     word: u64,
     reader: &mut SlotKey,
     pass: &mut Pass,
 ) -> (u64, u64, u64)
-    requires walks { Walks run.now (listed before ++ pair ∷ []) pass.old reader.old word }
-    ensures values { (result.0 ≡ pair.first.value) × (result.1 ≡ pair.second.value) }
-    ensures walks { Walks run.now (listed before.entry) pass.new reader.new result.2 }
+    requires walks { Walks run.now (listed _before ++ _pair ∷ []) pass.old reader.old word }
+    ensures values { (result.0 ≡ _pair.first.value) × (result.1 ≡ _pair.second.value) }
+    ensures walks { Walks run.now (listed _before.entry) pass.new reader.new result.2 }
 {
-    let Pair { first, second } = pair;
     reader.look(pass);
     let mut values = ValueKeys::new(pass);
-    let (rest, _, _) = run.blocks.count_down(word, reader, &mut values, pass);
-    reader.hand(pass);
-    reader.hand(pass);
-    let one = lay_back(&run.blocks, &mut values, first, pass);
-    let other = lay_back(&run.blocks, &mut values, second, pass);
+    let (rest, _, front) = run.blocks.count_down(word, reader, &mut values, pass);
+    let (one, next) = reclaim_next(&run.blocks, front, &mut values, reader, pass);
+    let (other, _) = reclaim_next(&run.blocks, next - 1, &mut values, reader, pass);
     (one, other, rest)
-}
-
-// Has the block of the first of these values back and lays it back, and gives what lay in it.
-fn lay_back(blocks: &Blocks<u64>, values: &mut ValueKeys, lent: Lent, pass: &mut Pass) -> u64
-    requires ready { AreReady values.old pass.old × (blocks_book blocks.now ≡ pass.old.name) }
-    requires lies { LiesFirst values.old lent }
-    ensures value { result ≡ lent.value }
-    ensures left { LeavesOut values.old values.new }
-    ensures ready { AreReady values.new pass.new × LooksOn pass.old pass.new }
-{
-    let mut key = values.next();
-    let block = blocks.redeem(lent.number, &mut key, pass);
-    blocks.take_back(key, block)
 }
 
 /// The reader's walk has come to its end, and so its call is over.

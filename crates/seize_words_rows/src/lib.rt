@@ -18,6 +18,7 @@ pub mod making;
 pub mod marking;
 pub mod numbers;
 pub mod reads;
+pub mod reclaiming;
 pub mod row;
 pub mod second_value;
 #[cfg(test)]

@@ -18,10 +18,10 @@ use Rattle.seize_words_rows.specs.Entrants.{Shared}
 use Rattle.seize_words_rows.specs.Stages.{Sees}
 use Rattle.seize_words_rows.specs.declared.block_run.Lent.{Lent}
 use Rattle.seize_words_rows.proofs.BlockRuns.{has_among, is_named, same_lent}
-use Rattle.seize_words_rows.proofs.BlockWalks.{sees_on}
 use Rattle.seize_words_rows.specs.JoinedRuns.{linked}
 use Rattle.seize_words_rows.proofs.JoinedRuns.{all_stay, held_at, reads_first, reads_second, said_of, steps_at, within_two, word_at_link}
 use Rattle.seize_words_rows.proofs.Shared.{goes_looked, goes_noted, goes_twice, may_still}
+use Rattle.seize_words_rows.proofs.Stages.{sees_on}
 use Rattle.seize_words_rows.proofs.joined_run.find.Goals as goal
 
 pub read_link-second-requires : goal.read_link-second-requires

@@ -1,0 +1,114 @@
+-- Keys that a slot's call was given up, as their values go to their reclaimers one after the other.
+use Rattle.std.proofs.Common.{◌≡◌, ℕ, zero, suc, ◌+◌, ◌<◌, true, List, [], ◌∷◌, ◌++◌, arith, refl, sym, ap, ◌∙◌, subst}
+use Rattle.std.specs.List.{Contains}
+use Rattle.std.specs.Prelude.{slice_index_or}
+use base.Stored.{Gv}
+use Rattle.seize_machine.specs.Machine.Event.{Hand}
+use Rattle.seize_machine.specs.declared.machine.event.Answer.{Answer}
+use Rattle.seize_book.specs.Adding.{private}
+use Rattle.seize_book.specs.Blocks.{block_of}
+use Rattle.seize_book.specs.Book.{after, blocks}
+use Rattle.seize_book.specs.Entry.{Entry}
+use Rattle.seize_book.specs.Ledger.{Held, renewed}
+use Rattle.seize_book.specs.Linked.{next_in}
+use Rattle.seize_book.specs.Notes.{IsStored, IsUnchanged, noted_in}
+use Rattle.seize_book.specs.Others.{IsLast, IsLastIn, value_of}
+use Rattle.seize_book.specs.Passes.{LooksOn}
+use Rattle.seize_book.specs.Private.{is_one, label_of, own_of}
+use Rattle.seize_book.specs.Slots.{IsOf, number_of}
+use Rattle.seize_book.specs.Tokens.{IsSole, Name, start}
+use Rattle.seize_book.specs.Values.{Nexts, values_of}
+use Rattle.seize_book.specs.declared.book.pass.Pass.{Pass}
+use Rattle.seize_book.specs.declared.book.slot_key.SlotKey.{SlotKey}
+use Rattle.seize_book.specs.declared.book.value_key.ValueKey.{ValueKey}
+use Rattle.seize_book.specs.declared.book.value_keys.ValueKeys.{ValueKeys}
+use Rattle.seize_words.specs.Noted.{IsNoted}
+use Rattle.seize_words.specs.declared.note.Note.{Note}
+use Rattle.seize_words.specs.Walks.{Knows}
+use Rattle.seize_words.proofs.Facts.{knows_noted, knows_still, leads_next, looks_twice}
+use Rattle.seize_words_rows.specs.Reclaiming.{AreReady, IsFirstAt, IsNextAt, Reclaims}
+use Rattle.seize_words_rows.specs.Stages as stages
+use Rattle.seize_words_rows.specs.Stages.{Goes, IsAt, Leads, Sees, Stage}
+use Rattle.seize_words_rows.proofs.Stages.{looks_on, steps}
+
+-- Keys without the first.
+
+others_know : (held rest : List (Held Entry)) (seen : List Entry) → is_one blocks held ≡ true → held ++ rest ≡ renewed (held ++ rest) seen → rest ≡ renewed rest seen
+others_know [] rest seen one same = absurd (cc)
+others_know (h ∷ []) rest seen one same = ap tail_of same
+  where
+    tail_of : List (Held Entry) → List (Held Entry)
+    tail_of [] = []
+    tail_of (x ∷ xs) = xs
+others_know (h ∷ g ∷ held) rest seen one same = absurd (cc)
+
+-- and what the first knows
+own_is : (held rest : List (Held Entry)) (seen : List Entry) → is_one blocks held ≡ true → held ++ rest ≡ renewed (held ++ rest) seen → own_of held ≡ seen
+own_is [] rest seen one same = absurd (cc)
+own_is (h ∷ []) rest seen one same = ap own_of same
+own_is (h ∷ g ∷ held) rest seen one same = absurd (cc)
+
+among_all : (v u : ℕ) (us vs : List ℕ) → vs ≡ u ∷ us → Contains us v → Contains vs v
+among_all v u us vs is among = subst (λ (ws : List ℕ). Contains ws v) (sym is) (suc among.0, let less = among.1 in omega (arith, less), among.2)
+
+pub first_is : (a b : ℕ) (us vs ws : List ℕ) → ws ≡ a ∷ us → ws ≡ b ∷ vs → a ≡ b
+first_is a b us vs ws one other = ap (λ (xs : List ℕ). slice_index_or xs 0 0) (sym one ∙ other)
+
+module _ (values : ValueKeys) (slot : SlotKey) (pass : Pass) (ready : AreReady values slot pass) (key : ValueKey) (rest : ValueKeys) (nexts : Nexts values key rest) where
+  whole : key.keys.held ++ rest.keys.held ≡ renewed (key.keys.held ++ rest.keys.held) ready.since.seen
+  whole = sym nexts.3 ∙ (ready.knows ∙ ap (λ (held : List (Held Entry)). renewed held ready.since.seen) nexts.3)
+
+  among : (v : ℕ) → Contains (values_of rest) v → Contains (values_of values) v
+  among v = among_all v (value_of key) (values_of rest) (values_of values) nexts.2
+
+  pub its_book : key.keys.name ≡ pass.name
+  its_book = nexts.1 ∙ (ready.book ∙ ready.same)
+
+  pub is_last : IsLast key
+  is_last =
+      let v : ℕ = value_of key in let its = subst (λ (ws : List ℕ). Contains ws v) (sym nexts.2) (zero, omega arith, refl) in
+      subst (λ (t : Name × List Entry). IsLastIn v (after (start t.0) t.1)) (λ i. (sym (nexts.1 ∙ ready.book) i, sym (own_is key.keys.held rest.keys.held ready.since.seen key.one whole) i)) (ready.last v its)
+
+  -- the others are as ready
+  pub rest_ready : (slot' : SlotKey) (pass' : Pass) → pass'.name ≡ pass.name → IsOf slot' pass' → Knows slot' pass' → AreReady rest slot' pass'
+  rest_ready slot' pass' name its seen = record {
+    since = ready.since;
+    book = nexts.0 ∙ ready.book;
+    same = ready.same ∙ sym name;
+    its = its;
+    seen = seen;
+    knows = others_know key.keys.held rest.keys.held ready.since.seen key.one whole;
+    last = λ v there. ready.last v (among v there);
+  }
+
+-- a key that is unchanged is for the same value
+pub unchanged_value : (value value' : ValueKey) → IsUnchanged value value' → value_of value' ≡ value_of value
+unchanged_value value value' same = ap label_of same.1
+
+-- and it knows the same
+pub unchanged_last : (value value' : ValueKey) → IsUnchanged value value' → IsLast value → IsLast value'
+unchanged_last value value' same last = subst (λ (t : Name × List (Held Entry)). IsLastIn (label_of t.1) (after (start t.0) (own_of t.1))) (λ j. (sym same.0 j, sym same.1 j)) last
+
+-- the number that is noted is that of the next block
+pub next_noted : (values : ValueKeys) (key : ValueKey) (rest : ValueKeys) (note : Note) → IsStored values.keys.name → Nexts values key rest → IsNoted note key → IsFirstAt rest note.next
+next_noted values key rest note stored nexts noted v vs are = sym (ap next_in noted ∙ leads_next values key rest v vs stored nexts are)
+
+-- Looks before and after leave a value reclaimed as it was.
+pub looked_too : (key key' : SlotKey) (pass mid pass' : Pass) (puts : List ℕ) → LooksOn pass mid → Reclaims key mid key' pass' puts → Reclaims key pass key' pass' puts
+looked_too key key' pass mid pass' puts looks r = record { looked = r.looked; handed = r.handed; looks = looks_twice pass mid r.looked looks r.looks; notes = r.notes; looks_after = r.looks_after }
+
+-- what is known of slot and pass after it
+pub reclaimed_by : (key key' : SlotKey) (pass pass' : Pass) (puts : List ℕ) → Reclaims key pass key' pass' puts → IsOf key pass → (pass'.name ≡ pass.name) × IsOf key' pass' × Knows key' pass'
+reclaimed_by key key' pass pass' puts r its =
+    let name : pass'.name ≡ pass.name = r.looks_after.same.0 ∙ (r.notes.0.0 ∙ r.looks.same.0) in (
+      name,
+      r.notes.1.0 ∙ (its ∙ sym name),
+      knows_still key' r.handed pass' (knows_noted key key' r.looked r.handed (private r.looked (Hand (number_of key) puts)) r.notes) r.looks_after,
+    )
+
+-- A pass that is alone sees where it leads.
+pub reclaims : (n : Name) (key key' : SlotKey) (pass pass' : Pass) (s : ℕ) (from to : Stage) (answer : Answer) → Reclaims key pass key' pass' [] → Sees n pass from → stages.Knows n key s from → Goes from (Hand s []) to answer → Leads n pass' key' s to
+reclaims n key key' pass pass' s from to answer r sees knows goes =
+    let now = looks_on n key key pass r.looked s from r.looks refl sees knows in
+    let handed = steps n key key' r.looked r.handed s 0 (λ k. Hand k []) from from to answer r.notes now.0 now.1 goes in
+    looks_on n key' key' r.handed pass' s to r.looks_after refl handed.0 handed.1
