@@ -10,6 +10,7 @@ pub mod Leaves
 pub mod Passages
 pub mod Successors
 pub mod Marks
+pub mod NotedRuns
 pub mod Rows
 pub mod Stages
 pub mod Tries

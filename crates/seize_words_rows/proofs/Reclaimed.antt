@@ -1,9 +1,9 @@
 -- Keys that a slot's call was given up, as their values go to their reclaimers one after the other.
-use Rattle.std.proofs.Common.{◌≡◌, ℕ, zero, suc, ◌+◌, ◌<◌, true, List, [], ◌∷◌, ◌++◌, arith, refl, sym, ap, ◌∙◌, subst}
+use Rattle.std.proofs.Common.{◌≡◌, ℕ, zero, suc, ◌+◌, ◌<◌, Bool, true, if◌then◌else◌, List, [], ◌∷◌, ◌++◌, arith, refl, sym, ap, ◌∙◌, subst}
 use Rattle.std.specs.List.{Contains}
 use Rattle.std.specs.Prelude.{slice_index_or}
 use base.Stored.{Gv}
-use Rattle.seize_machine.specs.Machine.Event.{Hand}
+use Rattle.seize_machine.specs.Machine.Event.{Event, Hand}
 use Rattle.seize_machine.specs.declared.machine.event.Answer.{Answer}
 use Rattle.seize_book.specs.Adding.{private}
 use Rattle.seize_book.specs.Blocks.{block_of}
@@ -15,13 +15,14 @@ use Rattle.seize_book.specs.Notes.{IsStored, IsUnchanged, noted_in}
 use Rattle.seize_book.specs.Others.{IsLast, IsLastIn, value_of}
 use Rattle.seize_book.specs.Passes.{LooksOn}
 use Rattle.seize_book.specs.Private.{is_one, label_of, own_of}
-use Rattle.seize_book.specs.Slots.{IsOf, number_of}
+use Rattle.seize_book.specs.Slots.{IsOf, Notes, number_of}
 use Rattle.seize_book.specs.Tokens.{IsSole, Name, start}
 use Rattle.seize_book.specs.Values.{Nexts, values_of}
 use Rattle.seize_book.specs.declared.book.pass.Pass.{Pass}
 use Rattle.seize_book.specs.declared.book.slot_key.SlotKey.{SlotKey}
 use Rattle.seize_book.specs.declared.book.value_key.ValueKey.{ValueKey}
 use Rattle.seize_book.specs.declared.book.value_keys.ValueKeys.{ValueKeys}
+use Rattle.seize_words.specs.Counts.{Leaves}
 use Rattle.seize_words.specs.Noted.{IsNoted}
 use Rattle.seize_words.specs.declared.note.Note.{Note}
 use Rattle.seize_words.specs.Walks.{Knows}
@@ -112,3 +113,22 @@ reclaims n key key' pass pass' s from to answer r sees knows goes =
     let now = looks_on n key key pass r.looked s from r.looks refl sees knows in
     let handed = steps n key key' r.looked r.handed s 0 (λ k. Hand k []) from from to answer r.notes now.0 now.1 goes in
     looks_on n key' key' r.handed pass' s to r.looks_after refl handed.0 handed.1
+
+-- The keys that stay with whoever adds to a count that is 0 then are ready.
+
+twice_renewed : (held : List (Held Entry)) (seen : List Entry) → renewed (renewed held seen) seen ≡ renewed held seen
+twice_renewed [] seen = refl
+twice_renewed (h ∷ held) seen = ap (λ (hs : List (Held Entry)). record { kind = h.kind; key = h.key; own = seen; label = h.label; note = h.note } ∷ hs) (twice_renewed held seen)
+
+pub left_ready : (values values' : ValueKeys) (key key' : SlotKey) (pass pass' : Pass) (event : Event) (ended : Bool) → ended ≡ true → Leaves values pass' values' ended → Notes key pass key' pass' event → IsOf key' pass' → AreReady values' key' pass'
+left_ready values values' key key' pass pass' event ended is leaves notes its =
+    let held : values'.keys.held ≡ renewed values.keys.held pass'.seen = leaves.1 ∙ ap (λ (b : Bool). renewed (if b then values.keys.held else []) pass'.seen) is in
+    record {
+      since = pass';
+      book = leaves.0;
+      same = refl;
+      its = its;
+      seen = knows_noted key key' pass pass' (private pass event) notes;
+      knows = held ∙ (sym (twice_renewed values.keys.held pass'.seen) ∙ ap (λ (hs : List (Held Entry)). renewed hs pass'.seen) (sym held));
+      last = leaves.2;
+    }

@@ -16,6 +16,7 @@ pub mod lent_run;
 pub mod linked;
 pub mod making;
 pub mod marking;
+pub mod noted_run;
 pub mod numbers;
 pub mod reads;
 pub mod reclaiming;

@@ -1,0 +1,39 @@
+use Rattle.std.proofs.Common.{◌≡◌, ℕ, List, [], ◌∷◌, ◌++◌, refl, sym, ap, ◌∙◌, subst}
+use Rattle.seize_machine.specs.Machine.Event.{Begin, Put, Return}
+use Rattle.seize_machine.specs.declared.machine.event.Answer.TheVariants.{Done}
+use Rattle.seize_machine.specs.declared.machine.event.Job.TheVariants.{Retire}
+use Rattle.seize_book.specs.Others.{value_of}
+use Rattle.seize_words_rows.specs.NotedRuns.{Values, all, begun, book_of, full, made, one_put, values_of, waits}
+use Rattle.seize_words_rows.specs.Stages.{Leads}
+use Rattle.seize_words_rows.proofs.BlockRuns.{fresh_now, may_retire}
+use Rattle.seize_words_rows.proofs.NotedRuns.{begins, has_key, puts_first, puts_last, puts_second, returns}
+use Rattle.seize_words_rows.proofs.Stages.{same_value, steps}
+use Rattle.seize_words_rows.proofs.noted_run.retire.Goals as goal
+
+pub returns-clause-stands : goal.returns-clause-stands
+returns-clause-stands c =
+    let run = c.args.run.now in let n = book_of run in let stands = c.requires.stands in
+    let u = value_of c.args.one.now in let v = value_of c.args.two.now in let w = value_of c.args.last.now in let t : Values = (u, v, w) in
+    let a1 = c.begin_retire in let a2 = c.put in let a3 = c.finish in let b1 = c.begin_retire-2 in let b2 = c.put-2 in let b3 = c.finish-2 in let c1 = c.begin_retire-3 in let c2 = c.put-3 in
+    let fresh_one = fresh_now n c.args.key.now a1.new.self c.args.pass.now a1.new.pass u made a1.ensures.noted stands.1 refl in
+    let begun_one = steps n c.args.key.now a1.new.self c.args.pass.now a1.new.pass 0 0 (λ s. Begin s (Retire u)) made made (begun [] (u ∷ []) u) Done a1.ensures.noted stands.1 stands.2 (begins [] u fresh_one) in
+    let put_one = steps n a1.new.self a2.new.self a1.new.pass a2.new.pass 0 0 (λ s. Put s) (begun [] (u ∷ []) u) (begun [] (u ∷ []) u) (one_put (u ∷ [])) Done a2.ensures.noted begun_one.0 begun_one.1 (puts_first u) in
+    let back_one = steps n a2.new.self a3.new.self a2.new.pass a3.new.pass 0 0 (λ s. Return s) (one_put (u ∷ [])) (one_put (u ∷ [])) (waits (u ∷ [])) Done a3.ensures.noted put_one.0 put_one.1 (returns (u ∷ [])) in
+    let fresh_two = fresh_now n a3.new.self b1.new.self a3.new.pass b1.new.pass v (waits (u ∷ [])) b1.ensures.noted back_one.0 refl in
+    let begun_two = steps n a3.new.self b1.new.self a3.new.pass b1.new.pass 0 0 (λ s. Begin s (Retire v)) (waits (u ∷ [])) (waits (u ∷ [])) (begun (u ∷ []) (u ∷ v ∷ []) v) Done b1.ensures.noted back_one.0 back_one.1 (begins (u ∷ []) v fresh_two) in
+    let put_two = steps n b1.new.self b2.new.self b1.new.pass b2.new.pass 0 0 (λ s. Put s) (begun (u ∷ []) (u ∷ v ∷ []) v) (begun (u ∷ []) (u ∷ v ∷ []) v) (one_put (u ∷ v ∷ [])) Done b2.ensures.noted begun_two.0 begun_two.1 (puts_second u v) in
+    let back_two = steps n b2.new.self b3.new.self b2.new.pass b3.new.pass 0 0 (λ s. Return s) (one_put (u ∷ v ∷ [])) (one_put (u ∷ v ∷ [])) (waits (u ∷ v ∷ [])) Done b3.ensures.noted put_two.0 put_two.1 (returns (u ∷ v ∷ [])) in
+    let fresh_last = fresh_now n b3.new.self c1.new.self b3.new.pass c1.new.pass w (waits (u ∷ v ∷ [])) c1.ensures.noted back_two.0 refl in
+    let begun_last = steps n b3.new.self c1.new.self b3.new.pass c1.new.pass 0 0 (λ s. Begin s (Retire w)) (waits (u ∷ v ∷ [])) (waits (u ∷ v ∷ [])) (begun (u ∷ v ∷ []) (all t) w) Done c1.ensures.noted back_two.0 back_two.1 (begins (u ∷ v ∷ []) w fresh_last) in
+    let put_last = steps n c1.new.self c2.new.self c1.new.pass c2.new.pass 0 0 (λ s. Put s) (begun (u ∷ v ∷ []) (all t) w) (begun (u ∷ v ∷ []) (all t) w) (full t) Done c2.ensures.noted begun_last.0 begun_last.1 (puts_last t) in
+    let one = same_value c.args.one.now a1.new.value a1.new.pass a1.ensures.value in let two = same_value c.args.two.now b1.new.value b1.new.pass b1.ensures.value in let last = same_value c.args.last.now c1.new.value c1.new.pass c1.ensures.value in
+    let now = subst (λ (s : Values). Leads n c2.new.pass c2.new.self 0 (full s)) (λ j. (sym one j, sym two j, sym last j)) put_last in
+    (stands.0, now.0, now.1)
+
+pub returns-clause-keys : goal.returns-clause-keys
+returns-clause-keys c =
+    let n = book_of c.args.run.now in let three = c.args._three in let new = c.requires.new in let one = c.begin_retire in let two = c.begin_retire-2 in let last = c.begin_retire-3 in (
+      has_key n three.first c.args.one.now one.new.value one.new.pass new.0 one.ensures.value,
+      has_key n three.second c.args.two.now two.new.value two.new.pass new.1 two.ensures.value,
+      has_key n three.third c.args.last.now last.new.value last.new.pass new.2 last.ensures.value,
+    )
