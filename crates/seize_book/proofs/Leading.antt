@@ -1,5 +1,5 @@
 -- What a holder of keys shows so that they lead on.
-use Rattle.std.proofs.Common.{◌≡◌, ℕ, suc, true, ◌==◌, List, [], ◌∷◌, ◌++◌, Option, Some, None, refl, sym, ◌∙◌, ap, subst, arith}
+use Rattle.std.proofs.Common.{◌≡◌, ℕ, suc, ◌+◌, true, ◌==◌, List, [], ◌∷◌, ◌++◌, Option, Some, None, refl, sym, ◌∙◌, ap, subst, arith}
 use base.Stored.{Gv}
 use Rattle.seize_book.specs.Blocks.{block_of}
 use Rattle.seize_book.specs.Book.{blocks}
@@ -24,11 +24,17 @@ leads_anywhere keys value none = ap (λ (s : Option (List ℕ)). are_joined s ke
 pub leads_on_anywhere : (keys other : ValueKeys) → (book_in keys).store ≡ None → LeadsOn keys other
 leads_on_anywhere keys other none = ap (λ (s : Option (List ℕ)). are_joined s keys.keys.held other.keys.held) none
 
+pub closed_anywhere : (keys : ValueKeys) → (book_in keys).store ≡ None → AreClosed keys
+closed_anywhere keys none = ap (λ (s : Option (List ℕ)). are_joined s keys.keys.held []) none
+
 -- nor of none
 pub none_leads : (keys : ValueKeys) (value : ValueKey) → keys.keys.held ≡ [] → LeadsTo keys value
 none_leads keys value none = ap (λ (a : Keys). are_joined (book_in keys).store a value.keys.held) none ∙ none_joined (book_in keys).store value.keys.held
 
 -- the last of some keys leads on where its note says the word of the next one's block
+
+one_more : (k : ℕ) → k + 1 ≡ suc k
+one_more k = grind arith
 
 same : (k : ℕ) → (k == k) ≡ true
 same k = grind arith
@@ -45,15 +51,15 @@ last_joined [] (h ∷ []) c one leads = leads
 last_joined (x ∷ []) (h ∷ []) c one leads = leads
 last_joined (x ∷ y ∷ a) (h ∷ []) c one leads = last_joined (y ∷ a) (h ∷ []) c one leads
 
-are_led : (store : Option (List ℕ)) (a b c : Keys) → is_one blocks b ≡ true → is_one blocks c ≡ true → next_in (note_of b) ≡ suc (block_of (label_of c)) → are_joined store (a ++ b) c ≡ true
+are_led : (store : Option (List ℕ)) (a b c : Keys) → is_one blocks b ≡ true → is_one blocks c ≡ true → next_in (note_of b) ≡ block_of (label_of c) + 1 → are_joined store (a ++ b) c ≡ true
 are_led None a b c one other next = refl
-are_led (Some store) a b c one other next = last_joined a b c one (first_is (note_of b) c other next)
+are_led (Some store) a b c one other next = last_joined a b c one (first_is (note_of b) c other (next ∙ one_more (block_of (label_of c))))
 
-pub last_leads : (keys : ValueKeys) (value : ValueKey) (keys' : ValueKeys) (other : ValueKey) → Pushes keys value keys' → next_in (noted_in value) ≡ suc (block_of (value_of other)) → LeadsTo keys' other
+pub last_leads : (keys : ValueKeys) (value : ValueKey) (keys' : ValueKeys) (other : ValueKey) → Pushes keys value keys' → next_in (noted_in value) ≡ block_of (value_of other) + 1 → LeadsTo keys' other
 last_leads keys value keys' other pushes next =
     ap (λ (a : Keys). are_joined (book_in keys').store a other.keys.held) pushes.2 ∙ are_led (book_in keys').store keys.keys.held value.keys.held other.keys.held value.one other.one next
 
-pub one_leads : (value : ValueKey) (keys : ValueKeys) (other : ValueKey) → IsKeyOfOne value keys → next_in (noted_in value) ≡ suc (block_of (value_of other)) → LeadsTo keys other
+pub one_leads : (value : ValueKey) (keys : ValueKeys) (other : ValueKey) → IsKeyOfOne value keys → next_in (noted_in value) ≡ block_of (value_of other) + 1 → LeadsTo keys other
 one_leads value keys other is next =
     ap (λ k. are_joined (book_in keys).store k.held other.keys.held) is.0 ∙ are_led (book_in keys).store [] value.keys.held other.keys.held value.one other.one next
 
@@ -99,7 +105,8 @@ joins_next : (s : Option (List ℕ)) (a b : Keys) (w : ℕ) (ws : List ℕ) → 
 joins_next s a [] w ws are whole = absurd (cc)
 joins_next s a (k ∷ b) w ws are whole = parted_joined s a k b whole
 
-pub leads_next : (keys : ValueKeys) (value : ValueKey) (keys' : ValueKeys) (w : ℕ) (ws : List ℕ) → IsStored (book_in keys) → Nexts keys value keys' → values_of keys' ≡ w ∷ ws → next_in (noted_in value) ≡ suc (block_of w)
+pub leads_next : (keys : ValueKeys) (value : ValueKey) (keys' : ValueKeys) (w : ℕ) (ws : List ℕ) → IsStored (book_in keys) → Nexts keys value keys' → values_of keys' ≡ w ∷ ws → next_in (noted_in value) ≡ block_of w + 1
 leads_next keys value keys' w ws stored nexts are =
     let whole = ap (λ (held : Keys). are_linked (book_in keys).store held) (sym nexts.3) ∙ keys.linked in
     are_leading (book_in keys).store stored.0 value.keys.held keys'.keys.held w ws stored.1 value.one are (joins_next (book_in keys).store value.keys.held keys'.keys.held w ws are whole)
+    ∙ sym (one_more (block_of w))

@@ -1,5 +1,5 @@
 -- In the worked run of blocks, the reader counts one batch of its walk down, and is given its values, which it hands one after the other.
-use Rattle.std.proofs.Common.{◌≡◌, ℕ, zero, suc, pos, ◌+◌, Bool, true, if◌then◌else◌, List, [], ◌∷◌, ◌++◌, length, map, append_assoc, arith, refl, sym, ap, ◌∙◌, subst, ◌⊎◌, inl, inr}
+use Rattle.std.proofs.Common.{◌≡◌, ℕ, zero, suc, pos, ◌+◌, ◌-◌, ◌≤◌, Bool, true, if◌then◌else◌, List, [], ◌∷◌, ◌++◌, length, map, append_assoc, arith, refl, sym, ap, ◌∙◌, subst, ◌⊎◌, inl, inr}
 use Rattle.std.specs.List.{Contains}
 use Rattle.std.specs.Prelude.{Option, Some, slice_index_or}
 use denote.Bor.{Bor}
@@ -32,6 +32,7 @@ use Rattle.seize_words_rows.specs.BlockRuns.{AreAllIn, AreIn, Two, at_walk, both
 use Rattle.seize_words_rows.specs.Reclaiming.{AreReady, IsFirstAt, IsNextAt, LeavesOut}
 use Rattle.seize_words_rows.specs.Stages.{IsAt, Knows, Leads, Sees, Stage}
 use Rattle.seize_words_rows.specs.declared.block_run.Pair.{Pair}
+use Rattle.seize_words_rows.proofs.Reclaimed.{one_less}
 use Rattle.seize_words_rows.proofs.BlockRuns.{IsFew, all_last, counts_down, few_before, has_among, looked_leads, plan_last, walk_last, word_last, word_rest}
 use Rattle.seize_words_rows.proofs.Stages.{came_to_zero, front_is, looks_on, planned_is, record_is, rests, sees_still, steps, values_are}
 
@@ -150,8 +151,16 @@ module _ (n : Name) (before : Option (Bor Pair)) (pair : Pair) (done : List Two)
     numbered = g.front;
   }
 
+  -- the word that was noted with it leads on
+  pub leads_second : (values' : ValueKeys) (next : ℕ) → LeavesOut values values' → IsFirstAt values' next → 1 ≤ next
+  leads_second values' next left first =
+      above (block_of g.p.1) next (first g.p.1 [] (only_other g.p.0 g.p.1 left.0 (values_of values) (values_of values') g.counted.values left.1))
+    where
+      above : (number word : ℕ) → number + 1 ≡ word → 1 ≤ word
+      above number word is = grind (arith, is)
+
   -- and then the second, which is that of the other
-  abbrev pub second_next : (key' : SlotKey) (pass' : Pass) (values' : ValueKeys) (next : ℕ) → Leads n pass' key' 0 (handed_one g.ps g.p done) → LeavesOut values values' → IsFirstAt values' next → IsNextAt values' next key'
+  abbrev pub second_next : (key' : SlotKey) (pass' : Pass) (values' : ValueKeys) (next : ℕ) → Leads n pass' key' 0 (handed_one g.ps g.p done) → LeavesOut values values' → IsFirstAt values' next → IsNextAt values' (next - 1) key'
   second_next key' pass' values' next leads left first =
       let are : values_of values' ≡ g.p.1 ∷ [] = only_other g.p.0 g.p.1 left.0 (values_of values) (values_of values') g.counted.values left.1 in
       record {
@@ -160,5 +169,5 @@ module _ (n : Name) (before : Option (Bor Pair)) (pair : Pair) (done : List Two)
         are = are;
         soon = ap hands_next (record_is n key' 0 (handed_one g.ps g.p done) leads.1);
         lent = is_lent g.p.1 (u64.coded.code pair.second.value) g.is.1.code;
-        numbered = first g.p.1 [] are;
+        numbered = one_less (block_of g.p.1) next (first g.p.1 [] are);
       }

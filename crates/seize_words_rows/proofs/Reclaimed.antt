@@ -1,5 +1,5 @@
 -- Keys that a slot's call was given up, as their values go to their reclaimers one after the other.
-use Rattle.std.proofs.Common.{◌≡◌, ℕ, zero, suc, ◌+◌, ◌<◌, Bool, true, if◌then◌else◌, List, [], ◌∷◌, ◌++◌, arith, refl, sym, ap, ◌∙◌, subst}
+use Rattle.std.proofs.Common.{◌≡◌, ℕ, zero, suc, ◌+◌, ◌-◌, ◌<◌, Bool, true, if◌then◌else◌, List, [], ◌∷◌, ◌++◌, arith, refl, sym, ap, ◌∙◌, subst}
 use Rattle.std.specs.List.{Contains}
 use Rattle.std.specs.Prelude.{slice_index_or}
 use base.Stored.{Gv}
@@ -90,7 +90,11 @@ unchanged_value value value' same = ap label_of same.1
 pub unchanged_last : (value value' : ValueKey) → IsUnchanged value value' → IsLast value → IsLast value'
 unchanged_last value value' same last = subst (λ (t : Name × List (Held Entry)). IsLastIn (label_of t.1) (after (start t.0) (own_of t.1))) (λ j. (sym same.0 j, sym same.1 j)) last
 
--- the number that is noted is that of the next block
+-- a block's number by its word
+pub one_less : (number word : ℕ) → number + 1 ≡ word → number ≡ word - 1
+one_less number word is = grind (arith, is)
+
+-- the word that is noted is that of the next block
 pub next_noted : (values : ValueKeys) (key : ValueKey) (rest : ValueKeys) (note : Note) → IsStored values.keys.name → Nexts values key rest → IsNoted note key → IsFirstAt rest note.next
 next_noted values key rest note stored nexts noted v vs are = sym (ap next_in noted ∙ leads_next values key rest v vs stored nexts are)
 

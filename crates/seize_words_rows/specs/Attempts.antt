@@ -2,7 +2,7 @@
 --     UsesBoth key pass key' pass' f v g w     the slot stored v in field f, and then w in field g
 --     IsLastTry key head next first count attempt     the slot's call is about to insert its batch at this head with the block that has
 --                         these fields, and nowhere else; it has won so many insertions, and the batch's count and first block are these
---     TriesWith .. values     and the keys are those of the batch's values;  KeepsValues values pass' values' result     they stay, or go
+--     TriesWith .. values     and the closed keys are those of the batch's values;  KeepsValues values pass' values' result     they stay, or go
 --                         to the count
 --     Ends try key' result     it is the same slot's key; a lost insertion leaves the call to read that head again, and after a won one the
 --                         batch is given up to it where the count came to 0, and else nothing is
@@ -17,7 +17,7 @@ use Rattle.seize_book.specs.Homes.{home_of}
 use Rattle.seize_words.specs.Named.{slot_book}
 use Rattle.seize_words.specs.Reservations.{slot}
 use Rattle.seize_book.specs.Slots.{number_of, own_list, slot_of, start_of}
-use Rattle.seize_book.specs.Values.{values_of}
+use Rattle.seize_book.specs.Values.{AreClosed, values_of}
 use Rattle.seize_words.specs.declared.batch.Count.{Count}
 use Rattle.seize_book.specs.declared.book.pass.Pass.{Pass}
 use Rattle.seize_book.specs.declared.book.slot_key.SlotKey.{SlotKey}
@@ -52,7 +52,7 @@ pub record IsLastTry (key : SlotKey) (head : Head) (next first : Field) (count :
 -- and the keys are those of the values with which the batch was detached
 abbrev pub TriesWith : SlotKey → Head → Field → Field → Count → Attempt → ValueKeys → Type 0
 TriesWith key head next first count attempt values =
-    (t : IsLastTry key head next first count attempt) × (values_of values ≡ values_in key t.tries.batch)
+    (t : IsLastTry key head next first count attempt) × (values_of values ≡ values_in key t.tries.batch) × AreClosed values
 
 -- they stay where the insertion was lost, or the count came to 0
 abbrev pub KeepsValues : ValueKeys → Pass → ValueKeys → Option Bool → Type 0

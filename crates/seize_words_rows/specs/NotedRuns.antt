@@ -6,8 +6,8 @@
 --     HasKey n lent key   it is the key of a value of book n by this number, with which this is lent
 --     AreNew n three one two last, AreKeys n three one two last     these keys are for the first values of the blocks;  for their values
 --     values_of one two last    which these are
---     HoldsKeys n three t keys      the values are in these blocks, and these are their keys
---     LeadsNext key key' number     it is the same key, but that this number is noted of its block
+--     HoldsKeys n three t keys      the values are in these blocks, and these are their keys, which are closed
+--     LeadsNext key key' word       it is the same key, but that this word is noted of its block
 --     EndsAt run pass key the run is over
 --     StandsWith run three keys pass key now     there are values in these blocks, with these keys, and slot 0 has come to this stage of
 --                         them
@@ -66,14 +66,14 @@ abbrev pub values_of : ValueKey → ValueKey → ValueKey → Values
 values_of one two last = (others.value_of one, others.value_of two, others.value_of last)
 
 abbrev pub HoldsKeys : Name → Three → Values → ValueKeys → Type 0
-HoldsKeys n three t keys = AreIn three t × (values.book_in keys ≡ n) × (values.values_of keys ≡ all t)
+HoldsKeys n three t keys = AreIn three t × (values.book_in keys ≡ n) × (values.values_of keys ≡ all t) × values.AreClosed keys
 
 abbrev pub StandsWith : Run → Three → ValueKeys → Pass → SlotKey → (Values → Stage) → Type 0
 StandsWith run three keys pass key now = (t : Values) × HoldsKeys (book_of run) three t keys × Stands run pass key (now t)
 
 abbrev pub LeadsNext : ValueKey → ValueKey → ℕ → Type 0
-LeadsNext key key' number =
-    (next_in (noted_in key') ≡ number) × (others.book_of key' ≡ others.book_of key) × (others.value_of key' ≡ others.value_of key)
+LeadsNext key key' word =
+    (next_in (noted_in key') ≡ word) × (others.book_of key' ≡ others.book_of key) × (others.value_of key' ≡ others.value_of key)
 
 -- The stages.
 

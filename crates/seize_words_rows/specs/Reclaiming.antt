@@ -7,7 +7,7 @@
 --                         where it is lent
 --     LeavesOut keys keys'     the first of some values is left out
 --     IsFirstAt keys word      if there are any, the first lies in the block of this word: it is the block's number and one more
-use Rattle.std.specs.Prelude.{◌≡◌, ℕ, suc, List, ◌∷◌, Some}
+use Rattle.std.specs.Prelude.{◌≡◌, ℕ, ◌+◌, List, ◌∷◌, Some}
 use Rattle.seize_machine.specs.Machine.Event.{Hand}
 use Rattle.seize_book.specs.Blocks.{block_of}
 use Rattle.seize_book.specs.Ledger.{renewed}
@@ -48,4 +48,4 @@ abbrev pub LeavesOut : ValueKeys → ValueKeys → Type 0
 LeavesOut keys keys' = (v : ℕ) × (values_of keys ≡ v ∷ values_of keys')
 
 abbrev pub IsFirstAt : ValueKeys → ℕ → Type 0
-IsFirstAt keys word = (v : ℕ) (vs : List ℕ) → values_of keys ≡ v ∷ vs → suc (block_of v) ≡ word
+IsFirstAt keys word = (v : ℕ) (vs : List ℕ) → values_of keys ≡ v ∷ vs → block_of v + 1 ≡ word

@@ -1,4 +1,4 @@
-//! A run of a batch of three values of a store: of the block of each the number of the next one's is noted, when they are retired. So whoever
+//! A run of a batch of three values of a store: of the block of each the word of the next one's is noted, when they are retired. So whoever
 //! is given the batch up finds all blocks from the first number alone. The slot is never active, so its batch waits for nobody.
 ghost use Rattle.std.specs.Prelude.{◌≡◌, IfSome, true};
 ghost use Rattle.seize_words.specs.Chunks.{book_in as blocks_book};
@@ -132,28 +132,22 @@ pub fn retire(
     key.put(pass);
 }
 
-// Notes of the block the number of the other one.
-fn note_next(
-    blocks: &Blocks<u64>,
-    lent: Lent,
-    next: Lent,
-    key: &mut ValueKey,
-    pass: &mut Pass,
-)
+// Notes of the block that this word follows.
+fn note_next(blocks: &Blocks<u64>, lent: Lent, next: u64, key: &mut ValueKey, pass: &mut Pass)
     requires book { IsValueOf key.old pass.old × (blocks_book blocks.now ≡ pass.old.name) }
     requires seen { IsSeenAt key.old lent.number pass.old }
     ensures looks { LooksOn pass.old pass.new }
-    ensures leads { LeadsNext key.old key.new next.number }
+    ensures leads { LeadsNext key.old key.new next }
 {
     let note = Note {
-        next: next.number,
+        next,
         slot: 0,
         kept: 0,
     };
     blocks.set_note(lent.number, note, key, pass);
 }
 
-/// Notes of each block the number of the next one, and gives all keys. The last leads to none.
+/// Notes of each block the word of the next one, and gives all keys. The last leads to none.
 pub fn link(
     run: &Run,
     three: Three,
@@ -170,8 +164,10 @@ pub fn link(
 {
     let mut one = one;
     let mut two = two;
-    note_next(&run.blocks, three.first, three.second, &mut one, pass);
-    note_next(&run.blocks, three.second, three.third, &mut two, pass);
+    let mut last = last;
+    note_next(&run.blocks, three.first, three.second.number + 1, &mut one, pass);
+    note_next(&run.blocks, three.second, three.third.number + 1, &mut two, pass);
+    note_next(&run.blocks, three.third, 0, &mut last, pass);
     let mut values = ValueKeys::of(one);
     values.push(two);
     values.push(last);
@@ -214,8 +210,8 @@ pub fn hand_all(
     ensures over { EndsAt run.now pass.new key.new }
 {
     let (one, next) = reclaim_next(&run.blocks, front, values, key, pass);
-    let (two, last) = reclaim_next(&run.blocks, next, values, key, pass);
-    let (three, _) = reclaim_next(&run.blocks, last, values, key, pass);
+    let (two, last) = reclaim_next(&run.blocks, next - 1, values, key, pass);
+    let (three, _) = reclaim_next(&run.blocks, last - 1, values, key, pass);
     key.finish(pass);
     (one, two, three)
 }

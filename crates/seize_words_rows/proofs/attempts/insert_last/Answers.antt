@@ -70,6 +70,7 @@ add-requires-clause-adds c =
     let planned = plan_kept key key' pass c.insert.new.pass _ t.tries.batch t.front noted t.its_front ∙ plan_both c.args.key.now key c.args.pass.now pass _ _ _ _ uses c.requires.book.0 t.tries.batch given.front given.its_front in (
       adds_then key key' pass c.insert.new.pass head c.args.next.now c.args.first.now c.args.count.now attempt t noted,
       c.requires.tries.1 ∙ sym (ap (λ (p : Plan). p.values) planned),
+      c.requires.tries.2,
     )
 
 pub returns-clause-ends : goal.returns-clause-ends

@@ -22,6 +22,7 @@ add-zero-requires-clause-adds c =
         its_home = at.0;
       },
       stands.5.1 ∙ sym (values_are n key 1 (length ps) (inserted ps p) stands.7 ∙ its_values ps few p),
+      stands.5.2,
     )
 
 pub returns-clause-stands : goal.returns-clause-stands

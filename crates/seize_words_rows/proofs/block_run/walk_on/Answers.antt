@@ -2,7 +2,7 @@ use Rattle.std.proofs.Common.{ℕ, ◌∷◌, arith, sym, ◌∙◌}
 use Rattle.seize_machine.specs.declared.machine.event.Answer.TheVariants.{Handed}
 use Rattle.seize_words_rows.specs.BlockRuns.{at_walk, book_of, given_up, handed_one}
 use Rattle.seize_words_rows.proofs.BlockRuns.{hands_first, hands_second, same_lent}
-use Rattle.seize_words_rows.proofs.BlockWalks.{are_ready, first_next, gives, second_next}
+use Rattle.seize_words_rows.proofs.BlockWalks.{are_ready, first_next, gives, leads_second, second_next}
 use Rattle.seize_words_rows.proofs.Reclaimed.{reclaims}
 use Rattle.seize_words_rows.proofs.block_run.walk_on.Goals as goal
 
@@ -19,6 +19,14 @@ reclaim_next-one-requires c =
         first_next n c.args._before c.args._pair done key pass values rest front g,
       ),
     )
+
+pub overflow_sub-next : goal.overflow_sub-next
+overflow_sub-next c =
+    let n = book_of c.args.run.now in let walks = c.requires.walks in let done = walks.1 in let key = c.count_down-rest.new.key in let pass = c.count_down-rest.new.pass in let values = c.count_down-rest.new.values in
+    let rest : ℕ = c.count_down-rest.result.0 in let front : ℕ = c.count_down-rest.result.2 in
+    let g = gives n c.args._before c.args._pair walks.0 done walks.3 c.args.reader.now c.look.new.self key c.args.pass.now c.look.new.pass c.new-values.new.pass pass c.args.word rest front c.count_down-rest.result.1 values walks.4 walks.5
+    walks.6 c.look.ensures.looked c.new-values.ensures.1 c.count_down-rest.ensures.counts c.count_down-rest.ensures.front in
+    let one = c.reclaim_next-one in leads_second n c.args._before c.args._pair done key pass values rest front g one.new.values one.result.1 one.ensures.left.0 one.ensures.left.1
 
 pub reclaim_next-other-requires : goal.reclaim_next-other-requires
 reclaim_next-other-requires c =

@@ -2,10 +2,12 @@ use Rattle.std.proofs.Common.{pos, [], ap, refl, sym, ◌∙◌}
 use Rattle.seize_machine.specs.Machine.State.{Slot}
 use Rattle.seize_machine.specs.Machine.Event.{AddCount, Detach}
 use Rattle.seize_machine.specs.declared.machine.event.Answer.TheVariants.{Count, Done}
+use Rattle.seize_book.specs.Tokens.{Name}
 use Rattle.seize_words.specs.Counts.{AddsTo}
 use Rattle.seize_book.specs.Slots.{Notes, number_of}
 use Rattle.seize_book.specs.declared.book.pass.Pass.{Pass}
 use Rattle.seize_book.specs.declared.book.slot_key.SlotKey.{SlotKey}
+use Rattle.seize_words.proofs.Facts.{closed_anywhere}
 use Rattle.seize_words_rows.specs.Puts.{IsPut, RunsOn, detached_on, gave_both, put_in, read_on}
 use Rattle.seize_words_rows.specs.Runs.{book_of, value_of}
 use Rattle.seize_words_rows.specs.Stages.{Knows, Leads}
@@ -40,6 +42,7 @@ add-requires-clause-adds c =
     let now = detached words further c.args.retirer.now one.new.self c.args.pass.now one.new.pass stands one.ensures.noted in (
       adds words further one.new.self put now.1,
       put.4 ∙ sym (values_are (book_of words) one.new.self 1 1 (detached_on (value_of words) (put_in further)) now.1),
+      closed_anywhere further.values (ap (λ (n : Name). n.store) put.3 ∙ stands.0.0.1.5),
     )
 
 pub returns-clause-zero : goal.returns-clause-zero

@@ -33,7 +33,7 @@ add-requires-clause-adds c =
     let first = head_read n key one.new.key run.head c.args.pass.now one.new.pass 0 0 (full t) (full t) (read t) (Head false) one.ensures.noted stands.2.0.0 stands.2.1 stands.2.2 (reads t) in
     let second = steps n one.new.key two.new.self one.new.pass two.new.pass 0 0 (λ s. Detach s) (read t) (read t) (detached t) Done two.ensures.noted first.0 first.1 (detaches t) in
     let at = header_at n two.new.self two.new.pass found.new.pass 0 (detached t) t.0 c.args.three.first.number found.result.now found.ensures.looks second.0 second.1 (has_among [] t.0 (t.1 ∷ t.2 ∷ [])) keys.0.0.number found.ensures.header in
-    (adds n two.new.self t found.result.now.count at.0 second.1, keys.2 ∙ sym (values_are n two.new.self 0 0 (detached t) second.1))
+    (adds n two.new.self t found.result.now.count at.0 second.1, keys.2 ∙ sym (values_are n two.new.self 0 0 (detached t) second.1), keys.3)
 
 pub returns-clause-zero : goal.returns-clause-zero
 returns-clause-zero c =
@@ -56,7 +56,7 @@ returns-clause-stands c =
     let last = steps n two.new.self three.new.key found.new.pass three.new.pass 0 0 (λ s. AddCount s) (detached t) (detached t) (given t) (Count (pos 0)) three.ensures.counts.0 at.1 second.1 (gives t) in
     let zero = came_to_zero three.result _ (t.1 ∷ t.2 ∷ []) t.0 [] [] (sym (three.ensures.gives (adds n two.new.self t found.result.now.count at.0 second.1)) ∙ ap (λ (r : Slot). r.call) (record_is n three.new.key 0 (given t) last.1)) in
     let stay = keys_stay n c.args.values.now three.new.values three.new.pass three.result zero three.ensures.keys last.0.book in
-    (t, (keys.0, stay.1, stay.2 ∙ keys.2), (stands.2.0, last.0, last.1))
+    (t, (keys.0, stay.1, stay.2 ∙ keys.2, three.ensures.keys.3), (stands.2.0, last.0, last.1))
 
 pub returns-clause-ready : goal.returns-clause-ready
 returns-clause-ready c =

@@ -2,10 +2,12 @@ use Rattle.std.proofs.Common.{ℕ, pos, [], ap, refl, sym, ◌∙◌}
 use Rattle.seize_machine.specs.Machine.State.{Slot}
 use Rattle.seize_machine.specs.Machine.Event.{AddCount, Detach}
 use Rattle.seize_machine.specs.declared.machine.event.Answer.TheVariants.{Count, Done}
+use Rattle.seize_book.specs.Tokens.{Name}
 use Rattle.seize_words.specs.Counts.{AddsTo}
 use Rattle.seize_book.specs.Slots.{Notes, number_of}
 use Rattle.seize_book.specs.declared.book.pass.Pass.{Pass}
 use Rattle.seize_book.specs.declared.book.slot_key.SlotKey.{SlotKey}
+use Rattle.seize_words.proofs.Facts.{closed_anywhere}
 use Rattle.seize_words_rows.specs.Puts.{detached_on, gave_both, read_on}
 use Rattle.seize_words_rows.specs.Runs.{AreWords, book_of, value_of}
 use Rattle.seize_words_rows.specs.SecondValue.{GoesOn}
@@ -40,6 +42,7 @@ add-requires-clause-adds c =
     let now = detached words c.args.retirer.now one.new.self c.args.pass.now one.new.pass stands one.ensures.noted in (
       adds words one.new.self v stands.0 now.1,
       stands.0.1.4.1 ∙ sym (values_are (book_of words) one.new.self 1 1 (detached_on v (value_of words)) now.1),
+      closed_anywhere words.block.values (ap (λ (n : Name). n.store) stands.0.1.4.0 ∙ stands.0.1.5),
     )
 
 pub returns-clause-stands : goal.returns-clause-stands

@@ -12,6 +12,7 @@ use Rattle.seize_book.specs.Values.{book_in, values_of}
 use Rattle.seize_book.specs.declared.book.pass.Pass.{Pass}
 use Rattle.seize_book.specs.declared.book.slot_key.SlotKey.{SlotKey}
 use Rattle.seize_book.specs.declared.book.value_keys.ValueKeys.{ValueKeys}
+use Rattle.seize_words.proofs.Facts.{closed_anywhere}
 use Rattle.seize_words_rows.specs.Runs.{AreHeads, AreWords, book_of, counted_up, inserted, reader_over, value_of}
 use Rattle.seize_words_rows.specs.Stages.{Knows, Sees}
 use Rattle.seize_words_rows.specs.declared.worked_run.Words.{Words}
@@ -37,6 +38,7 @@ add-requires-clause-adds c =
     let words = c.args.words.now in let key = c.args.retirer.now in let stands = c.requires.stands in (
       adds words key stands.0 stands.2,
       stands.0.1.4.1 ∙ sym (values_are (book_of words) key 1 0 (inserted (value_of words)) stands.2),
+      closed_anywhere words.block.values (ap (λ (n : Name). n.store) stands.0.1.4.0 ∙ stands.0.1.5),
     )
 
 pub returns-clause-keys : goal.returns-clause-keys
