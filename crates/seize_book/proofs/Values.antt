@@ -8,7 +8,7 @@ use Rattle.seize_book.specs.Homes.{home_of}
 use Rattle.seize_book.specs.Ledger.{Held, WithKinds, renewed}
 use Rattle.seize_book.specs.Private.{AreKeysOf, are_of_blocks, is_one, key_of, label_of, labels_of}
 use Rattle.seize_book.specs.declared.book.value_key.ValueKey.{ValueKey}
-use Rattle.seize_book.proofs.Linked.{are_later}
+use Rattle.seize_book.proofs.Linked.{are_later, still_closed}
 
 -- keys of blocks are of a kind
 pub blocks_within : (vs : List (Held Entry)) → are_of_blocks vs ≡ true → WithKinds kinds vs
@@ -27,7 +27,7 @@ blocks_later [] log = refl
 blocks_later (x ∷ vs) log = ap (λ (b : Bool). ((x.kind == blocks) && (x.key == home_of x.label)) && b) (blocks_later vs log)
 
 pub keys_later : (store : Option (List ℕ)) (values : List ℕ) (vs : List (Held Entry)) (log : List Entry) → AreKeysOf store values vs → AreKeysOf store values (renewed vs log)
-keys_later store values vs log are = (labels_later vs log ∙ are.0, blocks_later vs log ∙ are.1, are_later store vs log ∙ are.2)
+keys_later store values vs log are = (labels_later vs log ∙ are.0, blocks_later vs log ∙ are.1, are_later store vs log ∙ are.2, still_closed store vs log ∙ are.3)
 
 pub none_of : (vs : List (Held Entry)) → labels_of vs ≡ [] → vs ≡ []
 none_of [] e = refl

@@ -7,7 +7,8 @@
 --     is_one r held          there is one key, of kind r;  key_of held, own_of held, label_of held, note_of held    its number, list, label
 --                            and note
 --     are_of_blocks held, labels_of held    each is the key of a block, with the name of a value that lies there;  these are the labels
---     AreKeysOf store values held  so it is, these are the values, and each key leads on to the next in this store
+--     AreKeysOf store values held  so it is, these are the values, and each key leads on to the next in this store; the last
+--                        to none
 use Rattle.std.specs.Prelude.{◌≡◌, ℕ, true, false, Bool, ◌==◌, ◌&&◌, map, List, [], ◌∷◌, Option, Some, None, is_some}
 use Rattle.std.specs.List.{list_all}
 use base.Stored.{Gv, gnil}
@@ -19,7 +20,7 @@ use Rattle.seize_book.specs.Ledger.{Held}
 use Rattle.seize_book.specs.Entry.{Entry}
 use Rattle.seize_book.specs.Book.{births, blocks}
 use Rattle.seize_book.specs.Homes.{changes_count, changes_home, home_of}
-use Rattle.seize_book.specs.Linked.{are_linked}
+use Rattle.seize_book.specs.Linked.{are_joined, are_linked}
 
 abbrev pub IsOwn : ℕ → Event → Type 0
 IsOwn s event =
@@ -73,7 +74,8 @@ labels_of vs = map (λ h. h.label) vs
 
 -- and these are the values
 abbrev pub AreKeysOf : Option (List ℕ) → List ℕ → List (Held Entry) → Type 0
-AreKeysOf store values vs = (labels_of vs ≡ values) × (are_of_blocks vs ≡ true) × (are_linked store vs ≡ true)
+AreKeysOf store values vs =
+    (labels_of vs ≡ values) × (are_of_blocks vs ≡ true) × (are_linked store vs ≡ true) × (are_joined store vs [] ≡ true)
 
 abbrev pub next_at : Place → List ℕ → Option ℕ
 next_at (Append v) queue = Some v

@@ -4,7 +4,7 @@
 --     IsEmpty keys pass, IsOfBook value keys     there are none, of the pass's book;  the value's key is of the same book
 --     IsKeyOfOne value keys          it is the value's alone
 --     Pushes keys value keys'        the value's key comes last
---     LeadsTo keys value, LeadsOn keys other    the last key leads on to this one, or to the first of the others
+--     LeadsTo keys value, LeadsOn keys other    the last key leads on to this one, or to the first of the others;  AreClosed keys    to none
 --     Appends keys other keys' other'   the others come after its own, and none are left there
 --     Nexts keys value keys'         the value's was the first, and the others are left
 --     Pops keys value keys'          the value's was the last, and the others are left
@@ -59,6 +59,10 @@ LeadsTo keys value = are_joined (book_in keys).store keys.keys.held value.keys.h
 
 abbrev pub LeadsOn : ValueKeys → ValueKeys → Type 0
 LeadsOn keys other = are_joined (book_in keys).store keys.keys.held other.keys.held ≡ true
+
+-- what is noted of the last one's block says that none comes after it
+abbrev pub AreClosed : ValueKeys → Type 0
+AreClosed keys = are_joined (book_in keys).store keys.keys.held [] ≡ true
 
 abbrev pub Appends : ValueKeys → ValueKeys → ValueKeys → ValueKeys → Type 0
 Appends keys other keys' other' =

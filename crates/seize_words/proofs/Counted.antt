@@ -36,8 +36,8 @@ use Rattle.seize_book.proofs.Moves.{moves}
 use Rattle.seize_book.proofs.Plans.{plan_stays}
 use Rattle.seize_book.proofs.Private.{after_one, only, only_is}
 use Rattle.seize_book.proofs.Values.{blocks_later, keys_later, labels_later, none_of}
-use Rattle.seize_book.proofs.Linked.{are_later, none_linked}
-use Rattle.seize_book.specs.Linked.{are_linked}
+use Rattle.seize_book.proofs.Linked.{are_later, none_joined, none_linked, still_closed}
+use Rattle.seize_book.specs.Linked.{are_joined, are_linked}
 
 -- a count's word, named by the pass's book
 pub is_at_count : (word : Site) (n : Name) → word.name ≡ n → word.kind ≡ counts → word ≡ at_count n word.number
@@ -284,6 +284,13 @@ module _ (k : ℕ) (key : SlotKey) (held' : List (Held Entry)) (pass pass' : Pas
       either true = (keys_later pass.name.store _ step.since.1 pass'.seen (stood k key [] held' pass pass' (minus 1) v (SubCount (number_of key)) (λ v. minus 1 v == 0) step)).2
       either false = none_linked pass.name.store
 
+  pub all_closed : are_joined pass.name.store (drop 1 held') [] ≡ true
+  all_closed = ap (λ (hs : List (Held Entry)). are_joined pass.name.store hs []) others_are ∙ either (minus 1 v == 0)
+    where
+      either : (z : Bool) → are_joined pass.name.store (renewed (if z then step.since.1 else []) pass'.seen) [] ≡ true
+      either true = (keys_later pass.name.store _ step.since.1 pass'.seen (stood k key [] held' pass pass' (minus 1) v (SubCount (number_of key)) (λ v. minus 1 v == 0) step)).3
+      either false = none_joined pass.name.store []
+
 -- The steps as the calls on a count take them: with the slot's key and others joined, and the word as it is.
 
 first_of_both : (a b : List (Held Entry)) → is_one slots a ≡ true → key_of (a ++ b) ≡ key_of a
@@ -313,6 +320,10 @@ still_blocks false vs log are = refl
 pub still_linked : (store : Option (List ℕ)) (done : Bool) (vs : List (Held Entry)) (log : List Entry) → are_linked store vs ≡ true → are_linked store (renewed (if done then vs else []) log) ≡ true
 still_linked store true vs log are = are_later store vs log ∙ are
 still_linked store false vs log are = none_linked store
+
+pub closed_still : (store : Option (List ℕ)) (done : Bool) (vs : List (Held Entry)) (log : List Entry) → are_joined store vs [] ≡ true → are_joined store (renewed (if done then vs else []) log) [] ≡ true
+closed_still store true vs log are = still_closed store vs log ∙ are
+closed_still store false vs log are = none_joined store []
 
 -- those that came out know all that was seen
 pub renewed_twice : (done : Bool) (vs held : List (Held Entry)) (log : List Entry) → held ≡ renewed (if done then vs else []) log → held ≡ renewed held log

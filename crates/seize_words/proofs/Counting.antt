@@ -30,7 +30,7 @@ use Rattle.seize_book.proofs.Chains.{unled}
 use Rattle.seize_book.proofs.Counts.{batch_near, count_added, count_alone, count_near, count_subtracted, in_range, word_added, word_subtracted, word_zero}
 use Rattle.seize_book.proofs.Deposits.{deposit_added, deposit_subtracted}
 use Rattle.seize_book.proofs.Fronts.{added_held, front_grows, front_there, held_front, held_values, walked_held}
-use Rattle.seize_book.proofs.Linked.{none_linked}
+use Rattle.seize_book.proofs.Linked.{none_joined, none_linked}
 use Rattle.seize_book.proofs.Lists.{after_push, reached_after}
 use Rattle.seize_book.proofs.Plans.{plan_stays}
 use Rattle.seize_book.proofs.Private.{differ, only_is, makes_none, no_place}
@@ -95,7 +95,7 @@ module _ (n : Name) (k : ℕ) where
   same v p seen held t log found = found.shows ∙ ap count_word found.before.kept.0.1.0
 
   pub deposited : (v p : ℕ) (seen : List Entry) (held : List (Held Entry)) (t : At) (log : List Entry) → FoundAs (at_count n k) v p seen held [] t log → AreKeysOf n.store (deposit (after st log) k) t.1
-  deposited v p seen held t log found = (found.stands.0 ∙ found.before.kept.0.1.1, found.stands.1, found.stands.2)
+  deposited v p seen held t log found = (found.stands.0 ∙ found.before.kept.0.1.1, found.stands.1, found.stands.2, found.stands.3)
 
   -- One event of the slot that counts batch b, which is of this block. The holder has other keys after the slot's, and others stand beside
   -- the count.
@@ -278,7 +278,7 @@ module _ (n : Name) (k : ℕ) where
         (either (is_zero c.count) none))
       where
         either : (z : Bool) → vs ≡ [] → AreKeysOf n.store (if z then [] else (slice_index_or (plans st own) a.batch no_plan).values) (if not z then more else vs)
-        either true none = (ap labels_of none, are.1, are.2)
+        either true none = (ap labels_of none, are.1, are.2, are.3)
         either false none = these
 
     taken_keys : (p size v : ℕ) (a : IsWalking st s own k) (c : Counting s own log (record { pass = p; size = size; event = SubCount s; life = 0 }) (minus 1) v a.batch a.walk a.queue) (vs : List (Held Entry)) → AreKeysOf n.store (deposit before k) vs
@@ -292,7 +292,7 @@ module _ (n : Name) (k : ℕ) where
         (subst (λ (values : List ℕ). AreKeysOf n.store values (if is_zero c.count then [] else vs)) (sym (so.0 ∙ ap (λ (x : ℤ). if is_zero x then [] else deposit before k) count_is)) (either (is_zero c.count)))
       where
         either : (z : Bool) → AreKeysOf n.store (if z then [] else deposit before k) (if z then [] else vs)
-        either true = (refl, refl, none_linked n.store)
+        either true = (refl, refl, none_linked n.store, none_joined n.store [])
         either false = are
 
   pub may_add_count : (p size won : ℕ) (seen : List Entry) (held more : List (Held Entry)) → is_one slots held ≡ true → (a : IsAdding st (key_of held) (own_of held) k won) → AreKeysOf n.store (slice_index_or (plans st (own_of held)) a.batch no_plan).values more

@@ -1,7 +1,7 @@
 -- Steps on words that are found by numbers: a look goes before the step, and adds nothing.
-use Rattle.std.proofs.Common.{◌≡◌, ℕ, ◌<◌, List, [], ◌∷◌, ◌++◌, length, sym, ◌∙◌, ap, subst}
+use Rattle.std.proofs.Common.{◌≡◌, ◌≢◌, ℕ, ◌<◌, true, List, [], ◌∷◌, ◌++◌, length, Option, Some, None, is_some, refl, sym, ◌∙◌, ap, subst, arith}
 use Rattle.seize_machine.specs.Machine.Event.{Event}
-use Rattle.seize_book.specs.Blocks.{plans}
+use Rattle.seize_book.specs.Blocks.{link_word, plans}
 use Rattle.seize_book.specs.Book.{Does, IsLegalList, after, mine}
 use Rattle.seize_book.specs.Chains.{Chained, told}
 use Rattle.seize_book.specs.Entry.{Deed, Entry, Made}
@@ -59,3 +59,13 @@ made_still pass mid s head looks book is less =
 -- what is tried at a slot is tried at its head
 pub tries_at : (key : SlotKey) (s : ℕ) (head : Head) (seen block : ℕ) → slot head ≡ s → TriesAtSlot key s seen block → TriesAt key head seen block
 tries_at key s head seen block is tries = subst (λ (m : ℕ). TriesAtSlot key m seen block) (sym is) tries
+
+-- what a link holds, by its word
+
+pub holds_none : (o : Option ℕ) → link_word o ≡ 0 → o ≡ None
+holds_none None is = refl
+holds_none (Some w) is = absurd (omega (arith, is))
+
+pub holds_some : (o : Option ℕ) → link_word o ≢ 0 → is_some o ≡ true
+holds_some None some = absurd (some refl)
+holds_some (Some w) some = refl

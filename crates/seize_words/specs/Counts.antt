@@ -6,9 +6,9 @@
 --     Counts key pass key' pass' event zero     the event was noted, its answer is a count, and this says whether it is 0;
 --                                               it lies between minus and plus the number of numbers
 --     values_in key b                           the values with which batch b was detached, as the slot's key knows
---     AddsWith key count won values             the slot's call adds to this count, and the keys are those of the batch's values
+--     AddsWith key count won values             the slot's call adds to this count, and the keys are those of the batch's values, closed
 --     Leaves values pass' values' zero          the keys stay where the count came to 0, and else they stand with the count
---     Takes key b pass' values' zero            the keys of the batch's values come out where the count came to 0
+--     Takes key b pass' values' zero            the keys of the batch's values come out where the count came to 0, closed
 --     GivesUp key key' b walk queue zero        the slot's call goes on with this walk and queue; the values with which the batch was
 --                                               detached are given up to it if the count came to 0, and else none are
 use Rattle.std.specs.Prelude.{◌≡◌, ℕ, ℤ, Bool, if◌then◌else◌, List, [], ◌∷◌, Some, slice_index_or}
@@ -23,7 +23,7 @@ use Rattle.seize_book.specs.Entry.{Entry}
 use Rattle.seize_book.specs.Homes.{home_of}
 use Rattle.seize_book.specs.Ledger.{renewed}
 use Rattle.seize_book.specs.Slots.{Notes, number_of, own_list, slot_of, start_of}
-use Rattle.seize_book.specs.Values.{AreLast, book_in, values_of}
+use Rattle.seize_book.specs.Values.{AreClosed, AreLast, book_in, values_of}
 use Rattle.seize_words.specs.declared.batch.Count.{Count}
 use Rattle.seize_book.specs.declared.book.count_key.CountKey.{CountKey}
 use Rattle.seize_book.specs.declared.book.pass.Pass.{Pass}
@@ -70,20 +70,20 @@ abbrev pub values_in : SlotKey → ℕ → List ℕ
 values_in key b = (slice_index_or (plans (start_of key) (own_list key)) b no_plan).values
 
 abbrev pub AddsWith : SlotKey → Count → ℕ → ValueKeys → Type 0
-AddsWith key count won values = (a : AddsTo key count won) × (values_of values ≡ values_in key a.batch)
+AddsWith key count won values = (a : AddsTo key count won) × (values_of values ≡ values_in key a.batch) × AreClosed values
 
 -- they are the same keys, and know all that the pass has seen, where the count came to 0; and else they stand with the count
 abbrev pub Leaves : ValueKeys → Pass → ValueKeys → Bool → Type 0
 Leaves values pass' values' zero =
     (book_in values' ≡ pass'.name) × (values'.keys.held ≡ renewed (if zero then values.keys.held else []) pass'.seen)
-    × AreLast values' pass'
+    × AreLast values' pass' × AreClosed values'
 
 -- those of the batch's values where the count came to 0, and else none
 abbrev pub Takes : SlotKey → ℕ → Pass → ValueKeys → Bool → Type 0
 Takes key b pass' values' zero =
     (book_in values' ≡ pass'.name) × (values'.keys.held ≡ renewed values'.keys.held pass'.seen)
     × (values_of values' ≡ (if zero then values_in key b else []))
-    × AreLast values' pass'
+    × AreLast values' pass' × AreClosed values'
 
 abbrev pub Counts : SlotKey → Pass → SlotKey → Pass → Event → Bool → Type 0
 Counts key pass key' pass' event zero =

@@ -10,6 +10,8 @@
 --     Takes                       the event was made with the pass, during the activation;  IsDuring activation name list
 --     Reads, Swaps, CompareExchanges     what the event is, in which state it was made, and what is had afterwards
 --     Sees                        it is a read, and the glimpse is of what the link held
+--     Finds                       it is a read, and nothing was made with the pass since, which may have seen more
+use mathlib.Core.List.{IsPrefix}
 use Rattle.std.specs.Prelude.{◌≡◌, ◌≢◌, ℕ, suc, List, [], Option, Some, None, true, is_some, drop}
 use Rattle.seize_machine.specs.Machine.State.{head_at, is_active, link_at, has}
 use Rattle.seize_machine.specs.Machine.Event.{Event, ReadLink, ExchangeLink}
@@ -23,7 +25,7 @@ use Rattle.seize_book.specs.Laws.{life}
 use Rattle.seize_book.specs.Ledger.{renewed}
 use Rattle.seize_words.specs.Links.{IsNewIn, IsWithin, compared, value_in}
 use Rattle.seize_book.specs.Others.{state_of}
-use Rattle.seize_book.specs.Passes.{IsSame}
+use Rattle.seize_book.specs.Passes.{IsSame, MadeNone}
 use Rattle.seize_book.specs.Private.{key_of}
 use Rattle.seize_book.specs.Tokens.{Name, Noted, start}
 use Rattle.seize_words.specs.declared.activation.Activation.{Activation}
@@ -81,6 +83,14 @@ Reads link activation pass pass' v = Takes link activation pass pass' (λ _. Rea
 
 abbrev pub Sees : Link → Activation → Pass → Pass → ℕ → Glimpse → Type 0
 Sees link activation pass pass' v glimpse = (t : Reads link activation pass pass' v) × (glimpse.value ≡ held_before t)
+
+-- the link was read, and the pass may have looked at the list since
+pub record Finds (link : Link) (a : Activation) (pass pass' : Pass) (v : ℕ) : Type 0 where
+  pub mid : Pass
+  pub reads : Reads link a pass mid v
+  pub same : IsSame mid pass'
+  pub none_made : MadeNone mid pass'
+  pub grows : IsPrefix mid.seen pass'.seen
 
 -- the key knows all that the pass has seen
 abbrev pub KnowsAll : MaybeKey → Pass → Type 0

@@ -4,7 +4,7 @@
 /// batch finds its blocks one after the other; a batch takes no memory.
 #[derive(Clone, Copy, PartialEq, Eq, Debug)]
 pub struct Note {
-    /// The number of the block whose value comes next in the batch.
+    /// The block whose value comes next in the batch, as a link's word shows it: its number and one more, or 0 where none comes.
     pub next: u64,
     /// The number of the slot at which the batch is to be inserted with the block.
     pub slot: usize,

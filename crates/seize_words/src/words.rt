@@ -33,7 +33,7 @@ pub struct Words<T> {
 }
 
 impl<T: Drop> Words<T> {
-    ghost use Rattle.std.specs.Prelude.{ℕ, ◌<◌, ◌⊎◌, IfErr, IfOk, Some, false, true};
+    ghost use Rattle.std.specs.Prelude.{ℕ, ◌<◌, ◌⊎◌, IfErr, IfOk, IfSome, Some, false, is_some, true};
     ghost use Rattle.seize_machine.specs.Machine.Event.{Enter, Insert, ReadHead, SwapOut};
     ghost use Rattle.seize_machine.specs.Machine.State.{is_idle};
     ghost use Rattle.seize_store.specs.Named.{name_of as store_name};
@@ -42,7 +42,8 @@ impl<T: Drop> Words<T> {
     ghost use Rattle.seize_book.specs.Books.{HasKeys, Opens, OpensAlone};
     ghost use Rattle.seize_words.specs.Heads.{found_end};
     ghost use Rattle.seize_words.specs.Joined.{IsHolder, IsInAt, IsNewTo, IsStoreOf, MayReadAt, OnHead, OnLink, OpensWords, OpensWordsAlone, TriesAtSlot, words_book};
-    ghost use Rattle.seize_words.specs.LinkWords.{CompareExchanges, Sees, Swaps};
+    ghost use Rattle.seize_words.specs.Chunks.{IsFoundAs};
+    ghost use Rattle.seize_words.specs.LinkWords.{CompareExchanges, Finds, Sees, Swaps, held_before};
     ghost use Rattle.seize_words.specs.Reservations.{FoundBefore, IsActivationOf, IsLastOf, IsOut, Shows, WalksOn, beginning};
     ghost use Rattle.seize_words.specs.Reserved.{HasNext, IsSame, MakesNext};
     ghost use Rattle.seize_book.specs.Slots.{IsOf, Notes, NotesAs, active_of, number_of, slot_of};
@@ -265,6 +266,30 @@ impl<T: Drop> Words<T> {
         ensures sees { OnLink (words_book self.now) link (λ link. Sees link activation.now pass.old pass.new result.0 result.1) }
     {
         self.links.get(link).see(activation, pass)
+    }
+
+    /// Finds what a link holds: the event `ReadLink`, after which the pass looks at the list. It gives the link's word, and what is lent
+    /// with the value there, if there is one, for as long as the words and the activation are borrowed: other threads may take the value
+    /// out meanwhile, and retire it.
+    ///
+    /// It takes no memory: one load of the link, and the look-up of a block, as `Blocks::see`.
+    pub fn find<'g>(
+        &'g self,
+        link: usize,
+        activation: &'g Activation,
+        pass: &mut Pass,
+    ) -> (u64, Option<&'g T>)
+        requires book { words_book self.now ≡ pass.old.name }
+        requires within { IsInAt activation.now pass.old link }
+        ensures finds { OnLink (words_book self.now) link (λ link. (found : Finds link activation.now pass.old pass.new result.0)
+            × (is_some result.1 ≡ is_some (held_before found.reads))
+            × IfSome result.1 (λ value. IsFoundAs (held_before found.reads) (T.row.coded.code value.now))) }
+    {
+        let (word, glimpse) = self.read_link(link, activation, pass);
+        if word == 0 {
+            return (word, None);
+        }
+        (word, Some(self.blocks.see(word - 1, glimpse, pass)))
     }
 
     /// Exchanges what a link holds for a value that was never named, or for none, in any case: the event `ExchangeLink`. See `Link::swap`.
