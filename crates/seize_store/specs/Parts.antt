@@ -1,7 +1,7 @@
 -- The words in which the contracts of a store's own parts speak.
 --     room_at o, chunk_at c, piece_at p     where the room o, the chunk c and the chunk's memory p lie
---     room_with o, lies_with c, hull_with h, shell_with s, lent_from l   where the room o, the chunk c, the hull h, the shell s and what the
---                     lender l lends lie, with the chunk's tag
+--     room_with o, lies_with c, hull_with h, shell_with s, lent_from l   where the room o, the chunk c, the hull h, the shell s and what
+--                     the lender l lends lie, with the chunk's tag
 --     room_count r    for how many chunks the memory r is
 --     block_title b   the title of the block b
 --     spot_title s    the title of the spot s;  spot_number s and spot_store s are its number and its store

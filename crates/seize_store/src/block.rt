@@ -164,8 +164,8 @@ impl<H, P: Labelled, T> Hull<H, P, T> {
         ensures { (result.0 ≡ self.value) × (shell_with result.1 ≡ hull_with self) }
     {
         let Hull { at } = self;
-        let value = unsafe { (&raw const (*at).room).read() };
-        (value, Shell { at })
+        let taken = unsafe { (&raw const (*at).room).read() };
+        (taken, Shell { at })
     }
 }
 

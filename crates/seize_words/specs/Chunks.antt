@@ -4,8 +4,8 @@
 --     book_in blocks                    the book whose blocks these are
 --     OpensIn blocks keys links size    a new book, to which many may append, with so many links, which are empty, and its keys;  see Opens
 --     OpensAloneIn blocks pass keys links size     the same of a book to which this pass alone may append
---     LiesIn key block                  the key is that of the values of this block;  LayIn key hollow     of the block whose value was taken
---                                       out of this chunk
+--     LiesIn key block                  the key is that of the values of this block;  LayIn key hollow     of the block whose value was
+--                                       taken out of this chunk
 --     IsBlockAs Is blocks value key block     it is one of these blocks and has the value, and the key is for a value in it of which this
 --                                       is so, by the block's number, and for the content of its chunk; nothing is lent with it
 --     IsBlockIn blocks value key block  and the key's is the next value of the block;  IsBlockAfter last blocks value key block   it is so

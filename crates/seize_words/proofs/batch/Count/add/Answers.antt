@@ -68,5 +68,5 @@ returns-clause-keys c =
           (all_last k key key' values.keys.held keys'.held pass pass' (plus won) v (AddCount (key_of key.keys.held)) (λ v. not (plus won v == 0)) adds.batch [] adds.queue step c.add-old.ensures.0
           (c.part.ensures.0 ∙ c.add-old.ensures.1 ∙ c.join.ensures.0) c.part.ensures.2 c.requires.book.0 (added k won key values.keys.held keys'.held pass pass' v (λ v. not (plus won v == 0)) step adds) u among)),
       ap (λ (t : Name × List (Held Entry)). are_joined t.0.store t.1 []) (λ j. ((c.part.ensures.1 ∙ c.add-old.ensures.1 ∙ c.join.ensures.0 ∙ c.requires.book.0 ∙ sym c.requires.book.2) j, left j))
-      ∙ closed_still values.keys.name.store (plus won v == 0) values.keys.held pass'.seen c.requires.adds.2,
+          ∙ closed_still values.keys.name.store (plus won v == 0) values.keys.held pass'.seen c.requires.adds.2,
     )

@@ -70,5 +70,5 @@ returns-clause-keys c walks_ =
       of_those (λ u. IsLastIn u (after (start pass'.name) pass'.seen)) (values_in key walks.batch) (v == 1) _ all (λ u among. subst (λ (n : Name). IsLastIn u (after (start n) pass'.seen)) (sym c.subtract-old.ensures.0.0)
           (all_last k key key' [] keys'.held pass pass' (minus 1) v (SubCount (key_of held)) (λ v. minus 1 v == 0) walks.batch walks.walk walks.queue step c.subtract-old.ensures.0 name c.part.ensures.2 c.requires.book.0 counting u among)),
       ap (λ (t : Name × List (Held Entry)). are_joined t.0.store t.1 []) (λ j. ((c.part.ensures.1 ∙ c.subtract-old.ensures.1 ∙ c.requires.book.0) j, c.part.ensures.3 j))
-      ∙ all_closed k key keys'.held pass pass' v step walks c.requires.book.0,
+          ∙ all_closed k key keys'.held pass pass' v step walks c.requires.book.0,
     )
