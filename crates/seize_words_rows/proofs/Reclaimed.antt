@@ -2,21 +2,19 @@
 use Rattle.std.proofs.Common.{◌≡◌, ℕ, zero, suc, ◌+◌, ◌-◌, ◌<◌, Bool, true, if◌then◌else◌, List, [], ◌∷◌, ◌++◌, arith, refl, sym, ap, ◌∙◌, subst}
 use Rattle.std.specs.List.{Contains}
 use Rattle.std.specs.Prelude.{slice_index_or}
-use base.Stored.{Gv}
 use Rattle.seize_machine.specs.Machine.Event.{Event, Hand}
 use Rattle.seize_machine.specs.declared.machine.event.Answer.{Answer}
 use Rattle.seize_book.specs.Adding.{private}
-use Rattle.seize_book.specs.Blocks.{block_of}
 use Rattle.seize_book.specs.Book.{after, blocks}
 use Rattle.seize_book.specs.Entry.{Entry}
 use Rattle.seize_book.specs.Ledger.{Held, renewed}
 use Rattle.seize_book.specs.Linked.{next_in}
-use Rattle.seize_book.specs.Notes.{IsStored, IsUnchanged, noted_in}
+use Rattle.seize_book.specs.Notes.{IsStored, IsUnchanged}
 use Rattle.seize_book.specs.Others.{IsLast, IsLastIn, value_of}
 use Rattle.seize_book.specs.Passes.{LooksOn}
 use Rattle.seize_book.specs.Private.{is_one, label_of, own_of}
 use Rattle.seize_book.specs.Slots.{IsOf, Notes, number_of}
-use Rattle.seize_book.specs.Tokens.{IsSole, Name, start}
+use Rattle.seize_book.specs.Tokens.{Name, start}
 use Rattle.seize_book.specs.Values.{Nexts, values_of}
 use Rattle.seize_book.specs.declared.book.pass.Pass.{Pass}
 use Rattle.seize_book.specs.declared.book.slot_key.SlotKey.{SlotKey}
@@ -27,7 +25,7 @@ use Rattle.seize_words.specs.Noted.{IsNoted}
 use Rattle.seize_words.specs.declared.note.Note.{Note}
 use Rattle.seize_words.specs.Walks.{Knows}
 use Rattle.seize_words.proofs.Facts.{knows_noted, knows_still, leads_next, looks_twice}
-use Rattle.seize_words_rows.specs.Reclaiming.{AreReady, IsFirstAt, IsNextAt, Reclaims}
+use Rattle.seize_words_rows.specs.Reclaiming.{AreReady, IsFirstAt, Reclaims}
 use Rattle.seize_words_rows.specs.Stages as stages
 use Rattle.seize_words_rows.specs.Stages.{Goes, IsAt, Leads, Sees, Stage}
 use Rattle.seize_words_rows.proofs.Stages.{looks_on, steps}

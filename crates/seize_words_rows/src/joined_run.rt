@@ -17,6 +17,7 @@ use crate::block_run::{Lent, give_back, lend};
 use seize_words::activation::Activation;
 use seize_words::book::{NumbersKey, Pass, SlotKey, ValueKey};
 use seize_words::link::MaybeKey;
+use seize_words::note::Note;
 use seize_words::slots::NextSlot;
 use seize_words::words::Words;
 use std::alloc::Global;
@@ -159,6 +160,46 @@ pub fn take_out(
     let seen = lent.number + 1;
     let (found, _) = words.exchange_link(1, seen, 0, &mut none, activation, pass);
     (found, none.value())
+}
+
+/// The slot that finds sees what is lent with the value in link 1. While it does, the other slot takes the value out and notes this beside
+/// the block. It gives what is seen then, what is noted, and the value's key.
+pub fn note_beside(
+    words: &Words<u64>,
+    lent: Lent,
+    finder: &Activation,
+    other: &Activation,
+    note: Note,
+    pass: &mut Pass,
+) -> (u64, Note, ValueKey)
+    requires words { HasTwo words.now × HasBegun words.now finder.now pass.old 0 × HasBegun words.now other.now pass.old 1 }
+    requires linked { IsLinked words.now lent pass.old }
+    ensures seen { result.0 ≡ lent.value }
+    ensures noted { result.1 ≡ note }
+    ensures out { IsOut words.now lent result.2 pass.new }
+{
+    let value = see(words, lent, finder, pass);
+    let (_, mut key) = take_out(words, lent, other, pass);
+    words.blocks.set_note(lent.number, note, &mut key, pass);
+    let noted = words.blocks.note(lent.number, &mut key, pass);
+    (*value, noted, key)
+}
+
+// What is lent with the value in link 1, for as long as the activation is borrowed.
+fn see<'g>(
+    words: &'g Words<u64>,
+    _lent: Lent,
+    activation: &'g Activation,
+    pass: &mut Pass,
+) -> &'g u64
+    requires words { HasTwo words.now × HasBegun words.now activation.now pass.old 0 }
+    requires linked { IsLinked words.now _lent pass.old }
+    ensures seen { result.now ≡ _lent.value }
+    ensures begun { Stay words.now pass.old pass.new }
+    ensures linked { IsLinked words.now _lent pass.new }
+{
+    let (word, glimpse) = words.read_link(1, activation, pass);
+    words.blocks.see(word - 1, glimpse, pass)
 }
 
 /// The slot leaves, after those with lower numbers. Nothing waits for it.
