@@ -1,5 +1,6 @@
 pub mod Attempts
 pub mod Events
+pub mod Handed
 pub mod Inserts
 pub mod Keeps
 pub mod Leaving
