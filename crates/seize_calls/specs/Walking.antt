@@ -5,7 +5,7 @@
 --     IsAtWalk key word          the slot's call has nothing to hand, and walks some batches, to which this word leads;  walk_at   these
 --     IsGiven key pass values front     these values were given up to the slot's call, which is to hand them next: their keys know all
 --                                that the pass has seen, and that all others that lay in their blocks were reclaimed. This is the number
---                                of the first one's block
+--                                of the first one's block; each leads on to the next, and the last to none
 --     WalksTo at pass key' pass' values' ends    it counted batches down: all of the walk, and none was given up; or the last was, and it
 --                                has still to walk the others
 --     HandsAll given key' pass' values'     it handed them all, in order, and nothing else was made
@@ -21,7 +21,7 @@ use Rattle.seize_machine.specs.declared.machine.event.Answer.{Answer}
 use Rattle.seize_machine.specs.declared.machine.event.Answer.TheVariants.{Count, Handed}
 use Rattle.seize_book.specs.Adding.{private}
 use Rattle.seize_book.specs.Blocks.{block_of}
-use Rattle.seize_book.specs.Values.{AreLast, AreOfBook, IsEmpty, Keep, values_of}
+use Rattle.seize_book.specs.Values.{AreClosed, AreLast, AreOfBook, IsEmpty, Keep, values_of}
 use Rattle.seize_book.specs.Entry.{Deed}
 use Rattle.seize_book.specs.Passes.{events_by}
 use Rattle.seize_book.specs.Slots.{number_of, own_list, slot_of}
@@ -63,6 +63,7 @@ pub record IsGiven (key : SlotKey) (pass : Pass) (values : ValueKeys) (front : �
   pub book : AreOfBook values pass
   pub keys : Keep values pass values
   pub last : AreLast values pass
+  pub closed : AreClosed values
 
 -- none of them is 0
 abbrev pub AreHeld : List ℤ → Type 0
