@@ -1,5 +1,5 @@
 -- One value goes to its reclaimer, out of its block.
-use Rattle.std.proofs.Common.{◌≡◌, ℕ, true, List, [], ◌∷◌, ◌++◌, get_or, Some, is_some, refl, sym, ap, ◌∙◌, subst, append-nil}
+use Rattle.std.proofs.Common.{◌≡◌, ℕ, true, List, [], ◌∷◌, ◌++◌, get_or, Some, is_some, refl, sym, ap, ◌∙◌, subst, append_assoc, append-nil}
 use Rattle.std.proofs.lemmas.List.{get_or-set_same}
 use Rattle.seize_machine.specs.Machine.State.{Head, Inactive, Rest, Slot, State, has, is_active, no_slot, slot_at}
 use Rattle.seize_machine.specs.Machine.Event.{Event, Hand}
@@ -23,8 +23,8 @@ use Rattle.seize_book.specs.declared.book.pass.Pass.{Pass}
 use Rattle.seize_book.specs.declared.book.slot_key.SlotKey.{SlotKey}
 use Rattle.seize_book.specs.declared.book.value_key.ValueKey.{ValueKey}
 use Rattle.seize_words.proofs.Facts.{events_grew, hand_leaves, handing_named, knows_noted, knows_still, lent_key, named_lent}
-use Rattle.seize_calls.specs.Handing.{HandsOne}
-use Rattle.seize_calls.specs.Walking.{GoesOn}
+use Rattle.seize_calls.specs.Handing.{AreTheirs, Had, HasHad}
+use Rattle.seize_calls.specs.Walking.{GoesOn, HandsOne}
 use Rattle.seize_calls.proofs.Keeps.{keeps_from, keeps_looked, keeps_twice, looked_same, outcome, own_grows, same_private, state_before, step_noted}
 use Rattle.seize_calls.proofs.Marks.{within}
 
@@ -87,3 +87,23 @@ pub soon_lent : (value : ValueKey) (key : SlotKey) (pass pass' : Pass) → is_so
 soon_lent value key pass pass' store its book knows looks soon =
     lent_key value (ap (λ (n : Name). is_some n.store) its ∙ store)
     (named_lent value pass pass' looks its (handing_named key pass' (book ∙ sym looks.same.0) (knows_still key pass pass' knows looks) (value_of value) soon))
+
+-- What was had of some values, and of more.
+
+theirs_append : (a b k l : List ℕ) (x y : Had) → AreTheirs a k x → AreTheirs b l y → AreTheirs (a ++ b) (k ++ l) (x ++ y)
+theirs_append [] b [] l [] y one two = two
+theirs_append [] b [] l (first ∷ x) y one two = absurd one
+theirs_append [] b (kept ∷ k) l x y one two = absurd one
+theirs_append (v ∷ a) b [] l x y one two = absurd one
+theirs_append (v ∷ a) b (kept ∷ k) l [] y one two = absurd one
+theirs_append (v ∷ a) b (kept ∷ k) l (first ∷ x) y one two = (one.0, theirs_append a b k l x y one.1 two)
+
+abbrev pub had_none : (had : Had) → HasHad [] [] had had
+had_none had = record { more = []; theirs = tt; after = sym (append-nil had) }
+
+pub had_more : (a b k l : List ℕ) (had had1 had2 : Had) → HasHad a k had had1 → HasHad b l had1 had2 → HasHad (a ++ b) (k ++ l) had had2
+had_more a b k l had had1 had2 one two = record {
+  more = one.more ++ two.more;
+  theirs = theirs_append a b k l one.more two.more one.theirs two.theirs;
+  after = two.after ∙ (ap (λ (log : Had). log ++ two.more) one.after ∙ append_assoc had one.more two.more);
+}

@@ -1,5 +1,5 @@
 -- The values of a batch go to their reclaimers, one after the other.
-use Rattle.std.proofs.Common.{◌≡◌, ◌≢◌, ℕ, zero, suc, ◌+◌, ◌-◌, ◌<◌, Bool, true, false, List, [], ◌∷◌, ◌++◌, length, Option, Some, None, is_some, refl, sym, ap, ◌∙◌, subst, append_assoc, append-nil, arith}
+use Rattle.std.proofs.Common.{◌≡◌, ◌≢◌, ℕ, zero, suc, ◌+◌, ◌-◌, ◌<◌, Bool, true, false, List, [], ◌∷◌, ◌++◌, map, Option, Some, None, is_some, refl, sym, ap, ◌∙◌, subst, append_assoc, append-nil, arith}
 use Rattle.std.specs.List.{Contains}
 use base.Stored.{Gv}
 use Rattle.seize_machine.specs.Machine.State.{Call, Rest}
@@ -23,30 +23,13 @@ use Rattle.seize_book.specs.declared.book.pass.Pass.{Pass}
 use Rattle.seize_book.specs.declared.book.slot_key.SlotKey.{SlotKey}
 use Rattle.seize_book.specs.declared.book.value_key.ValueKey.{ValueKey}
 use Rattle.seize_book.specs.declared.book.value_keys.ValueKeys.{ValueKeys}
-use Rattle.seize_calls.specs.Handing.{AreTheirs, Had, HandsOne, HasHad}
-use Rattle.seize_calls.specs.Walking.{GoesOn, HandsAll, IsGiven, hands}
+use Rattle.seize_calls.specs.Handing.{Had, HasHad, kept_noted, kepts_of}
+use Rattle.seize_calls.specs.Walking.{GoesOn, HandsAll, HandsOne, IsGiven, hands}
+use Rattle.seize_calls.proofs.Handed.{had_more, had_none}
 use Rattle.seize_calls.proofs.Strolls.{goes_twice, same_hands}
 
 abbrev Keys : Type 0
 Keys = List (Held Entry)
-
--- What was had of some keys, and of more.
-
-theirs_append : (a b : Keys) (x y : Had) → AreTheirs a x → AreTheirs b y → AreTheirs (a ++ b) (x ++ y)
-theirs_append [] b [] y one two = two
-theirs_append [] b (first ∷ x) y one two = absurd one
-theirs_append (h ∷ a) b [] y one two = absurd one
-theirs_append (h ∷ a) b (first ∷ x) y one two = (one.0, theirs_append a b x y one.1 two)
-
-abbrev pub had_none : (had : Had) → HasHad [] had had
-had_none had = record { more = []; theirs = tt; after = sym (append-nil had) }
-
-pub had_more : (a b : Keys) (had had1 had2 : Had) → HasHad a had had1 → HasHad b had1 had2 → HasHad (a ++ b) had had2
-had_more a b had had1 had2 one two = record {
-  more = one.more ++ two.more;
-  theirs = theirs_append a b one.more two.more one.theirs two.theirs;
-  after = two.after ∙ (ap (λ (log : Had). log ++ two.more) one.after ∙ append_assoc had one.more two.more);
-}
 
 -- The events of some, and of more.
 
@@ -58,7 +41,19 @@ labels_append : (a b : Keys) → labels_of (a ++ b) ≡ labels_of a ++ labels_of
 labels_append [] b = refl
 labels_append (h ∷ a) b = ap (λ (vs : List ℕ). h.label ∷ vs) (labels_append a b)
 
+abbrev kepts_in : Keys → List ℕ
+kepts_in held = map (λ h. kept_noted h.note) held
+
+kepts_append : (a b : Keys) → kepts_in (a ++ b) ≡ kepts_in a ++ kepts_in b
+kepts_append [] b = refl
+kepts_append (h ∷ a) b = ap (λ (ks : List ℕ). kept_noted h.note ∷ ks) (kepts_append a b)
+
 -- The first key and the others.
+
+one_kept : (held : Keys) → is_one blocks held ≡ true → kepts_in held ≡ kept_noted (note_of held) ∷ []
+one_kept [] one = absurd (cc)
+one_kept (h ∷ []) one = refl
+one_kept (h ∷ g ∷ held) one = absurd (cc)
 
 one_label : (held : Keys) → is_one blocks held ≡ true → labels_of held ≡ label_of held ∷ []
 one_label [] one = absurd (cc)
@@ -120,7 +115,7 @@ pub record IsHanding {key : SlotKey} {pass : Pass} {values : ValueKeys} {front :
   pub first : ℕ
   pub is_first : first_of (values_of values') ≡ Some first
   pub its_block : number ≡ block_of first
-  pub theirs : HasHad done had had'
+  pub theirs : HasHad (labels_of done) (kepts_in done) had had'
 
 abbrev pub none_handed : (key : SlotKey) (pass : Pass) (values : ValueKeys) (front : ℕ) (given : IsGiven key pass values front) (had : Had) → IsHanding given had key pass values front had
 none_handed key pass values front given had = record {
@@ -168,11 +163,7 @@ module _ (key0 : SlotKey) (pass0 : Pass) (values0 : ValueKeys) (front : ℕ) (gi
     pub is_there : block_of (value_of value) ≡ number
     is_there = ap block_of (some_is _ _ (sym (ap first_of nexts.2) ∙ r.is_first)) ∙ sym r.its_block
 
-    -- there is less to hand
-    pub fewer : length (values_of rest) < length (values_of values)
-    fewer = let many = ap (λ (vs : List ℕ). length vs) nexts.2 in omega (arith, many)
-
-    module _ (store : is_some pass0.name.store ≡ true) (key' : SlotKey) (pass' : Pass) (had' : Had) (hand : HandsOne key pass (value_of value) key' pass') (more : HasHad value.keys.held had had') where
+    module _ (store : is_some pass0.name.store ≡ true) (key' : SlotKey) (pass' : Pass) (had' : Had) (hand : HandsOne key pass (value_of value) key' pass') (more : HasHad (value_of value ∷ []) (kept_noted (noted_in value) ∷ []) had had') where
       leads : leads_first (noted_in value) rest.keys.held ≡ true
       leads =
           leads_on (book_in values).store value.keys.held rest.keys.held (ap (λ (n : Name). is_some n.store) r.book ∙ store) value.one
@@ -193,8 +184,15 @@ module _ (key0 : SlotKey) (pass0 : Pass) (values0 : ValueKeys) (front : ℕ) (gi
           ∙ ap (λ (log : List (Deed × Answer)). events_by pass0 ++ log)
           (sym (hands_append pass0 s (labels_of r.done) one) ∙ ap (hands pass0 s) (ap (λ (vs : List ℕ). labels_of r.done ++ vs) (sym (one_label value.keys.held value.one)) ∙ sym (labels_append r.done value.keys.held)))
 
-      theirs_more : HasHad (r.done ++ value.keys.held) had0 had'
-      theirs_more = had_more r.done value.keys.held had0 had had' r.theirs more
+      theirs_more : HasHad (labels_of (r.done ++ value.keys.held)) (kepts_in (r.done ++ value.keys.held)) had0 had'
+      theirs_more =
+          subst (λ (t : List ℕ × List ℕ). HasHad t.0 t.1 had0 had')
+          (λ i.
+              (
+                (ap (λ (vs : List ℕ). labels_of r.done ++ vs) (sym (one_label value.keys.held value.one)) ∙ sym (labels_append r.done value.keys.held)) i,
+                (ap (λ (ks : List ℕ). kepts_in r.done ++ ks) (sym (one_kept value.keys.held value.one)) ∙ sym (kepts_append r.done value.keys.held)) i,
+              ))
+          (had_more (labels_of r.done) (value_of value ∷ []) (kepts_in r.done) (kept_noted (noted_in value) ∷ []) had0 had had' r.theirs more)
 
       stands_more : (slot_of key').call ≡ Some (record { place = Rest (values_of rest) given.walk; queue = given.queue })
       stands_more = hand.stands (values_of rest) given.walk given.queue here
@@ -236,5 +234,5 @@ module _ (key0 : SlotKey) (pass0 : Pass) (values0 : ValueKeys) (front : ℕ) (gi
           none = (nexts.0 ∙ (r.book ∙ sym goes.0.same.0), empty);
         }
 
-        pub all_had : HasHad values0.keys.held had0 had'
-        all_had = subst (λ (held : Keys). HasHad held had0 had') (sym all_done) theirs_more
+        pub all_had : HasHad (values_of values0) (kepts_of values0) had0 had'
+        all_had = subst (λ (held : Keys). HasHad (labels_of held) (kepts_in held) had0 had') (sym all_done) theirs_more

@@ -149,7 +149,8 @@ pub fn leave<T: Drop, R: Reclaim<T>>(
     requires inside { IsInside key.old }
     requires last { IsLastOf key.old activation }
     ensures knows { Knows key.new pass.new }
-    ensures leaves { Leaves Leave false (private pass.old (SwapOut (number_of key.old))) key.old pass.old key.new pass.new }
+    ensures leaves { let swap = private pass.old (SwapOut (number_of key.old)) in
+        Leaves Leave false swap key.old pass.old key.new pass.new (R.had reclaimer.old) (R.had reclaimer.new) }
 {
     key.begin_leave(pass);
     let word = head.leave(activation, key, pass);
@@ -174,7 +175,7 @@ pub fn refresh<T: Drop, R: Reclaim<T>>(
     ensures knows { Knows key.new pass.new }
     ensures last { IsLastOf key.new activation.new }
     ensures leaves { let swap = beginning pass.old activation.new.life (SwapOut (number_of key.old)) in
-        Leaves Refresh true swap key.old pass.old key.new pass.new }
+        Leaves Refresh true swap key.old pass.old key.new pass.new (R.had reclaimer.old) (R.had reclaimer.new) }
 {
     key.begin_refresh(pass);
     let word = head.refresh(activation, key, pass);

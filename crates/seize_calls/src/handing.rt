@@ -7,8 +7,9 @@ ghost use Rattle.seize_book.specs.Linked.{next_in};
 ghost use Rattle.seize_book.specs.Notes.{noted_in};
 ghost use Rattle.seize_book.specs.Others.{IsLast, IsValueOf, value_of};
 ghost use Rattle.seize_book.specs.Slots.{IsOf, hands_next, slot_of};
-ghost use Rattle.seize_calls.specs.Handing.{HandsOne, HasHad};
-ghost use Rattle.seize_calls.specs.Walking.{HandsAll, IsGiven};
+ghost use Rattle.seize_book.specs.Values.{values_of};
+ghost use Rattle.seize_calls.specs.Handing.{HasHad, kept_noted, kepts_of};
+ghost use Rattle.seize_calls.specs.Walking.{HandsAll, HandsOne, IsGiven};
 ghost use Rattle.seize_words.specs.Chunks.{book_in};
 ghost use Rattle.seize_words.specs.Walks.{Knows};
 
@@ -45,7 +46,7 @@ pub fn hand_one<T: Drop, R: Reclaim<T>>(
     ensures book { IsOf key.new pass.new }
     ensures knows { Knows key.new pass.new }
     ensures handed { HandsOne key.old pass.old (value_of value) key.new pass.new }
-    ensures had { HasHad value.keys.held (R.had reclaimer.old) (R.had reclaimer.new) }
+    ensures had { HasHad (value_of value ∷ []) (kept_noted (noted_in value) ∷ []) (R.had reclaimer.old) (R.had reclaimer.new) }
     ensures next { result ≡ next_in (noted_in value) }
 {
     let mut value = value;
@@ -76,7 +77,7 @@ pub fn hand_all<T: Drop, R: Reclaim<T>>(
     requires given { IsGiven key.old pass.old values.old front }
     ensures knows { Knows key.new pass.new }
     ensures handed { (given : IsGiven key.old pass.old values.old front) → HandsAll given key.new pass.new values.new }
-    ensures had { HasHad values.old.keys.held (R.had reclaimer.old) (R.had reclaimer.new) }
+    ensures had { HasHad (values_of values.old) (kepts_of values.old) (R.had reclaimer.old) (R.had reclaimer.new) }
 {
     let mut number = front;
     loop {

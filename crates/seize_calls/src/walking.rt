@@ -64,7 +64,7 @@ pub fn walk_all<T: Drop, R: Reclaim<T>>(
     requires at { IsAtWalk key.old word }
     ensures book { IsOf key.new pass.new }
     ensures knows { Knows key.new pass.new }
-    ensures walks { (at : IsAtWalk key.old word) → WalksAll at pass.old key.new pass.new }
+    ensures walks { (at : IsAtWalk key.old word) → WalksAll at pass.old key.new pass.new (R.had reclaimer.old) (R.had reclaimer.new) }
 {
     let mut values = ValueKeys::new(pass);
     let mut leads = word;
