@@ -187,11 +187,10 @@ module _ (key0 : SlotKey) (pass0 : Pass) (values0 : ValueKeys) (front : ℕ) (gi
       theirs_more : HasHad (labels_of (r.done ++ value.keys.held)) (kepts_in (r.done ++ value.keys.held)) had0 had'
       theirs_more =
           subst (λ (t : List ℕ × List ℕ). HasHad t.0 t.1 had0 had')
-          (λ i.
-              (
-                (ap (λ (vs : List ℕ). labels_of r.done ++ vs) (sym (one_label value.keys.held value.one)) ∙ sym (labels_append r.done value.keys.held)) i,
-                (ap (λ (ks : List ℕ). kepts_in r.done ++ ks) (sym (one_kept value.keys.held value.one)) ∙ sym (kepts_append r.done value.keys.held)) i,
-              ))
+          (λ i. (
+            (ap (λ (vs : List ℕ). labels_of r.done ++ vs) (sym (one_label value.keys.held value.one)) ∙ sym (labels_append r.done value.keys.held)) i,
+            (ap (λ (ks : List ℕ). kepts_in r.done ++ ks) (sym (one_kept value.keys.held value.one)) ∙ sym (kepts_append r.done value.keys.held)) i,
+          ))
           (had_more (labels_of r.done) (value_of value ∷ []) (kepts_in r.done) (kept_noted (noted_in value) ∷ []) had0 had had' r.theirs more)
 
       stands_more : (slot_of key').call ≡ Some (record { place = Rest (values_of rest) given.walk; queue = given.queue })

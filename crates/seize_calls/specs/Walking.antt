@@ -129,8 +129,8 @@ abbrev pub handed_in : List (ℤ × List ℕ) → List ℕ
 handed_in [] = []
 handed_in (step ∷ walked) = step.1 ++ handed_in walked
 
-pub record WalksAll {key : SlotKey} {word : ℕ} (at : IsAtWalk key word) (pass : Pass) (key' : SlotKey) (pass' : Pass) (had had' : Had) : Type 0
-    where
+pub record WalksAll {key : SlotKey} {word : ℕ} (at : IsAtWalk key word) (pass : Pass) (key' : SlotKey) (pass' : Pass)
+    (had had' : Had) : Type 0 where
   pub goes_on : GoesOn key pass key' pass'
   pub walked : List (ℤ × List ℕ)
   pub kepts : List ℕ

@@ -18,7 +18,7 @@ use seize_words::book::{Pass, SlotKey, ValueKey, ValueKeys};
 
 /// What becomes of values that nobody can see any more. It puts no further ones.
 pub trait Reclaim<T> {
-    // What it had so far: of each value the word that was kept for it, and the value's code, the oldest first.
+    /// What it had so far: of each value the word that was kept of it, and the value's code, the oldest first.
     ghost had: { Self → List (ℕ × Gv) };
 
     /// Ends the value, or hands it on. The word is what was kept of it by whoever retired it.

@@ -4,12 +4,11 @@ use Rattle.seize_calls.proofs.Handings.{IsHanding, all_had, handed_on, handed_ov
 use Rattle.seize_calls.proofs.handing.hand_all.Goals as goal
 
 pub loop-front-init : goal.loop-front-init
-loop-front-init g c =
-    (
-      λ given. none_handed c.args.key.now c.args.pass.now c.args.values.now c.args.front given (g.R.Reclaim.had c.args.reclaimer.now),
-      c.requires.book.0,
-      c.requires.knows,
-    )
+loop-front-init g c = (
+  λ given. none_handed c.args.key.now c.args.pass.now c.args.values.now c.args.front given (g.R.Reclaim.had c.args.reclaimer.now),
+  c.requires.book.0,
+  c.requires.knows,
+)
 
 pub next-value-requires : goal.next-value-requires
 next-value-requires g c =
