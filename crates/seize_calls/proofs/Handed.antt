@@ -1,7 +1,7 @@
 -- One value goes to its reclaimer, out of its block.
 use Rattle.std.proofs.Common.{◌≡◌, ℕ, true, List, [], ◌∷◌, ◌++◌, get_or, Some, is_some, refl, sym, ap, ◌∙◌, subst, append_assoc, append-nil}
 use Rattle.std.proofs.lemmas.List.{get_or-set_same}
-use Rattle.seize_machine.specs.Machine.State.{Head, Inactive, Rest, Slot, State, has, is_active, no_slot, slot_at}
+use Rattle.seize_machine.specs.Machine.State.{Head, Inactive, Rest, Slot, State, is_active, no_slot, slot_at}
 use Rattle.seize_machine.specs.Machine.Event.{Event, Hand}
 use Rattle.seize_machine.specs.Machine.Next.{handing_at, of_call}
 use Rattle.seize_machine.specs.declared.machine.event.Answer.{Answer}

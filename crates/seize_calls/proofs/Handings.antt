@@ -1,8 +1,8 @@
 -- The values of a batch go to their reclaimers, one after the other.
-use Rattle.std.proofs.Common.{◌≡◌, ◌≢◌, ℕ, zero, suc, ◌+◌, ◌-◌, ◌<◌, Bool, true, false, List, [], ◌∷◌, ◌++◌, map, Option, Some, None, is_some, refl, sym, ap, ◌∙◌, subst, append_assoc, append-nil, arith}
+use Rattle.std.proofs.Common.{◌≡◌, ◌≢◌, ℕ, zero, suc, ◌-◌, true, List, [], ◌∷◌, ◌++◌, map, Option, Some, None, is_some, refl, sym, ap, ◌∙◌, subst, append_assoc, append-nil, arith}
 use Rattle.std.specs.List.{Contains}
 use base.Stored.{Gv}
-use Rattle.seize_machine.specs.Machine.State.{Call, Rest}
+use Rattle.seize_machine.specs.Machine.State.{Rest}
 use Rattle.seize_machine.specs.Machine.History.{first_of}
 use Rattle.seize_machine.specs.Machine.Next.{handing_at, of_call}
 use Rattle.seize_machine.specs.declared.machine.event.Answer.{Answer}
@@ -16,7 +16,7 @@ use Rattle.seize_book.specs.Notes.{noted_in}
 use Rattle.seize_book.specs.Others.{IsLast, IsLastIn, IsValueOf, value_of}
 use Rattle.seize_book.specs.Passes.{events_by}
 use Rattle.seize_book.specs.Private.{is_one, label_of, labels_of, note_of, own_of}
-use Rattle.seize_book.specs.Slots.{IsOf, hands_next, number_of, own_list, slot_of}
+use Rattle.seize_book.specs.Slots.{hands_next, number_of, own_list, slot_of}
 use Rattle.seize_book.specs.Tokens.{Name, start}
 use Rattle.seize_book.specs.Values.{AreClosed, AreLast, Nexts, book_in, values_of}
 use Rattle.seize_book.specs.declared.book.pass.Pass.{Pass}

@@ -5,7 +5,7 @@
 --     HasHad values kepts had had'     these values were had, in order, beside what was had before: each with the word that was kept of it,
 --                               and with a code that is lent with it
 use Rattle.std.specs.Prelude.{◌≡◌, ℕ, map, List, [], ◌∷◌, ◌++◌}
-use base.Stored.{Gv, gnil, gnum, gcons}
+use base.Stored.{Gv, gnum, gcons}
 use Rattle.seize_words.specs.Chunks.{IsLentAs}
 use Rattle.seize_book.specs.declared.book.value_keys.ValueKeys.{ValueKeys}
 
