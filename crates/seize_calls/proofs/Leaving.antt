@@ -20,6 +20,7 @@ use Rattle.seize_book.specs.declared.book.pass.Pass.{Pass}
 use Rattle.seize_book.specs.declared.book.slot_key.SlotKey.{SlotKey}
 use Rattle.seize_words.specs.declared.reservation.Head.{Head as Word}
 use Rattle.seize_calls.specs.Calls.{Begins, Leaves, done}
+use Rattle.seize_calls.specs.Handing.{Had}
 use Rattle.seize_calls.specs.Walking.{IsAtWalk, WalksAll, steps}
 use Rattle.seize_calls.proofs.Events.{call_returned, keeps_returned, made_returned, same_done}
 use Rattle.seize_calls.proofs.Marks.{within}
@@ -100,14 +101,14 @@ module _ (key one two : SlotKey) (pass pass1 pass2 : Pass) (job : Job) (stays : 
       ∙ ap (λ (a : Answer). (events_by pass ++ done pass (Begin s job)) ++ (beginning pass1 life (SwapOut (number_of one)), a) ∷ []) so.3
       ∙ ap (λ (x : Deed). (events_by pass ++ done pass (Begin s job)) ++ (x, Done) ∷ []) (same_beginning pass pass1 begins.keeps.same life (SwapOut (number_of one)) ∙ ap (λ (k : ℕ). beginning pass life (SwapOut k)) begins.keeps.its.1)
 
-  module _ (three : SlotKey) (pass3 : Pass) (all : WalksAll at_walk pass2 three pass3) (key' : SlotKey) (pass' : Pass) (last : Notes three pass3 key' pass' (Return (number_of three))) where
+  module _ (three : SlotKey) (pass3 : Pass) (had had' : Had) (all : WalksAll at_walk pass2 three pass3 had had') (key' : SlotKey) (pass' : Pass) (last : Notes three pass3 key' pass' (Return (number_of three))) where
     same_three : IsSame pass pass3
     same_three = (all.goes_on.0.same.0 ∙ same_two.0, all.goes_on.0.same.1 ∙ same_two.1)
 
     its_three : (three.keys.name ≡ key.keys.name) × (number_of three ≡ s)
     its_three = (all.goes_on.0.its.0 ∙ its_two.0, all.goes_on.0.its.1 ∙ its_two.1)
 
-    pub has_left : Leaves job stays swap key pass key' pass'
+    pub has_left : Leaves job stays swap key pass key' pass' had had'
     has_left =
         let keeps = keeps_returned three key' pass3 pass' last in
         record {
@@ -118,6 +119,8 @@ module _ (key one two : SlotKey) (pass pass1 pass2 : Pass) (job : Job) (stays : 
           used = keeps.used ∙ all.goes_on.0.used ∙ ap (λ (z : Slot). z.used) notes.2.1.is ∙ so.1 ∙ ap (λ (z : Slot). z.used) notes.2.1.was ∙ begins.keeps.used;
           active = keeps.active ∙ all.goes_on.0.active ∙ notes.2.1.is_now_active ∙ so.2;
           walked = all.walked;
+          kepts = all.kepts;
+          has_had = all.has_had;
           made = made_returned three key' pass3 pass' last ∙ ap (λ (log : List (Deed × Answer)). log ++ done pass3 (Return (number_of three))) (all.made ∙ ap (λ (log : List (Deed × Answer)). log ++ steps pass2 (number_of two) all.walked) made_two)
               ∙ ap (λ (log : List (Deed × Answer)). (((events_by pass ++ done pass (Begin s job)) ++ (swap, Done) ∷ []) ++ log) ++ done pass3 (Return (number_of three)))
               (same_steps pass pass2 same_two (number_of two) all.walked ∙ ap (λ (k : ℕ). steps pass k all.walked) its_two.1)

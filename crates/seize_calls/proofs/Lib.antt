@@ -1,5 +1,7 @@
 pub mod Attempts
 pub mod Events
+pub mod Handed
+pub mod Handings
 pub mod Inserts
 pub mod Keeps
 pub mod Leaving

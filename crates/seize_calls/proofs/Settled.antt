@@ -144,6 +144,7 @@ module _ (key : SlotKey) (pass : Pass) (values : ValueKeys) (m : Marking key) wh
             book = r.keys.0;
             keys = (refl, refl, kept_keys ∙ renewed_twice values.keys.held pass1.seen ∙ ap (λ (hs : List (Held Logged)). renewed hs pass1.seen) (sym kept_keys));
             last = r.keys.2;
+            closed = r.keys.3;
           }
 
       module _ (key2 : SlotKey) (pass2 : Pass) (values2 : ValueKeys) (handed : HandsAll given_now key2 pass2 values2) where

@@ -18,8 +18,10 @@ use Rattle.seize_book.specs.declared.book.pass.Pass.{Pass}
 use Rattle.seize_book.specs.declared.book.slot_key.SlotKey.{SlotKey}
 use Rattle.seize_book.specs.declared.book.value_keys.ValueKeys.{ValueKeys}
 use Rattle.seize_words.proofs.Facts.{word_stays}
-use Rattle.seize_calls.specs.Walking.{Ends, GoesOn, HandsAll, IsAtWalk, IsGiven, Stops, WalksAll, WalksTo, counting, countings, hands, steps}
+use Rattle.seize_calls.specs.Handing.{Had, HasHad, kepts_of}
+use Rattle.seize_calls.specs.Walking.{Ends, GoesOn, HandsAll, IsAtWalk, IsGiven, Stops, WalksAll, WalksTo, counting, countings, handed_in, hands, steps}
 use Rattle.seize_calls.specs.declared.walking.Walked.TheVariants.{GivesUp, Over}
+use Rattle.seize_calls.proofs.Handed.{had_more, had_none}
 use Rattle.seize_calls.proofs.Keeps.{keeps_twice, same_private}
 
 pub goes_twice : (key one two : SlotKey) (pass pass1 pass2 : Pass) → GoesOn key pass one pass1 → GoesOn one pass1 two pass2 → GoesOn key pass two pass2
@@ -70,26 +72,48 @@ last_step : (pass : Pass) (s : ℕ) (counts : List ℤ) (zero : ℤ) (values : L
 last_step pass s [] zero values = ap (λ (log : List (Deed × Answer)). counting pass s zero ∷ log) (sym (append-nil (hands pass s values)))
 last_step pass s (count ∷ counts) zero values = ap (λ (log : List (Deed × Answer)). counting pass s count ∷ log) (last_step pass s counts zero values)
 
+handed_append : (one two : List (ℤ × List ℕ)) → handed_in (one ++ two) ≡ handed_in one ++ handed_in two
+handed_append [] two = refl
+handed_append (step ∷ one) two = ap (λ (vs : List ℕ). step.1 ++ vs) (handed_append one two) ∙ sym (append_assoc step.1 (handed_in one) (handed_in two))
+
+plain_handed : (counts : List ℤ) → handed_in (plain counts) ≡ []
+plain_handed [] = refl
+plain_handed (count ∷ counts) = plain_handed counts
+
+-- of counts none is handed
+handed_plain : (walked : List (ℤ × List ℕ)) (counts : List ℤ) → handed_in walked ≡ handed_in (walked ++ plain counts)
+handed_plain walked counts = sym (handed_append walked (plain counts) ∙ ap (λ (vs : List ℕ). handed_in walked ++ vs) (plain_handed counts) ∙ append-nil (handed_in walked))
+
+-- and of the last one these values
+handed_last : (walked : List (ℤ × List ℕ)) (counts : List ℤ) (zero : ℤ) (values : List ℕ) → handed_in walked ++ values ≡ handed_in (walked ++ (plain counts ++ (zero, values) ∷ []))
+handed_last walked counts zero values =
+    sym (handed_append walked (plain counts ++ (zero, values) ∷ []) ∙ ap (λ (vs : List ℕ). handed_in walked ++ vs)
+    (handed_append (plain counts) ((zero, values) ∷ []) ∙ ap (λ (vs : List ℕ). vs ++ (values ++ [])) (plain_handed counts) ∙ append-nil values))
+
 -- some of the walk is behind
-pub record IsStrolling {key : SlotKey} {word : ℕ} (at : IsAtWalk key word) (pass : Pass) (key' : SlotKey) (pass' : Pass) (leads' : ℕ) : Type 0 where
+pub record IsStrolling {key : SlotKey} {word : ℕ} (at : IsAtWalk key word) (pass : Pass) (key' : SlotKey) (pass' : Pass) (leads' : ℕ) (had had' : Had) : Type 0 where
   pub goes_on : GoesOn key pass key' pass'
   pub walked : List (ℤ × List ℕ)
+  pub kepts : List ℕ
+  pub has_had : HasHad (handed_in walked) kepts had had'
   pub made : events_by pass' ≡ events_by pass ++ steps pass (number_of key) walked
   pub here : IsAtWalk key' leads'
   pub each : length walked + length here.walk ≡ length at.walk
   pub same_queue : here.queue ≡ at.queue
 
-abbrev pub none_strolled : (key : SlotKey) (word : ℕ) (at : IsAtWalk key word) (pass : Pass) → IsStrolling at pass key pass word
-none_strolled key word at pass = record {
+abbrev pub none_strolled : (key : SlotKey) (word : ℕ) (at : IsAtWalk key word) (pass : Pass) (had : Had) → IsStrolling at pass key pass word had had
+none_strolled key word at pass had = record {
   goes_on = (record { same = (refl, refl); its = (refl, refl); batch = refl; used = refl; active = refl; life = refl; seen = omega arith }, ([], append-nil (own_list key)));
   walked = [];
+  kepts = [];
+  has_had = had_none had;
   made = sym (append-nil (events_by pass));
   here = at;
   each = omega arith;
   same_queue = refl;
 }
 
-module _ (key0 : SlotKey) (word : ℕ) (at : IsAtWalk key0 word) (pass0 : Pass) (key : SlotKey) (pass : Pass) (leads : ℕ) (r : IsStrolling at pass0 key pass leads) (key1 : SlotKey) (pass1 : Pass) (values : ValueKeys) where
+module _ (key0 : SlotKey) (word : ℕ) (at : IsAtWalk key0 word) (pass0 : Pass) (key : SlotKey) (pass : Pass) (leads : ℕ) (had0 had : Had) (r : IsStrolling at pass0 key pass leads had0 had) (key1 : SlotKey) (pass1 : Pass) (values : ValueKeys) where
   abbrev s : ℕ
   s = number_of key0
 
@@ -100,12 +124,14 @@ module _ (key0 : SlotKey) (word : ℕ) (at : IsAtWalk key0 word) (pass0 : Pass) 
   goes counts same its = same_countings pass0 pass same (number_of key) counts ∙ ap (λ (k : ℕ). countings pass0 k counts) its
 
   -- the walk is over
-  pub strolled : WalksTo r.here pass key1 pass1 values Over → WalksAll at pass0 key1 pass1
+  pub strolled : WalksTo r.here pass key1 pass1 values Over → WalksAll at pass0 key1 pass1 had0 had
   strolled w =
       let ends : Ends r.here w.held pass key1 pass1 values = w.ends_so in
       record {
         goes_on = goes_twice key0 key key1 pass0 pass pass1 r.goes_on w.goes_on;
         walked = r.walked ++ plain w.held;
+        kepts = r.kepts;
+        has_had = subst (λ (vs : List ℕ). HasHad vs r.kepts had0 had) (handed_plain r.walked w.held) r.has_had;
         each = length-append r.walked (plain w.held) ∙ ap (λ (n : ℕ). length r.walked + n) (plain_many w.held ∙ ends.each) ∙ r.each;
         made = ends.made ∙ ap (λ (log : List (Deed × Answer)). log ++ countings pass (number_of key) w.held) r.made
             ∙ append_assoc (events_by pass0) behind (countings pass (number_of key) w.held)
@@ -122,13 +148,16 @@ module _ (key0 : SlotKey) (word : ℕ) (at : IsAtWalk key0 word) (pass0 : Pass) 
     abbrev pub given_now : IsGiven key1 pass1 values front
     given_now = stop.gives
 
-    module _ (key2 : SlotKey) (pass2 : Pass) (values2 : ValueKeys) (handed : HandsAll given_now key2 pass2 values2) where
-      pub handed_on : IsStrolling at pass0 key2 pass2 rest
+    module _ (key2 : SlotKey) (pass2 : Pass) (values2 : ValueKeys) (had2 : Had) (handed : HandsAll given_now key2 pass2 values2) (more : HasHad (values_of values) (kepts_of values) had had2) where
+      pub handed_on : IsStrolling at pass0 key2 pass2 rest had0 had2
       handed_on =
           let one = goes_twice key0 key key1 pass0 pass pass1 r.goes_on w.goes_on in let vs = values_of values in
           record {
             goes_on = goes_twice key0 key1 key2 pass0 pass1 pass2 one handed.goes_on;
             walked = r.walked ++ (plain w.held ++ (stop.zero, vs) ∷ []);
+            kepts = r.kepts ++ kepts_of values;
+            has_had = subst (λ (us : List ℕ). HasHad us (r.kepts ++ kepts_of values) had0 had2) (handed_last r.walked w.held stop.zero vs)
+                (had_more (handed_in r.walked) vs r.kepts (kepts_of values) had0 had had2 r.has_had more);
             made = handed.made
                 ∙ ap (λ (log : List (Deed × Answer)). log ++ hands pass1 (number_of key1) vs) (stop.made ∙ ap (λ (log : List (Deed × Answer)). log ++ countings pass (number_of key) (w.held ++ stop.zero ∷ [])) r.made
                 ∙ ap (λ (log : List (Deed × Answer)). (events_by pass0 ++ behind) ++ log) (goes (w.held ++ stop.zero ∷ []) r.goes_on.0.same r.goes_on.0.its.1))

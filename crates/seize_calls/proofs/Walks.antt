@@ -191,6 +191,7 @@ module _ (key0 : SlotKey) (word : ℕ) (at : IsAtWalk key0 word) (pass0 : Pass) 
               book = down.takes.0;
               keys = (refl, refl, down.takes.1);
               last = down.takes.3;
+              closed = down.takes.4;
             };
             leads = down.leads;
             done = r.done ++ batch.batch ∷ [];

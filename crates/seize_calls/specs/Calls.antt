@@ -11,9 +11,9 @@
 --                        read
 --     RetiresOne key pass v values key' pass' values' retired     a retirement: it began, v was put, and then it settled. Where the batch
 --                        wasn't full no head was read
---     Leaves job stays swap key pass key' pass'     a leave or a refresh: it began, the head was swapped out by this entry, each batch
---                        that came out was counted down once, what was given up was handed before the next, and it returned. The slot is
---                        active afterwards or not
+--     Leaves job stays swap key pass key' pass' had had'     a leave or a refresh: it began, the head was swapped out by this entry, each
+--                        batch that came out was counted down once, what was given up was handed before the next, and it returned. The
+--                        slot is active afterwards or not. The reclaimer had what was handed (HasHad)
 use Rattle.std.specs.Prelude.{◌≡◌, ℕ, ℤ, Bool, true, false, if◌then◌else◌, List, [], ◌∷◌, ◌++◌, length, None}
 use Rattle.seize_machine.specs.Machine.Event.{AddCount, Begin, Detach, Event, Put, Return}
 use Rattle.seize_machine.specs.Machine.Next.{is_zero}
@@ -31,9 +31,10 @@ use Rattle.seize_book.specs.Values.{IsEmpty, book_in, values_of}
 use Rattle.seize_book.specs.declared.book.pass.Pass.{Pass}
 use Rattle.seize_book.specs.declared.book.slot_key.SlotKey.{SlotKey}
 use Rattle.seize_book.specs.declared.book.value_keys.ValueKeys.{ValueKeys}
+use Rattle.seize_calls.specs.Handing.{Had, HasHad}
 use Rattle.seize_calls.specs.Inserts.{Keeps, Turn, turns_at}
 use Rattle.seize_calls.specs.Marks.{BeginsToMark, actives, readings}
-use Rattle.seize_calls.specs.Walking.{hands, steps}
+use Rattle.seize_calls.specs.Walking.{handed_in, hands, steps}
 
 abbrev pub IsInside : SlotKey → Type 0
 IsInside key = (is_idle (slot_of key) ≡ true) × (active_of key ≡ true)
@@ -111,7 +112,8 @@ pub record RetiresOne (key : SlotKey) (pass : Pass) (v : ℕ) (values : ValueKey
   pub book : book_in pushed ≡ book_in values
   pub settles : Settles full later pushed key' pass' values' retired
 
-pub record Leaves (job : Job) (stays : Bool) (swap : Deed) (key : SlotKey) (pass : Pass) (key' : SlotKey) (pass' : Pass) : Type 0 where
+pub record Leaves (job : Job) (stays : Bool) (swap : Deed) (key : SlotKey) (pass : Pass) (key' : SlotKey) (pass' : Pass)
+    (had had' : Had) : Type 0 where
   pub same : IsSame pass pass'
   pub its : (slot_book key' ≡ slot_book key) × (number_of key' ≡ number_of key)
   pub call : (slot_of key').call ≡ None
@@ -119,5 +121,7 @@ pub record Leaves (job : Job) (stays : Bool) (swap : Deed) (key : SlotKey) (pass
   pub used : (slot_of key').used ≡ (slot_of key).used
   pub active : active_of key' ≡ stays
   pub walked : List (ℤ × List ℕ)
+  pub kepts : List ℕ
+  pub has_had : HasHad (handed_in walked) kepts had had'
   pub made : let s = number_of key in
       events_by pass' ≡ (((events_by pass ++ done pass (Begin s job)) ++ (swap, Done) ∷ []) ++ steps pass s walked) ++ done pass (Return s)

@@ -5,12 +5,15 @@
 --     IsAtWalk key word          the slot's call has nothing to hand, and walks some batches, to which this word leads;  walk_at   these
 --     IsGiven key pass values front     these values were given up to the slot's call, which is to hand them next: their keys know all
 --                                that the pass has seen, and that all others that lay in their blocks were reclaimed. This is the number
---                                of the first one's block
+--                                of the first one's block; each leads on to the next, and the last to none
 --     WalksTo at pass key' pass' values' ends    it counted batches down: all of the walk, and none was given up; or the last was, and it
 --                                has still to walk the others
+--     HandsOne key pass v key' pass'     it handed this value, and nothing else was made; it has still to hand what came after it
 --     HandsAll given key' pass' values'     it handed them all, in order, and nothing else was made
 --     steps pass s walked        it counted batches down, which came to these counts, and after each it handed these values
---     WalksAll at pass key' pass'     it counted down each batch of the walk once, in order, and after each it handed what was given up
+--     handed_in walked           the values that it handed
+--     WalksAll at pass key' pass' had had'     it counted down each batch of the walk once, in order, and after each it handed what was
+--                                given up, which the reclaimer had (HasHad)
 use Rattle.std.specs.Prelude.{◌≡◌, ℕ, ℤ, true, false, List, [], ◌∷◌, ◌++◌, length, Some}
 use mathlib.Core.List.{IsPrefix}
 use Rattle.seize_machine.specs.Machine.Event.{Hand, SubCount}
@@ -21,7 +24,7 @@ use Rattle.seize_machine.specs.declared.machine.event.Answer.{Answer}
 use Rattle.seize_machine.specs.declared.machine.event.Answer.TheVariants.{Count, Handed}
 use Rattle.seize_book.specs.Adding.{private}
 use Rattle.seize_book.specs.Blocks.{block_of}
-use Rattle.seize_book.specs.Values.{AreLast, AreOfBook, IsEmpty, Keep, values_of}
+use Rattle.seize_book.specs.Values.{AreClosed, AreLast, AreOfBook, IsEmpty, Keep, values_of}
 use Rattle.seize_book.specs.Entry.{Deed}
 use Rattle.seize_book.specs.Passes.{events_by}
 use Rattle.seize_book.specs.Slots.{number_of, own_list, slot_of}
@@ -29,6 +32,7 @@ use Rattle.seize_words.specs.Walks.{word_for}
 use Rattle.seize_book.specs.declared.book.pass.Pass.{Pass}
 use Rattle.seize_book.specs.declared.book.slot_key.SlotKey.{SlotKey}
 use Rattle.seize_book.specs.declared.book.value_keys.ValueKeys.{ValueKeys}
+use Rattle.seize_calls.specs.Handing.{Had, HasHad}
 use Rattle.seize_calls.specs.Inserts.{Keeps}
 use Rattle.seize_calls.specs.declared.walking.Walked.{Walked}
 use Rattle.seize_calls.specs.declared.walking.Walked.TheVariants.{GivesUp, Over}
@@ -63,6 +67,7 @@ pub record IsGiven (key : SlotKey) (pass : Pass) (values : ValueKeys) (front : �
   pub book : AreOfBook values pass
   pub keys : Keep values pass values
   pub last : AreLast values pass
+  pub closed : AreClosed values
 
 -- none of them is 0
 abbrev pub AreHeld : List ℤ → Type 0
@@ -103,6 +108,12 @@ pub record WalksTo {key : SlotKey} {word : ℕ} (at : IsAtWalk key word) (pass :
 
 -- Values are handed.
 
+pub record HandsOne (key : SlotKey) (pass : Pass) (v : ℕ) (key' : SlotKey) (pass' : Pass) : Type 0 where
+  pub goes_on : GoesOn key pass key' pass'
+  pub made : events_by pass' ≡ events_by pass ++ hands pass (number_of key) (v ∷ [])
+  pub stands : (given walk queue : List ℕ) → (slot_of key).call ≡ Some (record { place = Rest (v ∷ given) walk; queue = queue })
+      → (slot_of key').call ≡ Some (record { place = Rest given walk; queue = queue })
+
 pub record HandsAll {key : SlotKey} {pass : Pass} {values : ValueKeys} {front : ℕ} (given : IsGiven key pass values front) (key' : SlotKey)
     (pass' : Pass) (values' : ValueKeys) : Type 0 where
   pub goes_on : GoesOn key pass key' pass'
@@ -114,9 +125,16 @@ abbrev pub steps : Pass → ℕ → List (ℤ × List ℕ) → List (Deed × Ans
 steps pass s [] = []
 steps pass s (step ∷ walked) = (counting pass s step.0 ∷ hands pass s step.1) ++ steps pass s walked
 
-pub record WalksAll {key : SlotKey} {word : ℕ} (at : IsAtWalk key word) (pass : Pass) (key' : SlotKey) (pass' : Pass) : Type 0 where
+abbrev pub handed_in : List (ℤ × List ℕ) → List ℕ
+handed_in [] = []
+handed_in (step ∷ walked) = step.1 ++ handed_in walked
+
+pub record WalksAll {key : SlotKey} {word : ℕ} (at : IsAtWalk key word) (pass : Pass) (key' : SlotKey) (pass' : Pass)
+    (had had' : Had) : Type 0 where
   pub goes_on : GoesOn key pass key' pass'
   pub walked : List (ℤ × List ℕ)
+  pub kepts : List ℕ
+  pub has_had : HasHad (handed_in walked) kepts had had'
   pub each : length walked ≡ length at.walk
   pub made : events_by pass' ≡ events_by pass ++ steps pass (number_of key) walked
   pub over : (slot_of key').call ≡ Some (record { place = Rest [] []; queue = at.queue })

@@ -17,7 +17,7 @@ ghost use Rattle.seize_words.specs.Walks.{Knows};
 
 use crate::attempt::{Attempted, attempt};
 use crate::entry::Entry;
-use crate::handing::Hands;
+use crate::handing::{Reclaim, hand_all};
 use crate::walking::walk_all;
 use seize_words::activation::Activation;
 use seize_words::blocks::Blocks;
@@ -28,13 +28,13 @@ use std::sync::Wait;
 
 // Attempts the batch, hands its values if they are given up, and returns. It says whether the batch was retired: if it was, no keys are
 // left, and the entries are of no batch.
-fn settle<T: Drop, H: Hands>(
+fn settle<T: Drop, R: Reclaim<T>>(
     slots: &Slots,
     blocks: &Blocks<T>,
     entries: &mut [Entry],
     key: &mut SlotKey,
     values: &mut ValueKeys,
-    hands: &mut H,
+    reclaimer: &mut R,
     pass: &mut Pass,
     rt: &impl Wait,
 ) -> bool
@@ -57,7 +57,7 @@ fn settle<T: Drop, H: Hands>(
             true
         }
         Attempted::GivenUp => {
-            hands.hand_all(entries[0].block, values, key, pass);
+            hand_all(blocks, entries[0].block, values, reclaimer, key, pass);
             key.finish(pass);
             true
         }
@@ -69,13 +69,13 @@ fn settle<T: Drop, H: Hands>(
 ///
 /// It takes no memory, but for what the handing does. An insertion is tried again as often as others change the head between a look at it
 /// and the try.
-pub fn flush<T: Drop, H: Hands>(
+pub fn flush<T: Drop, R: Reclaim<T>>(
     slots: &Slots,
     blocks: &Blocks<T>,
     entries: &mut [Entry],
     key: &mut SlotKey,
     values: &mut ValueKeys,
-    hands: &mut H,
+    reclaimer: &mut R,
     pass: &mut Pass,
     rt: &impl Wait,
 ) -> bool
@@ -92,7 +92,7 @@ pub fn flush<T: Drop, H: Hands>(
         key.finish(pass);
         return false;
     }
-    settle(slots, blocks, entries, key, values, hands, pass, rt)
+    settle(slots, blocks, entries, key, values, reclaimer, pass, rt)
 }
 
 /// Retires the value of this key: it joins the slot's batch, of which these are the entries then, with its own as the last. Where the
@@ -101,7 +101,7 @@ pub fn flush<T: Drop, H: Hands>(
 ///
 /// It takes no memory, but for what the handing does. An insertion is tried again as often as others change the head between a look at it
 /// and the try.
-pub fn retire<T: Drop, H: Hands>(
+pub fn retire<T: Drop, R: Reclaim<T>>(
     slots: &Slots,
     blocks: &Blocks<T>,
     entries: &mut [Entry],
@@ -109,7 +109,7 @@ pub fn retire<T: Drop, H: Hands>(
     value: ValueKey,
     key: &mut SlotKey,
     values: &mut ValueKeys,
-    hands: &mut H,
+    reclaimer: &mut R,
     pass: &mut Pass,
     rt: &impl Wait,
 ) -> bool
@@ -131,41 +131,42 @@ pub fn retire<T: Drop, H: Hands>(
         key.finish(pass);
         return false;
     }
-    settle(slots, blocks, entries, key, values, hands, pass, rt)
+    settle(slots, blocks, entries, key, values, reclaimer, pass, rt)
 }
 
 /// The slot leaves, by its own head. It counts down what waited for it, and hands what is given up.
 ///
 /// It takes no memory and waits for nobody, but for what the handing does.
-pub fn leave<T: Drop, H: Hands>(
+pub fn leave<T: Drop, R: Reclaim<T>>(
     head: &Head,
     blocks: &Blocks<T>,
     activation: Activation,
     key: &mut SlotKey,
-    hands: &mut H,
+    reclaimer: &mut R,
     pass: &mut Pass,
 )
     requires book { IsOf key.old pass.old × IsOfBook head.now pass.old × IsOwn head.now key.old × (book_in blocks.now ≡ pass.old.name) }
     requires inside { IsInside key.old }
     requires last { IsLastOf key.old activation }
     ensures knows { Knows key.new pass.new }
-    ensures leaves { Leaves Leave false (private pass.old (SwapOut (number_of key.old))) key.old pass.old key.new pass.new }
+    ensures leaves { let swap = private pass.old (SwapOut (number_of key.old)) in
+        Leaves Leave false swap key.old pass.old key.new pass.new (R.had reclaimer.old) (R.had reclaimer.new) }
 {
     key.begin_leave(pass);
     let word = head.leave(activation, key, pass);
-    walk_all(blocks, word, key, hands, pass);
+    walk_all(blocks, word, key, reclaimer, pass);
     key.finish(pass);
 }
 
 /// The slot refreshes, by its own head, and stays active. It counts down what waited for it, and hands what is given up.
 ///
 /// It takes no memory and waits for nobody, but for what the handing does.
-pub fn refresh<T: Drop, H: Hands>(
+pub fn refresh<T: Drop, R: Reclaim<T>>(
     head: &Head,
     blocks: &Blocks<T>,
     activation: &mut Activation,
     key: &mut SlotKey,
-    hands: &mut H,
+    reclaimer: &mut R,
     pass: &mut Pass,
 )
     requires book { IsOf key.old pass.old × IsOfBook head.now pass.old × IsOwn head.now key.old × (book_in blocks.now ≡ pass.old.name) }
@@ -174,10 +175,10 @@ pub fn refresh<T: Drop, H: Hands>(
     ensures knows { Knows key.new pass.new }
     ensures last { IsLastOf key.new activation.new }
     ensures leaves { let swap = beginning pass.old activation.new.life (SwapOut (number_of key.old)) in
-        Leaves Refresh true swap key.old pass.old key.new pass.new }
+        Leaves Refresh true swap key.old pass.old key.new pass.new (R.had reclaimer.old) (R.had reclaimer.new) }
 {
     key.begin_refresh(pass);
     let word = head.refresh(activation, key, pass);
-    walk_all(blocks, word, key, hands, pass);
+    walk_all(blocks, word, key, reclaimer, pass);
     key.finish(pass);
 }

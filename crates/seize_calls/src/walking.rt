@@ -7,7 +7,7 @@ ghost use Rattle.seize_book.specs.Slots.{IsOf};
 ghost use Rattle.seize_book.specs.Values.{IsEmpty};
 ghost use Rattle.seize_words.specs.Walks.{Knows};
 
-use crate::handing::Hands;
+use crate::handing::{Reclaim, hand_all};
 use seize_words::blocks::Blocks;
 use seize_words::book::{Pass, SlotKey, ValueKeys};
 
@@ -52,11 +52,11 @@ pub fn walk<T: Drop>(
 /// Counts down all the batches to which this word leads. What one of them gives up is handed before the walk goes on.
 ///
 /// It takes no memory and waits for nobody, but for what the handing does.
-pub fn walk_all<T: Drop, H: Hands>(
+pub fn walk_all<T: Drop, R: Reclaim<T>>(
     blocks: &Blocks<T>,
     word: u64,
     key: &mut SlotKey,
-    hands: &mut H,
+    reclaimer: &mut R,
     pass: &mut Pass,
 )
     requires book { IsOf key.old pass.old × (book_in blocks.now ≡ pass.old.name) }
@@ -64,7 +64,7 @@ pub fn walk_all<T: Drop, H: Hands>(
     requires at { IsAtWalk key.old word }
     ensures book { IsOf key.new pass.new }
     ensures knows { Knows key.new pass.new }
-    ensures walks { (at : IsAtWalk key.old word) → WalksAll at pass.old key.new pass.new }
+    ensures walks { (at : IsAtWalk key.old word) → WalksAll at pass.old key.new pass.new (R.had reclaimer.old) (R.had reclaimer.new) }
 {
     let mut values = ValueKeys::new(pass);
     let mut leads = word;
@@ -72,7 +72,7 @@ pub fn walk_all<T: Drop, H: Hands>(
         match walk(blocks, leads, key, &mut values, pass) {
             Walked::Over => return,
             Walked::GivesUp(front, rest) => {
-                hands.hand_all(front, &mut values, key, pass);
+                hand_all(blocks, front, &mut values, reclaimer, key, pass);
                 leads = rest;
             }
         }

@@ -54,4 +54,4 @@ returns-clause-leaves g c =
     let call : Call = record { place = Out false; queue = [] } in let so = leave_so key one pass pass1 c.begin_leave.ensures.noted in
     let begins = begins_so key one pass pass1 Leave c.begin_leave.ensures.noted call so in let out = call_begun key one pass pass1 Leave c.begin_leave.ensures.noted call so in
     let walk = at_walk key one two pass pass1 pass2 Leave false 0 begins c.requires.inside.1 out c.leave-word.ensures.noted c.args.head.now c.leave-word.result (c.leave-word.ensures.walks ([], out)) c.requires.book.2 in
-    has_left key one two pass pass1 pass2 Leave false 0 begins c.requires.inside.1 out c.leave-word.ensures.noted c.args.head.now c.leave-word.result (c.leave-word.ensures.walks ([], out)) c.requires.book.2 c.walk_all.new.key c.walk_all.new.pass (c.walk_all.ensures.walks walk) c.finish.new.self c.finish.new.pass c.finish.ensures.noted
+    has_left key one two pass pass1 pass2 Leave false 0 begins c.requires.inside.1 out c.leave-word.ensures.noted c.args.head.now c.leave-word.result (c.leave-word.ensures.walks ([], out)) c.requires.book.2 c.walk_all.new.key c.walk_all.new.pass (g.R.Reclaim.had c.args.reclaimer.now) (g.R.Reclaim.had c.walk_all.new.reclaimer) (c.walk_all.ensures.walks walk) c.finish.new.self c.finish.new.pass c.finish.ensures.noted

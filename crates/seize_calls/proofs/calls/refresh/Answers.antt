@@ -50,7 +50,7 @@ returns-clause-leaves g c =
     let call : Call = record { place = Out true; queue = [] } in let so = refresh_so key one pass pass1 c.begin_refresh.ensures.noted in
     let begins = begins_so key one pass pass1 Refresh c.begin_refresh.ensures.noted call so in let out = call_begun key one pass pass1 Refresh c.begin_refresh.ensures.noted call so in
     let walk = at_walk key one two pass pass1 pass2 Refresh true c.refresh-word.new.activation.life begins c.requires.inside.1 out c.refresh-word.ensures.noted c.args.head.now c.refresh-word.result (c.refresh-word.ensures.walks ([], out)) c.requires.book.2 in
-    has_left key one two pass pass1 pass2 Refresh true c.refresh-word.new.activation.life begins c.requires.inside.1 out c.refresh-word.ensures.noted c.args.head.now c.refresh-word.result (c.refresh-word.ensures.walks ([], out)) c.requires.book.2 c.walk_all.new.key c.walk_all.new.pass (c.walk_all.ensures.walks walk) c.finish.new.self c.finish.new.pass c.finish.ensures.noted
+    has_left key one two pass pass1 pass2 Refresh true c.refresh-word.new.activation.life begins c.requires.inside.1 out c.refresh-word.ensures.noted c.args.head.now c.refresh-word.result (c.refresh-word.ensures.walks ([], out)) c.requires.book.2 c.walk_all.new.key c.walk_all.new.pass (g.R.Reclaim.had c.args.reclaimer.now) (g.R.Reclaim.had c.walk_all.new.reclaimer) (c.walk_all.ensures.walks walk) c.finish.new.self c.finish.new.pass c.finish.ensures.noted
 
 pub returns-clause-last : goal.returns-clause-last
 returns-clause-last g c =

@@ -1,4 +1,4 @@
-use Rattle.std.proofs.Common.{refl, sym, ◌∙◌}
+use Rattle.std.proofs.Common.{lit<, refl, sym, ◌∙◌}
 use Rattle.seize_machine.specs.Machine.Event.{Return}
 use Rattle.seize_book.specs.Adding.{private}
 use Rattle.seize_book.specs.Slots.{number_of}
@@ -25,11 +25,19 @@ bounds-entries-0 g c =
     some_left c.args.key.now c.args.pass.now c.args.values.now c.requires.marking c.attempt.new.key c.attempt.new.pass c.attempt.new.values _ e.book.1 (e.book.0 ∙ e.book.1.0 ∙ sym c.requires.book.0, e.book.2)
     (e.ends c.requires.marking.0) refl c.attempt.new.entries none e.entries (has_values c.args.key.now c.args.pass.now c.args.values.now c.requires.marking c.requires.book.0 c.requires.knows) c.requires.values.1
 
-pub hand_all-requires-clause-given : goal.hand_all-requires-clause-given
-hand_all-requires-clause-given g c =
-    let e = c.in-GivenUp.ensures in let none : Entry = record { block = 0; slot = 0 } in
-    given_now c.args.key.now c.args.pass.now c.args.values.now c.requires.marking c.attempt.new.key c.attempt.new.pass c.attempt.new.values _ e.book.1 (e.book.0 ∙ e.book.1.0 ∙ sym c.requires.book.0, e.book.2)
-    (e.ends c.requires.marking.0) refl c.attempt.new.entries none e.entries (has_values c.args.key.now c.args.pass.now c.args.values.now c.requires.marking c.requires.book.0 c.requires.knows) c.requires.values.1
+pub hand_all-requires : goal.hand_all-requires
+hand_all-requires g c =
+    let e = c.in-GivenUp.ensures in let none : Entry = record { block = 0; slot = 0 } in (
+      lit< tt,
+      (
+        (e.book.0, c.requires.book.2 ∙ sym e.book.1.0),
+        (
+          e.knows,
+          given_now c.args.key.now c.args.pass.now c.args.values.now c.requires.marking c.attempt.new.key c.attempt.new.pass c.attempt.new.values _ e.book.1 (e.book.0 ∙ e.book.1.0 ∙ sym c.requires.book.0, e.book.2)
+              (e.ends c.requires.marking.0) refl c.attempt.new.entries none e.entries (has_values c.args.key.now c.args.pass.now c.args.values.now c.requires.marking c.requires.book.0 c.requires.knows) c.requires.values.1,
+        ),
+      ),
+    )
 
 pub finish-requires-in-GivenUp-clause-book : goal.finish-requires-in-GivenUp-clause-book
 finish-requires-in-GivenUp-clause-book g c =

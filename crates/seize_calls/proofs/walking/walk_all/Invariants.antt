@@ -9,7 +9,8 @@ use Rattle.seize_calls.proofs.walking.walk_all.Given as goal
 
 abbrev pub invariant-loop-values : goal.invariant-loop-values
 invariant-loop-values g l =
-    ((at : IsAtWalk l.initial.key l.fn.word) → IsStrolling at l.initial.pass l.key l.pass l.leads) × IsOf l.key l.pass × Knows l.key l.pass × IsEmpty l.values l.pass
+    ((at : IsAtWalk l.initial.key l.fn.word)
+    → IsStrolling at l.initial.pass l.key l.pass l.leads (g.R.Reclaim.had l.initial.reclaimer) (g.R.Reclaim.had l.reclaimer)) × IsOf l.key l.pass × Knows l.key l.pass × IsEmpty l.values l.pass
 
 abbrev pub decreases-loop-values : goal.decreases-loop-values
 decreases-loop-values g l = length (walk_of (slot_of l.key).call)

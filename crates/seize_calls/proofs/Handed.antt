@@ -1,0 +1,109 @@
+-- One value goes to its reclaimer, out of its block.
+use Rattle.std.proofs.Common.{◌≡◌, ℕ, true, List, [], ◌∷◌, ◌++◌, get_or, Some, is_some, refl, sym, ap, ◌∙◌, subst, append_assoc, append-nil}
+use Rattle.std.proofs.lemmas.List.{get_or-set_same}
+use Rattle.seize_machine.specs.Machine.State.{Head, Inactive, Rest, Slot, State, is_active, no_slot, slot_at}
+use Rattle.seize_machine.specs.Machine.Event.{Event, Hand}
+use Rattle.seize_machine.specs.Machine.Next.{handing_at, of_call}
+use Rattle.seize_machine.specs.declared.machine.event.Answer.{Answer}
+use Rattle.seize_machine.specs.declared.machine.event.Answer.TheVariants.{Handed}
+use Rattle.seize_machine.proofs.Facts.{Step, some_is}
+use Rattle.seize_book.specs.Adding.{private}
+use Rattle.seize_book.specs.Book.{after}
+use Rattle.seize_book.specs.Entry.{Deed, Entry}
+use Rattle.seize_book.specs.Ledger.{Held}
+use Rattle.seize_book.specs.Lending.{IsLentKey}
+use Rattle.seize_book.specs.Notes.{IsUnchanged}
+use Rattle.seize_book.specs.Others.{IsLast, IsLastIn, IsValueOf, value_of}
+use Rattle.seize_book.specs.Passes.{LooksOn, events_by}
+use Rattle.seize_book.specs.Private.{label_of, own_of}
+use Rattle.seize_book.specs.Slots.{IsOf, Notes, hands_next, number_of, size_of, slot_of}
+use Rattle.seize_book.specs.Tokens.{Name, start}
+use Rattle.seize_words.specs.Walks.{Knows}
+use Rattle.seize_book.specs.declared.book.pass.Pass.{Pass}
+use Rattle.seize_book.specs.declared.book.slot_key.SlotKey.{SlotKey}
+use Rattle.seize_book.specs.declared.book.value_key.ValueKey.{ValueKey}
+use Rattle.seize_words.proofs.Facts.{events_grew, hand_leaves, handing_named, knows_noted, knows_still, lent_key, named_lent}
+use Rattle.seize_calls.specs.Handing.{AreTheirs, Had, HasHad}
+use Rattle.seize_calls.specs.Walking.{GoesOn, HandsOne}
+use Rattle.seize_calls.proofs.Keeps.{keeps_from, keeps_looked, keeps_twice, looked_same, outcome, own_grows, same_private, state_before, step_noted}
+use Rattle.seize_calls.proofs.Marks.{within}
+
+-- the machine hands a value whose reclaimer puts none
+after_hand : (size : ℕ) (st : State) (s v : ℕ) (d : State × Answer) → Step size st (Hand s []) d → hands_next (slot_at st s) ≡ Some v
+    → ((slot_at d.0 s).batch ≡ (slot_at st s).batch) × ((slot_at d.0 s).used ≡ (slot_at st s).used) × (d.0.heads ≡ st.heads) × (d.1 ≡ Handed v)
+after_hand size st _ v _ (Step.handed s w _ given walk queue stands fresh) next =
+    let same = get_or-set_same st.slots s _ no_slot (within st s _ stands) in (
+      ap (λ (z : Slot). z.batch) same,
+      ap (λ (z : Slot). z.used) same,
+      refl,
+      ap (λ (u : ℕ). Handed u) (some_is w v (sym (ap (of_call handing_at) stands) ∙ next)),
+    )
+
+-- The event, with the looks before and after it.
+module _ (key key' : SlotKey) (pass looked handed pass' : Pass) (v : ℕ) (before : LooksOn pass looked) (notes : Notes key looked key' handed (Hand (number_of key) [])) (behind : LooksOn handed pass') (soon : hands_next (slot_of key) ≡ Some v) where
+  abbrev event : Event
+  event = Hand (number_of key) []
+
+  so : ((slot_at (outcome key key' looked handed event notes).0 (number_of key)).batch ≡ (slot_at (state_before key key' looked handed event notes) (number_of key)).batch)
+      × ((slot_at (outcome key key' looked handed event notes).0 (number_of key)).used ≡ (slot_at (state_before key key' looked handed event notes) (number_of key)).used)
+      × ((outcome key key' looked handed event notes).0.heads ≡ (state_before key key' looked handed event notes).heads) × ((outcome key key' looked handed event notes).1 ≡ Handed v)
+  so =
+      after_hand (size_of key) (state_before key key' looked handed event notes) (number_of key) v (outcome key key' looked handed event notes) (step_noted key key' looked handed event notes)
+      (ap hands_next notes.2.1.was ∙ soon)
+
+  goes_on : GoesOn key pass key' pass'
+  goes_on = (
+    keeps_twice key key key' pass looked pass' (keeps_looked key pass looked before)
+        (keeps_twice key key' key' looked handed pass' (keeps_from key key' looked handed event notes so.0 so.1 (ap (λ (hs : List Head). is_active (get_or hs (number_of key) Inactive)) so.2) refl) (keeps_looked key' handed pass' behind)),
+    own_grows key key' looked handed event notes,
+  )
+
+  pub hands_so : HandsOne key pass v key' pass'
+  hands_so = record {
+    goes_on = goes_on;
+    made =
+        looked_same handed pass' behind ∙ events_grew looked handed event notes.0 notes.2.0
+        ∙ ap (λ (a : Answer). events_by looked ++ (private looked event, a) ∷ []) so.3
+        ∙ ap (λ (log : List (Deed × Answer)). log ++ (private looked event, Handed v) ∷ []) (looked_same pass looked before)
+        ∙ ap (λ (d : Deed). events_by pass ++ (d, Handed v) ∷ []) (same_private pass looked before.same event);
+    stands = λ given walk queue is.
+        hand_leaves key key' looked handed [] given walk queue v notes is ∙ ap (λ (q : List ℕ). Some (record { place = Rest given walk; queue = q })) (append-nil queue);
+  }
+
+  pub knows_after : Knows key' pass'
+  knows_after = knows_still key' handed pass' (knows_noted key key' looked handed (private looked event) notes) behind
+
+-- A key that is unchanged is for the same value, and knows the same.
+
+pub unchanged_value : (value value' : ValueKey) → IsUnchanged value value' → value_of value' ≡ value_of value
+unchanged_value value value' same = ap label_of same.1
+
+pub unchanged_last : (value value' : ValueKey) → IsUnchanged value value' → IsLast value → IsLast value'
+unchanged_last value value' same last = subst (λ (t : Name × List (Held Entry)). IsLastIn (label_of t.1) (after (start t.0) (own_of t.1))) (λ j. (sym same.0 j, sym same.1 j)) last
+
+-- with a value that is about to be handed something is lent
+pub soon_lent : (value : ValueKey) (key : SlotKey) (pass pass' : Pass) → is_some pass'.name.store ≡ true → IsValueOf value pass' → IsOf key pass → Knows key pass → LooksOn pass pass'
+    → hands_next (slot_of key) ≡ Some (value_of value) → IsLentKey value
+soon_lent value key pass pass' store its book knows looks soon =
+    lent_key value (ap (λ (n : Name). is_some n.store) its ∙ store)
+    (named_lent value pass pass' looks its (handing_named key pass' (book ∙ sym looks.same.0) (knows_still key pass pass' knows looks) (value_of value) soon))
+
+-- What was had of some values, and of more.
+
+theirs_append : (a b k l : List ℕ) (x y : Had) → AreTheirs a k x → AreTheirs b l y → AreTheirs (a ++ b) (k ++ l) (x ++ y)
+theirs_append [] b [] l [] y one two = two
+theirs_append [] b [] l (first ∷ x) y one two = absurd one
+theirs_append [] b (kept ∷ k) l x y one two = absurd one
+theirs_append (v ∷ a) b [] l x y one two = absurd one
+theirs_append (v ∷ a) b (kept ∷ k) l [] y one two = absurd one
+theirs_append (v ∷ a) b (kept ∷ k) l (first ∷ x) y one two = (one.0, theirs_append a b k l x y one.1 two)
+
+abbrev pub had_none : (had : Had) → HasHad [] [] had had
+had_none had = record { more = []; theirs = tt; after = sym (append-nil had) }
+
+pub had_more : (a b k l : List ℕ) (had had1 had2 : Had) → HasHad a k had had1 → HasHad b l had1 had2 → HasHad (a ++ b) (k ++ l) had had2
+had_more a b k l had had1 had2 one two = record {
+  more = one.more ++ two.more;
+  theirs = theirs_append a b k l one.more two.more one.theirs two.theirs;
+  after = two.after ∙ (ap (λ (log : Had). log ++ two.more) one.after ∙ append_assoc had one.more two.more);
+}

@@ -1,0 +1,237 @@
+-- The values of a batch go to their reclaimers, one after the other.
+use Rattle.std.proofs.Common.{◌≡◌, ◌≢◌, ℕ, zero, suc, ◌-◌, true, List, [], ◌∷◌, ◌++◌, map, Option, Some, None, is_some, refl, sym, ap, ◌∙◌, subst, append_assoc, append-nil, arith}
+use Rattle.std.specs.List.{Contains}
+use base.Stored.{Gv}
+use Rattle.seize_machine.specs.Machine.State.{Rest}
+use Rattle.seize_machine.specs.Machine.History.{first_of}
+use Rattle.seize_machine.specs.Machine.Next.{handing_at, of_call}
+use Rattle.seize_machine.specs.declared.machine.event.Answer.{Answer}
+use Rattle.seize_machine.proofs.Facts.{and_true, eq_true, some_is}
+use Rattle.seize_book.specs.Blocks.{block_of}
+use Rattle.seize_book.specs.Book.{after, blocks}
+use Rattle.seize_book.specs.Entry.{Deed, Entry}
+use Rattle.seize_book.specs.Ledger.{Held, renewed}
+use Rattle.seize_book.specs.Linked.{are_joined, are_linked, leads_first, next_in}
+use Rattle.seize_book.specs.Notes.{noted_in}
+use Rattle.seize_book.specs.Others.{IsLast, IsLastIn, IsValueOf, value_of}
+use Rattle.seize_book.specs.Passes.{events_by}
+use Rattle.seize_book.specs.Private.{is_one, label_of, labels_of, note_of, own_of}
+use Rattle.seize_book.specs.Slots.{hands_next, number_of, own_list, slot_of}
+use Rattle.seize_book.specs.Tokens.{Name, start}
+use Rattle.seize_book.specs.Values.{AreClosed, AreLast, Nexts, book_in, values_of}
+use Rattle.seize_book.specs.declared.book.pass.Pass.{Pass}
+use Rattle.seize_book.specs.declared.book.slot_key.SlotKey.{SlotKey}
+use Rattle.seize_book.specs.declared.book.value_key.ValueKey.{ValueKey}
+use Rattle.seize_book.specs.declared.book.value_keys.ValueKeys.{ValueKeys}
+use Rattle.seize_calls.specs.Handing.{Had, HasHad, kept_noted, kepts_of}
+use Rattle.seize_calls.specs.Walking.{GoesOn, HandsAll, HandsOne, IsGiven, hands}
+use Rattle.seize_calls.proofs.Handed.{had_more, had_none}
+use Rattle.seize_calls.proofs.Strolls.{goes_twice, same_hands}
+
+abbrev Keys : Type 0
+Keys = List (Held Entry)
+
+-- The events of some, and of more.
+
+hands_append : (pass : Pass) (s : ℕ) (vs ws : List ℕ) → hands pass s (vs ++ ws) ≡ hands pass s vs ++ hands pass s ws
+hands_append pass s [] ws = refl
+hands_append pass s (v ∷ vs) ws = ap (λ (log : List (Deed × Answer)). hands pass s (v ∷ []) ++ log) (hands_append pass s vs ws)
+
+labels_append : (a b : Keys) → labels_of (a ++ b) ≡ labels_of a ++ labels_of b
+labels_append [] b = refl
+labels_append (h ∷ a) b = ap (λ (vs : List ℕ). h.label ∷ vs) (labels_append a b)
+
+abbrev kepts_in : Keys → List ℕ
+kepts_in held = map (λ h. kept_noted h.note) held
+
+kepts_append : (a b : Keys) → kepts_in (a ++ b) ≡ kepts_in a ++ kepts_in b
+kepts_append [] b = refl
+kepts_append (h ∷ a) b = ap (λ (ks : List ℕ). kept_noted h.note ∷ ks) (kepts_append a b)
+
+-- The first key and the others.
+
+one_kept : (held : Keys) → is_one blocks held ≡ true → kepts_in held ≡ kept_noted (note_of held) ∷ []
+one_kept [] one = absurd (cc)
+one_kept (h ∷ []) one = refl
+one_kept (h ∷ g ∷ held) one = absurd (cc)
+
+one_label : (held : Keys) → is_one blocks held ≡ true → labels_of held ≡ label_of held ∷ []
+one_label [] one = absurd (cc)
+one_label (h ∷ []) one = refl
+one_label (h ∷ g ∷ held) one = absurd (cc)
+
+others_know : (held rest : Keys) (seen : List Entry) → is_one blocks held ≡ true → held ++ rest ≡ renewed (held ++ rest) seen → rest ≡ renewed rest seen
+others_know [] rest seen one same = absurd (cc)
+others_know (h ∷ []) rest seen one same = ap tail_of same
+  where
+    tail_of : Keys → Keys
+    tail_of [] = []
+    tail_of (x ∷ xs) = xs
+others_know (h ∷ g ∷ held) rest seen one same = absurd (cc)
+
+own_is : (held rest : Keys) (seen : List Entry) → is_one blocks held ≡ true → held ++ rest ≡ renewed (held ++ rest) seen → own_of held ≡ seen
+own_is [] rest seen one same = absurd (cc)
+own_is (h ∷ []) rest seen one same = ap own_of same
+own_is (h ∷ g ∷ held) rest seen one same = absurd (cc)
+
+others_closed : (store : Option (List ℕ)) (held rest : Keys) → is_one blocks held ≡ true → are_joined store (held ++ rest) [] ≡ true → are_joined store rest [] ≡ true
+others_closed None held rest one closed = refl
+others_closed (Some store) [] rest one closed = absurd (cc)
+others_closed (Some store) (h ∷ []) [] one closed = refl
+others_closed (Some store) (h ∷ []) (k ∷ rest) one closed = closed
+others_closed (Some store) (h ∷ g ∷ held) rest one closed = absurd (cc)
+
+-- what is noted of the first one's block leads to the next, or to none
+leads_on : (store : Option (List ℕ)) (held rest : Keys) → is_some store ≡ true → is_one blocks held ≡ true → are_linked store (held ++ rest) ≡ true → are_joined store (held ++ rest) [] ≡ true
+    → leads_first (note_of held) rest ≡ true
+leads_on None held rest some one linked closed = absurd (cc)
+leads_on (Some store) [] rest some one linked closed = absurd (cc)
+leads_on (Some store) (h ∷ []) [] some one linked closed = closed
+leads_on (Some store) (h ∷ []) (k ∷ rest) some one linked closed = (and_true _ _ linked).0
+leads_on (Some store) (h ∷ g ∷ held) rest some one linked closed = absurd (cc)
+
+none_after : (g : Gv) (rest : Keys) → leads_first g rest ≡ true → next_in g ≡ 0 → rest ≡ []
+none_after g [] leads none = refl
+none_after g (h ∷ rest) leads none = absurd (let e : next_in g ≡ suc (block_of h.label) = eq_true (next_in g) (suc (block_of h.label)) leads in omega (arith, e, none))
+
+first_after : (g : Gv) (rest : Keys) → leads_first g rest ≡ true → next_in g ≢ 0 → (first : ℕ) × (first_of (labels_of rest) ≡ Some first) × (next_in g - 1 ≡ block_of first)
+first_after g [] leads some = absurd (some (eq_true (next_in g) 0 leads))
+first_after g (h ∷ rest) leads some = (h.label, refl, let e : next_in g ≡ suc (block_of h.label) = eq_true (next_in g) (suc (block_of h.label)) leads in omega (arith, e))
+
+among_all : (v u : ℕ) (us vs : List ℕ) → vs ≡ u ∷ us → Contains us v → Contains vs v
+among_all v u us vs is among = subst (λ (ws : List ℕ). Contains ws v) (sym is) (suc among.0, let less = among.1 in omega (arith, less), among.2)
+
+-- some were handed, and some are left
+pub record IsHanding {key : SlotKey} {pass : Pass} {values : ValueKeys} {front : ℕ} (given : IsGiven key pass values front) (had : Had) (key' : SlotKey) (pass' : Pass) (values' : ValueKeys) (number : ℕ) (had' : Had) : Type 0 where
+  pub goes_on : GoesOn key pass key' pass'
+  pub done : Keys
+  pub split : values.keys.held ≡ done ++ values'.keys.held
+  pub made : events_by pass' ≡ events_by pass ++ hands pass (number_of key) (labels_of done)
+  pub stands : (slot_of key').call ≡ Some (record { place = Rest (values_of values') given.walk; queue = given.queue })
+  pub book : book_in values' ≡ pass.name
+  pub knows : values'.keys.held ≡ renewed values'.keys.held pass.seen
+  pub last : AreLast values' pass
+  pub closed : AreClosed values'
+  pub first : ℕ
+  pub is_first : first_of (values_of values') ≡ Some first
+  pub its_block : number ≡ block_of first
+  pub theirs : HasHad (labels_of done) (kepts_in done) had had'
+
+abbrev pub none_handed : (key : SlotKey) (pass : Pass) (values : ValueKeys) (front : ℕ) (given : IsGiven key pass values front) (had : Had) → IsHanding given had key pass values front had
+none_handed key pass values front given had = record {
+  goes_on = (record { same = (refl, refl); its = (refl, refl); batch = refl; used = refl; active = refl; life = refl; seen = omega arith }, ([], append-nil (own_list key)));
+  done = [];
+  split = refl;
+  made = sym (append-nil (events_by pass));
+  stands = given.given_up;
+  book = given.book;
+  knows = given.keys.2;
+  last = given.last;
+  closed = given.closed;
+  first = given.first;
+  is_first = given.is_first;
+  its_block = given.its_block;
+  theirs = had_none had;
+}
+
+module _ (key0 : SlotKey) (pass0 : Pass) (values0 : ValueKeys) (front : ℕ) (given : IsGiven key0 pass0 values0 front) (had0 : Had) (key : SlotKey) (pass : Pass) (values : ValueKeys) (number : ℕ) (had : Had)
+    (r : IsHanding given had0 key pass values number had) where
+  pub some_left : values_of values ≢ []
+  some_left none = absurd (let e : None ≡ Some r.first = sym (ap first_of none) ∙ r.is_first in cc)
+
+  module _ (value : ValueKey) (rest : ValueKeys) (nexts : Nexts values value rest) where
+    whole : value.keys.held ++ rest.keys.held ≡ renewed (value.keys.held ++ rest.keys.held) pass0.seen
+    whole = sym nexts.3 ∙ (r.knows ∙ ap (λ (held : Keys). renewed held pass0.seen) nexts.3)
+
+    among : (v : ℕ) → Contains (values_of rest) v → Contains (values_of values) v
+    among v = among_all v (value_of value) (values_of rest) (values_of values) nexts.2
+
+    pub its_book : IsValueOf value pass
+    its_book = nexts.1 ∙ (r.book ∙ sym r.goes_on.0.same.0)
+
+    pub is_last : IsLast value
+    is_last =
+        let v : ℕ = value_of value in let its = subst (λ (ws : List ℕ). Contains ws v) (sym nexts.2) (zero, omega arith, refl) in
+        subst (λ (t : Name × List Entry). IsLastIn v (after (start t.0) t.1)) (λ i. (sym (nexts.1 ∙ r.book) i, sym (own_is value.keys.held rest.keys.held pass0.seen value.one whole) i)) (r.last v its)
+
+    here : (slot_of key).call ≡ Some (record { place = Rest (value_of value ∷ values_of rest) given.walk; queue = given.queue })
+    here = r.stands ∙ ap (λ (vs : List ℕ). Some (record { place = Rest vs given.walk; queue = given.queue })) nexts.2
+
+    pub is_soon : hands_next (slot_of key) ≡ Some (value_of value)
+    is_soon = ap (of_call handing_at) here
+
+    pub is_there : block_of (value_of value) ≡ number
+    is_there = ap block_of (some_is _ _ (sym (ap first_of nexts.2) ∙ r.is_first)) ∙ sym r.its_block
+
+    module _ (store : is_some pass0.name.store ≡ true) (key' : SlotKey) (pass' : Pass) (had' : Had) (hand : HandsOne key pass (value_of value) key' pass') (more : HasHad (value_of value ∷ []) (kept_noted (noted_in value) ∷ []) had had') where
+      leads : leads_first (noted_in value) rest.keys.held ≡ true
+      leads =
+          leads_on (book_in values).store value.keys.held rest.keys.held (ap (λ (n : Name). is_some n.store) r.book ∙ store) value.one
+          (subst (λ (held : Keys). are_linked (book_in values).store held ≡ true) nexts.3 values.linked) (subst (λ (held : Keys). are_joined (book_in values).store held [] ≡ true) nexts.3 r.closed)
+
+      goes : GoesOn key0 pass0 key' pass'
+      goes = goes_twice key0 key key' pass0 pass pass' r.goes_on hand.goes_on
+
+      split_more : values0.keys.held ≡ (r.done ++ value.keys.held) ++ rest.keys.held
+      split_more = r.split ∙ (ap (λ (held : Keys). r.done ++ held) nexts.3 ∙ sym (append_assoc r.done value.keys.held rest.keys.held))
+
+      made_more : events_by pass' ≡ events_by pass0 ++ hands pass0 (number_of key0) (labels_of (r.done ++ value.keys.held))
+      made_more =
+          let s = number_of key0 in let one = value_of value ∷ [] in let behind = hands pass0 s (labels_of r.done) in
+          hand.made ∙ ap (λ (log : List (Deed × Answer)). log ++ hands pass (number_of key) one) r.made
+          ∙ ap (λ (log : List (Deed × Answer)). (events_by pass0 ++ behind) ++ log) (same_hands pass0 pass r.goes_on.0.same (number_of key) one ∙ ap (λ (k : ℕ). hands pass0 k one) r.goes_on.0.its.1)
+          ∙ append_assoc (events_by pass0) behind (hands pass0 s one)
+          ∙ ap (λ (log : List (Deed × Answer)). events_by pass0 ++ log)
+          (sym (hands_append pass0 s (labels_of r.done) one) ∙ ap (hands pass0 s) (ap (λ (vs : List ℕ). labels_of r.done ++ vs) (sym (one_label value.keys.held value.one)) ∙ sym (labels_append r.done value.keys.held)))
+
+      theirs_more : HasHad (labels_of (r.done ++ value.keys.held)) (kepts_in (r.done ++ value.keys.held)) had0 had'
+      theirs_more =
+          subst (λ (t : List ℕ × List ℕ). HasHad t.0 t.1 had0 had')
+          (λ i. (
+            (ap (λ (vs : List ℕ). labels_of r.done ++ vs) (sym (one_label value.keys.held value.one)) ∙ sym (labels_append r.done value.keys.held)) i,
+            (ap (λ (ks : List ℕ). kepts_in r.done ++ ks) (sym (one_kept value.keys.held value.one)) ∙ sym (kepts_append r.done value.keys.held)) i,
+          ))
+          (had_more (labels_of r.done) (value_of value ∷ []) (kepts_in r.done) (kept_noted (noted_in value) ∷ []) had0 had had' r.theirs more)
+
+      stands_more : (slot_of key').call ≡ Some (record { place = Rest (values_of rest) given.walk; queue = given.queue })
+      stands_more = hand.stands (values_of rest) given.walk given.queue here
+
+      -- the next one's block is that of the word
+      pub handed_on : next_in (noted_in value) ≢ 0 → IsHanding given had0 key' pass' rest (next_in (noted_in value) - 1) had'
+      handed_on some =
+          let first = first_after (noted_in value) rest.keys.held leads some in
+          record {
+            goes_on = goes;
+            done = r.done ++ value.keys.held;
+            split = split_more;
+            made = made_more;
+            stands = stands_more;
+            book = nexts.0 ∙ r.book;
+            knows = others_know value.keys.held rest.keys.held pass0.seen value.one whole;
+            last = λ v there. r.last v (among v there);
+            closed = subst (λ (n : Name). are_joined n.store rest.keys.held [] ≡ true) (sym nexts.0)
+                (others_closed (book_in values).store value.keys.held rest.keys.held value.one (subst (λ (held : Keys). are_joined (book_in values).store held [] ≡ true) nexts.3 r.closed));
+            first = first.0;
+            is_first = first.1;
+            its_block = first.2;
+            theirs = theirs_more;
+          }
+
+      -- or none is left
+      module _ (none : next_in (noted_in value) ≡ 0) where
+        empty : rest.keys.held ≡ []
+        empty = none_after (noted_in value) rest.keys.held leads none
+
+        all_done : values0.keys.held ≡ r.done ++ value.keys.held
+        all_done = split_more ∙ (ap (λ (held : Keys). (r.done ++ value.keys.held) ++ held) empty ∙ append-nil (r.done ++ value.keys.held))
+
+        pub handed_over : HandsAll given key' pass' rest
+        handed_over = record {
+          goes_on = goes;
+          made = made_more ∙ ap (λ (held : Keys). events_by pass0 ++ hands pass0 (number_of key0) (labels_of held)) (sym all_done);
+          walks_on = stands_more ∙ ap (λ (held : Keys). Some (record { place = Rest (labels_of held) given.walk; queue = given.queue })) empty;
+          none = (nexts.0 ∙ (r.book ∙ sym goes.0.same.0), empty);
+        }
+
+        pub all_had : HasHad (values_of values0) (kepts_of values0) had0 had'
+        all_had = subst (λ (held : Keys). HasHad (labels_of held) (kepts_in held) had0 had') (sym all_done) theirs_more
