@@ -4,15 +4,16 @@ use base.Stored.{Gv}
 use Rattle.seize_book.specs.Blocks.{block_of}
 use Rattle.seize_book.specs.Book.{blocks}
 use Rattle.seize_book.specs.Entry.{Entry}
-use Rattle.seize_book.specs.Ledger.{Held}
+use Rattle.seize_book.specs.Ledger.{Held, renewed}
 use Rattle.seize_book.specs.Linked.{are_joined, are_linked, joined, leads_first, next_in}
 use Rattle.seize_book.specs.Notes.{HasNoted, IsStored, noted_in, with_note}
-use Rattle.seize_book.specs.Others.{value_of}
+use Rattle.seize_book.specs.Others.{FollowsValue, value_of}
 use Rattle.seize_book.specs.Private.{is_one, label_of, labels_of, note_of}
 use Rattle.seize_book.specs.Values.{AreClosed, IsKeyOfOne, LeadsOn, LeadsTo, Nexts, Pushes, book_in, values_of}
+use Rattle.seize_book.specs.declared.book.pass.Pass.{Pass}
 use Rattle.seize_book.specs.declared.book.value_key.ValueKey.{ValueKey}
 use Rattle.seize_book.specs.declared.book.value_keys.ValueKeys.{ValueKeys}
-use Rattle.seize_book.proofs.Linked.{none_joined, parted_joined}
+use Rattle.seize_book.proofs.Linked.{none_joined, parted_joined, still_joined}
 
 abbrev Keys : Type 0
 Keys = List (Held Entry)
@@ -82,6 +83,19 @@ note_put g (h ∷ k ∷ held) one = absurd (cc)
 
 pub has_noted : (g : Gv) (value value' : ValueKey) → HasNoted g value value' → (noted_in value' ≡ g) × (value_of value' ≡ value_of value)
 has_noted g value value' noted = let is = note_put g value.keys.held value.one in (ap note_of noted.1 ∙ is.0, ap label_of noted.1 ∙ is.1)
+
+-- and so it is with a key that knows more
+
+note_later : (held : Keys) (log : List Entry) → note_of (renewed held log) ≡ note_of held
+note_later [] log = refl
+note_later (h ∷ held) log = refl
+
+pub follows_noted : (value : ValueKey) (pass : Pass) (value' : ValueKey) → FollowsValue value pass value' → noted_in value' ≡ noted_in value
+follows_noted value pass value' follows = ap note_of follows.1 ∙ note_later value.keys.held pass.seen
+
+pub follows_leads : (keys : ValueKeys) (value : ValueKey) (pass : Pass) (value' : ValueKey) → FollowsValue value pass value' → LeadsTo keys value → LeadsTo keys value'
+follows_leads keys value pass value' follows leads =
+    ap (λ (b : Keys). are_joined (book_in keys).store keys.keys.held b) follows.1 ∙ still_joined (book_in keys).store keys.keys.held value.keys.held pass.seen ∙ leads
 
 -- So whoever has the keys finds the block of the second by what is noted of the first.
 

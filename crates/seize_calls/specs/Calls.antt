@@ -27,7 +27,7 @@ use Rattle.seize_book.specs.Entry.{Deed}
 use Rattle.seize_words.specs.Named.{slot_book}
 use Rattle.seize_book.specs.Passes.{IsSame, events_by}
 use Rattle.seize_book.specs.Slots.{active_of, life_of, number_of, slot_of}
-use Rattle.seize_book.specs.Values.{IsEmpty, book_in, values_of}
+use Rattle.seize_book.specs.Values.{AreClosed, IsEmpty, book_in, values_of}
 use Rattle.seize_book.specs.declared.book.pass.Pass.{Pass}
 use Rattle.seize_book.specs.declared.book.slot_key.SlotKey.{SlotKey}
 use Rattle.seize_book.specs.declared.book.value_keys.ValueKeys.{ValueKeys}
@@ -110,6 +110,7 @@ pub record RetiresOne (key : SlotKey) (pass : Pass) (v : ℕ) (values : ValueKey
   pub pushed : ValueKeys
   pub all : values_of pushed ≡ values_of values ++ v ∷ []
   pub book : book_in pushed ≡ book_in values
+  pub closed : AreClosed pushed
   pub settles : Settles full later pushed key' pass' values' retired
 
 pub record Leaves (job : Job) (stays : Bool) (swap : Deed) (key : SlotKey) (pass : Pass) (key' : SlotKey) (pass' : Pass)

@@ -6,7 +6,7 @@ ghost use Rattle.seize_calls.specs.Attempts.{Attempts};
 ghost use Rattle.seize_calls.specs.Entries.{AreOf};
 ghost use Rattle.seize_calls.specs.Marks.{BeginsToMark};
 ghost use Rattle.seize_words.specs.Chunks.{book_in};
-ghost use Rattle.seize_book.specs.Values.{AreOfBook, values_of};
+ghost use Rattle.seize_book.specs.Values.{AreClosed, AreOfBook, values_of};
 ghost use Rattle.seize_book.specs.Passes.{IsSame};
 ghost use Rattle.seize_words.specs.Reserved.{slots_book};
 ghost use Rattle.seize_book.specs.Slots.{IsOf, number_of, own_list, slot_of};
@@ -48,7 +48,7 @@ pub fn attempt<T: Drop>(
     requires knows { Knows key.old pass.old }
     requires begins { BeginsToMark key.old }
     requires entries { AreOf entries.old (slot_of key.old).batch }
-    requires values { AreOfBook values.old pass.old × (values_of values.old ≡ (slot_of key.old).batch) }
+    requires values { AreOfBook values.old pass.old × (values_of values.old ≡ (slot_of key.old).batch) × AreClosed values.old }
     ensures book { IsOf key.new pass.new × IsSame pass.old pass.new × (number_of key.new ≡ number_of key.old) }
     ensures knows { Knows key.new pass.new }
     ensures entries { AreOf entries.new (slot_of key.old).batch }

@@ -6,8 +6,10 @@ ghost use Rattle.seize_machine.specs.Machine.Event.{SwapOut};
 ghost use Rattle.seize_calls.specs.Calls.{Flushes, IsInside, Leaves, Marking, RetiresOne, Settles};
 ghost use Rattle.seize_calls.specs.Entries.{AreOf};
 ghost use Rattle.seize_book.specs.Adding.{private};
+ghost use Rattle.seize_book.specs.Linked.{next_in};
+ghost use Rattle.seize_book.specs.Notes.{noted_in};
 ghost use Rattle.seize_words.specs.Chunks.{book_in};
-ghost use Rattle.seize_book.specs.Values.{AreOfBook, values_of};
+ghost use Rattle.seize_book.specs.Values.{AreClosed, AreOfBook, LeadsTo, values_of};
 ghost use Rattle.seize_machine.specs.Machine.State.{is_idle};
 ghost use Rattle.seize_book.specs.Others.{MayRetire, book_of, value_of};
 ghost use Rattle.seize_words.specs.Reservations.{IsLastOf, IsOfBook, IsOwn, beginning};
@@ -42,7 +44,7 @@ fn settle<T: Drop, R: Reclaim<T>>(
     requires knows { Knows key.old pass.old }
     requires marking { Marking key.old }
     requires entries { AreOf entries.old (slot_of key.old).batch }
-    requires values { AreOfBook values.old pass.old × (values_of values.old ≡ (slot_of key.old).batch) }
+    requires values { AreOfBook values.old pass.old × (values_of values.old ≡ (slot_of key.old).batch) × AreClosed values.old }
     ensures knows { Knows key.new pass.new }
     ensures entries { AreOf entries.new (slot_of key.old).batch }
     ensures settles { Settles key.old pass.old values.old key.new pass.new values.new result }
@@ -82,7 +84,7 @@ pub fn flush<T: Drop, R: Reclaim<T>>(
     requires book { IsOf key.old pass.old × (slots_book slots.now ≡ pass.old.name) × (book_in blocks.now ≡ pass.old.name) }
     requires inside { IsInside key.old }
     requires entries { AreOf entries.old (slot_of key.old).batch }
-    requires values { AreOfBook values.old pass.old × (values_of values.old ≡ (slot_of key.old).batch) }
+    requires values { AreOfBook values.old pass.old × (values_of values.old ≡ (slot_of key.old).batch) × AreClosed values.old }
     ensures knows { Knows key.new pass.new }
     ensures entries { AreOf entries.new (slot_of key.old).batch }
     ensures flushes { Flushes key.old pass.old values.old key.new pass.new values.new result }
@@ -95,8 +97,8 @@ pub fn flush<T: Drop, R: Reclaim<T>>(
     settle(slots, blocks, entries, key, values, reclaimer, pass, rt)
 }
 
-/// Retires the value of this key: it joins the slot's batch, of which these are the entries then, with its own as the last. Where the
-/// batch has `size` values or more, which is the size of the book, it is attempted. It says whether the batch was retired: if it was, no
+/// Retires the value of this key: it joins the slot's batch, of which these are the entries then, with its own as the last. It is noted of
+/// the last value's block already that this one's comes next, and of this one's that none does. Where the batch has `size` values or more, which is the size of the book, it is attempted. It says whether the batch was retired: if it was, no
 /// keys are left, and the entries are of no batch.
 ///
 /// It takes no memory, but for what the handing does. An insertion is tried again as often as others change the head between a look at it
@@ -116,6 +118,7 @@ pub fn retire<T: Drop, R: Reclaim<T>>(
     requires book { IsOf key.old pass.old × (slots_book slots.now ≡ pass.old.name) × (book_in blocks.now ≡ pass.old.name) }
     requires idle { is_idle (slot_of key.old) ≡ true }
     requires value { (book_of value ≡ pass.old.name) × MayRetire value }
+    requires notes { LeadsTo values.old value × (next_in (noted_in value) ≡ 0) }
     requires size { size ≡ size_of key.old }
     requires entries { AreOf entries.old ((slot_of key.old).batch ++ value_of value ∷ []) }
     requires values { AreOfBook values.old pass.old × (values_of values.old ≡ (slot_of key.old).batch) }

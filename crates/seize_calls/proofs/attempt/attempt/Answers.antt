@@ -64,6 +64,7 @@ add-requires-clause-adds g c =
     let at = c.requires.begins in let entries = c.mark.new.entries in let none : Entry = record { block = 0; slot = 0 } in let key = c.mark.new.key in let pass = c.mark.new.pass in let ready = c.in-Ready in (
       adds c.args.key.now at c.args.pass.now key pass entries ready.marked (ready.ensures.marks at) ready.ensures.book.0 ready.ensures.knows ready.ensures.book.1 (ready.ensures.book.0 ∙ ready.ensures.book.1.0 ∙ sym c.requires.book.0, ready.ensures.book.2) ready.ensures.entries c.detach.new.self c.detach.new.pass c.detach.ensures.noted c.detach.ensures.batch none c.insert_each-won.new.key c.insert_each-won.new.pass c.insert_each-won.result (c.insert_each-won.ensures.all (inserts c.args.key.now at c.args.pass.now key pass entries ready.marked (ready.ensures.marks at) ready.ensures.book.0 ready.ensures.knows ready.ensures.book.1 (ready.ensures.book.0 ∙ ready.ensures.book.1.0 ∙ sym c.requires.book.0, ready.ensures.book.2) ready.ensures.entries c.detach.new.self c.detach.new.pass c.detach.ensures.noted c.detach.ensures.batch none)) c.insert_each-won.ensures.knows c.header.new.pass c.header.result.now c.header.ensures.looks c.header.ensures.header,
       c.requires.values.1 ∙ sym (values_are c.args.key.now at c.args.pass.now key pass entries ready.marked (ready.ensures.marks at) ready.ensures.book.0 ready.ensures.knows ready.ensures.book.1 (ready.ensures.book.0 ∙ ready.ensures.book.1.0 ∙ sym c.requires.book.0, ready.ensures.book.2) ready.ensures.entries c.detach.new.self c.detach.new.pass c.detach.ensures.noted c.detach.ensures.batch none c.insert_each-won.new.key c.insert_each-won.new.pass c.insert_each-won.result (c.insert_each-won.ensures.all (inserts c.args.key.now at c.args.pass.now key pass entries ready.marked (ready.ensures.marks at) ready.ensures.book.0 ready.ensures.knows ready.ensures.book.1 (ready.ensures.book.0 ∙ ready.ensures.book.1.0 ∙ sym c.requires.book.0, ready.ensures.book.2) ready.ensures.entries c.detach.new.self c.detach.new.pass c.detach.ensures.noted c.detach.ensures.batch none)) c.insert_each-won.ensures.knows c.header.new.pass c.header.result.now c.header.ensures.looks c.header.ensures.header),
+      c.requires.values.2,
     )
 
 pub returns-then-add-clause-book : goal.returns-then-add-clause-book

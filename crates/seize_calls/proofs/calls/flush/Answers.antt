@@ -37,7 +37,7 @@ settle-requires g c =
           knows_noted key one c.args.pass.now pass (private c.args.pass.now (Begin (number_of key) Flush)) c.begin_flush.ensures.noted,
           (
             flush_marks key one c.args.pass.now pass c.begin_flush.ensures.noted some,
-            (subst (AreOf c.args.entries.now) (sym keeps.batch) c.requires.entries, (c.requires.values.0 ∙ sym keeps.same.0, c.requires.values.1 ∙ sym keeps.batch)),
+            (subst (AreOf c.args.entries.now) (sym keeps.batch) c.requires.entries, (c.requires.values.0 ∙ sym keeps.same.0, c.requires.values.1 ∙ sym keeps.batch, c.requires.values.2)),
           ),
         ),
       ),

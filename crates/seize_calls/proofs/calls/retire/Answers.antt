@@ -4,11 +4,12 @@ use Rattle.seize_machine.specs.Machine.State.{Call}
 use Rattle.seize_machine.specs.Machine.Event.{Put, Return}
 use Rattle.seize_machine.specs.Machine.Next.{of_call}
 use Rattle.seize_book.specs.Adding.{private}
+use Rattle.seize_book.specs.Linked.{next_in}
 use Rattle.seize_book.specs.Others.{value_of}
 use Rattle.seize_book.specs.Private.{label_of, next_at}
 use Rattle.seize_book.specs.Slots.{number_of, slot_of}
 use Rattle.seize_book.specs.Values.{values_of}
-use Rattle.seize_words.proofs.Facts.{knows_noted}
+use Rattle.seize_words.proofs.Facts.{follows_leads, follows_noted, knows_noted, last_closes}
 use Rattle.seize_calls.specs.Entries.{AreOf}
 use Rattle.seize_calls.proofs.Marks.{entries_many}
 use Rattle.seize_calls.proofs.Whole.{batch_then, begins_append, only_returned, retire_begins, retire_marks, retire_over, retire_puts, same_label}
@@ -17,6 +18,9 @@ use Rattle.seize_calls.proofs.calls.retire.Goals as goal
 pub put-requires-clause-next : goal.put-requires-clause-next
 put-requires-clause-next g c =
     ap (λ (o : Option Call). is_some (of_call next_at o)) (begins_append c.args.key.now c.begin_retire.new.self c.args.pass.now c.begin_retire.new.pass (value_of c.args.value) c.begin_retire.ensures.noted)
+
+pub push-requires-clause-leads : goal.push-requires-clause-leads
+push-requires-clause-leads g c = follows_leads c.args.values.now c.args.value c.begin_retire.new.pass c.begin_retire.new.value c.begin_retire.ensures.value c.requires.notes.0
 
 pub finish-requires-clause-over : goal.finish-requires-clause-over
 finish-requires-clause-over g c =
@@ -42,6 +46,7 @@ returns-then-entries-size-clause-retires g c =
       pushed = c.push.new.self;
       all = pushed;
       book = c.push.ensures.0;
+      closed = last_closes c.args.values.now c.begin_retire.new.value c.push.new.self c.push.ensures (ap next_in (follows_noted c.args.value pass1 c.begin_retire.new.value c.begin_retire.ensures.value) ∙ c.requires.notes.1);
       settles = only_returned two c.finish.new.self pass2 c.finish.new.pass c.push.new.self c.finish.ensures.noted;
     }
 
@@ -60,7 +65,7 @@ settle-requires g c =
             retire_marks key one two pass pass1 pass2 v c.begin_retire.ensures.noted c.put.ensures.noted (omega (arith, same_many, then, push, c.if-entries-size.false, c.requires.size)) (omega (arith, then, push)),
             (
               subst (AreOf c.args.entries.now) (sym (batch_then key one two pass pass1 pass2 v c.begin_retire.ensures.noted c.put.ensures.noted)) c.requires.entries,
-              (c.push.ensures.0 ∙ c.requires.values.0 ∙ sym named, pushed ∙ ap (λ (vs : List ℕ). vs ++ v ∷ []) c.requires.values.1 ∙ sym (batch_then key one two pass pass1 pass2 v c.begin_retire.ensures.noted c.put.ensures.noted)),
+              (c.push.ensures.0 ∙ c.requires.values.0 ∙ sym named, pushed ∙ ap (λ (vs : List ℕ). vs ++ v ∷ []) c.requires.values.1 ∙ sym (batch_then key one two pass pass1 pass2 v c.begin_retire.ensures.noted c.put.ensures.noted), last_closes c.args.values.now c.begin_retire.new.value c.push.new.self c.push.ensures (ap next_in (follows_noted c.args.value pass1 c.begin_retire.new.value c.begin_retire.ensures.value) ∙ c.requires.notes.1)),
             ),
           ),
         ),
@@ -86,5 +91,6 @@ returns-clause-retires g c =
       pushed = c.push.new.self;
       all = pushed;
       book = c.push.ensures.0;
+      closed = last_closes c.args.values.now c.begin_retire.new.value c.push.new.self c.push.ensures (ap next_in (follows_noted c.args.value pass1 c.begin_retire.new.value c.begin_retire.ensures.value) ∙ c.requires.notes.1);
       settles = c.settle.ensures.settles;
     }
