@@ -107,8 +107,8 @@ pub fn take(
     Some((three, one, two, last))
 }
 
-/// The three calls by which the values are retired. With the last the batch is full, so that call is to read the heads.
-pub fn retire(
+// The three calls by which the values are retired. With the last the batch is full, so that call is to read the heads.
+fn retire(
     run: &Run,
     _three: Three,
     one: &mut ValueKey,
@@ -147,8 +147,8 @@ fn note_next(blocks: &Blocks<u64>, lent: Lent, next: u64, key: &mut ValueKey, pa
     blocks.set_note(lent.number, note, key, pass);
 }
 
-/// Notes of each block the word of the next one, and gives all keys. The last leads to none.
-pub fn link(
+// Notes of each block the word of the next one, and gives all keys. The last leads to none.
+fn link(
     run: &Run,
     three: Three,
     one: ValueKey,
@@ -172,6 +172,27 @@ pub fn link(
     values.push(two);
     values.push(last);
     values
+}
+
+/// All that the slot does with three values from when they are lent: they are retired, and their blocks lead on. It gives their keys.
+pub fn retire_noted(
+    run: &Run,
+    three: Three,
+    one: ValueKey,
+    two: ValueKey,
+    last: ValueKey,
+    key: &mut SlotKey,
+    pass: &mut Pass,
+) -> ValueKeys
+    requires stands { Stands run.now pass.old key.old made }
+    requires new { AreNew (book_of run.now) three one two last }
+    ensures stands { StandsWith run.now three result pass.new key.new full }
+{
+    let mut one = one;
+    let mut two = two;
+    let mut last = last;
+    retire(run, three, &mut one, &mut two, &mut last, key, pass);
+    link(run, three, one, two, last, pass)
 }
 
 /// Its call finds no active slot, so its batch waits for nobody: the count is 0, and the batch is given up to it.

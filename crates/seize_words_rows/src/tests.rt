@@ -10,7 +10,7 @@ use crate::making::open;
 use crate::reads::read_with_each;
 use crate::row::{open_row, read_row, visit_many};
 use crate::walking::block_at;
-use crate::{block_run, flushing, further, linked, second_value, worked_run};
+use crate::{block_run, flushing, further, linked, noted_run, second_value, worked_run};
 use seize_words::activation::Activation;
 use seize_words::batch::Count;
 use seize_words::book::{
@@ -87,7 +87,7 @@ fn words_have_eight_bytes(rt: HostRuntime) {
 // A chunk's header is its block's three words.
 #[test]
 fn a_header_has_three_words(rt: HostRuntime) {
-    assert_eq!(rt; size_of::<Header>(), 24);
+    assert_eq!(rt; size_of::<Header>(), 48);
 }
 
 // Slots are made one after the other, and whoever loads the total knows how many there are.
@@ -302,6 +302,29 @@ fn blocks_of_two_batches_are_laid_back(rt: HostRuntime) {
         75
     );
     drop((reader, retirer, run));
+}
+
+// Three values of a store are retired, and of the block of each the number of the next is noted. Their batch is given up, and from the
+// first number alone all blocks are found, as the values that come out of them show. Then the store finds the blocks again.
+#[test]
+fn a_noted_batch_is_found_from_its_first_block(rt: HostRuntime) {
+    let (mut key, run, mut pass) = noted_run::begin(rt.alloc());
+    let taken = noted_run::take(&run.blocks, (70, 71, 72), &mut pass);
+    let Some((three, one, two, last)) = taken else {
+        panic!(rt; "no memory");
+    };
+    let mut values = noted_run::retire_noted(&run, three, one, two, last, &mut key, &mut pass);
+    assert!(rt; noted_run::give_up(&run, three, &mut values, &mut key, &mut pass));
+    let front = three.first.number;
+    let out = noted_run::hand_all(&run, front, three, &mut values, &mut key, &mut pass);
+    assert_eq!(rt; out, (70, 71, 72));
+    let Some((again, one, two, last)) = noted_run::take(&run.blocks, (73, 74, 75), &mut pass) else {
+        panic!(rt; "no memory");
+    };
+    assert_eq!(rt; again.first.number, front);
+    assert_eq!(rt; again.second.number, three.second.number);
+    assert_eq!(rt; again.third.number, three.third.number);
+    drop((key, run, values, one, two, last));
 }
 
 // Each of the links of a row is read, with an activation that is shared and by a slot that enters and leaves.

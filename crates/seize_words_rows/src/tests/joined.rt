@@ -3,6 +3,7 @@ ghost use Rattle.seize_words_rows.specs.Entrants.{HasLinks, MayEnter, MayRead, M
 
 use crate::entrants::{Entered, Entrant, LINKS, meet, open, read_under};
 use crate::joined_run;
+use seize_words::note::Note;
 use seize_words::words::Words;
 use std::sync::Wait;
 use std::test::*;
@@ -44,6 +45,30 @@ fn a_block_goes_through_a_link(rt: HostRuntime) {
         joined_run::leave(&words, 1, second, &mut other, &mut pass),
         1
     );
+}
+
+// A block is noted while a reader sees its value: the value comes out of the link meanwhile, and is what it was.
+#[test]
+fn a_seen_block_is_noted(rt: HostRuntime) {
+    let Some((words, mut finder, mut other, mut pass)) = joined_run::begin(rt.alloc()) else {
+        panic!(rt; "no memory");
+    };
+    let (first, second) = joined_run::enter(&words, &mut finder, &mut other, &mut pass);
+    let Some((_, lent)) = joined_run::put_in(&words, 70, &second, &mut pass) else {
+        panic!(rt; "no memory");
+    };
+    let note = Note {
+        next: 5,
+        slot: 6,
+        kept: 7,
+    };
+    let (seen, noted, key) = joined_run::note_beside(
+        &words, lent, &first, &second, note, &mut pass,
+    );
+    assert_eq!(rt; (seen, noted), (70, note));
+    let left = joined_run::leave(&words, 0, first, &mut finder, &mut pass);
+    assert_eq!(rt; left, 1);
+    drop((key, other, second));
 }
 
 // Each of two threads swaps a value into one link, and then waits for that of the other and sees it: it holds only where both run.

@@ -11,8 +11,7 @@ reclaim_next-one-requires c =
     let n = book_of c.args.run.now in let walks = c.requires.walks in let done = walks.1 in let key = c.count_down-rest.new.key in let pass = c.count_down-rest.new.pass in let values = c.count_down-rest.new.values in
     let rest : ℕ = c.count_down-rest.result.0 in let front : ℕ = c.count_down-rest.result.2 in
     let g = gives n c.args._before c.args._pair walks.0 done walks.3 c.args.reader.now c.look.new.self key c.args.pass.now c.look.new.pass c.new-values.new.pass pass c.args.word rest front c.count_down-rest.result.1 values walks.4 walks.5
-    walks.6 c.look.ensures.looked c.new-values.ensures.1 c.count_down-rest.ensures.counts c.count_down-rest.ensures.front in
-    (
+    walks.6 c.look.ensures.looked c.new-values.ensures.1 c.count_down-rest.ensures.counts c.count_down-rest.ensures.front in (
       omega arith,
       (
         (are_ready n c.args._before c.args._pair done key pass values rest front g c.count_down-rest.ensures.knows, walks.2.1 ∙ sym g.counted.leads.0.book),

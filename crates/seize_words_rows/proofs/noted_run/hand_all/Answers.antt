@@ -49,8 +49,7 @@ returns-clause-values c =
     let second = reclaims n one.new.slot two.new.slot one.new.pass two.new.pass 0 (one_handed t) (two_handed t) (Handed t.1) two.ensures.reclaims first.0 first.1 (hands_second t) in
     let at_last = next_at n two.new.slot two.new.values three.third t.2 (two.result.1 - 1) [] (two_handed t) left_last second.1 refl keys.0.2 (one_less (block_of t.2) two.result.1 (two.ensures.left.1 t.2 [] left_last)) in
     let last = c.reclaim_next-three in
-    let third = reclaims n two.new.slot last.new.slot two.new.pass last.new.pass 0 (two_handed t) (all_handed t) (Handed t.2) last.ensures.reclaims second.0 second.1 (hands_last t) in
-    (
+    let third = reclaims n two.new.slot last.new.slot two.new.pass last.new.pass 0 (two_handed t) (all_handed t) (Handed t.2) last.ensures.reclaims second.0 second.1 (hands_last t) in (
       same_lent t.0 one.result.0 three.first.value (one.ensures.code at) keys.0.0.code,
       same_lent t.1 two.result.0 three.second.value (two.ensures.code at_second) keys.0.1.code,
       same_lent t.2 last.result.0 three.third.value (last.ensures.code at_last) keys.0.2.code,
