@@ -1,9 +1,12 @@
 pub mod Attempts
+pub mod Batches
 pub mod Events
 pub mod Inserts
 pub mod Keeps
 pub mod Leaving
 pub mod Marks
+pub mod Named
+pub mod Rounds
 pub mod Settled
 pub mod Strolls
 pub mod Tries

@@ -1,6 +1,6 @@
 -- A whole attempt: the marks, and then the insertions, and their number added to the count.
 --     Attempts at pass values key' pass' values' ends     the call has given up, as after marking (Ends), and the keys of the batch's
---                        values stay; or the batch was retired: see Retires
+--                        values stay, with all that is noted but the slots; or the batch was retired: see Retires
 --     Retires at pass values key' pass' values' zero      all that was made with the pass is that the slot read the heads, detached the
 --                        batch, took a turn at each slot whose head was active (`turns_at`), and added the insertions won; the count is 0
 --                        then or isn't. Where it is 0 the batch's values are given up to the call, with their keys. Nothing else of the
@@ -17,6 +17,7 @@ use Rattle.seize_book.specs.Slots.{active_of, life_of, number_of, slot_of}
 use Rattle.seize_book.specs.declared.book.pass.Pass.{Pass}
 use Rattle.seize_book.specs.declared.book.slot_key.SlotKey.{SlotKey}
 use Rattle.seize_book.specs.declared.book.value_keys.ValueKeys.{ValueKeys}
+use Rattle.seize_calls.specs.Batches.{AreRemarked}
 use Rattle.seize_calls.specs.Inserts.{Turn, turns_at}
 use Rattle.seize_calls.specs.Marks.{BeginsToMark, Ends, actives, readings}
 use Rattle.seize_calls.specs.declared.attempt.Attempted.{Attempted}
@@ -38,9 +39,11 @@ pub record Retires {key : SlotKey} (at : BeginsToMark key) (pass : Pass) (values
   pub active : active_of key' ≡ active_of key
   pub life : life_of key' ≡ life_of key
   pub stands : (slot_of key').call ≡ Some (record { place = Rest (if zero then (slot_of key).batch else []) []; queue = at.queue })
-  pub keys : Leaves values pass' values' zero
+  pub marked : ValueKeys
+  pub remarked : AreRemarked values marked
+  pub keys : Leaves marked pass' values' zero
 
 abbrev pub Attempts : {key : SlotKey} → BeginsToMark key → Pass → ValueKeys → SlotKey → Pass → ValueKeys → Attempted → Type 0
-Attempts at pass values key' pass' values' Stays = Ends at pass key' pass' [] TooMany × (values' ≡ values)
+Attempts at pass values key' pass' values' Stays = Ends at pass key' pass' [] TooMany × AreRemarked values values'
 Attempts at pass values key' pass' values' Waits = Retires at pass values key' pass' values' false
 Attempts at pass values key' pass' values' GivenUp = Retires at pass values key' pass' values' true

@@ -1,6 +1,8 @@
 pub mod Attempts
+pub mod Batches
 pub mod Calls
-pub mod Entries
 pub mod Inserts
 pub mod Marks
+pub mod Numbered
+pub mod Rounds
 pub mod Walking
