@@ -2,6 +2,7 @@
 use Rattle.std.proofs.Common.{◌≡◌, ℕ, zero, suc, ◌+◌, ◌<◌, ◌≤◌, ◌==◌, ◌||◌, Bool, true, false, not, if◌then◌else◌, List, [], ◌∷◌, ◌++◌, length, take, get_or, Option, Some, refl, sym, ap, subst, ◌∙◌, unwrap_or, arith}
 use Rattle.std.specs.List.{Contains}
 use Rattle.std.specs.Prelude.{slice_index_or}
+use base.Growing.{prefix_trans}
 use Rattle.std.proofs.lemmas.List.{get_or-set_same, length_push}
 use Rattle.seize_machine.specs.Machine.State.{Add, Call, Head, Inactive, Mark, Rest, Slot, State, are_distinct, has, is_active, no_slot, slot_at}
 use Rattle.seize_machine.specs.Machine.Event.{AddCount, Detach, Event}
@@ -321,6 +322,10 @@ module _ (key0 : SlotKey) (at : BeginsToMark key0) (pass0 : Pass) (key : SlotKey
             each = all.each ∙ sym (many_slots first) ∙ ap (λ (ms : List ℕ). length ms) ends.stands.3;
             count = counts.1.0;
             is_count = counts.1.2;
+            grows =
+                prefix_trans pass0.seen pass.seen pass'.seen ends.grows
+                (prefix_trans pass.seen pass1.seen pass'.seen (seen_grows pass.name pass.id pass.seen pass1.seen _ notes.2.0)
+                (prefix_trans pass1.seen pass2.seen pass'.seen all.keeps.grows (prefix_trans pass2.seen pass3.seen pass'.seen looks.grows (seen_grows pass3.name pass3.id pass3.seen pass'.seen _ added.2.0))));
             made = made_all;
             batch = ap (λ (z : Slot). z.batch) added.2.1.is ∙ kept.0 ∙ ap (λ (z : Slot). z.batch) added.2.1.was ∙ all.keeps.batch ∙ ap (λ (z : Slot). z.batch) notes.2.1.is ∙ done.1;
             used =
@@ -349,4 +354,4 @@ module _ (key0 : SlotKey) (at : BeginsToMark key0) (pass0 : Pass) (key : SlotKey
 
 -- A call that has given up says nothing of its blocks.
 pub stays_so : {key : SlotKey} (at : BeginsToMark key) (pass : Pass) (key' : SlotKey) (pass' : Pass) (spots : List Spot) → Ends at pass key' pass' spots TooMany → Ends at pass key' pass' [] TooMany
-stays_so at pass key' pass' spots e = record { finds = e.finds; within = e.within; made = e.made; batch = e.batch; used = e.used; active = e.active; life = e.life; stands = e.stands }
+stays_so at pass key' pass' spots e = record { finds = e.finds; within = e.within; grows = e.grows; made = e.made; batch = e.batch; used = e.used; active = e.active; life = e.life; stands = e.stands }

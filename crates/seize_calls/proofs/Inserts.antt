@@ -108,7 +108,7 @@ pub record HasTurned {key : SlotKey} {pass : Pass} {spots : List Spot} {front : 
 
 abbrev pub none_turned : (key : SlotKey) (pass : Pass) (spots : List Spot) (front : ℕ) (at : IsInserting key pass spots front) → HasTurned at 0 0 key pass
 none_turned key pass spots front at = record {
-  keeps = record { same = (refl, refl); its = (refl, refl); batch = refl; used = refl; active = refl; life = refl; seen = omega arith };
+  keeps = record { same = (refl, refl); its = (refl, refl); batch = refl; used = refl; active = refl; life = refl; seen = omega arith; grows = ([], append-nil pass.seen) };
   turns = [];
   each = refl;
   within = omega arith;

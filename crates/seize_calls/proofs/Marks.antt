@@ -108,6 +108,7 @@ pub record IsReading {key : SlotKey} (at : BeginsToMark key) (end : ℕ) (pass :
   pub its : (key'.keys.name ≡ key.keys.name) × (number_of key' ≡ number_of key)
   pub knows : Knows key' pass'
   pub there : end ≤ slots_seen pass'
+  pub grows : IsPrefix pass.seen pass'.seen
   pub batch : (slot_of key').batch ≡ (slot_of key).batch
   pub used : (slot_of key').used ≡ (slot_of key).used
   pub active : active_of key' ≡ active_of key
@@ -133,6 +134,7 @@ none_read key at end pass round knows there book is =
       its = (refl, refl);
       knows = knows;
       there = there;
+      grows = ([], append-nil pass.seen);
       batch = refl;
       used = refl;
       active = refl;
@@ -259,6 +261,9 @@ module _ (key0 : SlotKey) (at : BeginsToMark key0) (end : ℕ) (pass0 : Pass) (h
     pub knows : Knows key' pass'
     knows = knows_noted key key' pass pass' (private pass (ReadHead (number_of key) (slot head))) noted
 
+    pub grown : IsPrefix pass0.seen pass'.seen
+    grown = prefix_trans pass0.seen pass.seen pass'.seen r.grows (seen_grows pass.name pass.id pass.seen pass'.seen _ noted.2.0)
+
     pub there : end ≤ slots_seen pass'
     there =
         let n = pass.name in
@@ -296,6 +301,7 @@ module _ (key0 : SlotKey) (at : BeginsToMark key0) (end : ℕ) (pass0 : Pass) (h
           its = same_key;
           knows = knows;
           there = there;
+          grows = grown;
           batch = same_batch;
           used = same_used;
           active = same_active;
@@ -347,6 +353,7 @@ module _ (key0 : SlotKey) (at : BeginsToMark key0) (end : ℕ) (pass0 : Pass) (h
           its = same_key;
           knows = knows_still key' pass' pass'' knows looks;
           there = let more = more_seen pass' pass'' looks in omega (arith, there, more);
+          grows = prefix_trans pass0.seen pass'.seen pass''.seen grown looks.grows;
           batch = same_batch;
           used = same_used;
           active = same_active;
@@ -382,6 +389,7 @@ module _ (key0 : SlotKey) (at : BeginsToMark key0) (end : ℕ) (pass0 : Pass) (h
         record {
           finds = r.finds ++ true ∷ [];
           within = omega (arith, less, there, long true);
+          grows = grown;
           made = made true (is_on some);
           batch = same_batch;
           used = same_used;
@@ -402,6 +410,7 @@ pub all_read : {key0 : SlotKey} (at : BeginsToMark key0) (end : ℕ) (pass0 : Pa
 all_read {key0} at end pass0 held i k key pass round r all le = record {
   finds = r.finds;
   within = let there = r.there in let read = r.read in omega (arith, all, there, read);
+  grows = r.grows;
   made = r.made;
   batch = r.batch;
   used = r.used;
@@ -427,6 +436,7 @@ ends_before {key0} at pass0 pass1 key pass spots ends looks e =
     record {
       finds = e.finds;
       within = e.within;
+      grows = prefix_trans pass0.seen pass1.seen pass.seen looks.grows e.grows;
       made = e.made ∙ ap (λ (log : List (Deed × Answer)). log ++ readings pass1 (number_of key0) 0 e.finds) (ap events_in looks.none_made)
           ∙ ap (λ (log : List (Deed × Answer)). events_by pass0 ++ log) (same_readings (number_of key0) 0 e.finds);
       batch = e.batch;

@@ -1,5 +1,7 @@
 -- Where a call has come to that attempted, and returned.
 use Rattle.std.proofs.Common.{◌≡◌, ℕ, ◌≤◌, Bool, true, false, if◌then◌else◌, List, [], ◌∷◌, ◌++◌, length, Some, refl, sym, ap, subst, ◌∙◌, append-nil}
+use base.Growing.{prefix_trans}
+use mathlib.Core.List.{IsPrefix}
 use Rattle.seize_machine.specs.Machine.State.{Rest}
 use Rattle.seize_machine.specs.Machine.Event.{AddCount, Detach, Return}
 use Rattle.seize_machine.specs.Machine.History.{first_of}
@@ -50,6 +52,7 @@ module _ (key : SlotKey) (pass : Pass) (values : ValueKeys) (m : Marking key) wh
         let keeps = keeps_returned key1 key2 pass1 pass2 notes in
         record {
           same = (keeps.same.0 ∙ same.0, keeps.same.1 ∙ same.1);
+          grows = prefix_trans pass.seen pass1.seen pass2.seen ends.grows keeps.grows;
           rests = record {
             its = (keeps.its.0 ∙ its.0, keeps.its.1 ∙ its.1);
             call = call_returned key1 key2 pass1 pass2 notes;
@@ -80,14 +83,15 @@ module _ (key : SlotKey) (pass : Pass) (values : ValueKeys) (m : Marking key) wh
     waits_over off =
         r.stands ∙ ap (λ (z : Bool). Some (record { place = Rest (if z then batch else []) []; queue = at.queue })) off ∙ ap (λ (q : List ℕ). Some (record { place = Rest [] []; queue = q })) m.1
 
-    finished : (key2 : SlotKey) (pass2 : Pass) (values2 : ValueKeys) (key3 : SlotKey) (pass3 : Pass) → IsSame pass pass2 → (key2.keys.name ≡ key.keys.name) × (number_of key2 ≡ s)
+    finished : (key2 : SlotKey) (pass2 : Pass) (values2 : ValueKeys) (key3 : SlotKey) (pass3 : Pass) → IsSame pass pass2 → IsPrefix pass.seen pass2.seen → (key2.keys.name ≡ key.keys.name) × (number_of key2 ≡ s)
         → ((slot_of key2).batch ≡ []) × ((slot_of key2).used ≡ (slot_of key).used) × (active_of key2 ≡ active_of key) × (life_of key2 ≡ life_of key)
         → events_by pass2 ≡ before ++ hands pass s (if is_zero r.count then batch else [])
         → (notes : Notes key2 pass2 key3 pass3 (Return (number_of key2))) → IsEmpty values2 pass3 → Goes key pass key3 pass3 values2
-    finished key2 pass2 values2 key3 pass3 same2 its2 kept made notes none =
+    finished key2 pass2 values2 key3 pass3 same2 grows2 its2 kept made notes none =
         let keeps = keeps_returned key2 key3 pass2 pass3 notes in
         record {
           same = (keeps.same.0 ∙ same2.0, keeps.same.1 ∙ same2.1);
+          grows = prefix_trans pass.seen pass2.seen pass3.seen grows2 keeps.grows;
           rests = record {
             its = (keeps.its.0 ∙ its2.0, keeps.its.1 ∙ its2.1);
             call = call_returned key2 key3 pass2 pass3 notes;
@@ -108,7 +112,7 @@ module _ (key : SlotKey) (pass : Pass) (values : ValueKeys) (m : Marking key) wh
     pub has_waited : zero ≡ false → (key2 : SlotKey) (pass2 : Pass) → Notes key1 pass1 key2 pass2 (Return (number_of key1)) → Goes key pass key2 pass2 values1
     has_waited off key2 pass2 notes =
         let none = sym r.is_count ∙ off in
-        finished key1 pass1 values1 key2 pass2 same its (r.batch, r.used, r.active, r.life)
+        finished key1 pass1 values1 key2 pass2 same r.grows its (r.batch, r.used, r.active, r.life)
         (r.made ∙ sym (append-nil before) ∙ ap (λ (vs : List ℕ). before ++ hands pass s vs) (ap (λ (z : Bool). if z then batch else []) (sym none))) notes
         (r.keys.0 ∙ sym (keeps_returned key1 key2 pass1 pass2 notes).same.0, r.keys.1 ∙ ap (λ (z : Bool). renewed (if z then r.marked.keys.held else []) pass1.seen) off)
 
@@ -146,7 +150,7 @@ module _ (key : SlotKey) (pass : Pass) (values : ValueKeys) (m : Marking key) wh
         pub has_handed : (key3 : SlotKey) (pass3 : Pass) → Notes key2 pass2 key3 pass3 (Return (number_of key2)) → Goes key pass key3 pass3 values2
         has_handed key3 pass3 notes =
             let keeps = handed.goes_on.0 in let all = sym r.is_count ∙ on in
-            finished key2 pass2 values2 key3 pass3 (keeps.same.0 ∙ same.0, keeps.same.1 ∙ same.1) (keeps.its.0 ∙ its.0, keeps.its.1 ∙ its.1) (keeps.batch ∙ r.batch, keeps.used ∙ r.used, keeps.active ∙ r.active, keeps.life ∙ r.life)
+            finished key2 pass2 values2 key3 pass3 (keeps.same.0 ∙ same.0, keeps.same.1 ∙ same.1) (prefix_trans pass.seen pass1.seen pass2.seen r.grows keeps.grows) (keeps.its.0 ∙ its.0, keeps.its.1 ∙ its.1) (keeps.batch ∙ r.batch, keeps.used ∙ r.used, keeps.active ∙ r.active, keeps.life ∙ r.life)
             (handed.made ∙ ap (λ (log : List (Deed × Answer)). log ++ hands pass1 (number_of key1) (values_of values1)) r.made
             ∙ ap (λ (log : List (Deed × Answer)). before ++ log)
             (same_hands pass pass1 same (number_of key1) (values_of values1) ∙ ap (λ (k : ℕ). hands pass k (values_of values1)) its.1

@@ -81,7 +81,7 @@ pub record IsStrolling {key : SlotKey} {word : ℕ} (at : IsAtWalk key word) (pa
 
 abbrev pub none_strolled : (key : SlotKey) (word : ℕ) (at : IsAtWalk key word) (pass : Pass) → IsStrolling at pass key pass word
 none_strolled key word at pass = record {
-  goes_on = (record { same = (refl, refl); its = (refl, refl); batch = refl; used = refl; active = refl; life = refl; seen = omega arith }, ([], append-nil (own_list key)));
+  goes_on = (record { same = (refl, refl); its = (refl, refl); batch = refl; used = refl; active = refl; life = refl; seen = omega arith; grows = ([], append-nil pass.seen) }, ([], append-nil (own_list key)));
   walked = [];
   made = sym (append-nil (events_by pass));
   here = at;

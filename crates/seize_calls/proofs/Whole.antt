@@ -1,5 +1,6 @@
 -- Whole calls, put together of what their parts did.
 use Rattle.std.proofs.Common.{◌≡◌, ℕ, ◌<◌, ◌≤◌, ◌==◌, Bool, true, false, if◌then◌else◌, nat_le, List, [], ◌∷◌, ◌++◌, length, max, Some, refl, sym, ap, ◌∙◌, append-nil, arith}
+use base.Growing.{prefix_trans}
 use Rattle.seize_machine.specs.Machine.State.{Append, Mark, Rest}
 use Rattle.seize_machine.specs.Machine.Event.{Begin, Put, Return}
 use Rattle.seize_machine.specs.Machine.Next.{flushing_at}
@@ -24,6 +25,7 @@ only_returned key key' pass pass' values notes =
     let keeps = keeps_returned key key' pass pass' notes in
     record {
       same = keeps.same;
+      grows = keeps.grows;
       rests = record { its = keeps.its; call = call_returned key key' pass pass' notes; batch_is = keeps.batch; used = keeps.used; active = keeps.active; life = keeps.life };
       finds = [];
       made = made_returned key key' pass pass' notes ∙ ap (λ (log : List (Deed × Answer)). log ++ done pass (Return (number_of key))) (sym (append-nil (events_by pass)));
@@ -118,6 +120,7 @@ same_label (h ∷ held) log = refl
 pub puts_looked : (key two : SlotKey) (pass pass1 pass2 : Pass) (v : ℕ) → Puts key pass v two pass1 → LooksOn pass1 pass2 → Puts key pass v two pass2
 puts_looked key two pass pass1 pass2 v puts looks = record {
   same = (looks.same.0 ∙ puts.same.0, looks.same.1 ∙ puts.same.1);
+  grows = prefix_trans pass.seen pass1.seen pass2.seen puts.grows looks.grows;
   its = puts.its;
   batch = puts.batch;
   used = puts.used;

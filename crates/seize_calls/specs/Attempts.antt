@@ -6,6 +6,7 @@
 --                        then or isn't. Where it is 0 the batch's values are given up to the call, with their keys. Nothing else of the
 --                        slot has changed but its batch, which is empty
 use Rattle.std.specs.Prelude.{◌≡◌, ℤ, Bool, true, false, if◌then◌else◌, List, [], ◌∷◌, ◌++◌, length, Some}
+use mathlib.Core.List.{IsPrefix}
 use Rattle.seize_machine.specs.Machine.Event.{AddCount, Detach}
 use Rattle.seize_machine.specs.Machine.Next.{is_zero}
 use Rattle.seize_machine.specs.Machine.State.{Rest}
@@ -31,6 +32,7 @@ pub record Retires {key : SlotKey} (at : BeginsToMark key) (pass : Pass) (values
   pub each : length turns ≡ length (actives 0 finds)
   pub count : ℤ
   pub is_count : zero ≡ is_zero count
+  pub grows : IsPrefix pass.seen pass'.seen
   pub made : let s = number_of key in
       events_by pass' ≡ (((events_by pass ++ readings pass s 0 finds) ++ (private pass (Detach s), Done) ∷ [])
       ++ turns_at pass s (actives 0 finds) turns) ++ (private pass (AddCount s), Count count) ∷ []

@@ -16,6 +16,7 @@
 --                        that came out was counted down once, what was given up was handed before the next, and it returned. The slot is
 --                        active afterwards or not
 use Rattle.std.specs.Prelude.{◌≡◌, ℕ, ℤ, Bool, true, false, if◌then◌else◌, List, [], ◌∷◌, ◌++◌, length, None}
+use mathlib.Core.List.{IsPrefix}
 use Rattle.seize_machine.specs.Machine.Event.{AddCount, Begin, Detach, Event, Put, Return}
 use Rattle.seize_machine.specs.Machine.Next.{is_zero}
 use Rattle.seize_machine.specs.Machine.State.{is_idle}
@@ -57,6 +58,7 @@ pub record Rests (key key' : SlotKey) (batch : List ℕ) : Type 0 where
 
 pub record Stays (key : SlotKey) (pass : Pass) (values : ValueKeys) (key' : SlotKey) (pass' : Pass) (values' : ValueKeys) : Type 0 where
   pub same : IsSame pass pass'
+  pub grows : IsPrefix pass.seen pass'.seen
   pub rests : Rests key key' (slot_of key).batch
   pub finds : List Bool
   pub made : events_by pass' ≡ (events_by pass ++ readings pass (number_of key) 0 finds) ++ done pass (Return (number_of key))
@@ -64,6 +66,7 @@ pub record Stays (key : SlotKey) (pass : Pass) (values : ValueKeys) (key' : Slot
 
 pub record Goes (key : SlotKey) (pass : Pass) (key' : SlotKey) (pass' : Pass) (values' : ValueKeys) : Type 0 where
   pub same : IsSame pass pass'
+  pub grows : IsPrefix pass.seen pass'.seen
   pub rests : Rests key key' []
   pub finds : List Bool
   pub turns : List Turn
@@ -86,6 +89,7 @@ pub record Begins (key : SlotKey) (pass : Pass) (job : Job) (key' : SlotKey) (pa
 
 pub record Puts (key : SlotKey) (pass : Pass) (v : ℕ) (key' : SlotKey) (pass' : Pass) : Type 0 where
   pub same : IsSame pass pass'
+  pub grows : IsPrefix pass.seen pass'.seen
   pub its : (slot_book key' ≡ slot_book key) × (number_of key' ≡ number_of key)
   pub batch : (slot_of key').batch ≡ (slot_of key).batch ++ v ∷ []
   pub used : (slot_of key').used ≡ (slot_of key).used
@@ -114,6 +118,7 @@ pub record RetiresOne (key : SlotKey) (pass : Pass) (v kept : ℕ) (values : Val
 
 pub record Leaves (job : Job) (stays : Bool) (swap : Deed) (key : SlotKey) (pass : Pass) (key' : SlotKey) (pass' : Pass) : Type 0 where
   pub same : IsSame pass pass'
+  pub grows : IsPrefix pass.seen pass'.seen
   pub its : (slot_book key' ≡ slot_book key) × (number_of key' ≡ number_of key)
   pub call : (slot_of key').call ≡ None
   pub batch : (slot_of key').batch ≡ (slot_of key).batch

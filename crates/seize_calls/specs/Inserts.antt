@@ -5,7 +5,7 @@
 --     turns_at pass s ms turns   those of a turn at each of these slots, in order;  won_in turns     how many insertions were won
 --     plan_in key b          how batch b was detached, as the slot's key knows
 --     Keeps key pass key' pass'  it is the same key and pass, and the slot's batch, whether it is in use and active, and its last
---                            activation, are as they were; the pass has seen no fewer slots
+--                            activation, are as they were; the pass has seen all that it had seen, and so no fewer slots
 --     IsAtTry key head header seen block front     the slot's call is about to insert its batch at this head, where it saw this word, with
 --                            the block of this number and header; and this is the number of the batch's first block
 --     Tried at pass key' pass' won   it tried once, and won or lost
@@ -17,6 +17,7 @@
 --     IsInserting key pass spots front   the slot's call is about to do so at these slots, each with its block
 --     InsertedAll at pass key' pass' won   it took a turn at each, and is about to add this many insertions
 use Rattle.std.specs.Prelude.{◌≡◌, ℕ, zero, suc, ◌+◌, ◌<◌, ◌≤◌, ◌^◌, Bool, true, false, if◌then◌else◌, List, [], ◌∷◌, ◌++◌, length, Some, slice_index_or}
+use mathlib.Core.List.{IsPrefix}
 use Rattle.seize_machine.specs.Machine.Event.{Insert}
 use Rattle.seize_machine.specs.Machine.Next.{look}
 use Rattle.seize_machine.specs.Machine.State.{Add, Look, has}
@@ -88,6 +89,7 @@ pub record Keeps (key : SlotKey) (pass : Pass) (key' : SlotKey) (pass' : Pass) :
   pub active : active_of key' ≡ active_of key
   pub life : life_of key' ≡ life_of key
   pub seen : slots_seen pass ≤ slots_seen pass'
+  pub grows : IsPrefix pass.seen pass'.seen
 
 pub record IsAtTry (key : SlotKey) (head : Head) (header : Header) (seen block front : ℕ) : Type 0 where
   pub tries : IsTrying (start_of key) (number_of key) (own_list key) (slot head) seen block

@@ -9,6 +9,7 @@
 --                            first blocks, one each, in order. Or the call has given up, and has only its queue to go on with; then one
 --                            more was active than there are values
 use Rattle.std.specs.Prelude.{◌≡◌, ℕ, suc, ◌≤◌, Bool, true, false, List, [], ◌∷◌, ◌++◌, length, take, Some}
+use mathlib.Core.List.{IsPrefix}
 use Rattle.seize_machine.specs.Machine.Event.{ReadHead}
 use Rattle.seize_machine.specs.Machine.State.{Mark, Rest}
 use Rattle.seize_machine.specs.declared.machine.event.Answer.{Answer}
@@ -55,6 +56,7 @@ pub record Ends {key : SlotKey} (at : BeginsToMark key) (pass : Pass) (key' : Sl
     (ends : Marked) : Type 0 where
   pub finds : List Bool
   pub within : length finds ≤ slots_seen pass'
+  pub grows : IsPrefix pass.seen pass'.seen
   pub made : events_by pass' ≡ events_by pass ++ readings pass (number_of key) 0 finds
   pub batch : (slot_of key').batch ≡ (slot_of key).batch
   pub used : (slot_of key').used ≡ (slot_of key).used

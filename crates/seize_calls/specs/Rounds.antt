@@ -58,7 +58,8 @@ pub record Goes (round : Round) (note : Note) (round' : Round) : Type 0 where
 
 abbrev pub remarked : ℕ → Note → Held Entry → Held Entry
 remarked m note h =
-    record { kind = h.kind; key = h.key; own = h.own; label = h.label; note = note_code (record { next = note.next; slot = m; kept = note.kept }) }
+    let noted = note_code (record { next = note.next; slot = m; kept = note.kept }) in
+    record { kind = h.kind; key = h.key; own = h.own; label = h.label; note = noted }
 
 pub record Remarks (round : Round) (m : ℕ) (round' : Round) : Type 0 where
   pub book : book_at round' ≡ book_at round

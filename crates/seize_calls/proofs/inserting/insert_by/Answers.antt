@@ -1,4 +1,4 @@
-use Rattle.std.proofs.Common.{refl, sym, ◌∙◌, arith}
+use Rattle.std.proofs.Common.{[], append-nil, refl, sym, ◌∙◌, arith}
 use Rattle.seize_machine.specs.Machine.Event.{ReadHead}
 use Rattle.seize_book.specs.Adding.{private}
 use Rattle.seize_words.specs.Reservations.{slot}
@@ -10,7 +10,7 @@ use Rattle.seize_calls.proofs.inserting.insert_by.Goals as goal
 
 pub loop-init : goal.loop-init
 loop-init g c = λ at.
-    turns_begin c.args.key.now at c.args.pass.now (record { same = (refl, refl); its = (refl, refl); batch = refl; used = refl; active = refl; life = refl; seen = omega arith })
+    turns_begin c.args.key.now at c.args.pass.now (record { same = (refl, refl); its = (refl, refl); batch = refl; used = refl; active = refl; life = refl; seen = omega arith; grows = ([], append-nil c.args.pass.now.seen) })
 
 pub read-seen-requires-clause-book : goal.read-seen-requires-clause-book
 read-seen-requires-clause-book g c =
