@@ -28,6 +28,9 @@ leads_on_anywhere keys other none = ap (λ (s : Option (List ℕ)). are_joined s
 pub closed_anywhere : (keys : ValueKeys) → (book_in keys).store ≡ None → AreClosed keys
 closed_anywhere keys none = ap (λ (s : Option (List ℕ)). are_joined s keys.keys.held []) none
 
+pub none_closed : (keys : ValueKeys) → keys.keys.held ≡ [] → AreClosed keys
+none_closed keys none = ap (λ (a : Keys). are_joined (book_in keys).store a []) none ∙ none_joined (book_in keys).store []
+
 -- nor of none
 pub none_leads : (keys : ValueKeys) (value : ValueKey) → keys.keys.held ≡ [] → LeadsTo keys value
 none_leads keys value none = ap (λ (a : Keys). are_joined (book_in keys).store a value.keys.held) none ∙ none_joined (book_in keys).store value.keys.held

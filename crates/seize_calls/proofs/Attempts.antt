@@ -1,7 +1,8 @@
 -- What a call knows that marks, detaches its batch, inserts it and adds.
-use Rattle.std.proofs.Common.{◌≡◌, ℕ, zero, suc, ◌+◌, ◌<◌, ◌≤◌, ◌^◌, ◌==◌, ◌||◌, Bool, true, false, not, if◌then◌else◌, List, [], ◌∷◌, ◌++◌, length, take, get_or, Option, Some, refl, sym, ap, subst, ◌∙◌, unwrap_or, arith}
+use Rattle.std.proofs.Common.{◌≡◌, ℕ, zero, suc, ◌+◌, ◌<◌, ◌≤◌, ◌==◌, ◌||◌, Bool, true, false, not, if◌then◌else◌, List, [], ◌∷◌, ◌++◌, length, take, get_or, Option, Some, refl, sym, ap, subst, ◌∙◌, unwrap_or, arith}
 use Rattle.std.specs.List.{Contains}
 use Rattle.std.specs.Prelude.{slice_index_or}
+use base.Growing.{prefix_trans}
 use Rattle.std.proofs.lemmas.List.{get_or-set_same, length_push}
 use Rattle.seize_machine.specs.Machine.State.{Add, Call, Head, Inactive, Mark, Rest, Slot, State, are_distinct, has, is_active, no_slot, slot_at}
 use Rattle.seize_machine.specs.Machine.Event.{AddCount, Detach, Event}
@@ -10,7 +11,7 @@ use Rattle.seize_machine.specs.Machine.Laws.{detached_by}
 use Rattle.seize_machine.specs.Machine.Next.{detached_on, look, of_call}
 use Rattle.seize_machine.specs.declared.machine.event.Answer.{Answer}
 use Rattle.seize_machine.specs.declared.machine.event.Answer.TheVariants.{Count as Counted, Done}
-use Rattle.seize_machine.proofs.Facts.{Step, and_true, marking_full, marks_tidy, not_true, some_is, step_of}
+use Rattle.seize_machine.proofs.Facts.{Step, and_true, eq_true, marking_full, marks_tidy, not_true, some_is, step_of}
 use Rattle.seize_book.specs.Adding.{private}
 use Rattle.seize_book.specs.Batches.{Detaches}
 use Rattle.seize_book.specs.Blocks.{Plan, block_of, marked_at, no_plan, plans, serving}
@@ -20,6 +21,8 @@ use Rattle.seize_words.specs.Counts.{AddsTo, Counts, GivesUp, Leaves, values_in}
 use Rattle.seize_book.specs.Entry.{Deed, Entry as Logged}
 use Rattle.seize_words.specs.Headers.{IsFrontBlock}
 use Rattle.seize_book.specs.Homesteads.{HasNumber, state_seen}
+use Rattle.seize_book.specs.Ledger.{Held}
+use Rattle.seize_book.specs.Private.{labels_of}
 use Rattle.seize_book.specs.Passes.{IsSame, LooksOn, events_by}
 use Rattle.seize_book.specs.Slots.{IsOf, Notes, number_of, own_list, size_of, slot_of, start_of}
 use Rattle.seize_book.specs.Tokens.{Name, start}
@@ -31,17 +34,18 @@ use Rattle.seize_book.specs.declared.book.value_keys.ValueKeys.{ValueKeys}
 use Rattle.seize_words.specs.declared.chunk.Header.{Header}
 use Rattle.seize_words.proofs.Facts.{detached_named, events_grew, knows_still, life_kept, more_slots, own_reached, seen_grows}
 use Rattle.seize_calls.specs.Attempts.{Retires}
-use Rattle.seize_calls.specs.Entries.{AreOf, slots_of}
+use Rattle.seize_calls.specs.Batches.{AreRemarked, Spot, slots_of, spots_of}
 use Rattle.seize_calls.specs.Inserts.{ArePlanned, InsertedAll, IsInserting, plan_in, turns_at}
 use Rattle.seize_calls.specs.Marks.{BeginsToMark, Ends, actives, readings}
-use Rattle.seize_calls.specs.declared.entry.Entry.{Entry}
+use Rattle.seize_calls.specs.Numbered.{starts_at}
 use Rattle.seize_calls.specs.declared.marking.Marked.TheVariants.{Ready, TooMany}
+use Rattle.seize_calls.proofs.Inserts.{detached_look}
 use Rattle.seize_calls.proofs.Keeps.{keeps_book, looked_same, same_private}
-use Rattle.seize_calls.proofs.Marks.{entries_many, within}
+use Rattle.seize_calls.proofs.Marks.{within}
 use Rattle.seize_calls.proofs.Tries.{front_same}
 use Rattle.seize_calls.proofs.Turns.{same_turns}
 
--- The marks, and the entries that stand for them.
+-- The marks, and the blocks that stand for them.
 
 abbrev pub AllBelow : ℕ → List ℕ → Type 0
 AllBelow n [] = Unit {0}
@@ -56,53 +60,53 @@ actives_below n [] = tt
 actives_below n (true ∷ finds) = (omega arith, more_below (suc n + length finds) (n + suc (length finds)) (actives (suc n) finds) (omega arith) (actives_below (suc n) finds))
 actives_below n (false ∷ finds) = more_below (suc n + length finds) (n + suc (length finds)) (actives (suc n) finds) (omega arith) (actives_below (suc n) finds)
 
--- these are the entries of the first of these values
-abbrev pub AreFirst : List Entry → List ℕ → Type 0
-AreFirst [] values = Unit {0}
-AreFirst (entry ∷ entries) [] = ⊥
-AreFirst (entry ∷ entries) (v ∷ values) = ((entry.block ≡ block_of v) × (entry.block + 2 < 2 ^ 64)) × AreFirst entries values
+abbrev Keys : Type 0
+Keys = List (Held Logged)
 
-pub are_first : (entries : List Entry) (values : List ℕ) (k : ℕ) → AreOf entries values → AreFirst (take k entries) values
-are_first [] values zero are = tt
-are_first [] values (suc k) are = tt
-are_first (entry ∷ entries) [] k are = absurd are
-are_first (entry ∷ entries) (v ∷ values) zero are = tt
-are_first (entry ∷ entries) (v ∷ values) (suc k) are = (are.0, are_first entries values k are.1)
+-- these are the blocks of the first of these values
+abbrev pub AreFirst : List Spot → List ℕ → Type 0
+AreFirst [] values = Unit {0}
+AreFirst (spot ∷ spots) [] = ⊥
+AreFirst (spot ∷ spots) (v ∷ values) = (spot.block ≡ block_of v) × AreFirst spots values
+
+pub are_first : (held : Keys) (k : ℕ) → AreFirst (take k (spots_of held)) (labels_of held)
+are_first [] zero = tt
+are_first [] (suc k) = tt
+are_first (h ∷ held) zero = tt
+are_first (h ∷ held) (suc k) = (refl, are_first held k)
 
 both_false : (a b : Bool) → (a || b) ≡ false → (a ≡ false) × (b ≡ false)
 both_false false b e = (refl, e)
 both_false true b e = absurd (cc)
 
-planned_later : (k v seen : ℕ) (slots values : List ℕ) (entries : List Entry) → has k (slots_of entries) ≡ false → ArePlanned (record { slots = slots; values = values }) seen entries
-    → ArePlanned (record { slots = k ∷ slots; values = v ∷ values }) seen entries
+planned_later : (k v seen : ℕ) (slots values : List ℕ) (spots : List Spot) → has k (slots_of spots) ≡ false → ArePlanned (record { slots = slots; values = values }) seen spots
+    → ArePlanned (record { slots = k ∷ slots; values = v ∷ values }) seen spots
 planned_later k v seen slots values [] none are = tt
-planned_later k v seen slots values (entry ∷ entries) none are =
-    let other = both_false (entry.slot == k) (has k (slots_of entries)) none in
-    let apart : (k == entry.slot) ≡ false = turned k entry.slot other.0 in
-    ((are.0.0 ∙ ap (λ (b : Bool). block_of (if b then v else serving entry.slot slots values)) (sym apart), are.0.1, are.0.2), planned_later k v seen slots values entries other.1 are.1)
+planned_later k v seen slots values (spot ∷ spots) none are =
+    let other = both_false (spot.slot == k) (has k (slots_of spots)) none in
+    let apart : (k == spot.slot) ≡ false = turned k spot.slot other.0 in
+    ((are.0.0 ∙ ap (λ (b : Bool). block_of (if b then v else serving spot.slot slots values)) (sym apart), are.0.1), planned_later k v seen slots values spots other.1 are.1)
   where
     turned : (a b : ℕ) → (b == a) ≡ false → (a == b) ≡ false
     turned a b e = grind arith
 
-pub planned_all : (entries : List Entry) (values : List ℕ) (seen : ℕ) → AreFirst entries values → are_distinct (slots_of entries) ≡ true → AllBelow seen (slots_of entries)
-    → ArePlanned (record { slots = slots_of entries; values = values }) seen entries
+pub planned_all : (spots : List Spot) (values : List ℕ) (seen : ℕ) → AreFirst spots values → are_distinct (slots_of spots) ≡ true → AllBelow seen (slots_of spots)
+    → ArePlanned (record { slots = slots_of spots; values = values }) seen spots
 planned_all [] values seen are distinct below = tt
-planned_all (entry ∷ entries) [] seen are distinct below = absurd are
-planned_all (entry ∷ entries) (v ∷ values) seen are distinct below =
-    let parts = and_true (not (has entry.slot (slots_of entries))) (are_distinct (slots_of entries)) distinct in (
-      (are.0.0 ∙ ap (λ (b : Bool). block_of (if b then v else serving entry.slot (slots_of entries) values)) (sym (itself entry.slot)), are.0.1, below.0),
-      planned_later entry.slot v seen (slots_of entries) values entries (not_true _ parts.0) (planned_all entries values seen are.1 parts.1 below.1),
+planned_all (spot ∷ spots) [] seen are distinct below = absurd are
+planned_all (spot ∷ spots) (v ∷ values) seen are distinct below =
+    let parts = and_true (not (has spot.slot (slots_of spots))) (are_distinct (slots_of spots)) distinct in (
+      (are.0 ∙ ap (λ (b : Bool). block_of (if b then v else serving spot.slot (slots_of spots) values)) (sym (itself spot.slot)), below.0),
+      planned_later spot.slot v seen (slots_of spots) values spots (not_true _ parts.0) (planned_all spots values seen are.1 parts.1 below.1),
     )
   where
     itself : (n : ℕ) → (n == n) ≡ true
     itself n = grind arith
 
--- the first entry has the number of the batch's first block
-pub first_block : (entries : List Entry) (values : List ℕ) (d : Entry) → AreOf entries values → 1 ≤ length values → (v : ℕ) × (first_of values ≡ Some v) × ((get_or entries 0 d).block ≡ block_of v)
-first_block [] [] d are full = absurd (omega (arith, full))
-first_block [] (v ∷ values) d are full = absurd are
-first_block (entry ∷ entries) [] d are full = absurd are
-first_block (entry ∷ entries) (v ∷ values) d are full = (v, refl, are.0.0)
+-- the number of the batch's first block
+pub first_block : (n : ℕ) (values : List ℕ) → starts_at n values ≡ true → 1 ≤ length values → (v : ℕ) × (first_of values ≡ Some v) × (n ≡ block_of v)
+first_block n [] starts full = absurd (omega (arith, full))
+first_block n (v ∷ values) starts full = (v, refl, eq_true n (block_of v) starts)
 
 first_in : (values : List ℕ) (v : ℕ) → first_of values ≡ Some v → Contains values v
 first_in [] v e = absurd (let none : Option.None ≡ Some v = e in cc)
@@ -138,24 +142,21 @@ after_add size st _ d (Step.added s b won queue _ stands is) =
     )
 
 -- The batch is detached.
-module _ (key0 : SlotKey) (at : BeginsToMark key0) (pass0 : Pass) (key : SlotKey) (pass : Pass) (entries : List Entry) (marked : ℕ) (ends : Ends at pass0 key pass entries (Ready marked)) (book : IsOf key pass) (knows : Knows key pass)
-    (same : IsSame pass0 pass) (its : (key.keys.name ≡ key0.keys.name) × (number_of key ≡ number_of key0)) (are : AreOf entries (slot_of key0).batch) where
+module _ (key0 : SlotKey) (at : BeginsToMark key0) (pass0 : Pass) (key : SlotKey) (pass : Pass) (held : Keys) (front marked : ℕ) (ends : Ends at pass0 key pass (spots_of held) (Ready marked)) (book : IsOf key pass) (knows : Knows key pass)
+    (same : IsSame pass0 pass) (its : (key.keys.name ≡ key0.keys.name) × (number_of key ≡ number_of key0)) (are : labels_of held ≡ (slot_of key0).batch) (starts : starts_at front (labels_of held) ≡ true) where
   abbrev marks : List ℕ
   marks = actives 0 ends.finds
 
   abbrev batch : List ℕ
   batch = (slot_of key0).batch
 
-  abbrev first : List Entry
-  first = take marked entries
+  abbrev first : List Spot
+  first = take marked (spots_of held)
 
   pub full : 1 ≤ length batch
   full =
       let some = marking_full (after (start_of key) (own_list key)) (number_of key) (length ends.finds) at.note marks at.queue (own_reached key pass book knows) ends.stands.1 in
       subst (λ (vs : List ℕ). 1 ≤ length vs) ends.batch some
-
-  pub some_entry : 0 < length entries
-  some_entry = let same_many = entries_many entries batch are in omega (arith, same_many, full)
 
   pub distinct : are_distinct marks ≡ true
   distinct = (marks_tidy (after (start_of key) (own_list key)) (number_of key) (length ends.finds) at.note marks at.queue (own_reached key pass book knows) ends.stands.1).0
@@ -202,11 +203,11 @@ module _ (key0 : SlotKey) (at : BeginsToMark key0) (pass0 : Pass) (key : SlotKey
     pub book_one : IsOf key1 pass1
     book_one = notes.1.0 ∙ book ∙ sym notes.0.0
 
-    pub front_one : (d0 : Entry) → IsFrontBlock key1 b (get_or entries 0 d0).block
-    front_one d0 = let its_first = first_block entries batch d0 are full in (its_first.0, ap (λ (plan : Plan). first_of plan.values) plan_is ∙ its_first.1, its_first.2)
+    pub front_one : IsFrontBlock key1 b front
+    front_one = let its_first = first_block front batch (subst (λ (vs : List ℕ). starts_at front vs ≡ true) are starts) full in (its_first.0, ap (λ (plan : Plan). first_of plan.values) plan_is ∙ its_first.1, its_first.2)
 
-    abbrev pub inserts : (d0 : Entry) → IsInserting key1 pass1 first (get_or entries 0 d0).block
-    inserts d0 = record {
+    abbrev pub inserts : IsInserting key1 pass1 first front
+    inserts = record {
       batch = b;
       won = 0;
       queue = at.queue;
@@ -215,17 +216,20 @@ module _ (key0 : SlotKey) (at : BeginsToMark key0) (pass0 : Pass) (key : SlotKey
           ∙ ap (λ (ms : List ℕ). Some (record { place = look b 0 ms; queue = at.queue })) (sym ends.stands.3);
       planned =
           subst (λ (plan : Plan). ArePlanned plan (slots_seen pass1) first) (ap (λ (ms : List ℕ). record { slots = ms; values = batch }) ends.stands.3 ∙ sym plan_is)
-          (planned_all first batch (slots_seen pass1) (are_first entries batch marked are) (subst (λ (ms : List ℕ). are_distinct ms ≡ true) (sym ends.stands.3) distinct)
+          (planned_all first batch (slots_seen pass1) (subst (AreFirst first) are (are_first held marked)) (subst (λ (ms : List ℕ). are_distinct ms ≡ true) (sym ends.stands.3) distinct)
           (subst (AllBelow (slots_seen pass1)) (sym ends.stands.3)
           (more_below (0 + length ends.finds) (slots_seen pass1) marks (let within = ends.within in let more = seen_one in omega (arith, within, more)) (actives_below 0 ends.finds))));
-      its_front = front_one d0;
+      its_front = front_one;
     }
 
-    -- The insertions were made.
-    module _ (d0 : Entry) (key2 : SlotKey) (pass2 : Pass) (won : ℕ) (all : InsertedAll (inserts d0) key2 pass2 won) (knows2 : Knows key2 pass2) where
-      abbrev front : ℕ
-      front = (get_or entries 0 d0).block
+    pub its_values : (a : IsInserting key1 pass1 first front) → labels_of held ≡ values_in key1 a.batch
+    its_values a =
+        are ∙ ap (λ (plan : Plan). plan.values) (sym plan_is)
+        ∙ ap (values_in key1)
+        (some_is b a.batch (sym (detached_look b 0 (slots_of first) at.queue) ∙ ap detached_by (sym inserts.stands ∙ a.stands) ∙ detached_look a.batch a.won (slots_of first) a.queue))
 
+    -- The insertions were made.
+    module _ (key2 : SlotKey) (pass2 : Pass) (won : ℕ) (all : InsertedAll inserts key2 pass2 won) (knows2 : Knows key2 pass2) where
       pub book_two : IsOf key2 pass2
       book_two = keeps_book key1 key2 pass1 pass2 all.keeps book_one
 
@@ -233,7 +237,7 @@ module _ (key0 : SlotKey) (at : BeginsToMark key0) (pass0 : Pass) (key : SlotKey
       stands_two = all.stands
 
       pub front_two : IsFrontBlock key2 b front
-      front_two = front_same key1 key2 b front all.planned (front_one d0)
+      front_two = front_same key1 key2 b front all.planned front_one
 
       -- the first block is found by its number
       pub named_two : (pass' : Pass) → IsOf key2 pass' → Knows key2 pass' → has front_two.0 (state_seen pass').named ≡ true
@@ -261,7 +265,7 @@ module _ (key0 : SlotKey) (at : BeginsToMark key0) (pass0 : Pass) (key : SlotKey
         values_are = ap (λ (plan : Plan). plan.values) (all.planned ∙ plan_is)
 
         -- The insertions were added.
-        module _ (values values' : ValueKeys) (key' : SlotKey) (pass' : Pass) (zero' : Bool) (counts : Counts key2 pass3 key' pass' (AddCount (number_of key2)) zero')
+        module _ (before : ValueKeys) (values : ValueKeys) (remarked : AreRemarked before values) (values' : ValueKeys) (key' : SlotKey) (pass' : Pass) (zero' : Bool) (counts : Counts key2 pass3 key' pass' (AddCount (number_of key2)) zero')
             (gives : GivesUp key2 key' b [] at.queue zero') (leaves : Leaves values pass' values' zero') where
           abbrev added : Notes key2 pass3 key' pass' (AddCount (number_of key2))
           added = counts.0
@@ -311,13 +315,17 @@ module _ (key0 : SlotKey) (at : BeginsToMark key0) (pass0 : Pass) (key : SlotKey
               ∙ ap (λ (x : Deed × Answer). ((events ++ (private pass0 (Detach s), Done) ∷ []) ++ turns_at pass0 s marks all.turns) ++ x ∷ [])
               (one_deed AddCount key2 pass3 (Counted counts.1.0) same_three (all.keeps.its.1 ∙ its_one.1))
 
-          pub retires : Retires at pass0 values key' pass' values' zero'
+          pub retires : Retires at pass0 before key' pass' values' zero'
           retires = record {
             finds = ends.finds;
             turns = all.turns;
             each = all.each ∙ sym (many_slots first) ∙ ap (λ (ms : List ℕ). length ms) ends.stands.3;
             count = counts.1.0;
             is_count = counts.1.2;
+            grows =
+                prefix_trans pass0.seen pass.seen pass'.seen ends.grows
+                (prefix_trans pass.seen pass1.seen pass'.seen (seen_grows pass.name pass.id pass.seen pass1.seen _ notes.2.0)
+                (prefix_trans pass1.seen pass2.seen pass'.seen all.keeps.grows (prefix_trans pass2.seen pass3.seen pass'.seen looks.grows (seen_grows pass3.name pass3.id pass3.seen pass'.seen _ added.2.0))));
             made = made_all;
             batch = ap (λ (z : Slot). z.batch) added.2.1.is ∙ kept.0 ∙ ap (λ (z : Slot). z.batch) added.2.1.was ∙ all.keeps.batch ∙ ap (λ (z : Slot). z.batch) notes.2.1.is ∙ done.1;
             used =
@@ -329,10 +337,12 @@ module _ (key0 : SlotKey) (at : BeginsToMark key0) (pass0 : Pass) (key : SlotKey
             life =
                 life_kept key2 key' pass3 pass' (private pass3 (AddCount (number_of key2))) added refl ∙ all.keeps.life ∙ life_kept key key1 pass pass1 (private pass (Detach (number_of key))) notes refl ∙ ends.life;
             stands = gives ∙ ap (λ (vs : List ℕ). Some (record { place = Rest (if zero' then vs else []) []; queue = at.queue })) values_are;
+            marked = values;
+            remarked = remarked;
             keys = leaves;
           }
             where
-              many_slots : (es : List Entry) → length (slots_of es) ≡ length es
+              many_slots : (es : List Spot) → length (slots_of es) ≡ length es
               many_slots [] = refl
               many_slots (e ∷ es) = ap suc (many_slots es)
 
@@ -342,6 +352,6 @@ module _ (key0 : SlotKey) (at : BeginsToMark key0) (pass0 : Pass) (key : SlotKey
           pub its_last : (key'.keys.name ≡ key0.keys.name) × (number_of key' ≡ number_of key0)
           its_last = (added.1.0 ∙ all.keeps.its.0 ∙ its_one.0, added.1.1 ∙ all.keeps.its.1 ∙ its_one.1)
 
--- A call that has given up says nothing of its entries.
-pub stays_so : {key : SlotKey} (at : BeginsToMark key) (pass : Pass) (key' : SlotKey) (pass' : Pass) (entries : List Entry) → Ends at pass key' pass' entries TooMany → Ends at pass key' pass' [] TooMany
-stays_so at pass key' pass' entries e = record { finds = e.finds; within = e.within; made = e.made; batch = e.batch; used = e.used; active = e.active; life = e.life; stands = e.stands }
+-- A call that has given up says nothing of its blocks.
+pub stays_so : {key : SlotKey} (at : BeginsToMark key) (pass : Pass) (key' : SlotKey) (pass' : Pass) (spots : List Spot) → Ends at pass key' pass' spots TooMany → Ends at pass key' pass' [] TooMany
+stays_so at pass key' pass' spots e = record { finds = e.finds; within = e.within; grows = e.grows; made = e.made; batch = e.batch; used = e.used; active = e.active; life = e.life; stands = e.stands }

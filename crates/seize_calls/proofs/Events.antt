@@ -16,7 +16,7 @@ use Rattle.seize_book.specs.Passes.{IsSame, events_by}
 use Rattle.seize_book.specs.Slots.{Notes, number_of, size_of, slot_of}
 use Rattle.seize_book.specs.declared.book.pass.Pass.{Pass}
 use Rattle.seize_book.specs.declared.book.slot_key.SlotKey.{SlotKey}
-use Rattle.seize_words.proofs.Facts.{events_grew, life_kept}
+use Rattle.seize_words.proofs.Facts.{events_grew, life_kept, seen_grows}
 use Rattle.seize_calls.specs.Calls.{Begins, Puts, done}
 use Rattle.seize_calls.specs.Inserts.{Keeps}
 use Rattle.seize_calls.proofs.Keeps.{keeps_from, outcome, same_private, state_before, step_noted}
@@ -141,6 +141,7 @@ module _ (key key' : SlotKey) (pass pass' : Pass) (notes : Notes key pass key' p
   pub puts_so : Puts key pass v key' pass'
   puts_so = record {
     same = notes.0;
+    grows = seen_grows pass.name pass.id pass.seen pass'.seen _ notes.2.0;
     its = (notes.1.0, notes.1.1);
     batch = ap (λ (z : Slot). z.batch) slot_put ∙ ap (λ (z : Slot). z.batch ++ v ∷ []) notes.2.1.was;
     used = ap (λ (z : Slot). z.used) slot_put ∙ ap (λ (z : Slot). z.used) notes.2.1.was;

@@ -23,7 +23,8 @@ use Rattle.seize_book.specs.declared.book.pass.Pass.{Pass}
 use Rattle.seize_book.specs.declared.book.slot_key.SlotKey.{SlotKey}
 use Rattle.seize_book.specs.declared.book.value_key.ValueKey.{ValueKey}
 use Rattle.seize_book.specs.declared.book.value_keys.ValueKeys.{ValueKeys}
-use Rattle.seize_calls.specs.Handing.{Had, HasHad, kept_noted, kepts_of}
+use Rattle.seize_calls.specs.Handing.{Had, HasHad}
+use Rattle.seize_calls.specs.Batches.{kept_noted, kepts_of}
 use Rattle.seize_calls.specs.Walking.{GoesOn, HandsAll, HandsOne, IsGiven, hands}
 use Rattle.seize_calls.proofs.Handed.{had_more, had_none}
 use Rattle.seize_calls.proofs.Strolls.{goes_twice, same_hands}
@@ -119,7 +120,7 @@ pub record IsHanding {key : SlotKey} {pass : Pass} {values : ValueKeys} {front :
 
 abbrev pub none_handed : (key : SlotKey) (pass : Pass) (values : ValueKeys) (front : ℕ) (given : IsGiven key pass values front) (had : Had) → IsHanding given had key pass values front had
 none_handed key pass values front given had = record {
-  goes_on = (record { same = (refl, refl); its = (refl, refl); batch = refl; used = refl; active = refl; life = refl; seen = omega arith }, ([], append-nil (own_list key)));
+  goes_on = (record { same = (refl, refl); its = (refl, refl); batch = refl; used = refl; active = refl; life = refl; seen = omega arith; grows = ([], append-nil pass.seen) }, ([], append-nil (own_list key)));
   done = [];
   split = refl;
   made = sym (append-nil (events_by pass));

@@ -1,18 +1,28 @@
 -- A call inserts its batch at one slot after the other.
-use Rattle.std.proofs.Common.{◌≡◌, ℕ, zero, suc, ◌+◌, ◌<◌, ◌≤◌, ◌^◌, Bool, true, false, if◌then◌else◌, List, [], ◌∷◌, ◌++◌, length, take, drop, get_or, Some, refl, sym, ap, subst, ◌∙◌, append_assoc, append-nil, arith}
-use Rattle.std.proofs.lemmas.List.{length_push}
+use Rattle.std.proofs.Common.{◌≡◌, ℕ, zero, suc, ◌+◌, ◌<◌, ◌≤◌, Bool, true, false, if◌then◌else◌, List, [], ◌∷◌, ◌++◌, length, take, drop, get_or, Some, refl, sym, ap, subst, ◌∙◌, append_assoc, append-nil, arith}
+use Rattle.std.specs.List.{Contains}
+use Rattle.std.proofs.lemmas.List.{length-take-le, length_push}
+use Rattle.seize_machine.specs.Machine.State.{has}
+use Rattle.seize_machine.specs.Machine.Laws.{detached_by}
 use Rattle.seize_machine.specs.Machine.Next.{look}
 use Rattle.seize_machine.specs.declared.machine.event.Answer.{Answer}
-use Rattle.seize_book.specs.Blocks.{Plan, block_in}
-use Rattle.seize_book.specs.Entry.{Deed}
+use Rattle.seize_book.specs.Blocks.{Plan, block_in, block_of}
+use Rattle.seize_book.specs.Entry.{Deed, Entry}
+use Rattle.seize_book.specs.Ledger.{Held}
+use Rattle.seize_book.specs.Private.{labels_of}
+use Rattle.seize_book.specs.Homesteads.{state_seen}
 use Rattle.seize_book.specs.Passes.{events_by}
-use Rattle.seize_book.specs.Slots.{number_of, slot_of}
+use Rattle.seize_book.specs.Slots.{IsOf, number_of, slot_of}
+use Rattle.seize_words.specs.Counts.{values_in}
+use Rattle.seize_words.specs.Walks.{Knows}
+use Rattle.seize_words.proofs.Facts.{detached_named}
 use Rattle.seize_words.specs.Totals.{slots_seen}
 use Rattle.seize_book.specs.declared.book.pass.Pass.{Pass}
 use Rattle.seize_book.specs.declared.book.slot_key.SlotKey.{SlotKey}
-use Rattle.seize_calls.specs.Entries.{slots_of}
-use Rattle.seize_calls.specs.Inserts.{ArePlanned, Inserted, InsertedAll, IsAtSlot, IsInserting, Keeps, Turn, plan_in, turn_at, turns_at, won_in}
-use Rattle.seize_calls.specs.declared.entry.Entry.{Entry}
+use Rattle.seize_calls.specs.Batches.{Spot, slot_noted, slots_of, spots_of}
+use Rattle.seize_calls.specs.Inserts.{ArePlanned, GoesPast, IsAtNext, Inserted, InsertedAll, IsAtSlot, IsInserting, Keeps, Turn, plan_in, turn_at, turns_at, won_in}
+use Rattle.seize_calls.specs.Rounds.{done_in, rest_in}
+use Rattle.seize_calls.specs.declared.round.Round.{Round}
 use Rattle.seize_calls.proofs.Keeps.{keeps_twice}
 use Rattle.seize_calls.proofs.Tries.{front_same}
 use Rattle.seize_calls.proofs.Turns.{same_turn}
@@ -33,91 +43,109 @@ won_push (t ∷ turns) turn =
     let e = won_push turns turn in let a : ℕ = if t.won then 1 else 0 in let b : ℕ = if turn.won then 1 else 0 in
     ap (λ (n : ℕ). a + n) e ∙ (let same : a + (won_in turns + b) ≡ (a + won_in turns) + b = omega arith in same)
 
--- Entries at which the call has been, and those to come.
+-- Spots at which the call has been, and those to come.
 
-pub slots_more : (entries : List Entry) (i : ℕ) (d : Entry) → i < length entries → slots_of (take (i + 1) entries) ≡ slots_of (take i entries) ++ (get_or entries i d).slot ∷ []
+pub slots_more : (spots : List Spot) (i : ℕ) (d : Spot) → i < length spots → slots_of (take (i + 1) spots) ≡ slots_of (take i spots) ++ (get_or spots i d).slot ∷ []
 slots_more [] i d less = absurd (omega (arith, less))
-slots_more (entry ∷ entries) zero d less = refl
-slots_more (entry ∷ entries) (suc i) d less =
-    ap (λ (k : ℕ). slots_of (take k (entry ∷ entries))) (let same : suc i + 1 ≡ suc (i + 1) = omega arith in same) ∙ ap (λ (ms : List ℕ). entry.slot ∷ ms) (slots_more entries i d (omega (arith, less)))
+slots_more (spot ∷ spots) zero d less = refl
+slots_more (spot ∷ spots) (suc i) d less =
+    ap (λ (k : ℕ). slots_of (take k (spot ∷ spots))) (let same : suc i + 1 ≡ suc (i + 1) = omega arith in same) ∙ ap (λ (ms : List ℕ). spot.slot ∷ ms) (slots_more spots i d (omega (arith, less)))
 
-pub slots_left : (entries : List Entry) (i : ℕ) (d : Entry) → i < length entries → slots_of (drop i entries) ≡ (get_or entries i d).slot ∷ slots_of (drop (i + 1) entries)
+pub slots_left : (spots : List Spot) (i : ℕ) (d : Spot) → i < length spots → slots_of (drop i spots) ≡ (get_or spots i d).slot ∷ slots_of (drop (i + 1) spots)
 slots_left [] i d less = absurd (omega (arith, less))
-slots_left (entry ∷ entries) zero d less = refl
-slots_left (entry ∷ entries) (suc i) d less =
-    slots_left entries i d (omega (arith, less)) ∙ ap (λ (k : ℕ). (get_or entries i d).slot ∷ slots_of (drop k (entry ∷ entries))) (let same : suc (i + 1) ≡ suc i + 1 = omega arith in same)
+slots_left (spot ∷ spots) zero d less = refl
+slots_left (spot ∷ spots) (suc i) d less =
+    slots_left spots i d (omega (arith, less)) ∙ ap (λ (k : ℕ). (get_or spots i d).slot ∷ slots_of (drop k (spot ∷ spots))) (let same : suc (i + 1) ≡ suc i + 1 = omega arith in same)
 
-pub none_left : (entries : List Entry) (i : ℕ) → length entries ≤ i → slots_of (drop i entries) ≡ []
+pub none_left : (spots : List Spot) (i : ℕ) → length spots ≤ i → slots_of (drop i spots) ≡ []
 none_left [] zero le = refl
 none_left [] (suc i) le = refl
-none_left (entry ∷ entries) zero le = absurd (omega (arith, le))
-none_left (entry ∷ entries) (suc i) le = none_left entries i (omega (arith, le))
+none_left (spot ∷ spots) zero le = absurd (omega (arith, le))
+none_left (spot ∷ spots) (suc i) le = none_left spots i (omega (arith, le))
 
-pub all_taken : (entries : List Entry) (i : ℕ) → length entries ≤ i → take i entries ≡ entries
+pub all_taken : (spots : List Spot) (i : ℕ) → length spots ≤ i → take i spots ≡ spots
 all_taken [] zero le = refl
 all_taken [] (suc i) le = refl
-all_taken (entry ∷ entries) zero le = absurd (omega (arith, le))
-all_taken (entry ∷ entries) (suc i) le = ap (λ (es : List Entry). entry ∷ es) (all_taken entries i (omega (arith, le)))
+all_taken (spot ∷ spots) zero le = absurd (omega (arith, le))
+all_taken (spot ∷ spots) (suc i) le = ap (λ (es : List Spot). spot ∷ es) (all_taken spots i (omega (arith, le)))
 
-pub planned_at : (plan : Plan) (seen : ℕ) (entries : List Entry) (i : ℕ) (d : Entry) → ArePlanned plan seen entries → i < length entries
-    → ((get_or entries i d).block ≡ block_in plan (get_or entries i d).slot) × ((get_or entries i d).block + 2 < 2 ^ 64) × ((get_or entries i d).slot < seen)
+pub planned_at : (plan : Plan) (seen : ℕ) (spots : List Spot) (i : ℕ) (d : Spot) → ArePlanned plan seen spots → i < length spots
+    → ((get_or spots i d).block ≡ block_in plan (get_or spots i d).slot) × ((get_or spots i d).slot < seen)
 planned_at plan seen [] i d are less = absurd (omega (arith, less))
-planned_at plan seen (entry ∷ entries) zero d are less = are.0
-planned_at plan seen (entry ∷ entries) (suc i) d are less = planned_at plan seen entries i d are.1 (omega (arith, less))
+planned_at plan seen (spot ∷ spots) zero d are less = are.0
+planned_at plan seen (spot ∷ spots) (suc i) d are less = planned_at plan seen spots i d are.1 (omega (arith, less))
+
+-- The keys through which the round goes.
+
+abbrev Keys : Type 0
+Keys = List (Held Entry)
+
+pub round_step : (held : Keys) (k i : ℕ) (d : Spot) → i < k → k ≤ length (spots_of held)
+    → (h : Held Entry) × (drop i held ≡ h ∷ drop (i + 1) held) × (take (i + 1) held ≡ take i held ++ h ∷ []) × (get_or (take k (spots_of held)) i d ≡ record { block = block_of h.label; slot = slot_noted h.note }) × Contains (labels_of held) h.label
+round_step [] k i d less le = absurd (omega (arith, less, le))
+round_step (h ∷ held) zero i d less le = absurd (omega (arith, less))
+round_step (h ∷ held) (suc k) zero d less le = (h, refl, refl, refl, (0, omega arith, refl))
+round_step (h ∷ held) (suc k) (suc i) d less le =
+    let rest = round_step held k i d (omega (arith, less)) (omega (arith, le)) in let same : suc i + 1 ≡ suc (i + 1) = omega arith in (
+      rest.0,
+      rest.1 ∙ ap (λ (n : ℕ). rest.0 ∷ drop n (h ∷ held)) (sym same),
+      ap (λ (n : ℕ). take n (h ∷ held)) same ∙ ap (λ (hs : Keys). h ∷ hs) rest.2,
+      rest.3,
+      (suc rest.4.0, omega (arith, rest.4.1), rest.4.2),
+    )
 
 -- the call has taken a turn at so many of them, and won so many insertions
-pub record HasTurned {key : SlotKey} {pass : Pass} {entries : List Entry} {front : ℕ} (at : IsInserting key pass entries front) (count won : ℕ) (key' : SlotKey) (pass' : Pass) : Type 0 where
+pub record HasTurned {key : SlotKey} {pass : Pass} {spots : List Spot} {front : ℕ} (at : IsInserting key pass spots front) (count won : ℕ) (key' : SlotKey) (pass' : Pass) : Type 0 where
   pub keeps : Keeps key pass key' pass'
   pub turns : List Turn
   pub each : length turns ≡ count
-  pub within : count ≤ length entries
-  pub made : events_by pass' ≡ events_by pass ++ turns_at pass (number_of key) (slots_of (take count entries)) turns
+  pub within : count ≤ length spots
+  pub made : events_by pass' ≡ events_by pass ++ turns_at pass (number_of key) (slots_of (take count spots)) turns
   pub many : won ≡ won_in turns
   pub few : won ≤ count
   pub planned : plan_in key' at.batch ≡ plan_in key at.batch
-  pub stands : (slot_of key').call ≡ Some (record { place = look at.batch (at.won + won) (slots_of (drop count entries)); queue = at.queue })
+  pub stands : (slot_of key').call ≡ Some (record { place = look at.batch (at.won + won) (slots_of (drop count spots)); queue = at.queue })
 
-abbrev pub none_turned : (key : SlotKey) (pass : Pass) (entries : List Entry) (front : ℕ) (at : IsInserting key pass entries front) → HasTurned at 0 0 key pass
-none_turned key pass entries front at = record {
-  keeps = record { same = (refl, refl); its = (refl, refl); batch = refl; used = refl; active = refl; life = refl; seen = omega arith };
+abbrev pub none_turned : (key : SlotKey) (pass : Pass) (spots : List Spot) (front : ℕ) (at : IsInserting key pass spots front) → HasTurned at 0 0 key pass
+none_turned key pass spots front at = record {
+  keeps = record { same = (refl, refl); its = (refl, refl); batch = refl; used = refl; active = refl; life = refl; seen = omega arith; grows = ([], append-nil pass.seen) };
   turns = [];
   each = refl;
   within = omega arith;
-  made = sym (append-nil (events_by pass)) ∙ ap (λ (log : List (Deed × Answer)). events_by pass ++ log) (sym (no_turns (slots_of (take 0 entries))));
+  made = sym (append-nil (events_by pass)) ∙ ap (λ (log : List (Deed × Answer)). events_by pass ++ log) (sym (no_turns (slots_of (take 0 spots))));
   many = refl;
   few = omega arith;
   planned = refl;
-  stands = at.stands ∙ ap (λ (w : ℕ). Some (record { place = look at.batch w (slots_of entries); queue = at.queue })) (let same : at.won ≡ at.won + 0 = omega arith in same);
+  stands = at.stands ∙ ap (λ (w : ℕ). Some (record { place = look at.batch w (slots_of spots); queue = at.queue })) (let same : at.won ≡ at.won + 0 = omega arith in same);
 }
   where
     no_turns : (ms : List ℕ) → turns_at pass (number_of key) ms [] ≡ []
     no_turns [] = refl
     no_turns (m ∷ ms) = refl
 
-module _ (key : SlotKey) (pass : Pass) (entries : List Entry) (front : ℕ) (at : IsInserting key pass entries front) (i won : ℕ) (now : SlotKey) (pass1 : Pass) (r : HasTurned at i won now pass1) (d : Entry) (less : i < length entries) where
-  abbrev entry : Entry
-  entry = get_or entries i d
+module _ (key : SlotKey) (pass : Pass) (spots : List Spot) (front : ℕ) (at : IsInserting key pass spots front) (i won : ℕ) (now : SlotKey) (pass1 : Pass) (r : HasTurned at i won now pass1) (d : Spot) (less : i < length spots) where
+  abbrev spot : Spot
+  spot = get_or spots i d
 
   abbrev later : List ℕ
-  later = slots_of (drop (i + 1) entries)
+  later = slots_of (drop (i + 1) spots)
 
   -- the next turn
-  abbrev pub at_next : IsAtSlot now entry.slot entry.block front
+  abbrev pub at_next : IsAtSlot now spot.slot spot.block front
   at_next =
-      let its = planned_at (plan_in key at.batch) (slots_seen pass) entries i d at.planned less in
+      let its = planned_at (plan_in key at.batch) (slots_seen pass) spots i d at.planned less in
       record {
         batch = at.batch;
         won = at.won + won;
         later = later;
         queue = at.queue;
-        looking = r.stands ∙ ap (λ (ms : List ℕ). Some (record { place = look at.batch (at.won + won) ms; queue = at.queue })) (slots_left entries i d less);
-        its_block = its.0 ∙ ap (λ (plan : Plan). block_in plan entry.slot) (sym r.planned);
-        fits = its.1;
+        looking = r.stands ∙ ap (λ (ms : List ℕ). Some (record { place = look at.batch (at.won + won) ms; queue = at.queue })) (slots_left spots i d less);
+        its_block = its.0 ∙ ap (λ (plan : Plan). block_in plan spot.slot) (sym r.planned);
         its_front = front_same key now at.batch front r.planned at.its_front;
       }
 
-  pub next_seen : entry.slot < slots_seen pass1
-  next_seen = let its = planned_at (plan_in key at.batch) (slots_seen pass) entries i d at.planned less in let more = r.keeps.seen in omega (arith, its.2, more)
+  pub next_seen : spot.slot < slots_seen pass1
+  next_seen = let its = planned_at (plan_in key at.batch) (slots_seen pass) spots i d at.planned less in let more = r.keeps.seen in omega (arith, its.1, more)
 
   module _ (key' : SlotKey) (pass' : Pass) (one : Bool) (turned : Inserted at_next pass1 key' pass' one) where
     abbrev turn : Turn
@@ -136,27 +164,27 @@ module _ (key : SlotKey) (pass : Pass) (entries : List Entry) (front : ℕ) (at 
 
     pub turned_next : HasTurned at (i + 1) (won + more) key' pass'
     turned_next =
-        let before = events_by pass in let s = number_of key in let ms = slots_of (take i entries) in
+        let before = events_by pass in let s = number_of key in let ms = slots_of (take i spots) in
         record {
           keeps = keeps_twice key now key' pass pass1 pass' r.keeps turned.keeps;
           turns = r.turns ++ turn ∷ [];
           each = length_push r.turns turn ∙ ap (λ (n : ℕ). n + 1) r.each;
           within = omega (arith, less);
           made = turned.made
-              ∙ ap (λ (log : List (Deed × Answer)). log ++ turn_at pass1 (number_of now) entry.slot turn) r.made
+              ∙ ap (λ (log : List (Deed × Answer)). log ++ turn_at pass1 (number_of now) spot.slot turn) r.made
               ∙ ap (λ (log : List (Deed × Answer)). (before ++ turns_at pass s ms r.turns) ++ log)
-              (same_turn pass pass1 r.keeps.same (number_of now) entry.slot turn ∙ ap (λ (k : ℕ). turn_at pass k entry.slot turn) r.keeps.its.1)
-              ∙ append_assoc before (turns_at pass s ms r.turns) (turn_at pass s entry.slot turn)
+              (same_turn pass pass1 r.keeps.same (number_of now) spot.slot turn ∙ ap (λ (k : ℕ). turn_at pass k spot.slot turn) r.keeps.its.1)
+              ∙ append_assoc before (turns_at pass s ms r.turns) (turn_at pass s spot.slot turn)
               ∙ ap (λ (log : List (Deed × Answer)). before ++ log)
-              (sym (turns_push pass s ms r.turns entry.slot turn (r.each ∙ sym (many_taken entries i less)))
-              ∙ ap (λ (slots : List ℕ). turns_at pass s slots (r.turns ++ turn ∷ [])) (sym (slots_more entries i d less)));
+              (sym (turns_push pass s ms r.turns spot.slot turn (r.each ∙ sym (many_taken spots i less)))
+              ∙ ap (λ (slots : List ℕ). turns_at pass s slots (r.turns ++ turn ∷ [])) (sym (slots_more spots i d less)));
           many = ap (λ (n : ℕ). n + more) r.many ∙ sym (won_push r.turns turn);
           few = let a = few one in let b = r.few in omega (arith, a, b);
           planned = turned.planned ∙ r.planned;
           stands = turned.stands ∙ ap (λ (w : ℕ). Some (record { place = look at.batch w later; queue = at.queue })) (plus one (at.won + won) ∙ (let same : (at.won + won) + more ≡ at.won + (won + more) = omega arith in same));
         }
       where
-        many_taken : (es : List Entry) (k : ℕ) → k < length es → length (slots_of (take k es)) ≡ k
+        many_taken : (es : List Spot) (k : ℕ) → k < length es → length (slots_of (take k es)) ≡ k
         many_taken [] k l = absurd (omega (arith, l))
         many_taken (e ∷ es) zero l = refl
         many_taken (e ∷ es) (suc k) l = ap suc (many_taken es k (omega (arith, l)))
@@ -167,13 +195,56 @@ module _ (key : SlotKey) (pass : Pass) (entries : List Entry) (front : ℕ) (at 
     pub turned_off : one ≡ false → HasTurned at (i + 1) won key' pass'
     turned_off is = subst (λ (n : ℕ). HasTurned at (i + 1) n key' pass') (let none : won + 0 ≡ won = omega arith in none) (subst (λ (b : Bool). HasTurned at (i + 1) (won + (if b then 1 else 0)) key' pass') is turned_next)
 
-pub all_turned : (key : SlotKey) (pass : Pass) (entries : List Entry) (front : ℕ) (at : IsInserting key pass entries front) (i won : ℕ) (key' : SlotKey) (pass' : Pass) → HasTurned at i won key' pass' → length entries ≤ i → InsertedAll at key' pass' won
-all_turned key pass entries front at i won key' pass' r past = record {
+pub all_turned : (key : SlotKey) (pass : Pass) (spots : List Spot) (front : ℕ) (at : IsInserting key pass spots front) (i won : ℕ) (key' : SlotKey) (pass' : Pass) → HasTurned at i won key' pass' → length spots ≤ i → InsertedAll at key' pass' won
+all_turned key pass spots front at i won key' pass' r past = record {
   keeps = r.keeps;
   turns = r.turns;
   each = let each = r.each in let within = r.within in omega (arith, each, within, past);
-  made = r.made ∙ ap (λ (es : List Entry). events_by pass ++ turns_at pass (number_of key) (slots_of es) r.turns) (all_taken entries i past);
+  made = r.made ∙ ap (λ (es : List Spot). events_by pass ++ turns_at pass (number_of key) (slots_of es) r.turns) (all_taken spots i past);
   many = r.many;
   planned = r.planned;
-  stands = r.stands ∙ ap (λ (ms : List ℕ). Some (record { place = look at.batch (at.won + won) ms; queue = at.queue })) (none_left entries i past);
+  stands = r.stands ∙ ap (λ (ms : List ℕ). Some (record { place = look at.batch (at.won + won) ms; queue = at.queue })) (none_left spots i past);
 }
+
+-- The round comes to the next block, at which the call is to insert its batch next.
+
+pub detached_look : (b won : ℕ) (ms queue : List ℕ) → detached_by (Some (record { place = look b won ms; queue = queue })) ≡ Some b
+detached_look b won [] queue = refl
+detached_look b won (m ∷ ms) queue = refl
+
+module _ (key : SlotKey) (pass : Pass) (held : Keys) (k front : ℕ) (at : IsInserting key pass (take k (spots_of held)) front) (values : labels_of held ≡ values_in key at.batch) (enough : k ≤ length (spots_of held))
+    (i won : ℕ) (now : SlotKey) (pass1 : Pass) (r : HasTurned at i won now pass1) (less : i < k) (book : IsOf now pass1) (knows : Knows now pass1) (round : Round) (rest_is : rest_in round ≡ drop i held) where
+  abbrev none : Spot
+  none = record { block = 0; slot = 0 }
+
+  abbrev step : (h : Held Entry) × (drop i held ≡ h ∷ drop (i + 1) held) × (take (i + 1) held ≡ take i held ++ h ∷ []) × (get_or (take k (spots_of held)) i none ≡ record { block = block_of h.label; slot = slot_noted h.note }) × Contains (labels_of held) h.label
+  step = round_step held k i none less enough
+
+  pub within : i < length (take k (spots_of held))
+  within = let long = length-take-le k (spots_of held) enough in omega (arith, long, less)
+
+  pub next_named : has step.0.label (state_seen pass1).named ≡ true
+  next_named =
+      detached_named now pass1 book knows at.batch step.0.label (ap detached_by r.stands ∙ detached_look at.batch (at.won + won) (slots_of (drop i (take k (spots_of held)))) at.queue)
+      (subst (λ (vs : List ℕ). Contains vs step.0.label) (values ∙ ap (λ (plan : Plan). plan.values) (sym r.planned)) step.4)
+
+  abbrev pub with_at : IsAtSlot now (slot_noted step.0.note) (block_of step.0.label) front → IsAtNext now pass1 round front
+  with_at a = record {
+    first = step.0;
+    others = drop (i + 1) held;
+    is_first = rest_is ∙ step.1;
+    at = a;
+    seen = subst (λ (s : Spot). s.slot < slots_seen pass1) step.3 (next_seen key pass (take k (spots_of held)) front at i won now pass1 r none within);
+    named = next_named;
+  }
+
+  abbrev pub round_next : IsAtNext now pass1 round front
+  round_next = with_at (subst (λ (s : Spot). IsAtSlot now s.slot s.block front) step.3 (at_next key pass (take k (spots_of held)) front at i won now pass1 r none within))
+
+  pub round_turned : (key' : SlotKey) (pass' : Pass) (one : Bool) → ((next : IsAtNext now pass1 round front) → Inserted next.at pass1 key' pass' one) → HasTurned at (i + 1) (won + (if one then 1 else 0)) key' pass'
+  round_turned key' pass' one all =
+      turned_next key pass (take k (spots_of held)) front at i won now pass1 r none within key' pass' one
+      (subst (λ (s : Spot). (a : IsAtSlot now s.slot s.block front) → Inserted a pass1 key' pass' one) (sym step.3) (λ a. all (with_at a)) (at_next key pass (take k (spots_of held)) front at i won now pass1 r none within))
+
+  pub round_done : (round' : Round) → GoesPast round_next round' → done_in round ≡ take i held → (done_in round' ≡ take (i + 1) held) × (rest_in round' ≡ drop (i + 1) held)
+  round_done round' past is = (past.1 ∙ ap (λ (hs : Keys). hs ++ step.0 ∷ []) is ∙ sym step.2, past.2)

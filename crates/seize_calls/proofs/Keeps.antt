@@ -108,6 +108,7 @@ module _ (key key' : SlotKey) (pass pass' : Pass) (event : Event) (notes : Notes
     seen =
         subst (λ (z : Name). length (after (start pass.name) pass.seen).slots ≤ length (after (start z) pass'.seen).slots) (sym notes.0.0)
         (more_slots pass.name pass.seen pass'.seen (seen_grows pass.name pass.id pass.seen pass'.seen _ notes.2.0) notes.2.0.legal);
+    grows = seen_grows pass.name pass.id pass.seen pass'.seen _ notes.2.0;
   }
 
   -- it knows all that it knew
@@ -135,10 +136,11 @@ keeps_used key key' pass pass' f v uses = record {
   seen =
       subst (λ (z : Name). length (after (start pass.name) pass.seen).slots ≤ length (after (start z) pass'.seen).slots) (sym uses.same.0)
       (more_slots pass.name pass.seen pass'.seen (seen_grows pass.name pass.id pass.seen pass'.seen _ uses.noted) uses.noted.legal);
+  grows = seen_grows pass.name pass.id pass.seen pass'.seen _ uses.noted;
 }
 
 pub keeps_looked : (key : SlotKey) (pass pass' : Pass) → LooksOn pass pass' → Keeps key pass key pass'
-keeps_looked key pass pass' looks = record { same = looks.same; its = (refl, refl); batch = refl; used = refl; active = refl; life = refl; seen = more_seen pass pass' looks }
+keeps_looked key pass pass' looks = record { same = looks.same; its = (refl, refl); batch = refl; used = refl; active = refl; life = refl; seen = more_seen pass pass' looks; grows = looks.grows }
 
 pub keeps_twice : (key one two : SlotKey) (pass pass1 pass2 : Pass) → Keeps key pass one pass1 → Keeps one pass1 two pass2 → Keeps key pass two pass2
 keeps_twice key one two pass pass1 pass2 first second = record {
@@ -149,6 +151,7 @@ keeps_twice key one two pass pass1 pass2 first second = record {
   active = second.active ∙ first.active;
   life = second.life ∙ first.life;
   seen = let a = first.seen in let b = second.seen in omega (arith, a, b);
+  grows = prefix_trans pass.seen pass1.seen pass2.seen first.grows second.grows;
 }
 
 pub keeps_book : (key key' : SlotKey) (pass pass' : Pass) → Keeps key pass key' pass' → IsOf key pass → IsOf key' pass'

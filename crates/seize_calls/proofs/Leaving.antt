@@ -2,6 +2,7 @@
 use Rattle.std.proofs.Common.{◌≡◌, ℕ, ◌<◌, ◌≤◌, Bool, true, false, if◌then◌else◌, List, [], ◌∷◌, ◌++◌, length, Some, refl, sym, ap, ◌∙◌, ◌⊎◌, inl, inr}
 use Rattle.std.proofs.lemmas.List.{get_or-set_same, get_or_past}
 use Rattle.std.proofs.lemmas.Bool.{cases_lt}
+use base.Growing.{prefix_trans}
 use Rattle.seize_machine.specs.Machine.State.{Active, Inactive, Out, Slot, State, head_at, is_active, no_slot, slot_at}
 use Rattle.seize_machine.specs.Machine.Event.{Begin, Event, Return, SwapOut}
 use Rattle.seize_machine.specs.Machine.Next.{leaving_at, of_call}
@@ -19,6 +20,7 @@ use Rattle.seize_book.specs.Tokens.{Name, start}
 use Rattle.seize_book.specs.declared.book.pass.Pass.{Pass}
 use Rattle.seize_book.specs.declared.book.slot_key.SlotKey.{SlotKey}
 use Rattle.seize_words.specs.declared.reservation.Head.{Head as Word}
+use Rattle.seize_words.proofs.Facts.{seen_grows}
 use Rattle.seize_calls.specs.Calls.{Begins, Leaves, done}
 use Rattle.seize_calls.specs.Handing.{Had}
 use Rattle.seize_calls.specs.Walking.{IsAtWalk, WalksAll, steps}
@@ -113,6 +115,9 @@ module _ (key one two : SlotKey) (pass pass1 pass2 : Pass) (job : Job) (stays : 
         let keeps = keeps_returned three key' pass3 pass' last in
         record {
           same = (keeps.same.0 ∙ same_three.0, keeps.same.1 ∙ same_three.1);
+          grows =
+              prefix_trans pass.seen pass1.seen pass'.seen begins.keeps.grows
+              (prefix_trans pass1.seen pass2.seen pass'.seen (seen_grows pass1.name pass1.id pass1.seen pass2.seen _ notes.2.0) (prefix_trans pass2.seen pass3.seen pass'.seen all.goes_on.0.grows keeps.grows));
           its = (keeps.its.0 ∙ its_three.0, keeps.its.1 ∙ its_three.1);
           call = call_returned three key' pass3 pass' last;
           batch = keeps.batch ∙ all.goes_on.0.batch ∙ ap (λ (z : Slot). z.batch) notes.2.1.is ∙ so.0 ∙ ap (λ (z : Slot). z.batch) notes.2.1.was ∙ begins.keeps.batch;

@@ -1,4 +1,5 @@
 pub mod Attempts
+pub mod Batches
 pub mod Events
 pub mod Handed
 pub mod Handings
@@ -6,6 +7,8 @@ pub mod Inserts
 pub mod Keeps
 pub mod Leaving
 pub mod Marks
+pub mod Named
+pub mod Rounds
 pub mod Settled
 pub mod Strolls
 pub mod Tries

@@ -1,8 +1,10 @@
 -- What is known while a call marks, and what one more head read adds to it.
-use Rattle.std.proofs.Common.{◌≡◌, ◌≢◌, ℕ, suc, zero, ◌+◌, ◌^◌, ◌<◌, ◌≤◌, Bool, true, false, if◌then◌else◌, nat_le, nat_lt, List, [], ◌∷◌, ◌++◌, length, get_or, set, take, Option, Some, refl, sym, ap, subst, ◌∙◌, append_assoc, append-nil, unwrap_or, ◌⊎◌, inl, inr, arith}
-use Rattle.std.proofs.lemmas.List.{get_or-set_same, get_or_past, length_push, map-append, take_more_set}
+use Rattle.std.proofs.Common.{◌≡◌, ◌≢◌, ℕ, suc, zero, ◌+◌, ◌^◌, ◌<◌, ◌≤◌, Bool, true, false, if◌then◌else◌, nat_le, nat_lt, List, [], ◌∷◌, ◌++◌, length, get_or, map, take, Option, Some, refl, sym, ap, subst, ◌∙◌, append_assoc, append-nil, unwrap_or, ◌⊎◌, inl, inr, arith}
+use Rattle.std.proofs.lemmas.List.{get_or-set_same, get_or_past, length_push}
 use Rattle.std.proofs.lemmas.Bool.{cases_lt}
 use base.Growing.{prefix_trans}
+use base.Stored.{Gv}
+use Rattle.std.specs.List.{Contains}
 use mathlib.Core.List.{IsPrefix}
 use Rattle.seize_machine.specs.Machine.State.{State, Slot, Call, Head, Inactive, Active, Place, Mark, Look, Rest, no_slot, slot_at, head_at, is_active, are_distinct, linked}
 use Rattle.seize_machine.specs.Machine.Event.{ReadHead}
@@ -11,9 +13,11 @@ use Rattle.seize_machine.specs.declared.machine.event.Answer.{Answer}
 use Rattle.seize_machine.specs.declared.machine.event.Answer.TheVariants.{Head as HeadRead}
 use Rattle.seize_machine.proofs.Facts.{Step, Stands, some_is, step_of}
 use Rattle.seize_book.specs.Adding.{private}
-use Rattle.seize_book.specs.Blocks.{block_for, word_of}
+use Rattle.seize_book.specs.Blocks.{block_for, block_of, word_of}
 use Rattle.seize_book.specs.Book.{IsLegalList, after}
-use Rattle.seize_book.specs.Entry.{Deed}
+use Rattle.seize_book.specs.Entry.{Deed, Entry as Logged}
+use Rattle.seize_book.specs.Ledger.{Held}
+use Rattle.seize_book.specs.Private.{labels_of}
 use Rattle.seize_words.specs.Heads.{reads_at}
 use Rattle.seize_book.specs.Passes.{IsSame, LooksOn, events_by, events_in}
 use Rattle.seize_words.specs.Reservations.{MayRead, Shows, slot}
@@ -24,11 +28,15 @@ use Rattle.seize_words.specs.Walks.{Knows}
 use Rattle.seize_book.specs.declared.book.pass.Pass.{Pass}
 use Rattle.seize_book.specs.declared.book.slot_key.SlotKey.{SlotKey}
 use Rattle.seize_words.specs.declared.reservation.Head.{Head as Word}
-use Rattle.seize_words.proofs.Facts.{events_grew, knows_noted, life_kept, more_slots, note_seen, seen_grows}
-use Rattle.seize_calls.specs.Entries.{AreOf, slots_of}
+use Rattle.seize_words.proofs.Facts.{events_grew, knows_noted, knows_still, life_kept, more_seen, more_slots, note_seen, seen_grows}
+use Rattle.seize_calls.proofs.Batches.{counted_is}
+use Rattle.seize_calls.proofs.Named.{batch_named}
+use Rattle.seize_calls.specs.Batches.{Spot, slot_noted, slots_of, spots_of, unslotted, without_slot}
 use Rattle.seize_calls.specs.Marks.{BeginsToMark, Ends, actives, reading, readings}
-use Rattle.seize_calls.specs.declared.entry.Entry.{Entry}
+use Rattle.seize_calls.specs.Numbered.{counted}
+use Rattle.seize_calls.specs.Rounds.{HasNext, IsRoundOf, Remarks, all_in, book_at, done_in, remarked, rest_in}
 use Rattle.seize_calls.specs.declared.marking.Marked.{Marked}
+use Rattle.seize_calls.specs.declared.round.Round.{Round}
 use Rattle.seize_calls.specs.declared.marking.Marked.TheVariants.{Ready, TooMany}
 
 -- Lists of what was found.
@@ -50,30 +58,57 @@ actives_off n [] = refl
 actives_off n (true ∷ finds) = ap (λ (ms : List ℕ). n ∷ ms) (actives_off (suc n) finds)
 actives_off n (false ∷ finds) = actives_off (suc n) finds
 
--- An entry is marked: it is the entry of the same value.
+pub actives_few : (n : ℕ) (finds : List Bool) → length (actives n finds) ≤ length finds
+actives_few n [] = omega arith
+actives_few n (true ∷ finds) = let rest = actives_few (suc n) finds in omega (arith, rest)
+actives_few n (false ∷ finds) = let rest = actives_few (suc n) finds in omega (arith, rest)
 
-pub entries_many : (entries : List Entry) (values : List ℕ) → AreOf entries values → length entries ≡ length values
-entries_many [] [] are = refl
-entries_many [] (v ∷ values) are = absurd are
-entries_many (entry ∷ entries) [] are = absurd are
-entries_many (entry ∷ entries) (v ∷ values) are = ap suc (entries_many entries values are.1)
+-- A round goes past a value whose block is noted anew.
 
-pub still_of : (entries : List Entry) (values : List ℕ) (i : ℕ) (new d : Entry) → AreOf entries values → new.block ≡ (get_or entries i d).block → AreOf (set entries i new) values
-still_of [] values i new d are same = are
-still_of (entry ∷ entries) [] i new d are same = absurd are
-still_of (entry ∷ entries) (v ∷ values) zero new d are same = ((same ∙ are.0.0, subst (λ (k : ℕ). k + 2 < 2 ^ 64) (sym same) are.0.1), are.1)
-still_of (entry ∷ entries) (v ∷ values) (suc i) new d are same = (are.0, still_of entries values i new d are.1 same)
+abbrev Keys : Type 0
+Keys = List (Held Logged)
 
-pub marks_more : (entries : List Entry) (i n : ℕ) (new : Entry) → i < length entries → new.slot ≡ n → slots_of (take (i + 1) (set entries i new)) ≡ slots_of (take i entries) ++ n ∷ []
-marks_more entries i n new less is =
-    ap slots_of (take_more_set entries i new less) ∙ map-append (λ (entry : Entry). entry.slot) (take i entries) (new ∷ []) ∙ ap (λ (k : ℕ). slots_of (take i entries) ++ k ∷ []) is
+all_same : {B : Type 0} (f : Held Logged → B) (done rest : Keys) (x y : Held Logged) → f x ≡ f y → map f ((done ++ x ∷ []) ++ rest) ≡ map f (done ++ y ∷ rest)
+all_same f [] rest x y e = ap (λ b. b ∷ map f rest) e
+all_same f (h ∷ done) rest x y e = ap (λ bs. f h ∷ bs) (all_same f done rest x y e)
+
+slots_push : (done : Keys) (x : Held Logged) → slots_of (spots_of (done ++ x ∷ [])) ≡ slots_of (spots_of done) ++ slot_noted x.note ∷ []
+slots_push [] x = refl
+slots_push (h ∷ done) x = ap (λ (ms : List ℕ). slot_noted h.note ∷ ms) (slots_push done x)
+
+many_slots : (held : Keys) → length (slots_of (spots_of held)) ≡ length held
+many_slots [] = refl
+many_slots (h ∷ held) = ap suc (many_slots held)
+
+pub take_done : (done rest : Keys) (k : ℕ) → length done ≡ k → take k (spots_of (done ++ rest)) ≡ spots_of done
+take_done [] rest zero e = refl
+take_done [] rest (suc k) e = absurd (omega (arith, e))
+take_done (h ∷ done) rest zero e = absurd (omega (arith, e))
+take_done (h ∷ done) rest (suc k) e = ap (λ (spots : List Spot). record { block = block_of h.label; slot = slot_noted h.note } ∷ spots) (take_done done rest k (omega (arith, e)))
+
+done_within : (done rest : Keys) → length done ≤ length (spots_of (done ++ rest))
+done_within [] rest = omega arith
+done_within (h ∷ done) rest = let less = done_within done rest in omega (arith, less)
+
+next_of : (done rest : Keys) (batch : List ℕ) → labels_of (done ++ rest) ≡ batch → length done < length batch → (v : ℕ) × (vs : List ℕ) × (labels_of rest ≡ v ∷ vs) × Contains batch v
+next_of done [] batch e less = absurd (let long = none_more done in let same = ap (λ (vs : List ℕ). length vs) e in omega (arith, long, same, less))
+  where
+    none_more : (done : Keys) → length (labels_of (done ++ [])) ≡ length done
+    none_more [] = refl
+    none_more (h ∷ done) = ap suc (none_more done)
+next_of done (h ∷ rest) batch e less = (h.label, labels_of rest, refl, subst (λ (vs : List ℕ). Contains vs h.label) e (there done))
+  where
+    there : (done : Keys) → Contains (labels_of (done ++ h ∷ rest)) h.label
+    there [] = (0, omega arith, refl)
+    there (x ∷ done) = let more = there done in (suc more.0, omega (arith, more.1), more.2)
 
 -- so many heads were read, and so many slots marked
-pub record IsReading {key : SlotKey} (at : BeginsToMark key) (end : ℕ) (pass : Pass) (count marked : ℕ) (key' : SlotKey) (pass' : Pass) (entries' : List Entry) : Type 0 where
+pub record IsReading {key : SlotKey} (at : BeginsToMark key) (end : ℕ) (pass : Pass) (held : List (Held Logged)) (count marked : ℕ) (key' : SlotKey) (pass' : Pass) (round : Round) : Type 0 where
   pub same : IsSame pass pass'
   pub its : (key'.keys.name ≡ key.keys.name) × (number_of key' ≡ number_of key)
   pub knows : Knows key' pass'
   pub there : end ≤ slots_seen pass'
+  pub grows : IsPrefix pass.seen pass'.seen
   pub batch : (slot_of key').batch ≡ (slot_of key).batch
   pub used : (slot_of key').used ≡ (slot_of key).used
   pub active : active_of key' ≡ active_of key
@@ -84,30 +119,37 @@ pub record IsReading {key : SlotKey} (at : BeginsToMark key) (end : ℕ) (pass :
   pub few : marked ≤ length (slot_of key).batch
   pub stands : (slot_of key').call ≡ Some (record { place = Mark count at.note (actives 0 finds); queue = at.queue })
   pub made : events_by pass' ≡ events_by pass ++ readings pass (number_of key) 0 finds
-  pub entries : AreOf entries' (slot_of key).batch
-  pub slots : slots_of (take marked entries') ≡ actives 0 finds
+  pub book : book_at round ≡ pass.name
+  pub values : labels_of (all_in round) ≡ (slot_of key).batch
+  pub remarked : unslotted (all_in round) ≡ unslotted held
+  pub slots : slots_of (spots_of (done_in round)) ≡ actives 0 finds
 
 -- none was read
-abbrev pub none_read : (key : SlotKey) (at : BeginsToMark key) (end : ℕ) (pass : Pass) (entries : List Entry) → Knows key pass → end ≤ slots_seen pass → AreOf entries (slot_of key).batch
-    → IsReading at end pass 0 0 key pass entries
-none_read key at end pass entries knows there are = record {
-  same = (refl, refl);
-  its = (refl, refl);
-  knows = knows;
-  there = there;
-  batch = refl;
-  used = refl;
-  active = refl;
-  life = refl;
-  finds = [];
-  read = refl;
-  many = refl;
-  few = omega arith;
-  stands = at.marking;
-  made = sym (append-nil (events_by pass));
-  entries = are;
-  slots = refl;
-}
+abbrev pub none_read : (key : SlotKey) (at : BeginsToMark key) (end : ℕ) (pass : Pass) (round : Round) → Knows key pass → end ≤ slots_seen pass → book_at round ≡ pass.name → IsRoundOf round (slot_of key).batch
+    → IsReading at end pass (rest_in round) 0 0 key pass round
+none_read key at end pass round knows there book is =
+    let all = ap (λ (held : Keys). held ++ rest_in round) is.0 in
+    record {
+      same = (refl, refl);
+      its = (refl, refl);
+      knows = knows;
+      there = there;
+      grows = ([], append-nil pass.seen);
+      batch = refl;
+      used = refl;
+      active = refl;
+      life = refl;
+      finds = [];
+      read = refl;
+      many = refl;
+      few = omega arith;
+      stands = at.marking;
+      made = sym (append-nil (events_by pass));
+      book = book;
+      values = ap labels_of all ∙ is.1;
+      remarked = ap unslotted all;
+      slots = ap (λ (held : Keys). slots_of (spots_of held)) is.0;
+    }
 
 -- a slot with a call is there
 pub within : (st : State) (s : ℕ) (call : Call) → (slot_at st s).call ≡ Some call → s < length st.slots
@@ -151,7 +193,7 @@ word_some block Inactive n = absurd (n refl)
 word_some block (Active waiting) n = refl
 
 -- The next head is read.
-module _ (key0 : SlotKey) (at : BeginsToMark key0) (end : ℕ) (pass0 : Pass) (i k : ℕ) (key : SlotKey) (pass : Pass) (entries : List Entry) (r : IsReading at end pass0 i k key pass entries) (head : Word)
+module _ (key0 : SlotKey) (at : BeginsToMark key0) (end : ℕ) (pass0 : Pass) (held : Keys) (i k : ℕ) (key : SlotKey) (pass : Pass) (round : Round) (r : IsReading at end pass0 held i k key pass round) (head : Word)
     (head_is : (head.word.name ≡ pass0.name) × (slot head ≡ i)) (less : i < end) (book : IsOf key0 pass0) where
   is_head : head.word.name ≡ pass.name
   is_head = head_is.0 ∙ sym r.same.0
@@ -219,6 +261,9 @@ module _ (key0 : SlotKey) (at : BeginsToMark key0) (end : ℕ) (pass0 : Pass) (i
     pub knows : Knows key' pass'
     knows = knows_noted key key' pass pass' (private pass (ReadHead (number_of key) (slot head))) noted
 
+    pub grown : IsPrefix pass0.seen pass'.seen
+    grown = prefix_trans pass0.seen pass.seen pass'.seen r.grows (seen_grows pass.name pass.id pass.seen pass'.seen _ noted.2.0)
+
     pub there : end ≤ slots_seen pass'
     there =
         let n = pass.name in
@@ -248,7 +293,7 @@ module _ (key0 : SlotKey) (at : BeginsToMark key0) (end : ℕ) (pass0 : Pass) (i
     long found = omega (arith, length_push r.finds found, r.read)
 
     -- an inactive slot is passed over
-    pub passed_over : v ≡ 0 → IsReading at end pass0 (i + 1) k key' pass' entries
+    pub passed_over : v ≡ 0 → IsReading at end pass0 held (i + 1) k key' pass' round
     passed_over none =
         let off = word_none block (head_at st (slot head)) (sym word ∙ none) in let marks = actives_off 0 r.finds in
         record {
@@ -256,6 +301,7 @@ module _ (key0 : SlotKey) (at : BeginsToMark key0) (end : ℕ) (pass0 : Pass) (i
           its = same_key;
           knows = knows;
           there = there;
+          grows = grown;
           batch = same_batch;
           used = same_used;
           active = same_active;
@@ -266,7 +312,9 @@ module _ (key0 : SlotKey) (at : BeginsToMark key0) (end : ℕ) (pass0 : Pass) (i
           few = r.few;
           stands = goes_on false off ∙ ap (λ (ms : List ℕ). Some (record { place = Mark (i + 1) at.note ms; queue = at.queue })) (sym marks);
           made = made false off;
-          entries = r.entries;
+          book = r.book;
+          values = r.values;
+          remarked = r.remarked;
           slots = r.slots ∙ sym marks;
         }
 
@@ -279,15 +327,33 @@ module _ (key0 : SlotKey) (at : BeginsToMark key0) (end : ℕ) (pass0 : Pass) (i
     one_on : actives 0 (r.finds ++ true ∷ []) ≡ actives 0 r.finds ++ i ∷ []
     one_on = actives_on 0 r.finds ∙ ap (λ (k : ℕ). actives 0 r.finds ++ k ∷ []) (let same : 0 + length r.finds ≡ i = omega (arith, r.read) in same)
 
+    many_done : length (done_in round) ≡ k
+    many_done = sym (many_slots (done_in round)) ∙ ap (λ (ms : List ℕ). length ms) r.slots ∙ r.many
+
     -- an active one is marked while there is a value for it
-    pub one_marked : v ≢ 0 → k < length entries → (new d : Entry) → new.slot ≡ i → new.block ≡ (get_or entries k d).block → IsReading at end pass0 (i + 1) (k + 1) key' pass' (set entries k new)
-    one_marked some room new d its_slot its_block =
-        let same_many = entries_many entries batch r.entries in
-        record {
-          same = same;
+    module _ (some : v ≢ 0) (len : ℕ) (counts : counted len batch ≡ true) (room : k < len) where
+      short : k + 1 ≤ length batch
+      short = let is = counted_is len batch counts in omega (arith, room, is)
+
+      pub has_next : HasNext round pass'
+      has_next =
+          let next = next_of (done_in round) (rest_in round) batch r.values (omega (arith, many_done, short)) in
+          (next.0, next.1, next.2, batch_named key' pass' (same_key.0 ∙ book ∙ sym same.0) knows next.0 (subst (λ (vs : List ℕ). Contains vs next.0) (sym same_batch) next.3))
+
+      module _ (round' : Round) (marks : Remarks round i round') (pass'' : Pass) (looks : LooksOn pass' pass'') where
+        now : all_in round' ≡ (done_in round ++ remarked i marks.note marks.first ∷ []) ++ rest_in round'
+        now = ap (λ (held : Keys). held ++ rest_in round') marks.now
+
+        was : all_in round ≡ done_in round ++ marks.first ∷ rest_in round'
+        was = ap (λ (held : Keys). done_in round ++ held) marks.was
+
+        pub one_marked : IsReading at end pass0 held (i + 1) (k + 1) key' pass'' round'
+        one_marked = record {
+          same = (looks.same.0 ∙ same.0, looks.same.1 ∙ same.1);
           its = same_key;
-          knows = knows;
-          there = there;
+          knows = knows_still key' pass' pass'' knows looks;
+          there = let more = more_seen pass' pass'' looks in omega (arith, there, more);
+          grows = prefix_trans pass0.seen pass'.seen pass''.seen grown looks.grows;
           batch = same_batch;
           used = same_used;
           active = same_active;
@@ -298,32 +364,40 @@ module _ (key0 : SlotKey) (at : BeginsToMark key0) (end : ℕ) (pass0 : Pass) (i
           few = short;
           stands = goes_on true (is_on some) ∙ ap after_test (is_short (length (actives 0 r.finds)) (length batch) (omega (arith, r.many, short)))
               ∙ ap (λ (ms : List ℕ). Some (record { place = Mark (i + 1) at.note ms; queue = at.queue })) (sym one_on);
-          made = made true (is_on some);
-          entries = still_of entries batch k new d r.entries its_block;
-          slots = marks_more entries k i new (omega (arith, short, same_many)) its_slot ∙ ap (λ (ms : List ℕ). ms ++ i ∷ []) r.slots ∙ sym one_on;
+          made = ap events_in looks.none_made ∙ made true (is_on some);
+          book = marks.book ∙ r.book;
+          values = ap labels_of now ∙ all_same (λ h. h.label) (done_in round) (rest_in round') (remarked i marks.note marks.first) marks.first refl ∙ ap labels_of (sym was) ∙ r.values;
+          remarked = ap unslotted now
+              ∙ all_same plain (done_in round) (rest_in round') (remarked i marks.note marks.first) marks.first (ap (λ (g : Gv). plain (anew g)) (sym marks.noted))
+              ∙ ap unslotted (sym was) ∙ r.remarked;
+          slots = ap (λ (held : Keys). slots_of (spots_of held)) marks.now ∙ slots_push (done_in round) (remarked i marks.note marks.first) ∙ ap (λ (ms : List ℕ). ms ++ i ∷ []) r.slots ∙ sym one_on;
         }
-      where
-        short : k + 1 ≤ length batch
-        short = let same_many = entries_many entries batch r.entries in omega (arith, room, same_many)
+          where
+            is_short : (a b : ℕ) → a < b → nat_lt a b ≡ true
+            is_short a b l = grind arith
 
-        is_short : (a b : ℕ) → a < b → nat_lt a b ≡ true
-        is_short a b l = grind arith
+            plain : Held Logged → Held Logged
+            plain h = record { kind = h.kind; key = h.key; own = h.own; label = h.label; note = without_slot h.note }
+
+            anew : Gv → Held Logged
+            anew g = record { kind = marks.first.kind; key = marks.first.key; own = marks.first.own; label = marks.first.label; note = g }
 
     -- and else the call gives up
-    pub stops : v ≢ 0 → length entries ≤ k → (others : List Entry) → Ends at pass0 key' pass' others TooMany
-    stops some full others =
-        let same_many = entries_many entries batch r.entries in
+    pub stops : v ≢ 0 → (len : ℕ) → counted len batch ≡ true → len ≤ k → end < 2 ^ 64 → (others : List Spot) → Ends at pass0 key' pass' others TooMany
+    stops some len counts full bounded others =
+        let all : k ≡ length batch = let is = counted_is len batch counts in let fewer = actives_few 0 r.finds in omega (arith, is, fewer, full, bounded, less, r.read, r.many, r.few) in
         record {
           finds = r.finds ++ true ∷ [];
           within = omega (arith, less, there, long true);
+          grows = grown;
           made = made true (is_on some);
           batch = same_batch;
           used = same_used;
           active = same_active;
           life = same_life;
           stands = (
-            goes_on true (is_on some) ∙ ap after_test (not_short (length (actives 0 r.finds)) (length batch) (omega (arith, r.many, r.few, full, same_many))),
-            ap (λ (ms : List ℕ). length ms) one_on ∙ length_push (actives 0 r.finds) i ∙ (let more : length (actives 0 r.finds) + 1 ≡ suc (length batch) = omega (arith, r.many, r.few, full, same_many) in more),
+            goes_on true (is_on some) ∙ ap after_test (not_short (length (actives 0 r.finds)) (length batch) (omega (arith, r.many, all))),
+            ap (λ (ms : List ℕ). length ms) one_on ∙ length_push (actives 0 r.finds) i ∙ (let more : length (actives 0 r.finds) + 1 ≡ suc (length batch) = omega (arith, r.many, all) in more),
           );
         }
       where
@@ -331,11 +405,12 @@ module _ (key0 : SlotKey) (at : BeginsToMark key0) (end : ℕ) (pass0 : Pass) (i
         not_short a b e = grind arith
 
 -- All heads were read.
-pub all_read : {key0 : SlotKey} (at : BeginsToMark key0) (end : ℕ) (pass0 : Pass) (i k : ℕ) (key : SlotKey) (pass : Pass) (entries : List Entry) → IsReading at end pass0 i k key pass entries → i ≡ end → at.note ≤ end
-    → Ends at pass0 key pass entries (Ready k)
-all_read {key0} at end pass0 i k key pass entries r all le = record {
+pub all_read : {key0 : SlotKey} (at : BeginsToMark key0) (end : ℕ) (pass0 : Pass) (held : Keys) (i k : ℕ) (key : SlotKey) (pass : Pass) (round : Round) → IsReading at end pass0 held i k key pass round → i ≡ end → at.note ≤ end
+    → Ends at pass0 key pass (spots_of (all_in round)) (Ready k)
+all_read {key0} at end pass0 held i k key pass round r all le = record {
   finds = r.finds;
   within = let there = r.there in let read = r.read in omega (arith, all, there, read);
+  grows = r.grows;
   made = r.made;
   batch = r.batch;
   used = r.used;
@@ -344,20 +419,24 @@ all_read {key0} at end pass0 i k key pass entries r all le = record {
   stands = (
     ap (λ (o : Option Call). unwrap_or (of_call can_detach_at o) false) r.stands ∙ is_le at.note i (omega (arith, all, le)),
     r.stands ∙ ap (λ (n : ℕ). Some (record { place = Mark n at.note (actives 0 r.finds); queue = at.queue })) (sym r.read),
-    (let same_many = entries_many entries (slot_of key0).batch r.entries in let few = r.few in omega (arith, few, same_many)),
-    r.slots,
+    (let within = done_within (done_in round) (rest_in round) in omega (arith, within, many)),
+    ap slots_of (take_done (done_in round) (rest_in round) k many) ∙ r.slots,
   );
 }
   where
     is_le : (a b : ℕ) → a ≤ b → nat_le a b ≡ true
     is_le a b l = grind arith
 
+    many : length (done_in round) ≡ k
+    many = sym (many_slots (done_in round)) ∙ ap (λ (ms : List ℕ). length ms) r.slots ∙ r.many
+
 -- The same is so from before a look on.
-pub ends_before : {key0 : SlotKey} (at : BeginsToMark key0) (pass0 pass1 : Pass) (key : SlotKey) (pass : Pass) (entries : List Entry) (ends : Marked) → LooksOn pass0 pass1 → Ends at pass1 key pass entries ends → Ends at pass0 key pass entries ends
-ends_before {key0} at pass0 pass1 key pass entries ends looks e =
+pub ends_before : {key0 : SlotKey} (at : BeginsToMark key0) (pass0 pass1 : Pass) (key : SlotKey) (pass : Pass) (spots : List Spot) (ends : Marked) → LooksOn pass0 pass1 → Ends at pass1 key pass spots ends → Ends at pass0 key pass spots ends
+ends_before {key0} at pass0 pass1 key pass spots ends looks e =
     record {
       finds = e.finds;
       within = e.within;
+      grows = prefix_trans pass0.seen pass1.seen pass.seen looks.grows e.grows;
       made = e.made ∙ ap (λ (log : List (Deed × Answer)). log ++ readings pass1 (number_of key0) 0 e.finds) (ap events_in looks.none_made)
           ∙ ap (λ (log : List (Deed × Answer)). events_by pass0 ++ log) (same_readings (number_of key0) 0 e.finds);
       batch = e.batch;

@@ -1,5 +1,7 @@
 -- Where a call has come to that attempted, and returned.
-use Rattle.std.proofs.Common.{◌≡◌, ℕ, ◌<◌, ◌≤◌, Bool, true, false, if◌then◌else◌, List, [], ◌∷◌, ◌++◌, length, get_or, Some, refl, sym, ap, ◌∙◌, append-nil, arith}
+use Rattle.std.proofs.Common.{◌≡◌, ℕ, ◌≤◌, Bool, true, false, if◌then◌else◌, List, [], ◌∷◌, ◌++◌, length, Some, refl, sym, ap, subst, ◌∙◌, append-nil}
+use base.Growing.{prefix_trans}
+use mathlib.Core.List.{IsPrefix}
 use Rattle.seize_machine.specs.Machine.State.{Rest}
 use Rattle.seize_machine.specs.Machine.Event.{AddCount, Detach, Return}
 use Rattle.seize_machine.specs.Machine.History.{first_of}
@@ -22,15 +24,15 @@ use Rattle.seize_book.specs.declared.book.value_keys.ValueKeys.{ValueKeys}
 use Rattle.seize_words.proofs.Facts.{own_reached}
 use Rattle.seize_calls.specs.Attempts.{Retires}
 use Rattle.seize_calls.specs.Calls.{Goes, Marking, Stays, done}
-use Rattle.seize_calls.specs.Entries.{AreOf}
+use Rattle.seize_calls.specs.Batches.{AreRemarked}
 use Rattle.seize_calls.specs.Inserts.{turns_at}
 use Rattle.seize_calls.specs.Marks.{BeginsToMark, Ends, actives, readings}
 use Rattle.seize_calls.specs.Walking.{HandsAll, IsGiven, hands}
-use Rattle.seize_calls.specs.declared.entry.Entry.{Entry}
+use Rattle.seize_calls.specs.Numbered.{starts_at}
 use Rattle.seize_calls.specs.declared.marking.Marked.TheVariants.{TooMany}
 use Rattle.seize_calls.proofs.Attempts.{first_block}
+use Rattle.seize_calls.proofs.Batches.{remarked_labels, renewed_labels}
 use Rattle.seize_calls.proofs.Events.{call_returned, keeps_returned, made_returned, same_done}
-use Rattle.seize_calls.proofs.Marks.{entries_many}
 use Rattle.seize_calls.proofs.Strolls.{same_hands}
 
 module _ (key : SlotKey) (pass : Pass) (values : ValueKeys) (m : Marking key) where
@@ -45,11 +47,12 @@ module _ (key : SlotKey) (pass : Pass) (values : ValueKeys) (m : Marking key) wh
     pub stays_over : (slot_of key1).call ≡ Some (record { place = Rest [] []; queue = [] })
     stays_over = ends.stands.0 ∙ ap (λ (q : List ℕ). Some (record { place = Rest [] []; queue = q })) m.1
 
-    pub has_stayed : (key2 : SlotKey) (pass2 : Pass) → Notes key1 pass1 key2 pass2 (Return (number_of key1)) → Stays key pass values key2 pass2 values
-    has_stayed key2 pass2 notes =
+    pub has_stayed : (values1 : ValueKeys) → AreRemarked values values1 → (key2 : SlotKey) (pass2 : Pass) → Notes key1 pass1 key2 pass2 (Return (number_of key1)) → Stays key pass values key2 pass2 values1
+    has_stayed values1 remarked key2 pass2 notes =
         let keeps = keeps_returned key1 key2 pass1 pass2 notes in
         record {
           same = (keeps.same.0 ∙ same.0, keeps.same.1 ∙ same.1);
+          grows = prefix_trans pass.seen pass1.seen pass2.seen ends.grows keeps.grows;
           rests = record {
             its = (keeps.its.0 ∙ its.0, keeps.its.1 ∙ its.1);
             call = call_returned key1 key2 pass1 pass2 notes;
@@ -61,7 +64,7 @@ module _ (key : SlotKey) (pass : Pass) (values : ValueKeys) (m : Marking key) wh
           finds = ends.finds;
           made = made_returned key1 key2 pass1 pass2 notes ∙ ap (λ (log : List (Deed × Answer)). log ++ done pass1 (Return (number_of key1))) ends.made
               ∙ ap (λ (log : List (Deed × Answer)). (events_by pass ++ readings pass (number_of key) 0 ends.finds) ++ log) (same_done pass pass1 same Return (number_of key) (number_of key1) its.1);
-          keys = refl;
+          keys = remarked;
         }
 
   -- or it was retired
@@ -80,14 +83,15 @@ module _ (key : SlotKey) (pass : Pass) (values : ValueKeys) (m : Marking key) wh
     waits_over off =
         r.stands ∙ ap (λ (z : Bool). Some (record { place = Rest (if z then batch else []) []; queue = at.queue })) off ∙ ap (λ (q : List ℕ). Some (record { place = Rest [] []; queue = q })) m.1
 
-    finished : (key2 : SlotKey) (pass2 : Pass) (values2 : ValueKeys) (key3 : SlotKey) (pass3 : Pass) → IsSame pass pass2 → (key2.keys.name ≡ key.keys.name) × (number_of key2 ≡ s)
+    finished : (key2 : SlotKey) (pass2 : Pass) (values2 : ValueKeys) (key3 : SlotKey) (pass3 : Pass) → IsSame pass pass2 → IsPrefix pass.seen pass2.seen → (key2.keys.name ≡ key.keys.name) × (number_of key2 ≡ s)
         → ((slot_of key2).batch ≡ []) × ((slot_of key2).used ≡ (slot_of key).used) × (active_of key2 ≡ active_of key) × (life_of key2 ≡ life_of key)
         → events_by pass2 ≡ before ++ hands pass s (if is_zero r.count then batch else [])
         → (notes : Notes key2 pass2 key3 pass3 (Return (number_of key2))) → IsEmpty values2 pass3 → Goes key pass key3 pass3 values2
-    finished key2 pass2 values2 key3 pass3 same2 its2 kept made notes none =
+    finished key2 pass2 values2 key3 pass3 same2 grows2 its2 kept made notes none =
         let keeps = keeps_returned key2 key3 pass2 pass3 notes in
         record {
           same = (keeps.same.0 ∙ same2.0, keeps.same.1 ∙ same2.1);
+          grows = prefix_trans pass.seen pass2.seen pass3.seen grows2 keeps.grows;
           rests = record {
             its = (keeps.its.0 ∙ its2.0, keeps.its.1 ∙ its2.1);
             call = call_returned key2 key3 pass2 pass3 notes;
@@ -108,32 +112,25 @@ module _ (key : SlotKey) (pass : Pass) (values : ValueKeys) (m : Marking key) wh
     pub has_waited : zero ≡ false → (key2 : SlotKey) (pass2 : Pass) → Notes key1 pass1 key2 pass2 (Return (number_of key1)) → Goes key pass key2 pass2 values1
     has_waited off key2 pass2 notes =
         let none = sym r.is_count ∙ off in
-        finished key1 pass1 values1 key2 pass2 same its (r.batch, r.used, r.active, r.life)
+        finished key1 pass1 values1 key2 pass2 same r.grows its (r.batch, r.used, r.active, r.life)
         (r.made ∙ sym (append-nil before) ∙ ap (λ (vs : List ℕ). before ++ hands pass s vs) (ap (λ (z : Bool). if z then batch else []) (sym none))) notes
-        (r.keys.0 ∙ sym (keeps_returned key1 key2 pass1 pass2 notes).same.0, r.keys.1 ∙ ap (λ (z : Bool). renewed (if z then values.keys.held else []) pass1.seen) off)
+        (r.keys.0 ∙ sym (keeps_returned key1 key2 pass1 pass2 notes).same.0, r.keys.1 ∙ ap (λ (z : Bool). renewed (if z then r.marked.keys.held else []) pass1.seen) off)
 
     -- or its values are given up to the call
-    module _ (on : zero ≡ true) (entries : List Entry) (d : Entry) (are : AreOf entries batch) (full : 1 ≤ length batch) (values_are : values_of values ≡ batch) where
-      pub some_left : 0 < length entries
-      some_left = let same_many = entries_many entries batch are in omega (arith, same_many, full)
-
-      labels_same : (held : List (Held Logged)) (seen : List Logged) → labels_of (renewed held seen) ≡ labels_of held
-      labels_same [] seen = refl
-      labels_same (h ∷ held) seen = ap (λ (vs : List ℕ). h.label ∷ vs) (labels_same held seen)
-
+    module _ (on : zero ≡ true) (front : ℕ) (starts : starts_at front (values_of values1) ≡ true) (full : 1 ≤ length batch) (values_are : values_of values ≡ batch) where
       pub renewed_twice : (held : List (Held Logged)) (seen : List Logged) → renewed held seen ≡ renewed (renewed held seen) seen
       renewed_twice [] seen = refl
       renewed_twice (h ∷ held) seen = ap (λ (hs : List (Held Logged)). record { kind = h.kind; key = h.key; own = seen; label = h.label; note = h.note } ∷ hs) (renewed_twice held seen)
 
-      pub kept_keys : values1.keys.held ≡ renewed values.keys.held pass1.seen
-      kept_keys = r.keys.1 ∙ ap (λ (z : Bool). renewed (if z then values.keys.held else []) pass1.seen) on
+      pub kept_keys : values1.keys.held ≡ renewed r.marked.keys.held pass1.seen
+      kept_keys = r.keys.1 ∙ ap (λ (z : Bool). renewed (if z then r.marked.keys.held else []) pass1.seen) on
 
       pub same_values : values_of values1 ≡ batch
-      same_values = ap labels_of kept_keys ∙ labels_same values.keys.held pass1.seen ∙ values_are
+      same_values = ap labels_of kept_keys ∙ renewed_labels r.marked.keys.held pass1.seen ∙ remarked_labels r.marked.keys.held values.keys.held r.remarked.1 ∙ values_are
 
-      abbrev pub given_now : IsGiven key1 pass1 values1 (get_or entries 0 d).block
+      abbrev pub given_now : IsGiven key1 pass1 values1 front
       given_now =
-          let its_first = first_block entries batch d are full in
+          let its_first = first_block front batch (subst (λ (vs : List ℕ). starts_at front vs ≡ true) same_values starts) full in
           record {
             walk = [];
             queue = at.queue;
@@ -142,7 +139,7 @@ module _ (key : SlotKey) (pass : Pass) (values : ValueKeys) (m : Marking key) wh
             is_first = ap first_of same_values ∙ its_first.1;
             its_block = its_first.2;
             book = r.keys.0;
-            keys = (refl, refl, kept_keys ∙ renewed_twice values.keys.held pass1.seen ∙ ap (λ (hs : List (Held Logged)). renewed hs pass1.seen) (sym kept_keys));
+            keys = (refl, refl, kept_keys ∙ renewed_twice r.marked.keys.held pass1.seen ∙ ap (λ (hs : List (Held Logged)). renewed hs pass1.seen) (sym kept_keys));
             last = r.keys.2;
             closed = r.keys.3;
           }
@@ -154,7 +151,7 @@ module _ (key : SlotKey) (pass : Pass) (values : ValueKeys) (m : Marking key) wh
         pub has_handed : (key3 : SlotKey) (pass3 : Pass) → Notes key2 pass2 key3 pass3 (Return (number_of key2)) → Goes key pass key3 pass3 values2
         has_handed key3 pass3 notes =
             let keeps = handed.goes_on.0 in let all = sym r.is_count ∙ on in
-            finished key2 pass2 values2 key3 pass3 (keeps.same.0 ∙ same.0, keeps.same.1 ∙ same.1) (keeps.its.0 ∙ its.0, keeps.its.1 ∙ its.1) (keeps.batch ∙ r.batch, keeps.used ∙ r.used, keeps.active ∙ r.active, keeps.life ∙ r.life)
+            finished key2 pass2 values2 key3 pass3 (keeps.same.0 ∙ same.0, keeps.same.1 ∙ same.1) (prefix_trans pass.seen pass1.seen pass2.seen r.grows keeps.grows) (keeps.its.0 ∙ its.0, keeps.its.1 ∙ its.1) (keeps.batch ∙ r.batch, keeps.used ∙ r.used, keeps.active ∙ r.active, keeps.life ∙ r.life)
             (handed.made ∙ ap (λ (log : List (Deed × Answer)). log ++ hands pass1 (number_of key1) (values_of values1)) r.made
             ∙ ap (λ (log : List (Deed × Answer)). before ++ log)
             (same_hands pass pass1 same (number_of key1) (values_of values1) ∙ ap (λ (k : ℕ). hands pass k (values_of values1)) its.1

@@ -1,5 +1,5 @@
 -- A turn of a call at one slot: it looks at the head, and tries to insert its batch there, until it wins or finds the slot inactive.
-use Rattle.std.proofs.Common.{◌≡◌, ◌≢◌, ℕ, zero, suc, ◌+◌, ◌<◌, ◌==◌, Bool, true, false, if◌then◌else◌, List, [], ◌∷◌, ◌++◌, length, get_or, Option, Some, refl, sym, ap, subst, ◌∙◌, unwrap_or, append_assoc, append-nil, arith}
+use Rattle.std.proofs.Common.{◌≡◌, ◌≢◌, ℕ, zero, suc, ◌+◌, ◌<◌, ◌^◌, ◌==◌, Bool, true, false, if◌then◌else◌, List, [], ◌∷◌, ◌++◌, length, get_or, Option, Some, refl, sym, ap, subst, ◌∙◌, unwrap_or, append_assoc, append-nil, arith}
 use Rattle.seize_machine.specs.Machine.State.{Active, Call, Head as MachineHead, Inactive, Look, State, head_at, is_active, waiting_at}
 use Rattle.seize_machine.specs.Machine.Event.{Event, ReadHead}
 use Rattle.seize_machine.specs.Machine.Next.{look, looked, looked_on, of_call, scheme}
@@ -10,7 +10,7 @@ use Rattle.seize_machine.specs.declared.machine.event.Try.TheVariants.{Won, Lost
 use Rattle.seize_book.specs.Adding.{private}
 use Rattle.seize_book.specs.Blocks.{Plan, block_for, block_in, list_word, serving, word_of}
 use Rattle.seize_book.specs.Book.{after}
-use Rattle.seize_words.specs.Chunks.{IsHeaderOf, header_home}
+use Rattle.seize_words.specs.Chunks.{IsHeaderOf}
 use Rattle.seize_book.specs.Entry.{Deed, Entry}
 use Rattle.seize_words.specs.Heads.{IsTrying, reads_at}
 use Rattle.seize_book.specs.Homes.{home_of}
@@ -25,7 +25,7 @@ use Rattle.seize_book.specs.declared.book.slot_key.SlotKey.{SlotKey}
 use Rattle.seize_words.specs.declared.chunk.Header.{Header}
 use Rattle.seize_words.specs.declared.reservation.Head.{Head}
 use Rattle.seize_words.proofs.Facts.{looked_named, plan_kept}
-use Rattle.seize_calls.specs.Inserts.{Inserted, IsAtSlot, IsAtTry, Keeps, Tried, Turn, last_at, losses, plan_in, trying, turn_at, turns_at}
+use Rattle.seize_calls.specs.Inserts.{HasHome, Inserted, IsAtSlot, IsAtTry, Keeps, Tried, Turn, last_at, losses, plan_in, trying, turn_at, turns_at}
 use Rattle.seize_calls.specs.Marks.{reading}
 use Rattle.seize_calls.proofs.Keeps.{Goes, call_after, call_before, heads_read, keeps_book, keeps_looked, keeps_noted, keeps_twice, looked_again, looked_same, made_noted, outcome, same_private, state_before, step_noted}
 use Rattle.seize_calls.proofs.Marks.{word_none, word_some}
@@ -76,7 +76,7 @@ same_turns pass pass' same s (m ∷ ms) (turn ∷ turns) =
 
 -- the header is that of the block for the slot
 pub its_home : (key : SlotKey) (pass : Pass) (m block front : ℕ) (header : Header) (at : IsAtSlot key m block front) → IsOf key pass → Knows key pass → IsHeaderOf header block pass
-    → home_of (serving m (plan_in key at.batch).slots (plan_in key at.batch).values) ≡ header_home header
+    → HasHome at header
 its_home key pass m block front header at book knows is =
     is.1 (serving m (plan_in key at.batch).slots (plan_in key at.batch).values) (looked_named key pass book knows at.batch at.won m at.later at.queue at.looking) (sym at.its_block)
 
@@ -186,11 +186,11 @@ module _ (key0 : SlotKey) (pass0 : Pass) (head : Head) (block front : ℕ) (at :
         is_block = at.its_block ∙ ap (λ (plan : Plan). block_in plan m) (sym planned_read);
       }
 
-      module _ (header : Header) (home : home_of (serving m (plan_in key0 at.batch).slots (plan_in key0 at.batch).values) ≡ header_home header) where
+      module _ (header : Header) (home : HasHome at header) (fits : block + 2 < 2 ^ 64) where
         abbrev pub at_try : IsAtTry key' head header v block front
         at_try = record {
           tries = now_trying;
-          fits = at.fits;
+          fits = fits;
           its_home = ap (λ (plan : Plan). home_of (serving m plan.slots plan.values)) planned_read ∙ home;
           its_front = front_same key0 key' at.batch front planned_read at.its_front;
         }

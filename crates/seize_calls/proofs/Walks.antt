@@ -72,7 +72,7 @@ pub record IsWalking {key : SlotKey} {word : ℕ} (at : IsAtWalk key word) (pass
 
 abbrev pub none_walked : (key : SlotKey) (word : ℕ) (at : IsAtWalk key word) (pass : Pass) (values : ValueKeys) → IsEmpty values pass → IsWalking at pass key pass values word
 none_walked key word at pass values empty = record {
-  goes_on = (record { same = (refl, refl); its = (refl, refl); batch = refl; used = refl; active = refl; life = refl; seen = omega arith }, ([], append-nil (own_list key)));
+  goes_on = (record { same = (refl, refl); its = (refl, refl); batch = refl; used = refl; active = refl; life = refl; seen = omega arith; grows = ([], append-nil pass.seen) }, ([], append-nil (own_list key)));
   held = [];
   above = tt;
   done = [];

@@ -1,5 +1,6 @@
 -- Whole calls, put together of what their parts did.
 use Rattle.std.proofs.Common.{◌≡◌, ℕ, ◌<◌, ◌≤◌, ◌==◌, Bool, true, false, if◌then◌else◌, nat_le, List, [], ◌∷◌, ◌++◌, length, max, Some, refl, sym, ap, ◌∙◌, append-nil, arith}
+use base.Growing.{prefix_trans}
 use Rattle.seize_machine.specs.Machine.State.{Append, Mark, Rest}
 use Rattle.seize_machine.specs.Machine.Event.{Begin, Put, Return}
 use Rattle.seize_machine.specs.Machine.Next.{flushing_at}
@@ -9,14 +10,12 @@ use Rattle.seize_machine.proofs.Facts.{after_put}
 use Rattle.seize_book.specs.Entry.{Deed, Entry as Logged}
 use Rattle.seize_book.specs.Ledger.{Held, renewed}
 use Rattle.seize_book.specs.Private.{label_of}
-use Rattle.seize_book.specs.Passes.{events_by}
+use Rattle.seize_book.specs.Passes.{LooksOn, events_by, events_in}
 use Rattle.seize_book.specs.Slots.{Notes, number_of, size_of, slot_of}
 use Rattle.seize_book.specs.declared.book.pass.Pass.{Pass}
 use Rattle.seize_book.specs.declared.book.slot_key.SlotKey.{SlotKey}
 use Rattle.seize_book.specs.declared.book.value_keys.ValueKeys.{ValueKeys}
 use Rattle.seize_calls.specs.Calls.{Begins, Marking, Puts, Stays, done}
-use Rattle.seize_calls.specs.Entries.{AreOf}
-use Rattle.seize_calls.specs.declared.entry.Entry.{Entry}
 use Rattle.seize_calls.proofs.Events.{begins_so, begun_retire_so, call_begun, call_put, call_returned, flush_call, flush_so, keeps_returned, made_returned, put_st, puts_so}
 use Rattle.seize_calls.proofs.Keeps.{state_before}
 
@@ -26,16 +25,12 @@ only_returned key key' pass pass' values notes =
     let keeps = keeps_returned key key' pass pass' notes in
     record {
       same = keeps.same;
+      grows = keeps.grows;
       rests = record { its = keeps.its; call = call_returned key key' pass pass' notes; batch_is = keeps.batch; used = keeps.used; active = keeps.active; life = keeps.life };
       finds = [];
       made = made_returned key key' pass pass' notes ∙ ap (λ (log : List (Deed × Answer)). log ++ done pass (Return (number_of key))) (sym (append-nil (events_by pass)));
-      keys = refl;
+      keys = (refl, refl);
     }
-
-pub no_values : (entries : List Entry) (values : List ℕ) → AreOf entries values → length entries ≡ 0 → values ≡ []
-no_values [] [] are none = refl
-no_values [] (v ∷ values) are none = absurd are
-no_values (entry ∷ entries) values are none = absurd (omega (arith, none))
 
 pub not_none : (n : ℕ) → (n == 0) ≡ false → 0 < n
 not_none n e = grind arith
@@ -120,3 +115,16 @@ module _ (key one two : SlotKey) (pass pass1 pass2 : Pass) (v : ℕ) (notes : No
 pub same_label : (held : List (Held Logged)) (log : List Logged) → label_of (renewed held log) ≡ label_of held
 same_label [] log = refl
 same_label (h ∷ held) log = refl
+
+-- and the pass may look at the list then
+pub puts_looked : (key two : SlotKey) (pass pass1 pass2 : Pass) (v : ℕ) → Puts key pass v two pass1 → LooksOn pass1 pass2 → Puts key pass v two pass2
+puts_looked key two pass pass1 pass2 v puts looks = record {
+  same = (looks.same.0 ∙ puts.same.0, looks.same.1 ∙ puts.same.1);
+  grows = prefix_trans pass.seen pass1.seen pass2.seen puts.grows looks.grows;
+  its = puts.its;
+  batch = puts.batch;
+  used = puts.used;
+  active = puts.active;
+  life = puts.life;
+  made = ap events_in looks.none_made ∙ puts.made;
+}

@@ -1,11 +1,12 @@
 -- A whole attempt: the marks, and then the insertions, and their number added to the count.
 --     Attempts at pass values key' pass' values' ends     the call has given up, as after marking (Ends), and the keys of the batch's
---                        values stay; or the batch was retired: see Retires
+--                        values stay, with all that is noted but the slots; or the batch was retired: see Retires
 --     Retires at pass values key' pass' values' zero      all that was made with the pass is that the slot read the heads, detached the
 --                        batch, took a turn at each slot whose head was active (`turns_at`), and added the insertions won; the count is 0
 --                        then or isn't. Where it is 0 the batch's values are given up to the call, with their keys. Nothing else of the
 --                        slot has changed but its batch, which is empty
 use Rattle.std.specs.Prelude.{◌≡◌, ℤ, Bool, true, false, if◌then◌else◌, List, [], ◌∷◌, ◌++◌, length, Some}
+use mathlib.Core.List.{IsPrefix}
 use Rattle.seize_machine.specs.Machine.Event.{AddCount, Detach}
 use Rattle.seize_machine.specs.Machine.Next.{is_zero}
 use Rattle.seize_machine.specs.Machine.State.{Rest}
@@ -17,6 +18,7 @@ use Rattle.seize_book.specs.Slots.{active_of, life_of, number_of, slot_of}
 use Rattle.seize_book.specs.declared.book.pass.Pass.{Pass}
 use Rattle.seize_book.specs.declared.book.slot_key.SlotKey.{SlotKey}
 use Rattle.seize_book.specs.declared.book.value_keys.ValueKeys.{ValueKeys}
+use Rattle.seize_calls.specs.Batches.{AreRemarked}
 use Rattle.seize_calls.specs.Inserts.{Turn, turns_at}
 use Rattle.seize_calls.specs.Marks.{BeginsToMark, Ends, actives, readings}
 use Rattle.seize_calls.specs.declared.attempt.Attempted.{Attempted}
@@ -30,6 +32,7 @@ pub record Retires {key : SlotKey} (at : BeginsToMark key) (pass : Pass) (values
   pub each : length turns ≡ length (actives 0 finds)
   pub count : ℤ
   pub is_count : zero ≡ is_zero count
+  pub grows : IsPrefix pass.seen pass'.seen
   pub made : let s = number_of key in
       events_by pass' ≡ (((events_by pass ++ readings pass s 0 finds) ++ (private pass (Detach s), Done) ∷ [])
       ++ turns_at pass s (actives 0 finds) turns) ++ (private pass (AddCount s), Count count) ∷ []
@@ -38,9 +41,11 @@ pub record Retires {key : SlotKey} (at : BeginsToMark key) (pass : Pass) (values
   pub active : active_of key' ≡ active_of key
   pub life : life_of key' ≡ life_of key
   pub stands : (slot_of key').call ≡ Some (record { place = Rest (if zero then (slot_of key).batch else []) []; queue = at.queue })
-  pub keys : Leaves values pass' values' zero
+  pub marked : ValueKeys
+  pub remarked : AreRemarked values marked
+  pub keys : Leaves marked pass' values' zero
 
 abbrev pub Attempts : {key : SlotKey} → BeginsToMark key → Pass → ValueKeys → SlotKey → Pass → ValueKeys → Attempted → Type 0
-Attempts at pass values key' pass' values' Stays = Ends at pass key' pass' [] TooMany × (values' ≡ values)
+Attempts at pass values key' pass' values' Stays = Ends at pass key' pass' [] TooMany × AreRemarked values values'
 Attempts at pass values key' pass' values' Waits = Retires at pass values key' pass' values' false
 Attempts at pass values key' pass' values' GivenUp = Retires at pass values key' pass' values' true

@@ -3,18 +3,20 @@
 --     Marking key            the slot's call is to read the first head, and has no queue
 --     Rests key key' batch   no call of the slot is under way then, and this is its batch; whether it is in use and active is as before
 --     Settles at pass values key' pass' values' retired     an attempt was made, and the call has returned. Where the batch stays, the
---                        events are the reads of the heads and the return, and the keys are as they were. Where it was retired, these
+--                        events are the reads of the heads and the return, and the keys are as they were, with all that is noted but the
+--                        slots. Where it was retired, these
 --                        are the events of Retires, each value of the batch handed if the count came to 0, and the return; and no keys
 --                        are left
 --     Begins key pass job key' pass'     the call began with this job;  Puts key pass v key' pass'     it put v to the slot's batch
 --     Flushes key pass values key' pass' values' retired     a flush: it began, and then settled. Where the batch was empty no head was
 --                        read
---     RetiresOne key pass v values key' pass' values' retired     a retirement: it began, v was put, and then it settled. Where the batch
---                        wasn't full no head was read
+--     RetiresOne key pass v kept values key' pass' values' retired     a retirement: it began, v was put, of which this is kept, and then
+--                        it settled. Where the batch wasn't full no head was read
 --     Leaves job stays swap key pass key' pass' had had'     a leave or a refresh: it began, the head was swapped out by this entry, each
 --                        batch that came out was counted down once, what was given up was handed before the next, and it returned. The
 --                        slot is active afterwards or not. The reclaimer had what was handed (HasHad)
 use Rattle.std.specs.Prelude.{◌≡◌, ℕ, ℤ, Bool, true, false, if◌then◌else◌, List, [], ◌∷◌, ◌++◌, length, None}
+use mathlib.Core.List.{IsPrefix}
 use Rattle.seize_machine.specs.Machine.Event.{AddCount, Begin, Detach, Event, Put, Return}
 use Rattle.seize_machine.specs.Machine.Next.{is_zero}
 use Rattle.seize_machine.specs.Machine.State.{is_idle}
@@ -27,10 +29,11 @@ use Rattle.seize_book.specs.Entry.{Deed}
 use Rattle.seize_words.specs.Named.{slot_book}
 use Rattle.seize_book.specs.Passes.{IsSame, events_by}
 use Rattle.seize_book.specs.Slots.{active_of, life_of, number_of, slot_of}
-use Rattle.seize_book.specs.Values.{AreClosed, IsEmpty, book_in, values_of}
+use Rattle.seize_book.specs.Values.{IsEmpty}
 use Rattle.seize_book.specs.declared.book.pass.Pass.{Pass}
 use Rattle.seize_book.specs.declared.book.slot_key.SlotKey.{SlotKey}
 use Rattle.seize_book.specs.declared.book.value_keys.ValueKeys.{ValueKeys}
+use Rattle.seize_calls.specs.Batches.{AreRemarked, IsPushed}
 use Rattle.seize_calls.specs.Handing.{Had, HasHad}
 use Rattle.seize_calls.specs.Inserts.{Keeps, Turn, turns_at}
 use Rattle.seize_calls.specs.Marks.{BeginsToMark, actives, readings}
@@ -56,13 +59,15 @@ pub record Rests (key key' : SlotKey) (batch : List ℕ) : Type 0 where
 
 pub record Stays (key : SlotKey) (pass : Pass) (values : ValueKeys) (key' : SlotKey) (pass' : Pass) (values' : ValueKeys) : Type 0 where
   pub same : IsSame pass pass'
+  pub grows : IsPrefix pass.seen pass'.seen
   pub rests : Rests key key' (slot_of key).batch
   pub finds : List Bool
   pub made : events_by pass' ≡ (events_by pass ++ readings pass (number_of key) 0 finds) ++ done pass (Return (number_of key))
-  pub keys : values' ≡ values
+  pub keys : AreRemarked values values'
 
 pub record Goes (key : SlotKey) (pass : Pass) (key' : SlotKey) (pass' : Pass) (values' : ValueKeys) : Type 0 where
   pub same : IsSame pass pass'
+  pub grows : IsPrefix pass.seen pass'.seen
   pub rests : Rests key key' []
   pub finds : List Bool
   pub turns : List Turn
@@ -85,6 +90,7 @@ pub record Begins (key : SlotKey) (pass : Pass) (job : Job) (key' : SlotKey) (pa
 
 pub record Puts (key : SlotKey) (pass : Pass) (v : ℕ) (key' : SlotKey) (pass' : Pass) : Type 0 where
   pub same : IsSame pass pass'
+  pub grows : IsPrefix pass.seen pass'.seen
   pub its : (slot_book key' ≡ slot_book key) × (number_of key' ≡ number_of key)
   pub batch : (slot_of key').batch ≡ (slot_of key).batch ++ v ∷ []
   pub used : (slot_of key').used ≡ (slot_of key).used
@@ -99,7 +105,7 @@ pub record Flushes (key : SlotKey) (pass : Pass) (values : ValueKeys) (key' : Sl
   pub begins : Begins key pass Flush begun mid
   pub settles : Settles begun mid values key' pass' values' retired
 
-pub record RetiresOne (key : SlotKey) (pass : Pass) (v : ℕ) (values : ValueKeys) (key' : SlotKey) (pass' : Pass) (values' : ValueKeys)
+pub record RetiresOne (key : SlotKey) (pass : Pass) (v kept : ℕ) (values : ValueKeys) (key' : SlotKey) (pass' : Pass) (values' : ValueKeys)
     (retired : Bool) : Type 0 where
   pub begun : SlotKey
   pub mid : Pass
@@ -108,14 +114,13 @@ pub record RetiresOne (key : SlotKey) (pass : Pass) (v : ℕ) (values : ValueKey
   pub later : Pass
   pub puts : Puts begun mid v full later
   pub pushed : ValueKeys
-  pub all : values_of pushed ≡ values_of values ++ v ∷ []
-  pub book : book_in pushed ≡ book_in values
-  pub closed : AreClosed pushed
+  pub all : IsPushed values v kept pushed
   pub settles : Settles full later pushed key' pass' values' retired
 
 pub record Leaves (job : Job) (stays : Bool) (swap : Deed) (key : SlotKey) (pass : Pass) (key' : SlotKey) (pass' : Pass)
     (had had' : Had) : Type 0 where
   pub same : IsSame pass pass'
+  pub grows : IsPrefix pass.seen pass'.seen
   pub its : (slot_book key' ≡ slot_book key) × (number_of key' ≡ number_of key)
   pub call : (slot_of key').call ≡ None
   pub batch : (slot_of key').batch ≡ (slot_of key).batch

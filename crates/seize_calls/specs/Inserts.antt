@@ -5,29 +5,35 @@
 --     turns_at pass s ms turns   those of a turn at each of these slots, in order;  won_in turns     how many insertions were won
 --     plan_in key b          how batch b was detached, as the slot's key knows
 --     Keeps key pass key' pass'  it is the same key and pass, and the slot's batch, whether it is in use and active, and its last
---                            activation, are as they were; the pass has seen no fewer slots
+--                            activation, are as they were; the pass has seen all that it had seen, and so no fewer slots
 --     IsAtTry key head header seen block front     the slot's call is about to insert its batch at this head, where it saw this word, with
 --                            the block of this number and header; and this is the number of the batch's first block
 --     Tried at pass key' pass' won   it tried once, and won or lost
 --     IsAtSlot key m block front     the slot's call is about to read the head of slot m again, to insert its batch there with this block
+--     HasHome at header          this is the block's header
+--     IsAtNext key pass round front     so it is at the slot that is noted of the next block of the round, with this block
+--     GoesPast next round'       the round went past it
 --     Inserted at pass key' pass' won     it took a turn there, and is at the next slot
---     IsInserting key entries front   the slot's call is about to do so at the slots of these entries
+--     IsInserting key pass spots front   the slot's call is about to do so at these slots, each with its block
 --     InsertedAll at pass key' pass' won   it took a turn at each, and is about to add this many insertions
 use Rattle.std.specs.Prelude.{◌≡◌, ℕ, zero, suc, ◌+◌, ◌<◌, ◌≤◌, ◌^◌, Bool, true, false, if◌then◌else◌, List, [], ◌∷◌, ◌++◌, length, Some, slice_index_or}
+use mathlib.Core.List.{IsPrefix}
 use Rattle.seize_machine.specs.Machine.Event.{Insert}
 use Rattle.seize_machine.specs.Machine.Next.{look}
-use Rattle.seize_machine.specs.Machine.State.{Add, Look}
+use Rattle.seize_machine.specs.Machine.State.{Add, Look, has}
 use Rattle.seize_machine.specs.declared.machine.event.Answer.{Answer}
 use Rattle.seize_machine.specs.declared.machine.event.Answer.TheVariants.{Done}
 use Rattle.seize_machine.specs.declared.machine.event.Try.{Try as Insertion}
 use Rattle.seize_machine.specs.declared.machine.event.Try.TheVariants.{Won, Lost}
 use Rattle.seize_book.specs.Adding.{private}
-use Rattle.seize_book.specs.Blocks.{Plan, block_in, no_plan, plans, serving}
+use Rattle.seize_book.specs.Blocks.{Plan, block_in, block_of, no_plan, plans, serving}
 use Rattle.seize_words.specs.Chunks.{header_home}
-use Rattle.seize_book.specs.Entry.{Deed}
+use Rattle.seize_book.specs.Entry.{Deed, Entry}
 use Rattle.seize_words.specs.Headers.{IsFrontBlock}
 use Rattle.seize_words.specs.Heads.{IsTrying}
 use Rattle.seize_book.specs.Homes.{home_of}
+use Rattle.seize_book.specs.Homesteads.{state_seen}
+use Rattle.seize_book.specs.Ledger.{Held}
 use Rattle.seize_words.specs.Named.{slot_book}
 use Rattle.seize_book.specs.Passes.{IsSame, events_by}
 use Rattle.seize_words.specs.Reservations.{slot}
@@ -37,9 +43,10 @@ use Rattle.seize_book.specs.declared.book.pass.Pass.{Pass}
 use Rattle.seize_book.specs.declared.book.slot_key.SlotKey.{SlotKey}
 use Rattle.seize_words.specs.declared.chunk.Header.{Header}
 use Rattle.seize_words.specs.declared.reservation.Head.{Head}
-use Rattle.seize_calls.specs.Entries.{slots_of}
+use Rattle.seize_calls.specs.Batches.{Spot, slot_noted, slots_of}
 use Rattle.seize_calls.specs.Marks.{reading}
-use Rattle.seize_calls.specs.declared.entry.Entry.{Entry}
+use Rattle.seize_calls.specs.Rounds.{book_at, done_in, rest_in}
+use Rattle.seize_calls.specs.declared.round.Round.{Round}
 
 -- Events.
 
@@ -82,6 +89,7 @@ pub record Keeps (key : SlotKey) (pass : Pass) (key' : SlotKey) (pass' : Pass) :
   pub active : active_of key' ≡ active_of key
   pub life : life_of key' ≡ life_of key
   pub seen : slots_seen pass ≤ slots_seen pass'
+  pub grows : IsPrefix pass.seen pass'.seen
 
 pub record IsAtTry (key : SlotKey) (head : Head) (header : Header) (seen block front : ℕ) : Type 0 where
   pub tries : IsTrying (start_of key) (number_of key) (own_list key) (slot head) seen block
@@ -105,8 +113,11 @@ pub record IsAtSlot (key : SlotKey) (m block front : ℕ) : Type 0 where
   pub queue : List ℕ
   pub looking : (slot_of key).call ≡ Some (record { place = Look batch won m later; queue = queue })
   pub its_block : block ≡ block_in (plan_in key batch) m
-  pub fits : block + 2 < 2 ^ 64
   pub its_front : IsFrontBlock key batch front
+
+-- this is the header of the block for the slot
+abbrev pub HasHome : {key : SlotKey} {m block front : ℕ} → IsAtSlot key m block front → Header → Type 0
+HasHome {key} {m} at header = home_of (let plan = plan_in key at.batch in serving m plan.slots plan.values) ≡ header_home header
 
 pub record Inserted {key : SlotKey} {m block front : ℕ} (at : IsAtSlot key m block front) (pass : Pass) (key' : SlotKey) (pass' : Pass)
     (won : Bool) : Type 0 where
@@ -116,26 +127,39 @@ pub record Inserted {key : SlotKey} {m block front : ℕ} (at : IsAtSlot key m b
   pub planned : plan_in key' at.batch ≡ plan_in key at.batch
   pub stands : (slot_of key').call ≡ Some (record { place = look at.batch (if won then at.won + 1 else at.won) at.later; queue = at.queue })
 
--- each entry has the block for its slot, and the slot was seen
-abbrev pub ArePlanned : Plan → ℕ → List Entry → Type 0
-ArePlanned plan seen [] = Unit {0}
-ArePlanned plan seen (entry ∷ entries) =
-    ((entry.block ≡ block_in plan entry.slot) × (entry.block + 2 < 2 ^ 64) × (entry.slot < seen)) × ArePlanned plan seen entries
+-- It is about to do so at the slot that is noted of the next block of the round.
+pub record IsAtNext (key : SlotKey) (pass : Pass) (round : Round) (front : ℕ) : Type 0 where
+  pub first : Held Entry
+  pub others : List (Held Entry)
+  pub is_first : rest_in round ≡ first ∷ others
+  pub at : IsAtSlot key (slot_noted first.note) (block_of first.label) front
+  pub seen : slot_noted first.note < slots_seen pass
+  pub named : has first.label (state_seen pass).named ≡ true
 
-pub record IsInserting (key : SlotKey) (pass : Pass) (entries : List Entry) (front : ℕ) : Type 0 where
+abbrev pub GoesPast : {key : SlotKey} {pass : Pass} {round : Round} {front : ℕ} → IsAtNext key pass round front → Round → Type 0
+GoesPast {round = round} next round' =
+    (book_at round' ≡ book_at round) × (done_in round' ≡ done_in round ++ next.first ∷ []) × (rest_in round' ≡ next.others)
+
+-- each slot is noted of the block for it, and was seen
+abbrev pub ArePlanned : Plan → ℕ → List Spot → Type 0
+ArePlanned plan seen [] = Unit {0}
+ArePlanned plan seen (spot ∷ spots) =
+    ((spot.block ≡ block_in plan spot.slot) × (spot.slot < seen)) × ArePlanned plan seen spots
+
+pub record IsInserting (key : SlotKey) (pass : Pass) (spots : List Spot) (front : ℕ) : Type 0 where
   pub batch : ℕ
   pub won : ℕ
   pub queue : List ℕ
-  pub stands : (slot_of key).call ≡ Some (record { place = look batch won (slots_of entries); queue = queue })
-  pub planned : ArePlanned (plan_in key batch) (slots_seen pass) entries
+  pub stands : (slot_of key).call ≡ Some (record { place = look batch won (slots_of spots); queue = queue })
+  pub planned : ArePlanned (plan_in key batch) (slots_seen pass) spots
   pub its_front : IsFrontBlock key batch front
 
-pub record InsertedAll {key : SlotKey} {pass : Pass} {entries : List Entry} {front : ℕ} (at : IsInserting key pass entries front)
+pub record InsertedAll {key : SlotKey} {pass : Pass} {spots : List Spot} {front : ℕ} (at : IsInserting key pass spots front)
     (key' : SlotKey) (pass' : Pass) (won : ℕ) : Type 0 where
   pub keeps : Keeps key pass key' pass'
   pub turns : List Turn
-  pub each : length turns ≡ length entries
-  pub made : events_by pass' ≡ events_by pass ++ turns_at pass (number_of key) (slots_of entries) turns
+  pub each : length turns ≡ length spots
+  pub made : events_by pass' ≡ events_by pass ++ turns_at pass (number_of key) (slots_of spots) turns
   pub many : won ≡ won_in turns
   pub planned : plan_in key' at.batch ≡ plan_in key at.batch
   pub stands : (slot_of key').call ≡ Some (record { place = Add at.batch (at.won + won); queue = at.queue })

@@ -1,7 +1,9 @@
 pub mod Attempts
+pub mod Batches
 pub mod Calls
-pub mod Entries
 pub mod Handing
 pub mod Inserts
 pub mod Marks
+pub mod Numbered
+pub mod Rounds
 pub mod Walking

@@ -3,20 +3,20 @@
 ghost use Rattle.std.specs.Prelude.{◌≡◌};
 ghost use mathlib.Core.List.{IsPrefix};
 ghost use Rattle.seize_calls.specs.Attempts.{Attempts};
-ghost use Rattle.seize_calls.specs.Entries.{AreOf};
+ghost use Rattle.seize_calls.specs.Batches.{keys_in};
 ghost use Rattle.seize_calls.specs.Marks.{BeginsToMark};
 ghost use Rattle.seize_words.specs.Chunks.{book_in};
-ghost use Rattle.seize_book.specs.Values.{AreClosed, AreOfBook, values_of};
+ghost use Rattle.seize_book.specs.Values.{AreOfBook, values_of};
 ghost use Rattle.seize_book.specs.Passes.{IsSame};
 ghost use Rattle.seize_words.specs.Reserved.{slots_book};
 ghost use Rattle.seize_book.specs.Slots.{IsOf, number_of, own_list, slot_of};
 ghost use Rattle.seize_words.specs.Walks.{Knows};
 
-use crate::entry::Entry;
+use crate::batch::Batch;
 use crate::inserting::insert_each;
 use crate::marking::{Marked, mark};
 use seize_words::blocks::Blocks;
-use seize_words::book::{Pass, SlotKey, ValueKeys};
+use seize_words::book::{Pass, SlotKey};
 use seize_words::slots::Slots;
 use std::sync::Wait;
 
@@ -31,38 +31,36 @@ pub enum Attempted {
     GivenUp,
 }
 
-/// Attempts to retire the slot's batch, of which these are the entries and the keys of the values. Afterwards the entries are none of a
-/// batch, unless it stays.
+/// Attempts to retire the slot's batch, which is this one. Afterwards it has no values, unless it stays, or is given up.
 ///
 /// It takes no memory. An insertion is tried again as often as others change the head between a look at it and the try.
 pub fn attempt<T: Drop>(
     slots: &Slots,
     blocks: &Blocks<T>,
-    entries: &mut [Entry],
+    batch: &mut Batch,
     key: &mut SlotKey,
-    values: &mut ValueKeys,
     pass: &mut Pass,
     rt: &impl Wait,
 ) -> Attempted
     requires book { IsOf key.old pass.old × (slots_book slots.now ≡ pass.old.name) × (book_in blocks.now ≡ pass.old.name) }
     requires knows { Knows key.old pass.old }
     requires begins { BeginsToMark key.old }
-    requires entries { AreOf entries.old (slot_of key.old).batch }
-    requires values { AreOfBook values.old pass.old × (values_of values.old ≡ (slot_of key.old).batch) × AreClosed values.old }
+    requires batch { AreOfBook (keys_in batch.old) pass.old × (values_of (keys_in batch.old) ≡ (slot_of key.old).batch) }
     ensures book { IsOf key.new pass.new × IsSame pass.old pass.new × (number_of key.new ≡ number_of key.old) }
     ensures knows { Knows key.new pass.new }
-    ensures entries { AreOf entries.new (slot_of key.old).batch }
-    ensures ends { (at : BeginsToMark key.old) → Attempts at pass.old values.old key.new pass.new values.new result }
+    ensures ends { (at : BeginsToMark key.old) → Attempts at pass.old (keys_in batch.old) key.new pass.new (keys_in batch.new) result }
 {
-    match mark(slots, entries, key, pass) {
+    match mark(slots, blocks, batch, key, pass) {
         Marked::TooMany => Attempted::Stays,
         Marked::Ready(marked) => {
             key.detach(pass);
-            let front = entries[0].block;
-            let won = insert_each(slots, blocks, &entries[..marked], front, key, pass, rt);
-            if blocks.header(front, pass).count.add(won, key, values, pass) {
+            let front = batch.first;
+            let won = insert_each(slots, blocks, batch, marked, key, pass, rt);
+            let header = blocks.header(front, pass);
+            if header.count.add(won, key, &mut batch.values, pass) {
                 Attempted::GivenUp
             } else {
+                batch.len = 0;
                 Attempted::Waits
             }
         }

@@ -1,15 +1,14 @@
 //! Whole calls of a slot, each from its begin to its return. They make their own events with the pass, in the order of the scheme, beside
 //! whatever others add.
-ghost use Rattle.std.specs.Prelude.{◌≡◌, ◌++◌, ◌∷◌, [], false, true};
+ghost use Rattle.std.specs.Prelude.{◌≡◌, false, true};
 ghost use Rattle.seize_machine.specs.declared.machine.event.Job.TheVariants.{Leave, Refresh};
 ghost use Rattle.seize_machine.specs.Machine.Event.{SwapOut};
 ghost use Rattle.seize_calls.specs.Calls.{Flushes, IsInside, Leaves, Marking, RetiresOne, Settles};
-ghost use Rattle.seize_calls.specs.Entries.{AreOf};
+ghost use Rattle.seize_calls.specs.Batches.{keys_in};
+ghost use Rattle.seize_book.specs.Blocks.{block_of};
 ghost use Rattle.seize_book.specs.Adding.{private};
-ghost use Rattle.seize_book.specs.Linked.{next_in};
-ghost use Rattle.seize_book.specs.Notes.{noted_in};
 ghost use Rattle.seize_words.specs.Chunks.{book_in};
-ghost use Rattle.seize_book.specs.Values.{AreClosed, AreOfBook, LeadsTo, values_of};
+ghost use Rattle.seize_book.specs.Values.{AreOfBook, values_of};
 ghost use Rattle.seize_machine.specs.Machine.State.{is_idle};
 ghost use Rattle.seize_book.specs.Others.{MayRetire, book_of, value_of};
 ghost use Rattle.seize_words.specs.Reservations.{IsLastOf, IsOfBook, IsOwn, beginning};
@@ -18,24 +17,23 @@ ghost use Rattle.seize_book.specs.Slots.{IsOf, number_of, size_of, slot_of};
 ghost use Rattle.seize_words.specs.Walks.{Knows};
 
 use crate::attempt::{Attempted, attempt};
-use crate::entry::Entry;
+use crate::batch::Batch;
 use crate::handing::{Reclaim, hand_all};
 use crate::walking::walk_all;
 use seize_words::activation::Activation;
 use seize_words::blocks::Blocks;
-use seize_words::book::{Pass, SlotKey, ValueKey, ValueKeys};
+use seize_words::book::{Pass, SlotKey, ValueKey};
 use seize_words::reservation::Head;
 use seize_words::slots::Slots;
 use std::sync::Wait;
 
-// Attempts the batch, hands its values if they are given up, and returns. It says whether the batch was retired: if it was, no keys are
-// left, and the entries are of no batch.
+// Attempts the batch, hands its values if they are given up, and returns. It says whether the batch was retired: if it was, it has no values
+// any more.
 fn settle<T: Drop, R: Reclaim<T>>(
     slots: &Slots,
     blocks: &Blocks<T>,
-    entries: &mut [Entry],
+    batch: &mut Batch,
     key: &mut SlotKey,
-    values: &mut ValueKeys,
     reclaimer: &mut R,
     pass: &mut Pass,
     rt: &impl Wait,
@@ -43,13 +41,11 @@ fn settle<T: Drop, R: Reclaim<T>>(
     requires book { IsOf key.old pass.old × (slots_book slots.now ≡ pass.old.name) × (book_in blocks.now ≡ pass.old.name) }
     requires knows { Knows key.old pass.old }
     requires marking { Marking key.old }
-    requires entries { AreOf entries.old (slot_of key.old).batch }
-    requires values { AreOfBook values.old pass.old × (values_of values.old ≡ (slot_of key.old).batch) × AreClosed values.old }
+    requires batch { AreOfBook (keys_in batch.old) pass.old × (values_of (keys_in batch.old) ≡ (slot_of key.old).batch) }
     ensures knows { Knows key.new pass.new }
-    ensures entries { AreOf entries.new (slot_of key.old).batch }
-    ensures settles { Settles key.old pass.old values.old key.new pass.new values.new result }
+    ensures settles { Settles key.old pass.old (keys_in batch.old) key.new pass.new (keys_in batch.new) result }
 {
-    match attempt(slots, blocks, entries, key, values, pass, rt) {
+    match attempt(slots, blocks, batch, key, pass, rt) {
         Attempted::Stays => {
             key.finish(pass);
             false
@@ -59,82 +55,78 @@ fn settle<T: Drop, R: Reclaim<T>>(
             true
         }
         Attempted::GivenUp => {
-            hand_all(blocks, entries[0].block, values, reclaimer, key, pass);
+            hand_all(blocks, batch.first, &mut batch.values, reclaimer, key, pass);
+            batch.len = 0;
             key.finish(pass);
             true
         }
     }
 }
 
-/// Attempts the slot's batch at any length, of which these are the entries and the keys of the values. It says whether the batch was
-/// retired: if it was, no keys are left, and the entries are of no batch.
+/// Attempts the slot's batch at any length, which is this one. It says whether the batch was retired: if it was, it has no values any more.
 ///
 /// It takes no memory, but for what the handing does. An insertion is tried again as often as others change the head between a look at it
 /// and the try.
 pub fn flush<T: Drop, R: Reclaim<T>>(
     slots: &Slots,
     blocks: &Blocks<T>,
-    entries: &mut [Entry],
+    batch: &mut Batch,
     key: &mut SlotKey,
-    values: &mut ValueKeys,
     reclaimer: &mut R,
     pass: &mut Pass,
     rt: &impl Wait,
 ) -> bool
     requires book { IsOf key.old pass.old × (slots_book slots.now ≡ pass.old.name) × (book_in blocks.now ≡ pass.old.name) }
     requires inside { IsInside key.old }
-    requires entries { AreOf entries.old (slot_of key.old).batch }
-    requires values { AreOfBook values.old pass.old × (values_of values.old ≡ (slot_of key.old).batch) × AreClosed values.old }
+    requires batch { AreOfBook (keys_in batch.old) pass.old × (values_of (keys_in batch.old) ≡ (slot_of key.old).batch) }
     ensures knows { Knows key.new pass.new }
-    ensures entries { AreOf entries.new (slot_of key.old).batch }
-    ensures flushes { Flushes key.old pass.old values.old key.new pass.new values.new result }
+    ensures flushes { Flushes key.old pass.old (keys_in batch.old) key.new pass.new (keys_in batch.new) result }
 {
     key.begin_flush(pass);
-    if entries.is_empty() {
+    if batch.len == 0 {
         key.finish(pass);
         return false;
     }
-    settle(slots, blocks, entries, key, values, reclaimer, pass, rt)
+    settle(slots, blocks, batch, key, reclaimer, pass, rt)
 }
 
-/// Retires the value of this key: it joins the slot's batch, of which these are the entries then, with its own as the last. It is noted of
-/// the last value's block already that this one's comes next, and of this one's that none does. Where the batch has `size` values or more, which is the size of the book, it is attempted. It says whether the batch was retired: if it was, no
-/// keys are left, and the entries are of no batch.
+/// Retires the value of this key, which lies in the block of this number: it joins the slot's batch, which is this one, and comes last. What
+/// its owner keeps of it is noted of its block. Where the batch has `size` values or more, which is the size of the book, it is attempted.
+/// It says whether the batch was retired: if it was, it has no values any more.
 ///
 /// It takes no memory, but for what the handing does. An insertion is tried again as often as others change the head between a look at it
 /// and the try.
 pub fn retire<T: Drop, R: Reclaim<T>>(
     slots: &Slots,
     blocks: &Blocks<T>,
-    entries: &mut [Entry],
+    batch: &mut Batch,
     size: usize,
+    number: u64,
+    kept: u64,
     value: ValueKey,
     key: &mut SlotKey,
-    values: &mut ValueKeys,
     reclaimer: &mut R,
     pass: &mut Pass,
     rt: &impl Wait,
 ) -> bool
     requires book { IsOf key.old pass.old × (slots_book slots.now ≡ pass.old.name) × (book_in blocks.now ≡ pass.old.name) }
     requires idle { is_idle (slot_of key.old) ≡ true }
-    requires value { (book_of value ≡ pass.old.name) × MayRetire value }
-    requires notes { LeadsTo values.old value × (next_in (noted_in value) ≡ 0) }
+    requires value { (book_of value ≡ pass.old.name) × MayRetire value × (block_of (value_of value) ≡ number) }
     requires size { size ≡ size_of key.old }
-    requires entries { AreOf entries.old ((slot_of key.old).batch ++ value_of value ∷ []) }
-    requires values { AreOfBook values.old pass.old × (values_of values.old ≡ (slot_of key.old).batch) }
+    requires batch { AreOfBook (keys_in batch.old) pass.old × (values_of (keys_in batch.old) ≡ (slot_of key.old).batch) }
     ensures knows { Knows key.new pass.new }
-    ensures entries { AreOf entries.new ((slot_of key.old).batch ++ value_of value ∷ []) }
-    ensures retires { RetiresOne key.old pass.old (value_of value) values.old key.new pass.new values.new result }
+    ensures retires { let values = keys_in batch.old in
+        RetiresOne key.old pass.old (value_of value) kept values key.new pass.new (keys_in batch.new) result }
 {
     let mut value = value;
     key.begin_retire(&mut value, pass);
     key.put(pass);
-    values.push(value);
-    if entries.len() < size {
+    batch.push(blocks, number, kept, value, pass);
+    if batch.len < size {
         key.finish(pass);
         return false;
     }
-    settle(slots, blocks, entries, key, values, reclaimer, pass, rt)
+    settle(slots, blocks, batch, key, reclaimer, pass, rt)
 }
 
 /// The slot leaves, by its own head. It counts down what waited for it, and hands what is given up.

@@ -1,15 +1,21 @@
 //! What an attempt does between the detach and the add: it inserts the batch at the slots that the call has marked, in their order. Others
 //! may step on all these words meanwhile, and add any events.
-ghost use Rattle.std.specs.Prelude.{◌≡◌, ◌<◌};
-ghost use Rattle.seize_calls.specs.Inserts.{Inserted, InsertedAll, IsAtSlot, IsAtTry, IsInserting, Tried};
-ghost use Rattle.seize_words.specs.Chunks.{IsHeaderOf, book_in, header_book};
+ghost use Rattle.std.specs.Prelude.{◌≡◌, ◌<◌, ◌≤◌, ◌+◌, ◌^◌, [], length, take};
+ghost use Rattle.seize_calls.specs.Batches.{IsAsBefore, first_in, keys_in, spots_in, spots_of};
+ghost use Rattle.seize_calls.specs.Inserts.{GoesPast, HasHome, Inserted, InsertedAll, IsAtNext, IsAtSlot, IsAtTry, IsInserting, Tried};
+ghost use Rattle.seize_calls.specs.Rounds.{all_in, book_at, done_in, rest_in};
+ghost use Rattle.seize_book.specs.Private.{labels_of};
+ghost use Rattle.seize_book.specs.Values.{AreOfBook, values_of};
+ghost use Rattle.seize_words.specs.Counts.{values_in};
+ghost use Rattle.seize_words.specs.Chunks.{book_in, header_book};
 ghost use Rattle.seize_words.specs.Reservations.{IsOfBook, slot};
 ghost use Rattle.seize_words.specs.Reserved.{slots_book};
 ghost use Rattle.seize_book.specs.Slots.{IsOf};
 ghost use Rattle.seize_words.specs.Totals.{slots_seen};
 ghost use Rattle.seize_words.specs.Walks.{Knows};
 
-use crate::entry::Entry;
+use crate::batch::Batch;
+use crate::round::Round;
 use seize_words::blocks::Blocks;
 use seize_words::book::{Pass, SlotKey};
 use seize_words::chunk::Header;
@@ -17,57 +23,97 @@ use seize_words::reservation::Head;
 use seize_words::slots::Slots;
 use std::sync::Wait;
 
-/// Inserts the batch that the slot's call has detached, at the slots of these entries in their order, with the block of each. It gives how
-/// many insertions were won. `front` is the number of the batch's first block.
+/// Inserts the batch that the slot's call has detached, at the slots that are noted of its first blocks, as many as were marked, in their
+/// order, with the block of each. It gives how many insertions were won.
 ///
-/// It takes no memory. An insertion is tried again as often as others change the head between a look at it and the try.
+/// It takes no memory: for each slot a look-up and a plain read, beside what the insertion does. That is tried again as often as others
+/// change the head between a look at it and the try.
 pub fn insert_each<T: Drop>(
     slots: &Slots,
     blocks: &Blocks<T>,
-    entries: &[Entry],
-    front: u64,
+    batch: &mut Batch,
+    marked: usize,
     key: &mut SlotKey,
     pass: &mut Pass,
     rt: &impl Wait,
 ) -> u64
     requires book { IsOf key.old pass.old × (slots_book slots.now ≡ pass.old.name) × (book_in blocks.now ≡ pass.old.name) }
     requires knows { Knows key.old pass.old }
-    requires at { IsInserting key.old pass.old entries.now front }
+    requires batch { AreOfBook (keys_in batch.old) pass.old × (marked ≤ length (spots_in batch.old)) }
+    requires at { IsInserting key.old pass.old (take marked (spots_in batch.old)) (first_in batch.old) }
+    requires values { (at : IsInserting key.old pass.old (take marked (spots_in batch.old)) (first_in batch.old))
+        → values_of (keys_in batch.old) ≡ values_in key.old at.batch }
     ensures book { IsOf key.new pass.new }
     ensures knows { Knows key.new pass.new }
-    ensures all { (at : IsInserting key.old pass.old entries.now front) → InsertedAll at key.new pass.new result }
+    ensures batch { IsAsBefore batch.old batch.new }
+    ensures all { (at : IsInserting key.old pass.old (take marked (spots_in batch.old)) (first_in batch.old))
+        → InsertedAll at key.new pass.new result }
+{
+    let front = batch.first;
+    let mut round = Round::new(front, &mut batch.values, pass);
+    let won = insert_round(slots, blocks, &mut round, marked, front, key, pass, rt);
+    round.end(&mut batch.values, pass);
+    won
+}
+
+// Inserts it with so many blocks of the round.
+fn insert_round<T: Drop>(
+    slots: &Slots,
+    blocks: &Blocks<T>,
+    round: &mut Round,
+    marked: usize,
+    front: u64,
+    key: &mut SlotKey,
+    pass: &mut Pass,
+    rt: &impl Wait,
+) -> u64
+    requires book { IsOf key.old pass.old × (slots_book slots.now ≡ pass.old.name) × (book_in blocks.now ≡ pass.old.name) }
+    requires round { (book_at round.old ≡ pass.old.name) × (done_in round.old ≡ []) × (marked ≤ length (spots_of (rest_in round.old))) }
+    requires knows { Knows key.old pass.old }
+    requires at { IsInserting key.old pass.old (take marked (spots_of (rest_in round.old))) front }
+    requires values { (at : IsInserting key.old pass.old (take marked (spots_of (rest_in round.old))) front)
+        → labels_of (rest_in round.old) ≡ values_in key.old at.batch }
+    ensures book { IsOf key.new pass.new }
+    ensures knows { Knows key.new pass.new }
+    ensures round { (book_at round.new ≡ pass.new.name) × (all_in round.new ≡ rest_in round.old) }
+    ensures all { (at : IsInserting key.old pass.old (take marked (spots_of (rest_in round.old))) front)
+        → InsertedAll at key.new pass.new result }
 {
     let mut won: u64 = 0;
-    for entry in entries {
-        if insert_at(slots, blocks, *entry, front, key, pass, rt) {
+    for _ in 0..marked {
+        if insert_at(slots, blocks, round, front, key, pass, rt) {
             won += 1;
         }
     }
     won
 }
 
-/// Inserts the batch at the slot of this entry, with its block. It says whether an insertion was won; where the slot is inactive it is
-/// skipped.
-pub fn insert_at<T: Drop>(
+// Inserts the batch with the next block of the round, at the slot that is noted of it. It says whether an insertion was won; where the slot
+// is inactive it is skipped.
+fn insert_at<T: Drop>(
     slots: &Slots,
     blocks: &Blocks<T>,
-    entry: Entry,
+    round: &mut Round,
     front: u64,
     key: &mut SlotKey,
     pass: &mut Pass,
     rt: &impl Wait,
 ) -> bool
     requires book { IsOf key.old pass.old × (slots_book slots.now ≡ pass.old.name) × (book_in blocks.now ≡ pass.old.name) }
+    requires round { book_at round.old ≡ pass.old.name }
     requires knows { Knows key.old pass.old }
-    requires at { IsAtSlot key.old entry.slot entry.block front }
-    requires seen { entry.slot < slots_seen pass.old }
+    requires next { IsAtNext key.old pass.old round.old front }
     ensures book { IsOf key.new pass.new }
     ensures knows { Knows key.new pass.new }
-    ensures inserted { (at : IsAtSlot key.old entry.slot entry.block front) → Inserted at pass.old key.new pass.new result }
+    ensures round { (next : IsAtNext key.old pass.old round.old front) → GoesPast next round.new }
+    ensures inserted { (next : IsAtNext key.old pass.old round.old front) → Inserted next.at pass.old key.new pass.new result }
 {
-    let head = slots.head(entry.slot, pass);
-    let header = blocks.header(entry.block, pass);
-    insert_by(head, header, entry.block, front, key, pass, rt)
+    let block = round.number();
+    let _known = pass.seek(block);
+    let header = blocks.header(block, pass);
+    let note = round.next(header);
+    let head = slots.head(note.slot, pass);
+    insert_by(head, header, block, front, key, pass, rt)
 }
 
 // The same, with the words in hand.
@@ -80,9 +126,11 @@ fn insert_by(
     pass: &mut Pass,
     rt: &impl Wait,
 ) -> bool
-    requires book { IsOf key.old pass.old × IsOfBook head.now pass.old × IsHeaderOf header.now block pass.old }
+    requires book { IsOf key.old pass.old × IsOfBook head.now pass.old × (header_book header.now ≡ pass.old.name) }
+    requires fits { block + 2 < 2 ^ 64 }
     requires knows { Knows key.old pass.old }
     requires at { IsAtSlot key.old (slot head.now) block front }
+    requires home { (at : IsAtSlot key.old (slot head.now) block front) → HasHome at header.now }
     requires seen { slot head.now < slots_seen pass.old }
     ensures book { IsOf key.new pass.new }
     ensures knows { Knows key.new pass.new }

@@ -1,14 +1,15 @@
 //! The calls of a slot, as what its holder does on the words: how it retires a batch, and how it walks what waited for it. Each is safe
 //! code over the calls of `seize_words`, and holds beside whatever others add meanwhile.
 //!
-//! `entry` is what a slot's holder keeps of the values of its batch. `marking` and `inserting` are the two halves of an attempt, which
+//! `batch` is what a slot's holder keeps of its batch, and `round` goes through it, from block to block. `marking` and `inserting` are the two halves of an attempt, which
 //! `attempt` joins.
 #![tactic(auto)]
 
 pub mod attempt;
+pub mod batch;
 pub mod calls;
-pub mod entry;
 pub mod handing;
 pub mod inserting;
 pub mod marking;
+pub mod round;
 pub mod walking;

@@ -1,16 +1,22 @@
 //! What an attempt does between the put and the detach: it reads the heads of as many slots as the total says, and marks those that are
 //! active. Others may step on all these words meanwhile, make slots, and add any events.
-ghost use Rattle.std.specs.Prelude.{◌≡◌, ◌≤◌, ◌<◌, ◌^◌, length};
+ghost use Rattle.std.specs.Prelude.{◌≡◌, ◌≤◌, ◌<◌, ◌^◌, true};
 ghost use mathlib.Core.List.{IsPrefix};
-ghost use Rattle.seize_calls.specs.Entries.{AreOf};
+ghost use Rattle.seize_calls.specs.Batches.{AreRemarked, keys_in, spots_in, spots_of, unslotted};
+ghost use Rattle.seize_calls.specs.Numbered.{counted};
 ghost use Rattle.seize_calls.specs.Marks.{BeginsToMark, Ends};
+ghost use Rattle.seize_calls.specs.Rounds.{IsRoundOf, all_in, book_at, rest_in};
+ghost use Rattle.seize_book.specs.Values.{AreOfBook, values_of};
+ghost use Rattle.seize_words.specs.Chunks.{book_in};
 ghost use Rattle.seize_book.specs.Passes.{IsSame};
 ghost use Rattle.seize_words.specs.Reserved.{comes_to, ends_at, heads_book, slots_book};
 ghost use Rattle.seize_book.specs.Slots.{IsOf, number_of, own_list, slot_of};
 ghost use Rattle.seize_words.specs.Totals.{slots_seen};
 ghost use Rattle.seize_words.specs.Walks.{Knows};
 
-use crate::entry::Entry;
+use crate::batch::Batch;
+use crate::round::Round;
+use seize_words::blocks::Blocks;
 use seize_words::book::{Pass, SlotKey};
 use seize_words::slots::{Heads, Slots};
 
@@ -23,38 +29,63 @@ pub enum Marked {
     TooMany,
 }
 
-/// Marks the active slots for the slot's batch, of which these are the entries: reads the heads of the slots from 0 on, of as many as the
-/// total says that there are. The slots marked are in the first entries then, one each, in order.
+/// Marks the active slots for the slot's batch: reads the heads of the slots from 0 on, of as many as the total says that there are. The
+/// slots marked are noted of the first blocks of the batch then, one each, in order.
 ///
-/// It takes no memory and waits for nobody: a load for each slot that there is, and two for each bucket of the table.
-pub fn mark(slots: &Slots, entries: &mut [Entry], key: &mut SlotKey, pass: &mut Pass) -> Marked
-    requires book { IsOf key.old pass.old × (slots_book slots.now ≡ pass.old.name) }
+/// It takes no memory and waits for nobody: a load for each slot that there is, and two for each bucket of the table; and for each slot
+/// marked a look-up, a plain read and a plain write.
+pub fn mark<T: Drop>(
+    slots: &Slots,
+    blocks: &Blocks<T>,
+    batch: &mut Batch,
+    key: &mut SlotKey,
+    pass: &mut Pass,
+) -> Marked
+    requires book { IsOf key.old pass.old × (slots_book slots.now ≡ pass.old.name) × (book_in blocks.now ≡ pass.old.name) }
     requires knows { IsPrefix (own_list key.old) pass.old.seen }
     requires begins { BeginsToMark key.old }
-    requires entries { AreOf entries.old (slot_of key.old).batch }
+    requires batch { AreOfBook (keys_in batch.old) pass.old × (values_of (keys_in batch.old) ≡ (slot_of key.old).batch) }
     ensures book { IsOf key.new pass.new × IsSame pass.old pass.new × (number_of key.new ≡ number_of key.old) }
     ensures knows { Knows key.new pass.new }
-    ensures entries { AreOf entries.new (slot_of key.old).batch }
-    ensures marks { (at : BeginsToMark key.old) → Ends at pass.old key.new pass.new entries.new result }
+    ensures batch { AreRemarked (keys_in batch.old) (keys_in batch.new) }
+    ensures marks { (at : BeginsToMark key.old) → Ends at pass.old key.new pass.new (spots_in batch.new) result }
 {
     let (count, all) = slots.load(pass);
-    read_each(slots.heads(count, &all), entries, key, pass)
+    let mut round = Round::new(batch.first, &mut batch.values, pass);
+    let marked = read_each(
+        slots.heads(count, &all),
+        blocks,
+        batch.len,
+        &mut round,
+        key,
+        pass,
+    );
+    round.end(&mut batch.values, pass);
+    marked
 }
 
-// Reads these heads in turn, unless the call gives up.
-fn read_each(heads: Heads<'_>, entries: &mut [Entry], key: &mut SlotKey, pass: &mut Pass) -> Marked
-    requires book { IsOf key.old pass.old × (heads_book heads ≡ pass.old.name) }
+// Reads these heads in turn, unless the call gives up. There are `len` values, or more where that is as many as can be said.
+fn read_each<T: Drop>(
+    heads: Heads<'_>,
+    blocks: &Blocks<T>,
+    len: usize,
+    round: &mut Round,
+    key: &mut SlotKey,
+    pass: &mut Pass,
+) -> Marked
+    requires book { IsOf key.old pass.old × (heads_book heads ≡ pass.old.name) × (book_in blocks.now ≡ pass.old.name) }
     requires knows { Knows key.old pass.old }
     requires first { comes_to heads ≡ 0 }
     requires there { ends_at heads ≤ slots_seen pass.old }
     requires few { ends_at heads < 2 ^ 64 }
     requires begins { BeginsToMark key.old }
     requires all { (at : BeginsToMark key.old) → at.note ≤ ends_at heads }
-    requires entries { AreOf entries.old (slot_of key.old).batch }
+    requires round { (book_at round.old ≡ pass.old.name) × IsRoundOf round.old (slot_of key.old).batch }
+    requires len { counted len (slot_of key.old).batch ≡ true }
     ensures book { IsOf key.new pass.new × IsSame pass.old pass.new × (number_of key.new ≡ number_of key.old) }
     ensures knows { Knows key.new pass.new }
-    ensures entries { AreOf entries.new (slot_of key.old).batch }
-    ensures ends { (at : BeginsToMark key.old) → Ends at pass.old key.new pass.new entries.new result }
+    ensures round { (book_at round.new ≡ pass.old.name) × (unslotted (all_in round.new) ≡ unslotted (rest_in round.old)) }
+    ensures ends { (at : BeginsToMark key.old) → Ends at pass.old key.new pass.new (spots_of (all_in round.new)) result }
 {
     let mut number: usize = 0;
     let mut marked: usize = 0;
@@ -64,10 +95,10 @@ fn read_each(heads: Heads<'_>, entries: &mut [Entry], key: &mut SlotKey, pass: &
         if head.read(key, pass) == 0 {
             continue;
         }
-        if marked >= entries.len() {
+        if marked >= len {
             return Marked::TooMany;
         }
-        entries[marked].slot = slot;
+        round.mark(blocks, slot, pass);
         marked += 1;
     }
     Marked::Ready(marked)

@@ -4,4 +4,5 @@ pub mod Invariants
 pub mod Lists
 pub mod Laws
 pub mod Facts
+pub mod Appended
 pub mod Words

@@ -1,16 +1,16 @@
-use Rattle.std.proofs.Common.{refl, sym, ◌∙◌, arith}
+use Rattle.std.proofs.Common.{[], append-nil, refl, sym, ◌∙◌, arith}
 use Rattle.seize_machine.specs.Machine.Event.{ReadHead}
 use Rattle.seize_book.specs.Adding.{private}
 use Rattle.seize_words.specs.Reservations.{slot}
 use Rattle.seize_book.specs.Slots.{number_of}
 use Rattle.seize_words.proofs.Facts.{knows_noted}
 use Rattle.seize_calls.proofs.Keeps.{keeps_book}
-use Rattle.seize_calls.proofs.Turns.{at_try, its_home, keeps_read, lost_turn, may_read, reads_again, skipped, turns_begin, won_turn}
+use Rattle.seize_calls.proofs.Turns.{at_try, keeps_read, lost_turn, may_read, reads_again, skipped, turns_begin, won_turn}
 use Rattle.seize_calls.proofs.inserting.insert_by.Goals as goal
 
 pub loop-init : goal.loop-init
 loop-init g c = λ at.
-    turns_begin c.args.key.now at c.args.pass.now (record { same = (refl, refl); its = (refl, refl); batch = refl; used = refl; active = refl; life = refl; seen = omega arith })
+    turns_begin c.args.key.now at c.args.pass.now (record { same = (refl, refl); its = (refl, refl); batch = refl; used = refl; active = refl; life = refl; seen = omega arith; grows = ([], append-nil c.args.pass.now.seen) })
 
 pub read-seen-requires-clause-book : goal.read-seen-requires-clause-book
 read-seen-requires-clause-book g c =
@@ -44,27 +44,26 @@ try_once-requires-clause-book g c =
     let at = c.requires.at in let read = c.read-seen in
     let keeps = keeps_read c.args.key.now c.args.pass.now c.args.head.now c.args.block c.args.front at c.requires.book.0 c.requires.book.1 c.requires.seen c.loop.key c.loop.pass (c.loop.invariant at)
     read.new.key read.new.pass read.result read.ensures.noted read.ensures.shows in
-    (keeps_book c.args.key.now read.new.key c.args.pass.now read.new.pass keeps c.requires.book.0, c.requires.book.1 ∙ sym keeps.same.0, c.requires.book.2.0 ∙ sym keeps.same.0)
+    (keeps_book c.args.key.now read.new.key c.args.pass.now read.new.pass keeps c.requires.book.0, c.requires.book.1 ∙ sym keeps.same.0, c.requires.book.2 ∙ sym keeps.same.0)
 
 pub try_once-requires-clause-at : goal.try_once-requires-clause-at
 try_once-requires-clause-at g c =
     let at = c.requires.at in let read = c.read-seen in let header = c.args.header.now in
     at_try c.args.key.now c.args.pass.now c.args.head.now c.args.block c.args.front at c.requires.book.0 c.requires.book.1 c.requires.seen c.loop.key c.loop.pass (c.loop.invariant at)
-    read.new.key read.new.pass read.result read.ensures.noted read.ensures.shows c.if-seen-eq0.false header
-    (its_home c.args.key.now c.args.pass.now (slot c.args.head.now) c.args.block c.args.front header at c.requires.book.0 c.requires.knows c.requires.book.2)
+    read.new.key read.new.pass read.result read.ensures.noted read.ensures.shows c.if-seen-eq0.false header (c.requires.home at) c.requires.fits
 
 pub returns-then-try_once-clause-inserted : goal.returns-then-try_once-clause-inserted
 returns-then-try_once-clause-inserted g c = λ at.
-    let read = c.read-seen in let header = c.args.header.now in let home = its_home c.args.key.now c.args.pass.now (slot c.args.head.now) c.args.block c.args.front header at c.requires.book.0 c.requires.knows c.requires.book.2 in
+    let read = c.read-seen in let header = c.args.header.now in let home = c.requires.home at in
     let tries = at_try c.args.key.now c.args.pass.now c.args.head.now c.args.block c.args.front at c.requires.book.0 c.requires.book.1 c.requires.seen c.loop.key c.loop.pass (c.loop.invariant at)
-    read.new.key read.new.pass read.result read.ensures.noted read.ensures.shows c.if-seen-eq0.false header home in
+    read.new.key read.new.pass read.result read.ensures.noted read.ensures.shows c.if-seen-eq0.false header home c.requires.fits in
     won_turn c.args.key.now c.args.pass.now c.args.head.now c.args.block c.args.front at c.requires.book.0 c.requires.book.1 c.requires.seen c.loop.key c.loop.pass (c.loop.invariant at)
-    read.new.key read.new.pass read.result read.ensures.noted read.ensures.shows c.if-seen-eq0.false header home c.try_once.new.key c.try_once.new.pass c.try_once.result (c.try_once.ensures.tried tries) c.if-try_once.true
+    read.new.key read.new.pass read.result read.ensures.noted read.ensures.shows c.if-seen-eq0.false header home c.requires.fits c.try_once.new.key c.try_once.new.pass c.try_once.result (c.try_once.ensures.tried tries) c.if-try_once.true
 
 pub loop-preserved : goal.loop-preserved
 loop-preserved g c = λ at.
-    let read = c.read-seen in let header = c.args.header.now in let home = its_home c.args.key.now c.args.pass.now (slot c.args.head.now) c.args.block c.args.front header at c.requires.book.0 c.requires.knows c.requires.book.2 in
+    let read = c.read-seen in let header = c.args.header.now in let home = c.requires.home at in
     let tries = at_try c.args.key.now c.args.pass.now c.args.head.now c.args.block c.args.front at c.requires.book.0 c.requires.book.1 c.requires.seen c.loop.key c.loop.pass (c.loop.invariant at)
-    read.new.key read.new.pass read.result read.ensures.noted read.ensures.shows c.if-seen-eq0.false header home in
+    read.new.key read.new.pass read.result read.ensures.noted read.ensures.shows c.if-seen-eq0.false header home c.requires.fits in
     lost_turn c.args.key.now c.args.pass.now c.args.head.now c.args.block c.args.front at c.requires.book.0 c.requires.book.1 c.requires.seen c.loop.key c.loop.pass (c.loop.invariant at)
-    read.new.key read.new.pass read.result read.ensures.noted read.ensures.shows c.if-seen-eq0.false header home c.try_once.new.key c.try_once.new.pass c.try_once.result (c.try_once.ensures.tried tries) c.if-try_once.false
+    read.new.key read.new.pass read.result read.ensures.noted read.ensures.shows c.if-seen-eq0.false header home c.requires.fits c.try_once.new.key c.try_once.new.pass c.try_once.result (c.try_once.ensures.tried tries) c.if-try_once.false

@@ -1,17 +1,66 @@
-use Rattle.std.proofs.Common.{arith}
+use Rattle.std.proofs.Common.{rules, ◌≡◌, ℕ, ◌≤◌, ◌<◌, ◌^◌, true, List, lit<, sym, ap, subst, ◌∙◌, arith}
+use Rattle.seize_book.specs.Private.{labels_of}
+use Rattle.seize_words.specs.Reserved.{ends_at as end_of, heads_book}
+use Rattle.seize_words.specs.Totals.{slots_seen}
+use Rattle.seize_words.specs.Walks.{Knows}
+use Rattle.seize_book.specs.declared.book.pass.Pass.{Pass}
 use Rattle.seize_words.proofs.Facts.{more_seen}
+use Rattle.seize_calls.specs.Batches.{Spot, spots_of, unslotted}
+use Rattle.seize_calls.specs.Marks.{Ends}
+use Rattle.seize_calls.specs.Numbered.{counted, ends_at, starts_at}
+use Rattle.seize_calls.proofs.Batches.{remarked_labels}
 use Rattle.seize_calls.proofs.Marks.{ends_before, knows_looked, note_seen_then}
 use Rattle.seize_calls.proofs.marking.mark.Goals as goal
 
-pub read_each-requires-clause-there : goal.read_each-requires-clause-there
-read_each-requires-clause-there c = let count = c.load-count.ensures.count in let more = more_seen count.0 c.load-count.new.pass count.2 in omega (arith, c.heads.ensures.1, count.3, more)
+pub read_each-marked-requires : goal.read_each-marked-requires
+read_each-marked-requires g c =
+    let key = c.args.key.now in let pass = c.load-count.new.pass in let count = c.load-count.ensures.count in let begins = c.new-round.ensures.begins in
+    let same : pass ≡ c.new-round.new.pass = sym c.new-round.ensures.pass in let looks = c.load-count.ensures.looks in
+    let few : end_of c.heads.result < 2 ^ 64 = search rules in
+    let there : end_of c.heads.result ≤ slots_seen pass = (let more = more_seen count.0 pass count.2 in omega (arith, c.heads.ensures.1, count.3, more)) in (
+      lit< tt,
+      (
+        subst (λ (p : Pass). (key.keys.name ≡ p.name) × (heads_book c.heads.result ≡ p.name) × (Rattle.seize_words.specs.Chunks.book_in c.args.blocks.now ≡ p.name)) same
+            (c.requires.book.0 ∙ sym looks.same.0, c.heads.ensures.2 ∙ c.requires.book.1 ∙ sym looks.same.0, c.requires.book.2 ∙ sym looks.same.0),
+        (
+          subst (λ (p : Pass). Knows key p) same (knows_looked key c.args.pass.now pass c.requires.knows looks),
+          (
+            c.heads.ensures.0,
+            (
+              subst (λ (p : Pass). end_of c.heads.result ≤ slots_seen p) same there,
+              (
+                few,
+                (
+                  c.requires.begins,
+                  (
+                    (λ at. let noted = note_seen_then key at c.args.pass.now count.0 c.requires.book.0 c.requires.knows count.1 in omega (arith, c.heads.ensures.1, count.3, noted)),
+                    (
+                      (begins.0 ∙ ap (λ (p : Pass). p.name) same, (begins.1.0, ap labels_of begins.1.1 ∙ c.requires.batch.1)),
+                      subst (λ (vs : List ℕ). counted c.args.batch.now.len vs ≡ true) c.requires.batch.1 c.args.batch.now.many,
+                    ),
+                  ),
+                ),
+              ),
+            ),
+          ),
+        ),
+      ),
+    )
 
-pub read_each-requires-clause-all : goal.read_each-requires-clause-all
-read_each-requires-clause-all c = λ at.
-    let count = c.load-count.ensures.count in let noted = note_seen_then c.args.key.now at c.args.pass.now count.0 c.requires.book.0 c.requires.knows count.1 in omega (arith, c.heads.ensures.1, count.3, noted)
+pub invariant_of-batch : goal.invariant_of-batch
+invariant_of-batch g c =
+    let batch = c.args.batch.now in let read = c.read_each-marked in
+    let same = remarked_labels batch.values.keys.held c.end.new.values.keys.held (ap unslotted (sym c.new-round.ensures.begins.1.1) ∙ sym read.ensures.round.1 ∙ ap unslotted (sym c.end.ensures.all.1)) in
+    record {
+      many = subst (λ (vs : List ℕ). counted batch.len vs ≡ true) same batch.many;
+      front = subst (λ (vs : List ℕ). starts_at batch.first vs ≡ true) same batch.front;
+      back = subst (λ (vs : List ℕ). ends_at batch.last vs ≡ true) same batch.back;
+      closed = c.end.ensures.all.2;
+    }
 
 pub returns-clause-marks : goal.returns-clause-marks
-returns-clause-marks c = λ at. ends_before at c.args.pass.now c.load-count.new.pass c.read_each.new.key c.read_each.new.pass c.read_each.new.entries c.read_each.result c.load-count.ensures.looks (c.read_each.ensures.ends at)
-
-pub read_each-requires-clause-knows : goal.read_each-requires-clause-knows
-read_each-requires-clause-knows c = knows_looked c.args.key.now c.args.pass.now c.load-count.new.pass c.requires.knows c.load-count.ensures.looks
+returns-clause-marks g c = λ at.
+    let read = c.read_each-marked in
+    subst (λ (t : Pass × List Spot). Ends at c.args.pass.now read.new.key t.0 t.1 read.result) (λ i. ((sym c.end.ensures.pass) i, (ap spots_of (sym c.end.ensures.all.1)) i))
+    (ends_before at c.args.pass.now c.load-count.new.pass read.new.key read.new.pass (spots_of (Rattle.seize_calls.specs.Rounds.all_in read.new.round)) read.result c.load-count.ensures.looks
+    (subst (λ (p : Pass). Ends at p read.new.key read.new.pass (spots_of (Rattle.seize_calls.specs.Rounds.all_in read.new.round)) read.result) c.new-round.ensures.pass (read.ensures.ends at)))

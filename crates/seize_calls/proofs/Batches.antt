@@ -1,0 +1,130 @@
+-- Keys of the values of a batch, to which one more comes.
+use Rattle.std.proofs.Common.{◌≡◌, ◌≢◌, ℕ, zero, suc, ◌+◌, ◌-◌, ◌<◌, ◌≤◌, ◌^◌, ◌==◌, min, Bool, true, false, List, [], ◌∷◌, ◌++◌, length, Option, Some, None, refl, sym, ap, subst, ◌∙◌, append-nil, arith}
+use Rattle.std.specs.List.{Contains}
+use Rattle.std.proofs.lemmas.List.{length_push}
+use Rattle.seize_machine.proofs.Facts.{eq_true}
+use Rattle.seize_book.specs.Blocks.{block_of}
+use Rattle.seize_book.specs.Book.{blocks}
+use Rattle.seize_book.specs.Entry.{Entry}
+use Rattle.seize_book.specs.Ledger.{Held, renewed}
+use Rattle.seize_book.specs.Linked.{are_joined, are_linked, next_in}
+use Rattle.seize_book.specs.Private.{is_one, label_of, labels_of, note_of}
+use Rattle.seize_book.proofs.Linked.{parted_joined}
+use Rattle.seize_calls.specs.Batches.{kept_noted, unslotted}
+use Rattle.seize_calls.specs.Numbered.{counted, ends_at, starts_at}
+use Rattle.seize_calls.proofs.Rounds.{joined_past, leads_to}
+
+abbrev Keys : Type 0
+Keys = List (Held Entry)
+
+-- Numbers.
+
+pub ends_last : (n : ℕ) (vs : List ℕ) (v : ℕ) → ends_at n (vs ++ v ∷ []) ≡ true → block_of v ≡ n
+ends_last n [] v e = sym (eq_true n (block_of v) e)
+ends_last n (w ∷ []) v e = sym (eq_true n (block_of v) e)
+ends_last n (w ∷ x ∷ vs) v e = ends_last n (x ∷ vs) v e
+
+pub last_ends : (n : ℕ) (vs : List ℕ) (v : ℕ) → block_of v ≡ n → ends_at n (vs ++ v ∷ []) ≡ true
+last_ends n [] v e = same n (block_of v) e
+  where
+    same : (a b : ℕ) → b ≡ a → (a == b) ≡ true
+    same a b e = grind arith
+last_ends n (w ∷ []) v e = last_ends n [] v e
+last_ends n (w ∷ x ∷ vs) v e = last_ends n (x ∷ vs) v e
+
+pub starts_push : (n : ℕ) (vs : List ℕ) (v : ℕ) → starts_at n vs ≡ true → 1 ≤ length vs → starts_at n (vs ++ v ∷ []) ≡ true
+starts_push n [] v e some = absurd (omega (arith, some))
+starts_push n (w ∷ vs) v e some = e
+
+pub counted_is : (n : ℕ) (vs : List ℕ) → counted n vs ≡ true → n ≡ min (length vs) (2 ^ 64 - 1)
+counted_is n vs e = eq_true n (min (length vs) (2 ^ 64 - 1)) e
+
+pub is_counted : (n : ℕ) (vs : List ℕ) → n ≡ min (length vs) (2 ^ 64 - 1) → counted n vs ≡ true
+is_counted n vs e = same n (min (length vs) (2 ^ 64 - 1)) e
+  where
+    same : (a b : ℕ) → a ≡ b → (a == b) ≡ true
+    same a b e = grind arith
+
+pub counted_push : (n k : ℕ) (vs : List ℕ) (v : ℕ) → counted n vs ≡ true → k ≡ min (n + 1) (2 ^ 64 - 1) → counted k (vs ++ v ∷ []) ≡ true
+counted_push n k vs v e is = let was = counted_is n vs e in let long = length_push vs v in is_counted k (vs ++ v ∷ []) (omega (arith, is, was, long))
+
+pub none_counted : (n : ℕ) (vs : List ℕ) → counted n vs ≡ true → n ≡ 0 → vs ≡ []
+none_counted n [] e none = refl
+none_counted n (v ∷ vs) e none = absurd (let is = counted_is n (v ∷ vs) e in omega (arith, is, none))
+
+pub some_counted : (n : ℕ) (vs : List ℕ) → counted n vs ≡ true → n ≢ 0 → 1 ≤ length vs
+some_counted n vs e some = go vs (counted_is n vs e)
+  where
+    go : (vs : List ℕ) → n ≡ min (length vs) (2 ^ 64 - 1) → 1 ≤ length vs
+    go [] is = absurd (some (let none : n ≡ 0 = omega (arith, is) in none))
+    go (v ∷ vs) is = omega arith
+
+pub contains_last : (vs : List ℕ) (v : ℕ) → Contains (vs ++ v ∷ []) v
+contains_last [] v = (0, omega arith, refl)
+contains_last (w ∷ vs) v = let rest = contains_last vs v in (suc rest.0, omega (arith, rest.1), rest.2)
+
+-- The last key.
+
+before_one : (store : Option (List ℕ)) (init one : Keys) → is_one blocks one ≡ true → are_linked store (init ++ one) ≡ true → are_joined store init one ≡ true
+before_one store init [] is linked = absurd (cc)
+before_one store init (h ∷ x ∷ one) is linked = absurd (cc)
+before_one store init (h ∷ []) is linked = parted_joined store init h [] linked
+
+pub joined_last : (store : Option (List ℕ)) (all init one one' : Keys) → is_one blocks one ≡ true → is_one blocks one' ≡ true → label_of one' ≡ label_of one → all ≡ init ++ one → are_linked store all ≡ true
+    → are_joined store init one' ≡ true
+joined_last store all init one one' is is' same parts linked =
+    leads_to store init (one ++ []) one one' [] is is' same refl
+    (subst (λ (r : Keys). are_joined store init r ≡ true) (sym (append-nil one)) (before_one store init one is (subst (λ (r : Keys). are_linked store r ≡ true) parts linked)))
+
+pub none_joined : (store : Option (List ℕ)) (b : Keys) → are_joined store [] b ≡ true
+none_joined None b = refl
+none_joined (Some store) b = refl
+
+pub last_joined : (store : Option (List ℕ)) (init one : Keys) (h : Held Entry) (n : ℕ) → is_one blocks one ≡ true → next_in (note_of one) ≡ n + 1 → block_of h.label ≡ n → are_joined store (init ++ one) (h ∷ []) ≡ true
+last_joined store init [] h n is next number = absurd (cc)
+last_joined store init (k ∷ x ∷ one) h n is next number = absurd (cc)
+last_joined None init (k ∷ []) h n is next number = refl
+last_joined (Some store) init (k ∷ []) h n is next number = joined_past init k (h ∷ []) (same (next_in k.note) (block_of h.label) n next number)
+  where
+    same : (a b n : ℕ) → a ≡ n + 1 → b ≡ n → (a == suc b) ≡ true
+    same a b n next number = grind (arith, next, number)
+
+-- Labels and what is kept, of keys of which the last is noted anew.
+
+pub labels_append : (a b : Keys) → labels_of (a ++ b) ≡ labels_of a ++ labels_of b
+labels_append [] b = refl
+labels_append (h ∷ a) b = ap (λ (vs : List ℕ). h.label ∷ vs) (labels_append a b)
+
+abbrev pub kepts : Keys → List ℕ
+kepts held = Rattle.std.proofs.Common.map (λ h. kept_noted h.note) held
+
+pub kepts_append : (a b : Keys) → kepts (a ++ b) ≡ kepts a ++ kepts b
+kepts_append [] b = refl
+kepts_append (h ∷ a) b = ap (λ (vs : List ℕ). kept_noted h.note ∷ vs) (kepts_append a b)
+
+pub kept_one : (one : Keys) (k : ℕ) → is_one blocks one ≡ true → kept_noted (note_of one) ≡ k → kepts one ≡ k ∷ []
+kept_one [] k is e = absurd (cc)
+kept_one (h ∷ x ∷ one) k is e = absurd (cc)
+kept_one (h ∷ []) k is e = ap (λ (n : ℕ). n ∷ []) e
+
+pub label_one : (one : Keys) → is_one blocks one ≡ true → labels_of one ≡ label_of one ∷ []
+label_one [] is = absurd (cc)
+label_one (h ∷ x ∷ one) is = absurd (cc)
+label_one (h ∷ []) is = refl
+
+-- Keys that were marked anew are of the same values.
+pub remarked_labels : (a b : Keys) → unslotted a ≡ unslotted b → labels_of a ≡ labels_of b
+remarked_labels a b same = sym (plain a) ∙ ap labels_of same ∙ plain b
+  where
+    plain : (held : Keys) → labels_of (unslotted held) ≡ labels_of held
+    plain [] = refl
+    plain (h ∷ held) = ap (λ (vs : List ℕ). h.label ∷ vs) (plain held)
+
+pub renewed_labels : (held : Keys) (seen : List Entry) → labels_of (renewed held seen) ≡ labels_of held
+renewed_labels [] seen = refl
+renewed_labels (h ∷ held) seen = ap (λ (vs : List ℕ). h.label ∷ vs) (renewed_labels held seen)
+
+pub contains_more : (vs : List ℕ) (v w : ℕ) → Contains vs w → Contains (vs ++ v ∷ []) w
+contains_more [] v w there = absurd (omega (arith, there.1))
+contains_more (x ∷ vs) v w (zero, less, is) = (zero, omega arith, is)
+contains_more (x ∷ vs) v w (suc n, less, is) = let rest = contains_more vs v w (n, omega (arith, less), is) in (suc rest.0, omega (arith, rest.1), rest.2)

@@ -1,0 +1,58 @@
+use Rattle.std.proofs.Common.{rules, ◌≡◌, ℕ, ◌+◌, ◌<◌, Bool, if◌then◌else◌, take, lit<, sym, ap, subst, ◌∙◌, arith}
+use Rattle.std.proofs.lemmas.List.{length-take-le}
+use Rattle.seize_calls.specs.Batches.{spots_of}
+use Rattle.seize_calls.specs.Rounds.{rest_in}
+use Rattle.seize_calls.proofs.Inserts.{HasTurned, all_turned, round_done, round_next, round_turned}
+use Rattle.seize_calls.proofs.inserting.insert_round.Goals.{then-insert_at, else-insert_at}
+use Rattle.seize_calls.proofs.inserting.insert_round.Goals as goal
+
+pub insert_at-requires : goal.insert_at-requires
+insert_at-requires g c =
+    let l = c.loop in let at = c.requires.at in let r = l.invariant.0 at in (
+      lit< tt,
+      (
+        (l.invariant.1, c.requires.book.1 ∙ sym r.keeps.same.0, c.requires.book.2 ∙ sym r.keeps.same.0),
+        (
+          l.invariant.3,
+          (
+            l.invariant.2,
+            round_next c.args.key.now c.args.pass.now (rest_in c.args.round.now) c.args.marked c.args.front at (c.requires.values at) c.requires.round.2 l.counter l.won l.key l.pass r c.loop-test.true l.invariant.1 l.invariant.2 l.round
+                l.invariant.5,
+          ),
+        ),
+      ),
+    )
+
+pub overflow_add-won : goal.overflow_add-won
+overflow_add-won g c =
+    let l = c.loop in let r = l.invariant.0 c.requires.at in let few = r.few in let less : l.won < c.args.marked = omega (arith, few, c.loop-test.true) in
+    search rules
+
+pub loop-preserved : goal.loop-preserved
+loop-preserved g c =
+    let l = c.loop in let one = c.insert_at in let at0 = c.requires.at in
+    let won : c.if-insert_at.won ≡ l.won + (if one.result then 1 else 0) =
+    elim c.if-insert_at.branch [
+      | then-insert_at w ↦ w.won-is ∙ ap (λ (b : Bool). l.won + (if b then 1 else 0)) (sym w.if-insert_at.true)
+      | else-insert_at w ↦ w.won-is ∙ (let same : l.won ≡ l.won + 0 = omega arith in same) ∙ ap (λ (b : Bool). l.won + (if b then 1 else 0)) (sym w.if-insert_at.false)
+    ] in
+    let next = round_next c.args.key.now c.args.pass.now (rest_in c.args.round.now) c.args.marked c.args.front at0 (c.requires.values at0) c.requires.round.2 l.counter l.won l.key l.pass (l.invariant.0 at0) c.loop-test.true l.invariant.1 l.invariant.2 l.round
+    l.invariant.5 in
+    let past = round_done c.args.key.now c.args.pass.now (rest_in c.args.round.now) c.args.marked c.args.front at0 (c.requires.values at0) c.requires.round.2 l.counter l.won l.key l.pass (l.invariant.0 at0) c.loop-test.true l.invariant.1 l.invariant.2 l.round
+    l.invariant.5 one.new.round (one.ensures.round next) l.invariant.4 in
+    let same = (one.ensures.inserted next).keeps.same.0 in (
+      λ at.
+          subst (λ (n : ℕ). HasTurned at (l.counter + 1) n one.new.key one.new.pass) (sym won)
+          (round_turned c.args.key.now c.args.pass.now (rest_in c.args.round.now) c.args.marked c.args.front at (c.requires.values at) c.requires.round.2 l.counter l.won l.key l.pass (l.invariant.0 at) c.loop-test.true l.invariant.1 l.invariant.2 l.round
+          l.invariant.5 one.new.key one.new.pass one.result one.ensures.inserted),
+      one.ensures.book,
+      one.ensures.knows,
+      (one.ensures.round next).0 ∙ l.invariant.3 ∙ sym same,
+      past.0,
+      past.1,
+    )
+
+pub returns-clause-all : goal.returns-clause-all
+returns-clause-all g c = λ at.
+    let l = c.loop in let long = length-take-le c.args.marked (spots_of (rest_in c.args.round.now)) c.requires.round.2 in
+    all_turned c.args.key.now c.args.pass.now (take c.args.marked (spots_of (rest_in c.args.round.now))) c.args.front at l.counter l.won l.key l.pass (l.invariant.0 at) (omega (arith, long, c.loop-test.false))

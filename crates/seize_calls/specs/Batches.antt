@@ -1,0 +1,88 @@
+-- What a slot's holder keeps of the slot's batch: the keys of its values. Which block comes next, and at which slot the batch is to be
+-- inserted with a block, is noted of the blocks themselves.
+--     keys_in batch            the keys of its values, in order;  first_in batch     the number of the first one's block
+--     slot_noted g, kept_noted g    what a note of this code says of the slot, and what it keeps for the holder
+--     Spot                     a value's block, and the slot that is noted of it
+--     spots_of held, spots_in batch    those of the values whose keys these are, in order, or of a batch;  slots_of spots   the slots
+--     kepts_of keys            what is kept of each value, in order
+--     unslotted held           the keys, with all that is noted but the slots
+--     AreRemarked keys keys'   they are the same keys, and all that is noted is the same but the slots
+--     IsAsBefore batch batch'  the keys and the first number are as they were, and what is noted
+--     IsPushed keys v kept keys'    one value more comes last, of which this is kept
+--     LeadsFrom keys number keys'   they are the same keys, and the last one leads on to the block of this number
+--     AreNamed values pass     they were named, as the pass has seen
+use Rattle.std.specs.Prelude.{◌≡◌, ℕ, true, map, List, [], ◌∷◌, ◌++◌}
+use Rattle.std.specs.List.{Contains}
+use base.Stored.{Gv, gnil, gnum, gcons}
+use Rattle.seize_machine.specs.Machine.State.{has}
+use Rattle.seize_book.specs.Blocks.{block_of}
+use Rattle.seize_book.specs.Entry.{Entry}
+use Rattle.seize_book.specs.Homesteads.{state_seen}
+use Rattle.seize_book.specs.Ledger.{Held}
+use Rattle.seize_book.specs.Linked.{are_joined}
+use Rattle.seize_book.specs.Values.{book_in, values_of}
+use Rattle.seize_book.specs.declared.book.pass.Pass.{Pass}
+use Rattle.seize_book.specs.declared.book.value_keys.ValueKeys.{ValueKeys}
+use Rattle.seize_calls.specs.declared.batch.Batch.{Batch}
+
+abbrev pub keys_in : Batch → ValueKeys
+keys_in batch = batch.values
+
+abbrev pub first_in : Batch → ℕ
+first_in batch = batch.first
+
+-- What is noted of them.
+
+abbrev pub slot_noted : Gv → ℕ
+slot_noted (gcons a (gcons (gnum m) g)) = m
+slot_noted g = 0
+
+abbrev pub kept_noted : Gv → ℕ
+kept_noted (gcons a (gcons b (gcons (gnum k) g))) = k
+kept_noted g = 0
+
+pub record Spot : Type 0 where
+  pub block : ℕ
+  pub slot : ℕ
+
+abbrev pub spots_of : List (Held Entry) → List Spot
+spots_of held = map (λ h. record { block = block_of h.label; slot = slot_noted h.note }) held
+
+abbrev pub spots_in : Batch → List Spot
+spots_in batch = spots_of batch.values.keys.held
+
+abbrev pub slots_of : List Spot → List ℕ
+slots_of spots = map (λ spot. spot.slot) spots
+
+abbrev pub kepts_of : ValueKeys → List ℕ
+kepts_of keys = map (λ h. kept_noted h.note) keys.keys.held
+
+abbrev pub without_slot : Gv → Gv
+without_slot gnil = gnil
+without_slot (gnum n) = gnum n
+without_slot (gcons a gnil) = gcons a gnil
+without_slot (gcons a (gnum n)) = gcons a (gnum n)
+without_slot (gcons a (gcons b g)) = gcons a g
+
+abbrev pub unslotted : List (Held Entry) → List (Held Entry)
+unslotted held = map (λ h. record { kind = h.kind; key = h.key; own = h.own; label = h.label; note = without_slot h.note }) held
+
+abbrev pub AreRemarked : ValueKeys → ValueKeys → Type 0
+AreRemarked keys keys' = (book_in keys' ≡ book_in keys) × (unslotted keys'.keys.held ≡ unslotted keys.keys.held)
+
+abbrev pub IsAsBefore : Batch → Batch → Type 0
+IsAsBefore batch batch' =
+    (book_in (keys_in batch') ≡ book_in (keys_in batch)) × ((keys_in batch').keys.held ≡ (keys_in batch).keys.held)
+    × (first_in batch' ≡ first_in batch)
+
+abbrev pub IsPushed : ValueKeys → ℕ → ℕ → ValueKeys → Type 0
+IsPushed keys v kept keys' =
+    (book_in keys' ≡ book_in keys) × (values_of keys' ≡ values_of keys ++ v ∷ []) × (kepts_of keys' ≡ kepts_of keys ++ kept ∷ [])
+
+abbrev pub LeadsFrom : ValueKeys → ℕ → ValueKeys → Type 0
+LeadsFrom keys number keys' =
+    (book_in keys' ≡ book_in keys) × (values_of keys' ≡ values_of keys) × (kepts_of keys' ≡ kepts_of keys)
+    × ((h : Held Entry) → block_of h.label ≡ number → are_joined (book_in keys').store keys'.keys.held (h ∷ []) ≡ true)
+
+abbrev pub AreNamed : List ℕ → Pass → Type 0
+AreNamed values pass = (v : ℕ) → Contains values v → has v (state_seen pass).named ≡ true

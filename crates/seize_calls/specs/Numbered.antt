@@ -1,0 +1,17 @@
+-- What a slot's holder knows of the values of a batch by numbers.
+--     starts_at n values, ends_at n values     n is the number of the first one's block, or of the last one's, where there are some
+--     counted n values         there are so many of them, or more than can be said
+use Rattle.std.specs.Prelude.{ℕ, Bool, true, ◌==◌, ◌-◌, ◌^◌, min, List, [], ◌∷◌, length}
+use Rattle.seize_book.specs.Blocks.{block_of}
+
+abbrev pub starts_at : ℕ → List ℕ → Bool
+starts_at n [] = true
+starts_at n (v ∷ values) = n == block_of v
+
+abbrev pub ends_at : ℕ → List ℕ → Bool
+ends_at n [] = true
+ends_at n (v ∷ []) = n == block_of v
+ends_at n (v ∷ w ∷ values) = ends_at n (w ∷ values)
+
+abbrev pub counted : ℕ → List ℕ → Bool
+counted n values = n == min (length values) (2 ^ 64 - 1)

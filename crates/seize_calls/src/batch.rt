@@ -1,0 +1,116 @@
+//! The batch of a slot, as its holder keeps it: the keys of its values, and where the first and the last lie. What comes between is noted
+//! of the blocks themselves, so a batch takes no memory, however many values it has.
+ghost use Rattle.std.specs.Prelude.{◌≡◌, true};
+ghost use Rattle.seize_calls.specs.Numbered.{counted, ends_at, starts_at};
+ghost use Rattle.seize_book.specs.Values.{AreClosed, values_of};
+
+use seize_words::blocks::Blocks;
+use seize_words::book::{Pass, ValueKey, ValueKeys};
+use seize_words::note::Note;
+
+/// The keys of the values of a slot's batch, in the order in which they were put. Of each block it is noted which one comes next, and of
+/// the last one's that none does.
+#[derive(Drop)]
+pub struct Batch {
+    // The numbers of the blocks of the first and the last value, where there are some.
+    pub(crate) first: u64,
+    last: u64,
+    pub(crate) len: usize,
+    pub(crate) values: ValueKeys,
+    ghost many: { counted len (values_of values) ≡ true },
+    ghost front: { starts_at first (values_of values) ≡ true },
+    ghost back: { ends_at last (values_of values) ≡ true },
+    ghost closed: { AreClosed values },
+}
+
+impl Batch {
+    ghost use Rattle.std.specs.Prelude.{length, min, ◌+◌, ◌-◌, ◌<◌, ◌^◌};
+    ghost use Rattle.seize_book.specs.Others.{IsValueOf, value_of};
+    ghost use Rattle.seize_book.specs.Passes.{LooksOn};
+    ghost use Rattle.seize_book.specs.Values.{AreOfBook, IsEmpty};
+    ghost use Rattle.seize_calls.specs.Batches.{AreNamed, IsPushed, LeadsFrom, keys_in};
+    ghost use Rattle.seize_words.specs.Chunks.{book_in};
+    ghost use Rattle.seize_words.specs.Noted.{IsSeenAt};
+
+    /// A batch of no values, of the pass's book.
+    pub fn new(pass: &mut Pass) -> Batch
+        ensures { IsEmpty (keys_in result) pass.old × (pass.new ≡ pass.old) }
+    {
+        Batch {
+            first: 0,
+            last: 0,
+            len: 0,
+            values: ValueKeys::new(pass),
+        }
+    }
+
+    /// How many values it has, or `usize::MAX` where they are more.
+    pub fn len(&self) -> usize
+        ensures { result ≡ min (length (values_of (keys_in self.now))) (2 ^ 64 - 1) }
+    {
+        self.len
+    }
+
+    /// One value more comes last, of which this is its block's number and what is kept.
+    ///
+    /// It takes no memory: three look-ups, a plain read and two plain writes.
+    pub(crate) fn push<T: Drop>(
+        &mut self,
+        blocks: &Blocks<T>,
+        number: u64,
+        kept: u64,
+        value: ValueKey,
+        pass: &mut Pass,
+    )
+        requires book { AreOfBook (keys_in self.old) pass.old × IsValueOf value pass.old × (book_in blocks.now ≡ pass.old.name) }
+        requires number { IsSeenAt value number pass.old }
+        requires named { AreNamed (values_of (keys_in self.old)) pass.old }
+        ensures looks { LooksOn pass.old pass.new }
+        ensures pushes { IsPushed (keys_in self.old) (value_of value) kept (keys_in self.new) }
+    {
+        let mut value = value;
+        let note = Note {
+            next: 0,
+            slot: 0,
+            kept,
+        };
+        blocks.set_note(number, note, &mut value, pass);
+        let _known = pass.seek(number);
+        Batch::lead_on(blocks, self.len, self.last, number, &mut self.values, pass);
+        let first = if self.len == 0 { number } else { self.first };
+        self.values.push(value);
+        self.first = first;
+        self.last = number;
+        self.len = self.len.saturating_add(1);
+    }
+
+    // What is noted of the last value's block says then that the block of this number comes next, where there are values.
+    fn lead_on<T: Drop>(
+        blocks: &Blocks<T>,
+        len: usize,
+        last: u64,
+        number: u64,
+        values: &mut ValueKeys,
+        pass: &mut Pass,
+    )
+        requires book { AreOfBook values.old pass.old × (book_in blocks.now ≡ pass.old.name) }
+        requires len { counted len (values_of values.old) ≡ true }
+        requires last { ends_at last (values_of values.old) ≡ true }
+        requires named { AreNamed (values_of values.old) pass.old }
+        requires fits { number + 1 < 2 ^ 64 }
+        ensures looks { (before : Pass) → LooksOn before pass.old → LooksOn before pass.new }
+        ensures leads { LeadsFrom values.old number values.new }
+    {
+        if len == 0 {
+            return;
+        }
+        let mut value = values.pop();
+        let note = blocks.note(last, &mut value, pass);
+        let note = Note {
+            next: number + 1,
+            ..note
+        };
+        blocks.set_note(last, note, &mut value, pass);
+        values.push(value);
+    }
+}
