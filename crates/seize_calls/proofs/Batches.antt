@@ -1,7 +1,8 @@
 -- Keys of the values of a batch, to which one more comes.
-use Rattle.std.proofs.Common.{◌≡◌, ◌≢◌, ℕ, zero, suc, ◌+◌, ◌-◌, ◌<◌, ◌≤◌, ◌^◌, ◌==◌, min, Bool, true, false, List, [], ◌∷◌, ◌++◌, length, Option, Some, None, refl, sym, ap, subst, ◌∙◌, append-nil, arith}
+use Rattle.std.proofs.Common.{◌≡◌, ◌≢◌, ℕ, zero, suc, ◌+◌, ◌-◌, ◌≤◌, ◌^◌, ◌==◌, min, true, List, [], ◌∷◌, ◌++◌, length, map, Option, Some, None, refl, sym, ap, subst, ◌∙◌, append-nil, arith}
 use Rattle.std.specs.List.{Contains}
 use Rattle.std.proofs.lemmas.List.{length_push}
+use base.Stored.{Gv, gcons, gnil, gnum}
 use Rattle.seize_machine.proofs.Facts.{eq_true}
 use Rattle.seize_book.specs.Blocks.{block_of}
 use Rattle.seize_book.specs.Book.{blocks}
@@ -10,7 +11,7 @@ use Rattle.seize_book.specs.Ledger.{Held, renewed}
 use Rattle.seize_book.specs.Linked.{are_joined, are_linked, next_in}
 use Rattle.seize_book.specs.Private.{is_one, label_of, labels_of, note_of}
 use Rattle.seize_book.proofs.Linked.{parted_joined}
-use Rattle.seize_calls.specs.Batches.{kept_noted, unslotted}
+use Rattle.seize_calls.specs.Batches.{kept_noted, unslotted, without_slot}
 use Rattle.seize_calls.specs.Numbered.{counted, ends_at, starts_at}
 use Rattle.seize_calls.proofs.Rounds.{joined_past, leads_to}
 
@@ -96,7 +97,7 @@ labels_append [] b = refl
 labels_append (h ∷ a) b = ap (λ (vs : List ℕ). h.label ∷ vs) (labels_append a b)
 
 abbrev pub kepts : Keys → List ℕ
-kepts held = Rattle.std.proofs.Common.map (λ h. kept_noted h.note) held
+kepts held = map (λ h. kept_noted h.note) held
 
 pub kepts_append : (a b : Keys) → kepts (a ++ b) ≡ kepts a ++ kepts b
 kepts_append [] b = refl
@@ -128,3 +129,27 @@ pub contains_more : (vs : List ℕ) (v w : ℕ) → Contains vs w → Contains (
 contains_more [] v w there = absurd (omega (arith, there.1))
 contains_more (x ∷ vs) v w (zero, less, is) = (zero, omega arith, is)
 contains_more (x ∷ vs) v w (suc n, less, is) = let rest = contains_more vs v w (n, omega (arith, less), is) in (suc rest.0, omega (arith, rest.1), rest.2)
+
+-- What is kept of a value stays, where it is marked anew. This is for callers.
+
+abbrev plain_kept : Gv → ℕ
+plain_kept (gcons a (gcons (gnum k) g)) = k
+plain_kept g = 0
+
+without_kept : (g : Gv) → plain_kept (without_slot g) ≡ kept_noted g
+without_kept gnil = refl
+without_kept (gnum n) = refl
+without_kept (gcons a gnil) = refl
+without_kept (gcons a (gnum n)) = refl
+without_kept (gcons a (gcons b gnil)) = refl
+without_kept (gcons a (gcons b (gnum n))) = refl
+without_kept (gcons a (gcons b (gcons gnil g))) = refl
+without_kept (gcons a (gcons b (gcons (gnum k) g))) = refl
+without_kept (gcons a (gcons b (gcons (gcons x y) g))) = refl
+
+pub remarked_kepts : (a b : Keys) → unslotted a ≡ unslotted b → kepts a ≡ kepts b
+remarked_kepts a b same = sym (plain a) ∙ ap (λ (held : Keys). map (λ h. plain_kept h.note) held) same ∙ plain b
+  where
+    plain : (held : Keys) → map (λ h. plain_kept h.note) (unslotted held) ≡ kepts held
+    plain [] = refl
+    plain (h ∷ held) = λ i. without_kept h.note i ∷ plain held i

@@ -15,6 +15,7 @@
 --     Leaves job stays swap key pass key' pass' had had'     a leave or a refresh: it began, the head was swapped out by this entry, each
 --                        batch that came out was counted down once, what was given up was handed before the next, and it returned. The
 --                        slot is active afterwards or not. The reclaimer had what was handed (HasHad)
+-- In all of these the pass has seen what it had seen (`grows`).
 use Rattle.std.specs.Prelude.{◌≡◌, ℕ, ℤ, Bool, true, false, if◌then◌else◌, List, [], ◌∷◌, ◌++◌, length, None}
 use mathlib.Core.List.{IsPrefix}
 use Rattle.seize_machine.specs.Machine.Event.{AddCount, Begin, Detach, Event, Put, Return}

@@ -1,4 +1,4 @@
--- How a call marks that has put the value with which its batch is full, or that begins to flush.
+-- How a call marks that has put the value with which its batch is full, or that begins to flush. The pass has seen what it had seen.
 --     BeginsToMark key       the slot's call is to read the first head
 --     readings pass s n finds     slot s read heads, with the pass: from this number on, in order, as many as there are answers, which say
 --                            whether the head was active

@@ -14,7 +14,7 @@ use seize_words::note::Note;
 pub struct Batch {
     // The numbers of the blocks of the first and the last value, where there are some.
     pub(crate) first: u64,
-    last: u64,
+    pub(crate) last: u64,
     pub(crate) len: usize,
     pub(crate) values: ValueKeys,
     ghost many: { counted len (values_of values) ≡ true },
@@ -53,7 +53,7 @@ impl Batch {
 
     /// One value more comes last, of which this is its block's number and what is kept.
     ///
-    /// It takes no memory: three look-ups, a plain read and two plain writes.
+    /// It takes no memory: two look-ups, a plain read and two plain writes.
     pub(crate) fn push<T: Drop>(
         &mut self,
         blocks: &Blocks<T>,
@@ -105,12 +105,13 @@ impl Batch {
             return;
         }
         let mut value = values.pop();
-        let note = blocks.note(last, &mut value, pass);
+        let header = blocks.header(last, pass);
+        let note = value.note(&header.note);
         let note = Note {
             next: number + 1,
             ..note
         };
-        blocks.set_note(last, note, &mut value, pass);
+        value.set_note(&header.note, note);
         values.push(value);
     }
 }

@@ -27,8 +27,8 @@ use seize_words::reservation::Head;
 use seize_words::slots::Slots;
 use std::sync::Wait;
 
-// Attempts the batch, hands its values if they are given up, and returns. It says whether the batch was retired: if it was, it has no values
-// any more.
+// Attempts the batch, hands its values if they are given up, and returns. It says whether the batch was retired: if it was, it has no
+// values any more.
 fn settle<T: Drop, R: Reclaim<T>>(
     slots: &Slots,
     blocks: &Blocks<T>,
@@ -90,9 +90,9 @@ pub fn flush<T: Drop, R: Reclaim<T>>(
     settle(slots, blocks, batch, key, reclaimer, pass, rt)
 }
 
-/// Retires the value of this key, which lies in the block of this number: it joins the slot's batch, which is this one, and comes last. What
-/// its owner keeps of it is noted of its block. Where the batch has `size` values or more, which is the size of the book, it is attempted.
-/// It says whether the batch was retired: if it was, it has no values any more.
+/// Retires the value of this key, which lies in the block of this number: it joins the slot's batch, which is this one, and comes last.
+/// What its owner keeps of it is noted of its block. Where the batch has `size` values or more, which is the size of the book, it is
+/// attempted. It says whether the batch was retired: if it was, it has no values any more.
 ///
 /// It takes no memory, but for what the handing does. An insertion is tried again as often as others change the head between a look at it
 /// and the try.

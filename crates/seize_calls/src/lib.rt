@@ -1,8 +1,8 @@
 //! The calls of a slot, as what its holder does on the words: how it retires a batch, and how it walks what waited for it. Each is safe
 //! code over the calls of `seize_words`, and holds beside whatever others add meanwhile.
 //!
-//! `batch` is what a slot's holder keeps of its batch, and `round` goes through it, from block to block. `marking` and `inserting` are the two halves of an attempt, which
-//! `attempt` joins.
+//! `batch` is what a slot's holder keeps of its batch, and `round` goes through it, from block to block. `marking` and `inserting` are the
+//! two halves of an attempt, which `attempt` joins.
 #![tactic(auto)]
 
 pub mod attempt;

@@ -1,6 +1,7 @@
 use Rattle.std.proofs.Common.{◌≡◌, ℕ, List, lit<, sym, ap, subst, ◌∙◌, true, false}
 use Rattle.seize_machine.specs.Machine.Event.{AddCount, Detach}
 use Rattle.seize_book.specs.Adding.{private}
+use Rattle.seize_book.specs.Ledger.{renewed}
 use Rattle.seize_book.specs.Private.{labels_of}
 use Rattle.seize_book.specs.Slots.{number_of}
 use Rattle.seize_words.proofs.Facts.{knows_noted}
@@ -67,7 +68,8 @@ add-requires-clause-adds g c =
 pub invariant_of-batch : goal.invariant_of-batch
 invariant_of-batch g c =
     let batch = c.insert_each-won.new.batch in
-    let same = sym (renewed_labels batch.values.keys.held c.add.new.pass.seen) ∙ ap labels_of (sym c.if-add.ensures.keys.1) in
+    let left : renewed batch.values.keys.held c.add.new.pass.seen ≡ c.add.new.values.keys.held = sym c.if-add.ensures.keys.1 in
+    let same = sym (renewed_labels batch.values.keys.held c.add.new.pass.seen) ∙ ap labels_of left in
     record {
       many = subst (λ (vs : List ℕ). counted batch.len vs ≡ true) same batch.many;
       front = subst (λ (vs : List ℕ). starts_at batch.first vs ≡ true) same batch.front;

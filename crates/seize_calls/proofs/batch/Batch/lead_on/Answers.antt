@@ -1,11 +1,10 @@
 use Rattle.std.proofs.Common.{◌≡◌, ℕ, true, List, [], ◌∷◌, ◌++◌, lit<, refl, sym, ap, subst, ◌∙◌}
 use Rattle.std.specs.List.{Contains}
-use Rattle.seize_machine.specs.Machine.State.{has}
-use Rattle.seize_book.specs.Blocks.{block_of}
+use Rattle.seize_store.specs.Named.{name_of}
 use Rattle.seize_book.specs.Entry.{Entry}
-use Rattle.seize_book.specs.Homesteads.{state_seen}
 use Rattle.seize_book.specs.Ledger.{Held}
 use Rattle.seize_book.specs.Linked.{are_joined, next_in}
+use Rattle.seize_book.specs.Loans.{cell_of}
 use Rattle.seize_book.specs.Others.{value_of}
 use Rattle.seize_book.specs.Private.{label_of, labels_of, note_of}
 use Rattle.seize_book.specs.Tokens.{Name}
@@ -21,39 +20,44 @@ pub pop-value-requires : goal.pop-value-requires
 pop-value-requires g c = λ none.
     let some = some_counted c.args.len (labels_of c.args.values.now.keys.held) c.requires.len c.if-len-eq0.false in absurd (omega (Rattle.std.proofs.Common.arith, some, ap (λ (vs : List ℕ). Rattle.std.proofs.Common.length vs) none))
 
-pub note-note-requires : goal.note-note-requires
-note-note-requires g c =
-    let values = c.args.values.now in let rest = c.pop-value.new.self in let v = value_of c.pop-value.result in let parts = c.pop-value.ensures.2 in (
+pub header-header-requires : goal.header-header-requires
+header-header-requires g c =
+    let rest = c.pop-value.new.self in let v = value_of c.pop-value.result in let parts = c.pop-value.ensures.2 in (
       lit< tt,
       (
-        (c.pop-value.ensures.1 ∙ c.requires.book.0, c.requires.book.1),
+        c.requires.book.1,
         (
+          v,
           c.requires.named v (subst (λ (vs : List ℕ). Contains vs v) (sym parts) (contains_last (labels_of rest.keys.held) v)),
           ends_last c.args.last (labels_of rest.keys.held) v (subst (λ (vs : List ℕ). ends_at c.args.last vs ≡ true) parts c.requires.last),
         ),
       ),
     )
 
-pub set_note-requires : goal.set_note-requires
-set_note-requires g c =
-    let values = c.args.values.now in let rest = c.pop-value.new.self in let v = value_of c.pop-value.result in let parts = c.pop-value.ensures.2 in let one = c.note-note in let same = ap label_of one.ensures.same.1 in (
-      lit< tt,
-      (
-        (one.ensures.same.0 ∙ c.pop-value.ensures.1 ∙ c.requires.book.0 ∙ sym one.ensures.looks.same.0, c.requires.book.1 ∙ sym one.ensures.looks.same.0),
-        (
-          subst (λ (w : ℕ). has w (state_seen one.new.pass).named ≡ true) (sym same)
-              (named_seen c.args.pass.now one.new.pass v one.ensures.looks (c.requires.named v (subst (λ (vs : List ℕ). Contains vs v) (sym parts) (contains_last (labels_of rest.keys.held) v)))),
-          ap block_of same ∙ ends_last c.args.last (labels_of rest.keys.held) v (subst (λ (vs : List ℕ). ends_at c.args.last vs ≡ true) parts c.requires.last),
-        ),
-      ),
-    )
+pub note-note-requires-clause-cell : goal.note-note-requires-clause-cell
+note-note-requires-clause-cell g c =
+    let rest = c.pop-value.new.self in let v = value_of c.pop-value.result in let parts = c.pop-value.ensures.2 in let looked = c.header-header in
+    sym (looked.ensures.header.2 v (named_seen c.args.pass.now looked.new.pass v looked.ensures.looks (c.requires.named v (subst (λ (vs : List ℕ). Contains vs v) (sym parts) (contains_last (labels_of rest.keys.held) v))))
+    (ends_last c.args.last (labels_of rest.keys.held) v (subst (λ (vs : List ℕ). ends_at c.args.last vs ≡ true) parts c.requires.last)))
+
+pub set_note-requires-clause-store : goal.set_note-requires-clause-store
+set_note-requires-clause-store g c =
+    let blocks = c.args.blocks.now in
+    (name_of blocks.store, ap (λ (n : Name). n.store) (c.note-note.ensures.same.0 ∙ c.pop-value.ensures.1 ∙ c.requires.book.0 ∙ sym c.requires.book.1) ∙ blocks.stands)
+
+pub set_note-requires-clause-cell : goal.set_note-requires-clause-cell
+set_note-requires-clause-cell g c =
+    let rest = c.pop-value.new.self in let v = value_of c.pop-value.result in let parts = c.pop-value.ensures.2 in let looked = c.header-header in
+    sym (looked.ensures.header.2 v (named_seen c.args.pass.now looked.new.pass v looked.ensures.looks (c.requires.named v (subst (λ (vs : List ℕ). Contains vs v) (sym parts) (contains_last (labels_of rest.keys.held) v))))
+    (ends_last c.args.last (labels_of rest.keys.held) v (subst (λ (vs : List ℕ). ends_at c.args.last vs ≡ true) parts c.requires.last)))
+    ∙ ap (λ (held : List (Held Entry)). cell_of (label_of held)) (sym c.note-note.ensures.same.1)
 
 pub push-requires-clause-leads : goal.push-requires-clause-leads
 push-requires-clause-leads g c =
-    let values = c.args.values.now in let rest = c.pop-value.new.self in let value = c.pop-value.result in let last = c.set_note.new.key in
+    let values = c.args.values.now in let rest = c.pop-value.new.self in let value = c.pop-value.result in let last = c.set_note.new.self in
     subst (λ (n : Name). are_joined n.store rest.keys.held last.keys.held ≡ true) (sym c.pop-value.ensures.0)
     (joined_last (values.keys.name).store values.keys.held rest.keys.held value.keys.held last.keys.held value.one last.one
-    (ap label_of c.set_note.ensures.noted.1 ∙ (noted_one c.note-note.new.key.keys.held _ c.note-note.new.key.one).1 ∙ ap label_of c.note-note.ensures.same.1) c.pop-value.ensures.3 values.linked)
+    (ap label_of c.set_note.ensures.1 ∙ (noted_one c.note-note.new.self.keys.held _ c.note-note.new.self.one).1 ∙ ap label_of c.note-note.ensures.same.1) c.pop-value.ensures.3 values.linked)
 
 pub returns-then-len-eq0-clause-leads : goal.returns-then-len-eq0-clause-leads
 returns-then-len-eq0-clause-leads g c =
@@ -66,14 +70,14 @@ returns-then-len-eq0-clause-leads g c =
 
 pub returns-clause-looks : goal.returns-clause-looks
 returns-clause-looks g c = λ before looks.
-    looks_twice before c.note-note.new.pass c.set_note.new.pass (looks_twice before c.args.pass.now c.note-note.new.pass looks c.note-note.ensures.looks) c.set_note.ensures.looks
+    looks_twice before c.args.pass.now c.header-header.new.pass looks c.header-header.ensures.looks
 
 pub returns-clause-leads : goal.returns-clause-leads
 returns-clause-leads g c =
-    let values = c.args.values.now in let rest = c.pop-value.new.self in let value = c.pop-value.result in let seen = c.note-note.new.key in let last = c.set_note.new.key in let now = c.push.new.self in
+    let values = c.args.values.now in let rest = c.pop-value.new.self in let value = c.pop-value.result in let seen = c.note-note.new.self in let last = c.set_note.new.self in let now = c.push.new.self in
     let parts = noted_one seen.keys.held _ seen.one in
-    let label = ap label_of c.set_note.ensures.noted.1 ∙ parts.1 ∙ ap label_of c.note-note.ensures.same.1 in
-    let noted = ap note_of c.set_note.ensures.noted.1 ∙ parts.2 in
+    let label = ap label_of c.set_note.ensures.1 ∙ parts.1 ∙ ap label_of c.note-note.ensures.same.1 in
+    let noted = ap note_of c.set_note.ensures.1 ∙ parts.2 in
     let kept = ap kept_noted c.note-note.ensures.note in (
       c.push.ensures.0 ∙ c.pop-value.ensures.0,
       c.push.ensures.1 ∙ ap (λ (w : ℕ). labels_of rest.keys.held ++ w ∷ []) label ∙ sym c.pop-value.ensures.2,
