@@ -1,5 +1,5 @@
 -- The last of some keys.
-use Rattle.std.proofs.Common.{◌≡◌, ◌≢◌, ℕ, zero, suc, ◌-◌, Bool, true, ◌&&◌, ◌==◌, List, [], ◌∷◌, ◌++◌, length, take, refl, sym, ◌∙◌, ap, arith}
+use Rattle.std.proofs.Common.{◌≡◌, ℕ, zero, suc, true, List, [], ◌∷◌, ◌++◌, take, refl, ap}
 use Rattle.std.specs.Prelude.{drop}
 use Rattle.seize_machine.proofs.Facts.{and_true, eq_true}
 use Rattle.seize_book.specs.Adding.{before_last}

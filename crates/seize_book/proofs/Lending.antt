@@ -1,7 +1,7 @@
 -- A content goes with the key of a block, and comes back when its value is about to be handed, or where that was never named. Assumes `Logic`.
 use Rattle.std.proofs.Common.{◌≡◌, ℕ, zero, suc, ◌<◌, true, false, List, [], ◌∷◌, None, Some, ◌⊎◌, refl, sym, ap, subst, ◌∙◌, arith}
 use seplogic.Ra.Ura.{Ura}
-use base.Fml.{Lft, Fml, ftrue, fsep, fdead, finv}
+use base.Fml.{Lft, Fml, ftrue, fdead, finv}
 use base.Logic.{SProp, ent, ex, guard, sep, upd_i}
 use base.Stored.{Gv}
 use types.Logic.{Logic, sem}
@@ -24,7 +24,7 @@ use Rattle.seize_book.specs.Loans.{Carries, CarriesNone, cell_of, IsReader, Loan
 use Rattle.seize_book.specs.Others.{labelled}
 use Rattle.seize_book.specs.Private.{is_one, key_of, label_of, own_of}
 use Rattle.seize_book.specs.Slots.{hands_next}
-use Rattle.seize_book.specs.Tokens.{Name, beside, inside, keys_own, knows, leads, note_in, over, pass_holds, pass_owns, rights_own, rows, start, way}
+use Rattle.seize_book.specs.Tokens.{Name, beside, inside, keys_own, knows, note_in, over, pass_holds, pass_owns, rights_own, rows, start, way}
 use Rattle.seize_book.proofs.Append.{looks, looks_beside}
 use Rattle.seize_book.proofs.Hands.{hands_soon}
 use Rattle.seize_book.proofs.Lives.{over_one}

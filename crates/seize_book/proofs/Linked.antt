@@ -1,14 +1,13 @@
 -- Keys that lead on from block to block.
-use Rattle.std.proofs.Common.{◌≡◌, ℕ, Bool, true, ◌&&◌, ◌==◌, List, [], ◌∷◌, ◌++◌, Option, Some, None, refl, sym, ◌∙◌, ap, subst}
+use Rattle.std.proofs.Common.{◌≡◌, ℕ, Bool, true, ◌&&◌, List, [], ◌∷◌, ◌++◌, Option, Some, None, refl, ◌∙◌, ap}
 use base.Stored.{Gv}
 use Rattle.seize_machine.proofs.Facts.{and_true}
-use Rattle.seize_book.specs.Blocks.{block_of}
 use Rattle.seize_book.specs.Entry.{Entry}
 use Rattle.seize_book.specs.Ledger.{Held, renewed}
 use Rattle.seize_book.specs.Book.{blocks}
 use Rattle.seize_book.specs.Private.{is_one}
 use Rattle.seize_book.specs.declared.book.value_key.ValueKey.{ValueKey}
-use Rattle.seize_book.specs.Linked.{next_in, leads_first, linked, joined, are_linked, are_joined}
+use Rattle.seize_book.specs.Linked.{leads_first, linked, joined, are_linked, are_joined}
 
 abbrev Keys : Type 0
 Keys = List (Held Entry)

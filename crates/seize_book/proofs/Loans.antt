@@ -8,20 +8,20 @@ use base.Logic.{SProp, ent, sep}
 use types.Growing.{at_least_dup}
 use types.Kit.{‵, ◌⊛◌, ◌$◌, ◌∵◌, !, qed, move, split, fsplit, fjoin, fpick, fpack, done, use1}
 use types.Logic.{Logic, sem}
-use Rattle.seize_machine.specs.Machine.State.{State, linked, are_distinct, opening, has}
+use Rattle.seize_machine.specs.Machine.State.{State, has}
 use Rattle.seize_machine.specs.Machine.Event.{Event}
 use Rattle.seize_machine.specs.Machine.Next.{next}
-use Rattle.seize_machine.specs.Machine.History.{IsReached, Moment, Found, Reclaimed, answers_of, handed, handed_value, done_by, is_link_event, linked_value, or_illegal}
+use Rattle.seize_machine.specs.Machine.History.{IsReached, Moment, Found, done_by, is_link_event, linked_value, or_illegal}
 use Rattle.seize_machine.specs.declared.machine.event.Answer.{Answer}
-use Rattle.seize_machine.proofs.Facts.{Step, eq_true, law_gone, law_protection, linked_named, reached_next, some_is, step_of}
-use Rattle.seize_book.specs.Entry.{Entry, entry_coded, Made, Used, Deed, deeds, timed, events_of}
+use Rattle.seize_machine.proofs.Facts.{Step, linked_named, reached_next, some_is, step_of}
+use Rattle.seize_book.specs.Entry.{Entry, entry_coded, Made, Used, Deed, deeds, timed}
 use Rattle.seize_book.specs.Book.{moments, after, IsLegalList, Does}
-use Rattle.seize_book.specs.Laws.{AllOver, AllParted, Reader, life, life_from}
+use Rattle.seize_book.specs.Laws.{Reader, life, life_from}
 use Rattle.seize_book.specs.Ledger.{logs, reached}
 use Rattle.seize_book.specs.Tokens.{Name, pass_at, pass_holds}
 use Rattle.seize_book.proofs.Handed.{get_last, moment, moments_push}
-use Rattle.seize_book.proofs.Lists.{as_legal, deeds_append}
-use Rattle.seize_book.proofs.Lives.{all_over, legal_first}
+use Rattle.seize_book.proofs.Lists.{deeds_append}
+use Rattle.seize_book.proofs.Lives.{legal_first}
 use Rattle.seize_book.proofs.Sound.{named_later}
 
 moments_long : (st : State) (log : List Entry) → length (moments st log) ≡ length (deeds log)

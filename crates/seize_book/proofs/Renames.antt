@@ -4,7 +4,7 @@ use Rattle.std.specs.Prelude.{drop as past_first}
 use Rattle.std.proofs.lemmas.Bool.{or_from}
 use seplogic.Ra.Ura.{Ura}
 use base.Logic.{ent}
-use base.Fml.{Fml, fsep}
+use base.Fml.{Fml}
 use types.Logic.{Logic, sem}
 use types.Kit.{‵, ◌$◌, ◌∵◌, !, qed, move, drop, fsplit, fjoin, rewrite, use1, use2, done}
 use native.Mathlib.Decide.{ℕ_discrete}
@@ -23,7 +23,7 @@ use Rattle.seize_book.specs.Fair.{Before}
 use Rattle.seize_book.specs.Homes.{IsVacant, home_of}
 use Rattle.seize_book.specs.Ledger.{AllKept, Held, renewed}
 use Rattle.seize_book.specs.Lending.{IsHandedBy, IsLentKey, Lends, MayRedeem, Redeems}
-use Rattle.seize_book.specs.Loans.{Carries, CarriesNone, cell_of, loan, loan_number, loan_of, place_of}
+use Rattle.seize_book.specs.Loans.{Carries, CarriesNone, cell_of, loan_number, loan_of, place_of}
 use Rattle.seize_book.specs.Books.{IsNextIn, MaySettle}
 use Rattle.seize_book.specs.Others.{FollowsValue, IsLast, IsLastIn, Renames, labelled, state_of, value_of}
 use Rattle.seize_book.specs.Private.{is_one, key_of, label_of, own_of}

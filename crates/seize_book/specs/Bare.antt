@@ -105,7 +105,8 @@ of_values value k g own = record { kind = blocks; key = k; own = own; label = va
 
 abbrev pub of_header : ℕ → List Entry → List (Held Entry)
 of_header k own =
-    record { kind = counts; key = k; own = own; label = 0; note = gnil } ∷ record { kind = fields; key = next_field k; own = own; label = 0; note = gnil }
+    record { kind = counts; key = k; own = own; label = 0; note = gnil }
+    ∷ record { kind = fields; key = next_field k; own = own; label = 0; note = gnil }
     ∷ record { kind = fields; key = first_field k; own = own; label = 0; note = gnil } ∷ []
 
 pub record IsNewChunk (cell : ℕ) (g : Gv) (rights : Rights) (keys : Keys) : Type 0 where

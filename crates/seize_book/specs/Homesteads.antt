@@ -22,7 +22,8 @@ entry_in known v = entry_of known.row (block_of v)
 abbrev pub AreAt : Name → Known → State → Type 0
 AreAt n known st =
     (v : ℕ) → has v st.named ≡ true → IsPlace (block_of v) known.row (entry_in known v)
-    → (label_in known.chunks (entry_in known v) ≡ chunk_label n (home_of v) (cell_of v)) × (content_in known.chunks (entry_in known v) ≡ place_of v)
+    → (label_in known.chunks (entry_in known v) ≡ chunk_label n (home_of v) (cell_of v))
+    × (content_in known.chunks (entry_in known v) ≡ place_of v)
 
 abbrev pub HasNumber : ℕ → State → Type 0
 HasNumber number st = (v : ℕ) × (has v st.named ≡ true) × (block_of v ≡ number)

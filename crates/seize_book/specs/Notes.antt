@@ -1,8 +1,8 @@
 -- The words in which contracts speak of notes: what the holder of the key of a block's values writes beside the block, in the cell of its
 -- chunk. Others see the value meanwhile.
 --     IsStored n              the blocks of the book lie in a store
---     MayOpen keys            there is one key of a block, which lies in a store;  Opens keys keys' opened token    the token of its cell is
---                             out, and says what is noted
+--     MayOpen keys            there is one key of a block, which lies in a store
+--     Opens keys keys' opened token     the token of its cell is out, and says what is noted
 --     MayClose, Closes        and back: what the token says then is noted
 --     noted_in value          what is noted of a value's block
 --     cell_in value           the name of the cell

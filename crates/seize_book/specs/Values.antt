@@ -4,7 +4,8 @@
 --     IsEmpty keys pass, IsOfBook value keys     there are none, of the pass's book;  the value's key is of the same book
 --     IsKeyOfOne value keys          it is the value's alone
 --     Pushes keys value keys'        the value's key comes last
---     LeadsTo keys value, LeadsOn keys other    the last key leads on to this one, or to the first of the others;  AreClosed keys    to none
+--     LeadsTo keys value, LeadsOn keys other    the last key leads on to this one, or to the first of the others
+--     AreClosed keys    it leads on to none
 --     Appends keys other keys' other'   the others come after its own, and none are left there
 --     Nexts keys value keys'         the value's was the first, and the others are left
 --     Pops keys value keys'          the value's was the last, and the others are left

@@ -2,7 +2,7 @@
 -- that, which may go to another thread. Assumes `Logic`.
 use Rattle.std.proofs.Common.{◌≡◌, ℕ, zero, suc, true, false, ◌==◌, List, [], ◌∷◌, ◌++◌, Option, Some, None, refl, sym, ◌∙◌}
 use seplogic.Ra.Ura.{Ura}
-use base.Fml.{Lft, Share, Fml, ftrue, fsep, flent}
+use base.Fml.{Lft, Share, Fml, ftrue, flent}
 use base.Logic.{SProp, ent, ex, guard, sep, upd, upd_i}
 use base.Stored.{Gv}
 use types.Kit.{‵, raw, ◌⊛◌, ◌$◌, ◌∵◌, !, qed, move, keep, drop, split, group, fsplit, fjoin, fpick, fpack, frame, show, check, suffices, settle, done, rewrite, use1, use2, use3}
@@ -18,7 +18,7 @@ use Rattle.seize_words.specs.Glimpses.{IsLentWith, Piece, SightFor, glimpse, sig
 use Rattle.seize_book.specs.Laws.{Reader}
 use Rattle.seize_book.specs.Ledger.{Held, reached}
 use Rattle.seize_book.specs.Loans.{Carries, IsReader, Loan, lent_as, loan, loan_if, loan_of, reader, reader_by, readers}
-use Rattle.seize_book.specs.Tokens.{Name, keys_own, leads, start, way}
+use Rattle.seize_book.specs.Tokens.{Name, keys_own, start, way}
 use Rattle.seize_words.specs.Words.{IsKeyOf}
 use Rattle.seize_book.proofs.Ways.{block_ways, way_closes, way_opens}
 use base.Shift.{Keyless}

@@ -1,4 +1,5 @@
-//! Notes: what the holder of the key of a block's values keeps beside the block, in plain memory of its chunk, while others may see the value.
+//! Notes: what the holder of the key of a block's values keeps beside the block, in plain memory of its chunk, while others may see the
+//! value.
 
 /// What is noted of a block by its owner of the moment. Who retires a value notes what comes next in its batch, and so whoever is given the
 /// batch finds its blocks one after the other; a batch takes no memory.

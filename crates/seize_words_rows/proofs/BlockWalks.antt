@@ -1,26 +1,19 @@
 -- In the worked run of blocks, the reader counts one batch of its walk down, and is given its values, which it hands one after the other.
-use Rattle.std.proofs.Common.{◌≡◌, ℕ, zero, suc, pos, ◌+◌, ◌-◌, ◌≤◌, Bool, true, if◌then◌else◌, List, [], ◌∷◌, ◌++◌, length, map, append_assoc, arith, refl, sym, ap, ◌∙◌, subst, ◌⊎◌, inl, inr}
-use Rattle.std.specs.List.{Contains}
+use Rattle.std.proofs.Common.{◌≡◌, ℕ, pos, ◌+◌, ◌-◌, ◌≤◌, Bool, true, if◌then◌else◌, List, [], ◌∷◌, ◌++◌, length, map, arith, refl, sym, ap, ◌∙◌, subst}
 use Rattle.std.specs.Prelude.{Option, Some, slice_index_or}
 use denote.Bor.{Bor}
 use denote.Builtin.{u64}
-use Rattle.seize_machine.specs.Machine.State.{Rest, Slot, State, has}
+use Rattle.seize_machine.specs.Machine.State.{Rest, Slot}
 use Rattle.seize_machine.specs.Machine.Event.{SubCount}
 use Rattle.seize_machine.specs.Machine.History.{first_of}
 use Rattle.seize_machine.proofs.Facts.{some_is}
 use Rattle.seize_machine.specs.declared.machine.event.Answer.TheVariants.{Count}
 use Rattle.seize_book.specs.Blocks.{Plan, block_in, block_of, front_of, list_word, no_plan, plans}
-use Rattle.seize_book.specs.Book.{after, blocks}
 use Rattle.seize_book.specs.Values.{AreLast, book_in, values_of}
 use Rattle.seize_words.specs.Counts.{values_in}
-use Rattle.seize_book.specs.Entry.{Entry}
-use Rattle.seize_book.specs.Homesteads.{state_seen}
-use Rattle.seize_book.specs.Ledger.{Held, renewed}
-use Rattle.seize_book.specs.Others.{IsSpent}
-use Rattle.seize_book.specs.Passes.{LooksOn}
-use Rattle.seize_book.specs.Private.{is_one, own_of}
+use Rattle.seize_book.specs.Ledger.{renewed}
 use Rattle.seize_book.specs.Slots.{Looks, hands_next, number_of, own_list, start_of}
-use Rattle.seize_book.specs.Tokens.{IsSole, Name, start}
+use Rattle.seize_book.specs.Tokens.{Name}
 use Rattle.seize_words.specs.Headers.{IsFrontBlock}
 use Rattle.seize_words.specs.Walks as Walks
 use Rattle.seize_words.specs.Walks.{CountsDown, IsAtBatch}
@@ -28,12 +21,12 @@ use Rattle.seize_words.proofs.Facts.{is_lent}
 use Rattle.seize_book.specs.declared.book.pass.Pass.{Pass}
 use Rattle.seize_book.specs.declared.book.slot_key.SlotKey.{SlotKey}
 use Rattle.seize_book.specs.declared.book.value_keys.ValueKeys.{ValueKeys}
-use Rattle.seize_words_rows.specs.BlockRuns.{AreAllIn, AreIn, Two, at_walk, both, given_up, handed_one, listed, named_in, planned, waiting, word_over}
+use Rattle.seize_words_rows.specs.BlockRuns.{AreAllIn, AreIn, Two, at_walk, both, given_up, handed_one, listed, planned, waiting, word_over}
 use Rattle.seize_words_rows.specs.Reclaiming.{AreReady, IsFirstAt, IsNextAt, LeavesOut}
-use Rattle.seize_words_rows.specs.Stages.{IsAt, Knows, Leads, Sees, Stage}
+use Rattle.seize_words_rows.specs.Stages.{Knows, Leads, Sees}
 use Rattle.seize_words_rows.specs.declared.block_run.Pair.{Pair}
 use Rattle.seize_words_rows.proofs.Reclaimed.{one_less}
-use Rattle.seize_words_rows.proofs.BlockRuns.{IsFew, all_last, counts_down, few_before, has_among, looked_leads, plan_last, walk_last, word_last, word_rest}
+use Rattle.seize_words_rows.proofs.BlockRuns.{IsFew, all_last, counts_down, few_before, looked_leads, plan_last, walk_last, word_last, word_rest}
 use Rattle.seize_words_rows.proofs.Stages.{came_to_zero, front_is, looks_on, planned_is, record_is, rests, sees_still, steps, values_are}
 
 -- the word leads to the next batch of the walk

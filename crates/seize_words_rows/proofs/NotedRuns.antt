@@ -1,5 +1,5 @@
 -- The steps of the run of a noted batch, from stage to stage.
-use Rattle.std.proofs.Common.{◌≡◌, ℕ, pos, Bool, true, false, not, ◌||◌, if◌then◌else◌, Option, Some, None, List, [], ◌∷◌, ◌++◌, refl, sym, ap, ◌∙◌, subst}
+use Rattle.std.proofs.Common.{◌≡◌, ℕ, pos, Bool, true, false, not, ◌||◌, if◌then◌else◌, Some, None, List, [], ◌∷◌, ◌++◌, refl, sym, ap, ◌∙◌, subst}
 use denote.Builtin.{u64}
 use Rattle.seize_machine.specs.Machine.State.{has, slot_at}
 use Rattle.seize_machine.specs.Machine.Event.{Take, Begin, Put, Return, ReadHead, Detach, AddCount, Hand}

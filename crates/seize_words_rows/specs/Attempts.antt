@@ -2,8 +2,8 @@
 --     UsesBoth key pass key' pass' f v g w     the slot stored v in field f, and then w in field g
 --     IsLastTry key head next first count attempt     the slot's call is about to insert its batch at this head with the block that has
 --                         these fields, and nowhere else; it has won so many insertions, and the batch's count and first block are these
---     TriesWith .. values     and the closed keys are those of the batch's values;  KeepsValues values pass' values' result     they stay, or go
---                         to the count
+--     TriesWith .. values     and the closed keys are those of the batch's values
+--     KeepsValues values pass' values' result     they stay, or go to the count
 --     Ends try key' result     it is the same slot's key; a lost insertion leaves the call to read that head again, and after a won one the
 --                         batch is given up to it where the count came to 0, and else nothing is
 use Rattle.std.specs.Prelude.{◌≡◌, ℕ, ◌+◌, ◌<◌, ◌^◌, Bool, if◌then◌else◌, [], Option, Some, None, slice_index_or}

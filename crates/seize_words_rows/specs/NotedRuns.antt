@@ -12,7 +12,7 @@
 --     StandsWith run three keys pass key now     there are values in these blocks, with these keys, and slot 0 has come to this stage of
 --                         them
 --     opened .. over      the stages, in order
-use Rattle.std.specs.Prelude.{◌≡◌, ℕ, ◌+◌, pos, true, List, [], ◌∷◌, Some, None}
+use Rattle.std.specs.Prelude.{◌≡◌, ℕ, pos, true, List, [], ◌∷◌, None}
 use Rattle.seize_machine.specs.Machine.State.{Slot, Batch, Head, Inactive, Append, Mark, Add, Rest}
 use Rattle.seize_book.specs.Blocks.{Plan}
 use Rattle.seize_book.specs.Linked.{next_in}

@@ -1,10 +1,10 @@
 -- Values that go to their reclaimers, out of blocks of a store.
---     Reclaims key pass key' pass' puts     what the slot's call was about to hand was handed, and its reclaimer put these; before and after
---                         that the pass looked at the list
+--     Reclaims key pass key' pass' puts     what the slot's call was about to hand was handed, and its reclaimer put these; before and
+--                         after that the pass looked at the list
 --     AreReady keys slot pass     a slot's call was given up these keys, and since then handed none of their values: when it was given them
 --                         up, all others that lay in their blocks were reclaimed
---     IsNextAt keys number slot     the first of these values is what the slot's call is about to hand; it lies in the block of this number,
---                         where it is lent
+--     IsNextAt keys number slot     the first of these values is what the slot's call is about to hand; it lies in the block of this
+--                         number, where it is lent
 --     LeavesOut keys keys'     the first of some values is left out
 --     IsFirstAt keys word      if there are any, the first lies in the block of this word: it is the block's number and one more
 use Rattle.std.specs.Prelude.{◌≡◌, ℕ, ◌+◌, List, ◌∷◌, Some}

@@ -156,8 +156,9 @@ fn note_of(next: u64) -> Note
     }
 }
 
-/// The two calls of the retiring slot by which the values are retired. The first call only puts its value, and of its block it is noted which
-/// the other one is. With the second the batch is full, so that call is to read the heads; of the other block it is noted that none follows.
+/// The two calls of the retiring slot by which the values are retired. The first call only puts its value, and of its block it is noted
+/// which the other one is. With the second the batch is full, so that call is to read the heads; of the other block it is noted that none
+/// follows.
 pub fn retire(
     run: &Run,
     before: Option<&Pair>,
@@ -177,10 +178,16 @@ pub fn retire(
     retirer.begin_retire(&mut one, pass);
     retirer.put(pass);
     retirer.finish(pass);
-    run.blocks.set_note(pair.first.number, note_of(pair.second.number + 1), &mut one, pass);
+    run.blocks.set_note(
+        pair.first.number,
+        note_of(pair.second.number + 1),
+        &mut one,
+        pass,
+    );
     retirer.begin_retire(&mut other, pass);
     retirer.put(pass);
-    run.blocks.set_note(pair.second.number, note_of(0), &mut other, pass);
+    run.blocks
+        .set_note(pair.second.number, note_of(0), &mut other, pass);
     let mut values = ValueKeys::of(one);
     values.push(other);
     Batch { pair, values }
@@ -304,8 +311,8 @@ pub fn leave(
 }
 
 /// The reader counts down the batch to which the word leads, and is given its values. The first one lies in the block at which the batch's
-/// count stands, and the second one in the block that is noted there. Each comes out of its block, goes to its reclaimer, and its block goes
-/// back into the store with its key. It gives the values, and the word that leads on through the rest of the walk.
+/// count stands, and the second one in the block that is noted there. Each comes out of its block and goes to its reclaimer, and its block
+/// goes back into the store with its key. It gives the values, and the word that leads on through the rest of the walk.
 pub fn walk_on(
     run: &Run,
     _before: Option<&Pair>,

@@ -165,8 +165,20 @@ fn link(
     let mut one = one;
     let mut two = two;
     let mut last = last;
-    note_next(&run.blocks, three.first, three.second.number + 1, &mut one, pass);
-    note_next(&run.blocks, three.second, three.third.number + 1, &mut two, pass);
+    note_next(
+        &run.blocks,
+        three.first,
+        three.second.number + 1,
+        &mut one,
+        pass,
+    );
+    note_next(
+        &run.blocks,
+        three.second,
+        three.third.number + 1,
+        &mut two,
+        pass,
+    );
     note_next(&run.blocks, three.third, 0, &mut last, pass);
     let mut values = ValueKeys::of(one);
     values.push(two);

@@ -1,15 +1,14 @@
-use Rattle.std.proofs.Common.{◌≡◌, ℕ, pos, true, false, List, [], ◌∷◌, if◌then◌else◌, refl, sym, ap, ◌∙◌, subst}
+use Rattle.std.proofs.Common.{◌≡◌, pos, false, [], ◌∷◌, refl, sym, ap, ◌∙◌}
 use Rattle.seize_machine.specs.Machine.State.{Slot}
 use Rattle.seize_machine.specs.Machine.Event.{AddCount, Detach}
 use Rattle.seize_machine.specs.declared.machine.event.Answer.TheVariants.{Count, Done, Head}
 use Rattle.seize_book.specs.Homes.{home_of}
-use Rattle.seize_book.specs.Slots.{number_of}
 use Rattle.seize_book.specs.Tokens.{Name}
 use Rattle.seize_book.specs.declared.book.slot_key.SlotKey.{SlotKey}
 use Rattle.seize_words.specs.Counts.{AddsTo, home}
 use Rattle.seize_words.specs.declared.batch.Count.{Count as Word}
-use Rattle.seize_words_rows.specs.NotedRuns.{Values, all, book_of, detached, full, given, read}
-use Rattle.seize_words_rows.specs.Stages.{Knows, Leads}
+use Rattle.seize_words_rows.specs.NotedRuns.{Values, book_of, detached, full, given, read}
+use Rattle.seize_words_rows.specs.Stages.{Knows}
 use Rattle.seize_words_rows.proofs.BlockRuns.{has_among, header_at}
 use Rattle.seize_words_rows.proofs.NotedRuns.{detaches, gives, reads}
 use Rattle.seize_words_rows.proofs.Reclaimed.{left_ready}

@@ -1,5 +1,4 @@
-use Rattle.std.proofs.Common.{ℕ, ◌-◌, List, [], ◌∷◌, arith, refl, sym, ap, ◌∙◌}
-use Rattle.std.specs.Prelude.{is_some}
+use Rattle.std.proofs.Common.{◌-◌, [], ◌∷◌, arith, refl, sym, ◌∙◌}
 use Rattle.seize_machine.specs.Machine.Event.{Return}
 use Rattle.seize_machine.specs.declared.machine.event.Answer.TheVariants.{Done, Handed}
 use Rattle.seize_book.specs.Blocks.{block_of}

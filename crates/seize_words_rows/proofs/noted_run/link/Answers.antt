@@ -1,7 +1,7 @@
-use Rattle.std.proofs.Common.{◌≡◌, ℕ, ◌+◌, List, [], ◌∷◌, ◌++◌, sym, ap, ◌∙◌}
+use Rattle.std.proofs.Common.{ℕ, ◌+◌, List, [], ◌∷◌, ◌++◌, sym, ap, ◌∙◌}
 use Rattle.seize_book.specs.Blocks.{block_of}
 use Rattle.seize_words.proofs.Facts.{last_closes, last_leads, one_leads}
-use Rattle.seize_words_rows.specs.NotedRuns.{Values, all, book_of, full, values_of}
+use Rattle.seize_words_rows.specs.NotedRuns.{book_of, full, values_of}
 use Rattle.seize_words_rows.proofs.NotedRuns.{seen_at}
 use Rattle.seize_words_rows.proofs.BlockRuns.{has_among}
 use Rattle.seize_words_rows.proofs.Stages.{sees_on}

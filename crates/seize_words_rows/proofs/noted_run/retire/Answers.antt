@@ -1,11 +1,11 @@
-use Rattle.std.proofs.Common.{◌≡◌, ℕ, List, [], ◌∷◌, ◌++◌, refl, sym, ap, ◌∙◌, subst}
+use Rattle.std.proofs.Common.{[], ◌∷◌, refl, sym, subst}
 use Rattle.seize_machine.specs.Machine.Event.{Begin, Put, Return}
 use Rattle.seize_machine.specs.declared.machine.event.Answer.TheVariants.{Done}
 use Rattle.seize_machine.specs.declared.machine.event.Job.TheVariants.{Retire}
 use Rattle.seize_book.specs.Others.{value_of}
-use Rattle.seize_words_rows.specs.NotedRuns.{Values, all, begun, book_of, full, made, one_put, values_of, waits}
+use Rattle.seize_words_rows.specs.NotedRuns.{Values, all, begun, book_of, full, made, one_put, waits}
 use Rattle.seize_words_rows.specs.Stages.{Leads}
-use Rattle.seize_words_rows.proofs.BlockRuns.{fresh_now, may_retire}
+use Rattle.seize_words_rows.proofs.BlockRuns.{fresh_now}
 use Rattle.seize_words_rows.proofs.NotedRuns.{begins, has_key, puts_first, puts_last, puts_second, returns}
 use Rattle.seize_words_rows.proofs.Stages.{same_value, steps}
 use Rattle.seize_words_rows.proofs.noted_run.retire.Goals as goal

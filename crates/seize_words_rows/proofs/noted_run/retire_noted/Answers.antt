@@ -1,4 +1,4 @@
-use Rattle.seize_words_rows.specs.NotedRuns.{book_of, values_of}
+use Rattle.seize_words_rows.specs.NotedRuns.{values_of}
 use Rattle.seize_words_rows.proofs.noted_run.retire_noted.Goals as goal
 
 pub returns : goal.returns

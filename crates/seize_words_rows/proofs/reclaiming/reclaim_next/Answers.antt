@@ -1,4 +1,4 @@
-use Rattle.std.proofs.Common.{◌≡◌, ℕ, Some, true, List, [], ◌∷◌, arith, ap, refl, sym, subst, ◌∙◌}
+use Rattle.std.proofs.Common.{◌≡◌, ℕ, Some, true, List, [], arith, ap, sym, subst, ◌∙◌}
 use Rattle.seize_machine.specs.Machine.State.{has}
 use Rattle.seize_book.specs.Blocks.{block_of}
 use Rattle.seize_book.specs.Homesteads.{state_seen}

@@ -1,7 +1,5 @@
-use Rattle.std.proofs.Common.{◌≡◌, true, sym, ap, ◌∙◌, subst}
-use Rattle.seize_machine.specs.Machine.State.{has}
+use Rattle.std.proofs.Common.{sym, ap, ◌∙◌}
 use Rattle.seize_store.specs.Named.{name_of}
-use Rattle.seize_book.specs.Homesteads.{state_seen}
 use Rattle.seize_book.specs.Others.{value_of}
 use Rattle.seize_book.specs.Tokens.{Name}
 use Rattle.seize_words.proofs.Chunked.{named_seen}

@@ -1,6 +1,5 @@
-use Rattle.std.proofs.Common.{◌≡◌, ◌≢◌, ℕ, ◌+◌, ◌==◌, Bool, true, false, Option, Some, None, refl, sym, ap, ◌∙◌, subst, arith, is_some}
+use Rattle.std.proofs.Common.{refl, sym, ap, ◌∙◌, arith, is_some}
 use base.Growing.{prefix_refl}
-use Rattle.seize_book.specs.Blocks.{block_of, link_word}
 use Rattle.seize_book.specs.Tokens.{Name}
 use Rattle.seize_words.specs.LinkWords.{Finds, held_before}
 use Rattle.seize_words.proofs.Facts.{glimpse_found}

@@ -1,5 +1,5 @@
 -- `open` takes the token from beside the key.
-use Rattle.seize_book.proofs.Kit.{◌≡◌, ℕ, List, [], ◌∷◌, refl, proved, named, Val, vptr, SProp, emp, Fml, ftrue, fsep, flft, ‵, raw, ◌⊛◌, ◌$◌, ◌∵◌, !, qed, by, move, keep, split, fsplit, fsplit3, fjoin, fjoin3, use0, use1, use2, feq_i, no_more, of_opd, and_then, returns, enter, alloc_all, pass_all, free_all, look_at, get, sets, agg, fact, fact_i, heard, tables, RattleType, owns, types_at, plain, mut_vals, mut_Tells, nothing, opens, closes, Stays, stay_ref, walk_of, Goes-ref}
+use Rattle.seize_book.proofs.Kit.{ℕ, List, [], ◌∷◌, refl, proved, named, Val, vptr, SProp, emp, Fml, ftrue, fsep, flft, ‵, raw, ◌⊛◌, ◌$◌, ◌∵◌, !, qed, by, move, keep, split, fsplit, fsplit3, fjoin, fjoin3, use0, use1, use2, feq_i, no_more, of_opd, and_then, returns, enter, alloc_all, pass_all, free_all, look_at, get, sets, agg, fact, fact_i, heard, tables, RattleType, owns, types_at, plain, mut_vals, mut_Tells, nothing, opens, closes, Stays, stay_ref, walk_of, Goes-ref}
 use denote.Struct.Tuple.{Tuple}
 use Rattle.seize_content.specs.Cells.{cell_token}
 use Rattle.seize_content.specs.contracts.token_cell.CellToken as CellToken

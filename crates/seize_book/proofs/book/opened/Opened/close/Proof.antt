@@ -1,5 +1,5 @@
 -- `close` lays the token beside the key.
-use Rattle.seize_book.proofs.Kit.{◌≡◌, ℕ, List, [], ◌∷◌, refl, proved, named, Val, SProp, emp, Fml, ftrue, fsep, flft, ‵, raw, ◌⊛◌, ◌$◌, ◌∵◌, !, qed, by, move, keep, drop, split, fsplit, fjoin, rewrite, use0, use2, no_more, and_then, returns, enter, alloc_all, pass_all, free_all, look_at, get, sets, agg, fact, fact_i, heard, tables, owns, types_at, plain, yes, nothing, Stays, stay_dropped, walk_of, Goes-dropped}
+use Rattle.seize_book.proofs.Kit.{ℕ, [], ◌∷◌, refl, proved, Val, SProp, emp, ftrue, ‵, raw, ◌⊛◌, ◌$◌, ◌∵◌, !, qed, by, move, keep, split, fsplit, fjoin, rewrite, use0, use2, no_more, and_then, returns, enter, alloc_all, pass_all, free_all, look_at, get, sets, agg, fact, fact_i, heard, tables, owns, types_at, plain, yes, nothing, Stays, stay_dropped, walk_of, Goes-dropped}
 use Rattle.seize_content.specs.Cells.{cell_token}
 use Rattle.seize_content.specs.contracts.token_cell.CellToken as CellToken
 use Rattle.seize_content.proofs.Tokens.{cell_token_tells}

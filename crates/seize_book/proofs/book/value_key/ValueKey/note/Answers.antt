@@ -1,4 +1,4 @@
-use Rattle.std.proofs.Common.{◌≡◌, refl, sym, ap, ◌∙◌}
+use Rattle.std.proofs.Common.{ap, ◌∙◌}
 use Rattle.seize_book.specs.Notes.{with_note}
 use Rattle.seize_book.proofs.Noted.{same_note}
 use Rattle.seize_book.proofs.book.value_key.ValueKey.note.Goals as goal

@@ -1,6 +1,5 @@
-use Rattle.std.proofs.Common.{◌≡◌, ℕ, List, [], ◌∷◌, ◌++◌, true, refl, sym, ap, ◌∙◌, subst}
+use Rattle.std.proofs.Common.{◌≡◌, ℕ, List, [], ◌∷◌, ◌++◌, true, sym, ap, ◌∙◌, subst}
 use Rattle.std.specs.Prelude.{drop, take}
-use Rattle.seize_machine.proofs.Facts.{and_true}
 use Rattle.seize_book.specs.Adding.{before_last}
 use Rattle.seize_book.specs.Book.{blocks}
 use Rattle.seize_book.specs.Entry.{Entry}
@@ -43,6 +42,6 @@ returns c =
       parts.0 ∙ ap (λ (k : Keys). k.name) same,
       parts.1 ∙ ap (λ (k : Keys). k.name) same,
       ap labels_of both ∙ (labels_append c.part_last.new.self.held c.part_last.new.other.held
-      ∙ ap (λ (vs : List ℕ). labels_of c.part_last.new.self.held ++ vs) (ap labels_of back ∙ (is.labels ∙ ap (λ (v : ℕ). v ∷ []) (sym (ap label_of back))))),
+          ∙ ap (λ (vs : List ℕ). labels_of c.part_last.new.self.held ++ vs) (ap labels_of back ∙ (is.labels ∙ ap (λ (v : ℕ). v ∷ []) (sym (ap label_of back))))),
       both,
     )
