@@ -1,7 +1,7 @@
 -- Where the blocks of values are found that were named, by what a token of the store shows of a row.
 --     entry_in known v     the entry of the value's number in the token's row
 --     AreAt n known st     each value of the book n that was ever named, and whose number is one of the row's, lies in the block with the
---                          label there: that label is of the book, and of the value's home and cell; and the content there is the value's place
+--                          label there: that label is of the book, and of the value's home and cell, and the content there is its place
 --     HasNumber k st       a value was named whose number this is
 --     state_seen pass      the machine after all that the pass has seen
 use Rattle.std.specs.Prelude.{◌≡◌, ℕ, true}

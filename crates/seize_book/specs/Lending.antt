@@ -7,7 +7,7 @@
 --                                       which the pool's content is lent
 --     IsHandedBy n held                 there are two keys: one of a block, with whose value something is lent, and one of a slot, whose
 --                                       call is about to hand this value;  MayRedeem keys pass   these are such, of the pass's book
---     Redeems keys keys' ticket pool    the ticket is that of the pool, which is of what was lent with the first key's value; see Renames too
+--     Redeems keys keys' ticket pool    the ticket is that of the pool, which is of what was lent with the first key's value (see Renames)
 --     MayWithdraw keys pass             there is one key of a block, of the pass's book; something is lent with its value, which was never
 --                                       named, as it knows
 --     IsRowAt n v known                 it is the row of the value's number, in the store where the blocks of book n lie; and the chunk of
