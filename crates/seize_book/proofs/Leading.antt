@@ -13,27 +13,18 @@ use Rattle.seize_book.specs.Values.{AreClosed, IsKeyOfOne, LeadsOn, LeadsTo, Nex
 use Rattle.seize_book.specs.declared.book.pass.Pass.{Pass}
 use Rattle.seize_book.specs.declared.book.value_key.ValueKey.{ValueKey}
 use Rattle.seize_book.specs.declared.book.value_keys.ValueKeys.{ValueKeys}
-use Rattle.seize_book.proofs.Linked.{none_joined, parted_joined, still_joined}
+use Rattle.seize_book.proofs.Firsts.{noted_one}
+use Rattle.seize_book.proofs.Linked.{none_joined, parted_joined}
 
 abbrev Keys : Type 0
 Keys = List (Held Entry)
 
 -- where the blocks of the book lie in no store, nothing is asked
-pub leads_anywhere : (keys : ValueKeys) (value : ValueKey) → (book_in keys).store ≡ None → LeadsTo keys value
-leads_anywhere keys value none = ap (λ (s : Option (List ℕ)). are_joined s keys.keys.held value.keys.held) none
-
-pub leads_on_anywhere : (keys other : ValueKeys) → (book_in keys).store ≡ None → LeadsOn keys other
-leads_on_anywhere keys other none = ap (λ (s : Option (List ℕ)). are_joined s keys.keys.held other.keys.held) none
-
 pub closed_anywhere : (keys : ValueKeys) → (book_in keys).store ≡ None → AreClosed keys
 closed_anywhere keys none = ap (λ (s : Option (List ℕ)). are_joined s keys.keys.held []) none
 
 pub none_closed : (keys : ValueKeys) → keys.keys.held ≡ [] → AreClosed keys
 none_closed keys none = ap (λ (a : Keys). are_joined (book_in keys).store a []) none ∙ none_joined (book_in keys).store []
-
--- nor of none
-pub none_leads : (keys : ValueKeys) (value : ValueKey) → keys.keys.held ≡ [] → LeadsTo keys value
-none_leads keys value none = ap (λ (a : Keys). are_joined (book_in keys).store a value.keys.held) none ∙ none_joined (book_in keys).store value.keys.held
 
 -- the last of some keys leads on where its note says the word of the next one's block
 
@@ -79,26 +70,8 @@ last_closes keys value keys' pushes none =
 
 -- a key of which this was noted says it, and is for the value that it was for
 
-note_put : (g : Gv) (held : Keys) → is_one blocks held ≡ true → (note_of (with_note g held) ≡ g) × (label_of (with_note g held) ≡ label_of held)
-note_put g [] one = absurd (cc)
-note_put g (h ∷ []) one = (refl, refl)
-note_put g (h ∷ k ∷ held) one = absurd (cc)
-
 pub has_noted : (g : Gv) (value value' : ValueKey) → HasNoted g value value' → (noted_in value' ≡ g) × (value_of value' ≡ value_of value)
-has_noted g value value' noted = let is = note_put g value.keys.held value.one in (ap note_of noted.1 ∙ is.0, ap label_of noted.1 ∙ is.1)
-
--- and so it is with a key that knows more
-
-note_later : (held : Keys) (log : List Entry) → note_of (renewed held log) ≡ note_of held
-note_later [] log = refl
-note_later (h ∷ held) log = refl
-
-pub follows_noted : (value : ValueKey) (pass : Pass) (value' : ValueKey) → FollowsValue value pass value' → noted_in value' ≡ noted_in value
-follows_noted value pass value' follows = ap note_of follows.1 ∙ note_later value.keys.held pass.seen
-
-pub follows_leads : (keys : ValueKeys) (value : ValueKey) (pass : Pass) (value' : ValueKey) → FollowsValue value pass value' → LeadsTo keys value → LeadsTo keys value'
-follows_leads keys value pass value' follows leads =
-    ap (λ (b : Keys). are_joined (book_in keys).store keys.keys.held b) follows.1 ∙ still_joined (book_in keys).store keys.keys.held value.keys.held pass.seen ∙ leads
+has_noted g value value' noted = let is = noted_one value.keys.held g value.one in (ap note_of noted.1 ∙ is.2, ap label_of noted.1 ∙ is.1)
 
 -- So whoever has the keys finds the block of the second by what is noted of the first.
 

@@ -14,6 +14,7 @@ pub mod Gates
 pub mod Tables
 pub mod Ways
 pub mod Passes
+pub mod Peeks
 pub mod Notes
 pub mod Adds
 pub mod Looks
@@ -33,6 +34,7 @@ pub mod Fronts
 pub mod Chains
 pub mod Serves
 pub mod Written
+pub mod Firsts
 pub mod Linked
 pub mod Leading
 pub mod Lasts

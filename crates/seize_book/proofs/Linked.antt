@@ -38,16 +38,6 @@ pub still_closed : (store : Option (List ℕ)) (held : Keys) (log : List Entry) 
 still_closed None held log = refl
 still_closed (Some store) held log = closed_later held log
 
-joins_later : (a b : Keys) (log : List Entry) → joined a (renewed b log) ≡ joined a b
-joins_later [] b log = refl
-joins_later (h ∷ []) b log = first_later h.note b log
-joins_later (h ∷ k ∷ a) b log = joins_later (k ∷ a) b log
-
--- and they lead on to keys that know more
-pub still_joined : (store : Option (List ℕ)) (a b : Keys) (log : List Entry) → are_joined store a (renewed b log) ≡ are_joined store a b
-still_joined None a b log = refl
-still_joined (Some store) a b log = joins_later a b log
-
 -- of none
 pub none_linked : (store : Option (List ℕ)) → are_linked store [] ≡ true
 none_linked None = refl

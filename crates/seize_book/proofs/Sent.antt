@@ -10,10 +10,11 @@ use Rattle.seize_book.specs.Ledger.{Held, halved, roster, rosters, first, rest}
 use Rattle.seize_book.specs.Entry.{Entry, entry_coded}
 use Rattle.seize_book.specs.Book.{after, blocks}
 use Rattle.seize_content.specs.Stages.{lent}
-use Rattle.seize_content.proofs.Sends.{ticket_sent, token_sent, lent_sent}
+use Rattle.seize_content.proofs.Sends.{ticket_sent, token_sent, lent_sent, sight_sent}
 use Rattle.seize_machine.specs.Machine.State.{State}
 use Rattle.seize_book.specs.Laws.{ended}
 use Rattle.seize_book.specs.Loans.{cell_of, loan_if, loan_of, readers}
+use Rattle.seize_book.specs.Peeks.{keys_show, show_if, sight_if}
 use Rattle.seize_book.specs.Tokens.{Name, rows, start, inside, over, Gate, many, sole, gate_keeps, gate_gives, leads_in, all_lead, lies_in, all_lie_in, lies_if, is_placed, slot_labels, note_if, note_in, notes_own, way_if, rights_own, keys_own, pass_owns}
 use Rattle.seize_book.specs.Begin.{book_owns}
 
@@ -103,6 +104,20 @@ notes_keyless n (h ∷ held) = (note_keyless (h.kind == blocks) n h.label h.note
 pub keys_keyless : (n : Name) (held : List (Held Entry)) → Keyless (keys_own n held)
 keys_keyless n [] = tt
 keys_keyless n (h ∷ held) = ((entry_keyless (halved entry_coded) _ h.key _, (way_keyless (h.kind == blocks) n h.label, (lies_if_keyless (is_placed h) n h.key, note_keyless (h.kind == blocks) n h.label h.note))), keys_keyless n held)
+
+-- and so does what is shown of them
+
+pub sight_keyless : (k : ℕ) (κ : Lft) (v : ℕ) → Keyless (sight_if k κ v)
+sight_keyless zero κ v = tt
+sight_keyless (suc k) κ v = λ t. ((λ _. tt), sight_sent κ t.0 t.1.0 t.1.1)
+
+show_keyless : (b : Bool) (n : Name) (v : ℕ) (κ : Lft) → Keyless (show_if b n v κ)
+show_keyless true n v κ = (lead_keyless n.store _ _, sight_keyless (loan_of v) κ v)
+show_keyless false n v κ = tt
+
+pub keys_shown : (n : Name) (held : List (Held Entry)) (κ : Lft) → Keyless (keys_show n held κ)
+keys_shown n [] κ = tt
+keys_shown n (h ∷ held) κ = (show_keyless (h.kind == blocks) n h.label κ, keys_shown n held κ)
 
 pub rights_keyless : (n : Name) (held : List (Held Entry)) → Keyless (rights_own n held)
 rights_keyless n [] = tt

@@ -12,6 +12,8 @@ pub mod Fair
 pub mod Linked
 pub mod Private
 pub mod Passes
+pub mod Peeking
+pub mod Peeks
 pub mod Adding
 pub mod Slots
 pub mod Others

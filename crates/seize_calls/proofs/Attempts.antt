@@ -18,7 +18,7 @@ use Rattle.seize_book.specs.Blocks.{Plan, block_of, marked_at, no_plan, plans, s
 use Rattle.seize_book.specs.Book.{after}
 use Rattle.seize_words.specs.Chunks.{IsHeaderOf}
 use Rattle.seize_words.specs.Counts.{AddsTo, Counts, GivesUp, Leaves, values_in}
-use Rattle.seize_book.specs.Entry.{Deed, Entry as Logged}
+use Rattle.seize_book.specs.Entry.{Deed, Entry as Logged, Made}
 use Rattle.seize_words.specs.Headers.{IsFrontBlock}
 use Rattle.seize_book.specs.Homesteads.{HasNumber, state_seen}
 use Rattle.seize_book.specs.Ledger.{Held}
@@ -33,6 +33,7 @@ use Rattle.seize_book.specs.declared.book.slot_key.SlotKey.{SlotKey}
 use Rattle.seize_book.specs.declared.book.value_keys.ValueKeys.{ValueKeys}
 use Rattle.seize_words.specs.declared.chunk.Header.{Header}
 use Rattle.seize_words.proofs.Facts.{detached_named, events_grew, knows_still, life_kept, more_slots, own_reached, seen_grows}
+use Rattle.seize_calls.proofs.Alone.{alone_looked, alone_noted, alone_twice}
 use Rattle.seize_calls.specs.Attempts.{Retires}
 use Rattle.seize_calls.specs.Batches.{AreRemarked, Spot, slots_of, spots_of}
 use Rattle.seize_calls.specs.Inserts.{ArePlanned, InsertedAll, IsInserting, plan_in, turns_at}
@@ -326,6 +327,10 @@ module _ (key0 : SlotKey) (at : BeginsToMark key0) (pass0 : Pass) (key : SlotKey
                 prefix_trans pass0.seen pass.seen pass'.seen ends.grows
                 (prefix_trans pass.seen pass1.seen pass'.seen (seen_grows pass.name pass.id pass.seen pass1.seen _ notes.2.0)
                 (prefix_trans pass1.seen pass2.seen pass'.seen all.keeps.grows (prefix_trans pass2.seen pass3.seen pass'.seen looks.grows (seen_grows pass3.name pass3.id pass3.seen pass'.seen _ added.2.0))));
+            alone =
+                alone_twice pass0 pass pass' same ends.alone
+                (alone_twice pass pass1 pass' notes.0 (alone_noted pass pass1 (Made (private pass (Detach (number_of key)))) refl notes.2.0)
+                (alone_twice pass1 pass2 pass' all.keeps.same all.keeps.alone (alone_twice pass2 pass3 pass' looks.same (alone_looked pass2 pass3 looks) (alone_noted pass3 pass' (Made (private pass3 (AddCount (number_of key2)))) refl added.2.0))));
             made = made_all;
             batch = ap (λ (z : Slot). z.batch) added.2.1.is ∙ kept.0 ∙ ap (λ (z : Slot). z.batch) added.2.1.was ∙ all.keeps.batch ∙ ap (λ (z : Slot). z.batch) notes.2.1.is ∙ done.1;
             used =
@@ -354,4 +359,4 @@ module _ (key0 : SlotKey) (at : BeginsToMark key0) (pass0 : Pass) (key : SlotKey
 
 -- A call that has given up says nothing of its blocks.
 pub stays_so : {key : SlotKey} (at : BeginsToMark key) (pass : Pass) (key' : SlotKey) (pass' : Pass) (spots : List Spot) → Ends at pass key' pass' spots TooMany → Ends at pass key' pass' [] TooMany
-stays_so at pass key' pass' spots e = record { finds = e.finds; within = e.within; grows = e.grows; made = e.made; batch = e.batch; used = e.used; active = e.active; life = e.life; stands = e.stands }
+stays_so at pass key' pass' spots e = record { finds = e.finds; within = e.within; grows = e.grows; alone = e.alone; made = e.made; batch = e.batch; used = e.used; active = e.active; life = e.life; stands = e.stands }

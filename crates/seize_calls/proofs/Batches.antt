@@ -10,7 +10,7 @@ use Rattle.seize_book.specs.Entry.{Entry}
 use Rattle.seize_book.specs.Ledger.{Held, renewed}
 use Rattle.seize_book.specs.Linked.{are_joined, are_linked, next_in}
 use Rattle.seize_book.specs.Private.{is_one, label_of, labels_of, note_of}
-use Rattle.seize_book.proofs.Linked.{parted_joined}
+use Rattle.seize_words.proofs.Facts.{parted_joined}
 use Rattle.seize_calls.specs.Batches.{kept_noted, unslotted, without_slot}
 use Rattle.seize_calls.specs.Numbered.{counted, ends_at, starts_at}
 use Rattle.seize_calls.proofs.Rounds.{joined_past, leads_to}
@@ -77,10 +77,6 @@ joined_last store all init one one' is is' same parts linked =
     leads_to store init (one ++ []) one one' [] is is' same refl
     (subst (λ (r : Keys). are_joined store init r ≡ true) (sym (append-nil one)) (before_one store init one is (subst (λ (r : Keys). are_linked store r ≡ true) parts linked)))
 
-pub none_joined : (store : Option (List ℕ)) (b : Keys) → are_joined store [] b ≡ true
-none_joined None b = refl
-none_joined (Some store) b = refl
-
 pub last_joined : (store : Option (List ℕ)) (init one : Keys) (h : Held Entry) (n : ℕ) → is_one blocks one ≡ true → next_in (note_of one) ≡ n + 1 → block_of h.label ≡ n → are_joined store (init ++ one) (h ∷ []) ≡ true
 last_joined store init [] h n is next number = absurd (cc)
 last_joined store init (k ∷ x ∷ one) h n is next number = absurd (cc)
@@ -90,11 +86,7 @@ last_joined (Some store) init (k ∷ []) h n is next number = joined_past init k
     same : (a b n : ℕ) → a ≡ n + 1 → b ≡ n → (a == suc b) ≡ true
     same a b n next number = grind (arith, next, number)
 
--- Labels and what is kept, of keys of which the last is noted anew.
-
-pub labels_append : (a b : Keys) → labels_of (a ++ b) ≡ labels_of a ++ labels_of b
-labels_append [] b = refl
-labels_append (h ∷ a) b = ap (λ (vs : List ℕ). h.label ∷ vs) (labels_append a b)
+-- What is kept, of keys of which the last is noted anew.
 
 abbrev pub kepts : Keys → List ℕ
 kepts held = map (λ h. kept_noted h.note) held
@@ -107,11 +99,6 @@ pub kept_one : (one : Keys) (k : ℕ) → is_one blocks one ≡ true → kept_no
 kept_one [] k is e = absurd (cc)
 kept_one (h ∷ x ∷ one) k is e = absurd (cc)
 kept_one (h ∷ []) k is e = ap (λ (n : ℕ). n ∷ []) e
-
-pub label_one : (one : Keys) → is_one blocks one ≡ true → labels_of one ≡ label_of one ∷ []
-label_one [] is = absurd (cc)
-label_one (h ∷ x ∷ one) is = absurd (cc)
-label_one (h ∷ []) is = refl
 
 -- Keys that were marked anew are of the same values.
 pub remarked_labels : (a b : Keys) → unslotted a ≡ unslotted b → labels_of a ≡ labels_of b
@@ -131,6 +118,10 @@ contains_more (x ∷ vs) v w (zero, less, is) = (zero, omega arith, is)
 contains_more (x ∷ vs) v w (suc n, less, is) = let rest = contains_more vs v w (n, omega (arith, less), is) in (suc rest.0, omega (arith, rest.1), rest.2)
 
 -- What is kept of a value stays, where it is marked anew. This is for callers.
+
+pub renewed_kepts : (held : Keys) (seen : List Entry) → kepts (renewed held seen) ≡ kepts held
+renewed_kepts [] seen = refl
+renewed_kepts (h ∷ held) seen = ap (λ (ks : List ℕ). kept_noted h.note ∷ ks) (renewed_kepts held seen)
 
 abbrev plain_kept : Gv → ℕ
 plain_kept (gcons a (gcons (gnum k) g)) = k

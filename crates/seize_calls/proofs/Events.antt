@@ -11,7 +11,7 @@ use Rattle.seize_machine.specs.declared.machine.event.Job.{Job}
 use Rattle.seize_machine.specs.declared.machine.event.Job.TheVariants.{Flush, Leave, Refresh, Retire}
 use Rattle.seize_machine.proofs.Facts.{Step, after_put, beginning, next_of, some_is, step_put}
 use Rattle.seize_book.specs.Adding.{private}
-use Rattle.seize_book.specs.Entry.{Deed}
+use Rattle.seize_book.specs.Entry.{Deed, Made}
 use Rattle.seize_book.specs.Passes.{IsSame, events_by}
 use Rattle.seize_book.specs.Slots.{Notes, number_of, size_of, slot_of}
 use Rattle.seize_book.specs.declared.book.pass.Pass.{Pass}
@@ -19,6 +19,7 @@ use Rattle.seize_book.specs.declared.book.slot_key.SlotKey.{SlotKey}
 use Rattle.seize_words.proofs.Facts.{events_grew, life_kept, seen_grows}
 use Rattle.seize_calls.specs.Calls.{Begins, Puts, done}
 use Rattle.seize_calls.specs.Inserts.{Keeps}
+use Rattle.seize_calls.proofs.Alone.{alone_noted}
 use Rattle.seize_calls.proofs.Keeps.{keeps_from, outcome, same_private, state_before, step_noted}
 use Rattle.seize_calls.proofs.Marks.{within}
 
@@ -142,6 +143,7 @@ module _ (key key' : SlotKey) (pass pass' : Pass) (notes : Notes key pass key' p
   puts_so = record {
     same = notes.0;
     grows = seen_grows pass.name pass.id pass.seen pass'.seen _ notes.2.0;
+    alone = alone_noted pass pass' (Made (private pass put)) refl notes.2.0;
     its = (notes.1.0, notes.1.1);
     batch = ap (λ (z : Slot). z.batch) slot_put ∙ ap (λ (z : Slot). z.batch ++ v ∷ []) notes.2.1.was;
     used = ap (λ (z : Slot). z.used) slot_put ∙ ap (λ (z : Slot). z.used) notes.2.1.was;

@@ -1,5 +1,5 @@
 -- One value goes to its reclaimer, out of its block.
-use Rattle.std.proofs.Common.{◌≡◌, ℕ, true, List, [], ◌∷◌, ◌++◌, get_or, Some, is_some, refl, sym, ap, ◌∙◌, subst, append_assoc, append-nil}
+use Rattle.std.proofs.Common.{◌≡◌, ℕ, true, List, [], ◌∷◌, ◌++◌, get_or, Some, is_some, refl, sym, ap, ◌∙◌, append_assoc, append-nil}
 use Rattle.std.proofs.lemmas.List.{get_or-set_same}
 use Rattle.seize_machine.specs.Machine.State.{Head, Inactive, Rest, Slot, State, is_active, no_slot, slot_at}
 use Rattle.seize_machine.specs.Machine.Event.{Event, Hand}
@@ -8,16 +8,12 @@ use Rattle.seize_machine.specs.declared.machine.event.Answer.{Answer}
 use Rattle.seize_machine.specs.declared.machine.event.Answer.TheVariants.{Handed}
 use Rattle.seize_machine.proofs.Facts.{Step, some_is}
 use Rattle.seize_book.specs.Adding.{private}
-use Rattle.seize_book.specs.Book.{after}
-use Rattle.seize_book.specs.Entry.{Deed, Entry}
-use Rattle.seize_book.specs.Ledger.{Held}
+use Rattle.seize_book.specs.Entry.{Deed}
 use Rattle.seize_book.specs.Lending.{IsLentKey}
-use Rattle.seize_book.specs.Notes.{IsUnchanged}
-use Rattle.seize_book.specs.Others.{IsLast, IsLastIn, IsValueOf, value_of}
+use Rattle.seize_book.specs.Others.{IsValueOf, value_of}
 use Rattle.seize_book.specs.Passes.{LooksOn, events_by}
-use Rattle.seize_book.specs.Private.{label_of, own_of}
 use Rattle.seize_book.specs.Slots.{IsOf, Notes, hands_next, number_of, size_of, slot_of}
-use Rattle.seize_book.specs.Tokens.{Name, start}
+use Rattle.seize_book.specs.Tokens.{Name}
 use Rattle.seize_words.specs.Walks.{Knows}
 use Rattle.seize_book.specs.declared.book.pass.Pass.{Pass}
 use Rattle.seize_book.specs.declared.book.slot_key.SlotKey.{SlotKey}
@@ -72,14 +68,6 @@ module _ (key key' : SlotKey) (pass looked handed pass' : Pass) (v : ℕ) (befor
 
   pub knows_after : Knows key' pass'
   knows_after = knows_still key' handed pass' (knows_noted key key' looked handed (private looked event) notes) behind
-
--- A key that is unchanged is for the same value, and knows the same.
-
-pub unchanged_value : (value value' : ValueKey) → IsUnchanged value value' → value_of value' ≡ value_of value
-unchanged_value value value' same = ap label_of same.1
-
-pub unchanged_last : (value value' : ValueKey) → IsUnchanged value value' → IsLast value → IsLast value'
-unchanged_last value value' same last = subst (λ (t : Name × List (Held Entry)). IsLastIn (label_of t.1) (after (start t.0) (own_of t.1))) (λ j. (sym same.0 j, sym same.1 j)) last
 
 -- with a value that is about to be handed something is lent
 pub soon_lent : (value : ValueKey) (key : SlotKey) (pass pass' : Pass) → is_some pass'.name.store ≡ true → IsValueOf value pass' → IsOf key pass → Knows key pass → LooksOn pass pass'

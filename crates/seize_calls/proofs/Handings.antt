@@ -1,5 +1,5 @@
 -- The values of a batch go to their reclaimers, one after the other.
-use Rattle.std.proofs.Common.{◌≡◌, ◌≢◌, ℕ, zero, suc, ◌-◌, true, List, [], ◌∷◌, ◌++◌, map, Option, Some, None, is_some, refl, sym, ap, ◌∙◌, subst, append_assoc, append-nil, arith}
+use Rattle.std.proofs.Common.{◌≡◌, ◌≢◌, ℕ, zero, suc, ◌-◌, true, List, [], ◌∷◌, ◌++◌, Option, Some, None, is_some, refl, sym, ap, ◌∙◌, subst, append_assoc, append-nil, arith}
 use Rattle.std.specs.List.{Contains}
 use base.Stored.{Gv}
 use Rattle.seize_machine.specs.Machine.State.{Rest}
@@ -15,7 +15,7 @@ use Rattle.seize_book.specs.Linked.{are_joined, are_linked, leads_first, next_in
 use Rattle.seize_book.specs.Notes.{noted_in}
 use Rattle.seize_book.specs.Others.{IsLast, IsLastIn, IsValueOf, value_of}
 use Rattle.seize_book.specs.Passes.{events_by}
-use Rattle.seize_book.specs.Private.{is_one, label_of, labels_of, note_of, own_of}
+use Rattle.seize_book.specs.Private.{is_one, labels_of, note_of}
 use Rattle.seize_book.specs.Slots.{hands_next, number_of, own_list, slot_of}
 use Rattle.seize_book.specs.Tokens.{Name, start}
 use Rattle.seize_book.specs.Values.{AreClosed, AreLast, Nexts, book_in, values_of}
@@ -23,10 +23,13 @@ use Rattle.seize_book.specs.declared.book.pass.Pass.{Pass}
 use Rattle.seize_book.specs.declared.book.slot_key.SlotKey.{SlotKey}
 use Rattle.seize_book.specs.declared.book.value_key.ValueKey.{ValueKey}
 use Rattle.seize_book.specs.declared.book.value_keys.ValueKeys.{ValueKeys}
+use Rattle.seize_calls.proofs.Alone.{alone_none}
 use Rattle.seize_calls.specs.Handing.{Had, HasHad}
 use Rattle.seize_calls.specs.Batches.{kept_noted, kepts_of}
 use Rattle.seize_calls.specs.Walking.{GoesOn, HandsAll, HandsOne, IsGiven, hands}
+use Rattle.seize_calls.proofs.Batches.{kept_one, kepts, kepts_append}
 use Rattle.seize_calls.proofs.Handed.{had_more, had_none}
+use Rattle.seize_words.proofs.Facts.{labels_append, one_label, others_closed, others_know, own_is}
 use Rattle.seize_calls.proofs.Strolls.{goes_twice, same_hands}
 
 abbrev Keys : Type 0
@@ -37,50 +40,6 @@ Keys = List (Held Entry)
 hands_append : (pass : Pass) (s : ℕ) (vs ws : List ℕ) → hands pass s (vs ++ ws) ≡ hands pass s vs ++ hands pass s ws
 hands_append pass s [] ws = refl
 hands_append pass s (v ∷ vs) ws = ap (λ (log : List (Deed × Answer)). hands pass s (v ∷ []) ++ log) (hands_append pass s vs ws)
-
-labels_append : (a b : Keys) → labels_of (a ++ b) ≡ labels_of a ++ labels_of b
-labels_append [] b = refl
-labels_append (h ∷ a) b = ap (λ (vs : List ℕ). h.label ∷ vs) (labels_append a b)
-
-abbrev kepts_in : Keys → List ℕ
-kepts_in held = map (λ h. kept_noted h.note) held
-
-kepts_append : (a b : Keys) → kepts_in (a ++ b) ≡ kepts_in a ++ kepts_in b
-kepts_append [] b = refl
-kepts_append (h ∷ a) b = ap (λ (ks : List ℕ). kept_noted h.note ∷ ks) (kepts_append a b)
-
--- The first key and the others.
-
-one_kept : (held : Keys) → is_one blocks held ≡ true → kepts_in held ≡ kept_noted (note_of held) ∷ []
-one_kept [] one = absurd (cc)
-one_kept (h ∷ []) one = refl
-one_kept (h ∷ g ∷ held) one = absurd (cc)
-
-one_label : (held : Keys) → is_one blocks held ≡ true → labels_of held ≡ label_of held ∷ []
-one_label [] one = absurd (cc)
-one_label (h ∷ []) one = refl
-one_label (h ∷ g ∷ held) one = absurd (cc)
-
-others_know : (held rest : Keys) (seen : List Entry) → is_one blocks held ≡ true → held ++ rest ≡ renewed (held ++ rest) seen → rest ≡ renewed rest seen
-others_know [] rest seen one same = absurd (cc)
-others_know (h ∷ []) rest seen one same = ap tail_of same
-  where
-    tail_of : Keys → Keys
-    tail_of [] = []
-    tail_of (x ∷ xs) = xs
-others_know (h ∷ g ∷ held) rest seen one same = absurd (cc)
-
-own_is : (held rest : Keys) (seen : List Entry) → is_one blocks held ≡ true → held ++ rest ≡ renewed (held ++ rest) seen → own_of held ≡ seen
-own_is [] rest seen one same = absurd (cc)
-own_is (h ∷ []) rest seen one same = ap own_of same
-own_is (h ∷ g ∷ held) rest seen one same = absurd (cc)
-
-others_closed : (store : Option (List ℕ)) (held rest : Keys) → is_one blocks held ≡ true → are_joined store (held ++ rest) [] ≡ true → are_joined store rest [] ≡ true
-others_closed None held rest one closed = refl
-others_closed (Some store) [] rest one closed = absurd (cc)
-others_closed (Some store) (h ∷ []) [] one closed = refl
-others_closed (Some store) (h ∷ []) (k ∷ rest) one closed = closed
-others_closed (Some store) (h ∷ g ∷ held) rest one closed = absurd (cc)
 
 -- what is noted of the first one's block leads to the next, or to none
 leads_on : (store : Option (List ℕ)) (held rest : Keys) → is_some store ≡ true → is_one blocks held ≡ true → are_linked store (held ++ rest) ≡ true → are_joined store (held ++ rest) [] ≡ true
@@ -116,11 +75,11 @@ pub record IsHanding {key : SlotKey} {pass : Pass} {values : ValueKeys} {front :
   pub first : ℕ
   pub is_first : first_of (values_of values') ≡ Some first
   pub its_block : number ≡ block_of first
-  pub theirs : HasHad (labels_of done) (kepts_in done) had had'
+  pub theirs : HasHad (labels_of done) (kepts done) had had'
 
 abbrev pub none_handed : (key : SlotKey) (pass : Pass) (values : ValueKeys) (front : ℕ) (given : IsGiven key pass values front) (had : Had) → IsHanding given had key pass values front had
 none_handed key pass values front given had = record {
-  goes_on = (record { same = (refl, refl); its = (refl, refl); batch = refl; used = refl; active = refl; life = refl; seen = omega arith; grows = ([], append-nil pass.seen) }, ([], append-nil (own_list key)));
+  goes_on = (record { same = (refl, refl); its = (refl, refl); batch = refl; used = refl; active = refl; life = refl; seen = omega arith; grows = ([], append-nil pass.seen); alone = alone_none pass }, ([], append-nil (own_list key)));
   done = [];
   split = refl;
   made = sym (append-nil (events_by pass));
@@ -185,14 +144,14 @@ module _ (key0 : SlotKey) (pass0 : Pass) (values0 : ValueKeys) (front : ℕ) (gi
           ∙ ap (λ (log : List (Deed × Answer)). events_by pass0 ++ log)
           (sym (hands_append pass0 s (labels_of r.done) one) ∙ ap (hands pass0 s) (ap (λ (vs : List ℕ). labels_of r.done ++ vs) (sym (one_label value.keys.held value.one)) ∙ sym (labels_append r.done value.keys.held)))
 
-      theirs_more : HasHad (labels_of (r.done ++ value.keys.held)) (kepts_in (r.done ++ value.keys.held)) had0 had'
+      theirs_more : HasHad (labels_of (r.done ++ value.keys.held)) (kepts (r.done ++ value.keys.held)) had0 had'
       theirs_more =
           subst (λ (t : List ℕ × List ℕ). HasHad t.0 t.1 had0 had')
           (λ i. (
             (ap (λ (vs : List ℕ). labels_of r.done ++ vs) (sym (one_label value.keys.held value.one)) ∙ sym (labels_append r.done value.keys.held)) i,
-            (ap (λ (ks : List ℕ). kepts_in r.done ++ ks) (sym (one_kept value.keys.held value.one)) ∙ sym (kepts_append r.done value.keys.held)) i,
+            (ap (λ (ks : List ℕ). kepts r.done ++ ks) (sym (kept_one value.keys.held (kept_noted (noted_in value)) value.one refl)) ∙ sym (kepts_append r.done value.keys.held)) i,
           ))
-          (had_more (labels_of r.done) (value_of value ∷ []) (kepts_in r.done) (kept_noted (noted_in value) ∷ []) had0 had had' r.theirs more)
+          (had_more (labels_of r.done) (value_of value ∷ []) (kepts r.done) (kept_noted (noted_in value) ∷ []) had0 had had' r.theirs more)
 
       stands_more : (slot_of key').call ≡ Some (record { place = Rest (values_of rest) given.walk; queue = given.queue })
       stands_more = hand.stands (values_of rest) given.walk given.queue here
@@ -235,4 +194,4 @@ module _ (key0 : SlotKey) (pass0 : Pass) (values0 : ValueKeys) (front : ℕ) (gi
         }
 
         pub all_had : HasHad (values_of values0) (kepts_of values0) had0 had'
-        all_had = subst (λ (held : Keys). HasHad (labels_of held) (kepts_in held) had0 had') (sym all_done) theirs_more
+        all_had = subst (λ (held : Keys). HasHad (labels_of held) (kepts held) had0 had') (sym all_done) theirs_more

@@ -19,6 +19,7 @@ use Rattle.seize_words.proofs.Facts.{detached_named}
 use Rattle.seize_words.specs.Totals.{slots_seen}
 use Rattle.seize_book.specs.declared.book.pass.Pass.{Pass}
 use Rattle.seize_book.specs.declared.book.slot_key.SlotKey.{SlotKey}
+use Rattle.seize_calls.proofs.Alone.{alone_none}
 use Rattle.seize_calls.specs.Batches.{Spot, slot_noted, slots_of, spots_of}
 use Rattle.seize_calls.specs.Inserts.{ArePlanned, GoesPast, IsAtNext, Inserted, InsertedAll, IsAtSlot, IsInserting, Keeps, Turn, plan_in, turn_at, turns_at, won_in}
 use Rattle.seize_calls.specs.Rounds.{done_in, rest_in}
@@ -108,7 +109,7 @@ pub record HasTurned {key : SlotKey} {pass : Pass} {spots : List Spot} {front : 
 
 abbrev pub none_turned : (key : SlotKey) (pass : Pass) (spots : List Spot) (front : ℕ) (at : IsInserting key pass spots front) → HasTurned at 0 0 key pass
 none_turned key pass spots front at = record {
-  keeps = record { same = (refl, refl); its = (refl, refl); batch = refl; used = refl; active = refl; life = refl; seen = omega arith; grows = ([], append-nil pass.seen) };
+  keeps = record { same = (refl, refl); its = (refl, refl); batch = refl; used = refl; active = refl; life = refl; seen = omega arith; grows = ([], append-nil pass.seen); alone = alone_none pass };
   turns = [];
   each = refl;
   within = omega arith;

@@ -15,7 +15,7 @@ use Rattle.seize_machine.proofs.Facts.{Step, some_is, step_of}
 use Rattle.seize_book.specs.Adding.{private}
 use Rattle.seize_book.specs.Book.{after}
 use Rattle.seize_book.specs.Entry.{Made}
-use Rattle.seize_words.specs.Headers.{Uses}
+use Rattle.seize_words.specs.Headers.{Uses, using}
 use Rattle.seize_book.specs.Laws.{starts}
 use Rattle.seize_book.specs.Passes.{IsSame, LooksOn, events_by, events_in}
 use Rattle.seize_book.specs.Slots.{IsOf, Notes, number_of, own_list, size_of, slot_of, start_of}
@@ -24,6 +24,7 @@ use Rattle.seize_book.specs.declared.book.pass.Pass.{Pass}
 use Rattle.seize_book.specs.declared.book.slot_key.SlotKey.{SlotKey}
 use Rattle.seize_words.proofs.Facts.{events_grew, life_kept, more_seen, more_slots, seen_grows}
 use Rattle.seize_calls.specs.Inserts.{Keeps}
+use Rattle.seize_calls.proofs.Alone.{alone_looked, alone_noted, alone_twice}
 use Rattle.seize_calls.proofs.Marks.{within}
 
 -- The machine makes an event for a call: it goes on so, and nothing else of its slot changes.
@@ -109,6 +110,7 @@ module _ (key key' : SlotKey) (pass pass' : Pass) (event : Event) (notes : Notes
         subst (λ (z : Name). length (after (start pass.name) pass.seen).slots ≤ length (after (start z) pass'.seen).slots) (sym notes.0.0)
         (more_slots pass.name pass.seen pass'.seen (seen_grows pass.name pass.id pass.seen pass'.seen _ notes.2.0) notes.2.0.legal);
     grows = seen_grows pass.name pass.id pass.seen pass'.seen _ notes.2.0;
+    alone = alone_noted pass pass' (Made (private pass event)) refl notes.2.0;
   }
 
   -- it knows all that it knew
@@ -137,10 +139,11 @@ keeps_used key key' pass pass' f v uses = record {
       subst (λ (z : Name). length (after (start pass.name) pass.seen).slots ≤ length (after (start z) pass'.seen).slots) (sym uses.same.0)
       (more_slots pass.name pass.seen pass'.seen (seen_grows pass.name pass.id pass.seen pass'.seen _ uses.noted) uses.noted.legal);
   grows = seen_grows pass.name pass.id pass.seen pass'.seen _ uses.noted;
+  alone = alone_noted pass pass' (using key pass f v) refl uses.noted;
 }
 
 pub keeps_looked : (key : SlotKey) (pass pass' : Pass) → LooksOn pass pass' → Keeps key pass key pass'
-keeps_looked key pass pass' looks = record { same = looks.same; its = (refl, refl); batch = refl; used = refl; active = refl; life = refl; seen = more_seen pass pass' looks; grows = looks.grows }
+keeps_looked key pass pass' looks = record { same = looks.same; its = (refl, refl); batch = refl; used = refl; active = refl; life = refl; seen = more_seen pass pass' looks; grows = looks.grows; alone = alone_looked pass pass' looks }
 
 pub keeps_twice : (key one two : SlotKey) (pass pass1 pass2 : Pass) → Keeps key pass one pass1 → Keeps one pass1 two pass2 → Keeps key pass two pass2
 keeps_twice key one two pass pass1 pass2 first second = record {
@@ -152,6 +155,7 @@ keeps_twice key one two pass pass1 pass2 first second = record {
   life = second.life ∙ first.life;
   seen = let a = first.seen in let b = second.seen in omega (arith, a, b);
   grows = prefix_trans pass.seen pass1.seen pass2.seen first.grows second.grows;
+  alone = alone_twice pass pass1 pass2 first.same first.alone second.alone;
 }
 
 pub keeps_book : (key key' : SlotKey) (pass pass' : Pass) → Keeps key pass key' pass' → IsOf key pass → IsOf key' pass'

@@ -21,6 +21,7 @@ use Rattle.seize_book.specs.declared.book.pass.Pass.{Pass}
 use Rattle.seize_book.specs.declared.book.slot_key.SlotKey.{SlotKey}
 use Rattle.seize_words.specs.declared.reservation.Head.{Head as Word}
 use Rattle.seize_words.proofs.Facts.{seen_grows}
+use Rattle.seize_calls.proofs.Alone.{alone_noted, alone_twice}
 use Rattle.seize_calls.specs.Calls.{Begins, Leaves, done}
 use Rattle.seize_calls.specs.Handing.{Had}
 use Rattle.seize_calls.specs.Walking.{IsAtWalk, WalksAll, steps}
@@ -118,6 +119,10 @@ module _ (key one two : SlotKey) (pass pass1 pass2 : Pass) (job : Job) (stays : 
           grows =
               prefix_trans pass.seen pass1.seen pass'.seen begins.keeps.grows
               (prefix_trans pass1.seen pass2.seen pass'.seen (seen_grows pass1.name pass1.id pass1.seen pass2.seen _ notes.2.0) (prefix_trans pass2.seen pass3.seen pass'.seen all.goes_on.0.grows keeps.grows));
+          alone =
+              alone_twice pass pass1 pass' begins.keeps.same begins.keeps.alone
+              (alone_twice pass1 pass2 pass' notes.0 (alone_noted pass1 pass2 (Made (beginning pass1 life (SwapOut (number_of one)))) refl notes.2.0)
+              (alone_twice pass2 pass3 pass' all.goes_on.0.same all.goes_on.0.alone keeps.alone));
           its = (keeps.its.0 ∙ its_three.0, keeps.its.1 ∙ its_three.1);
           call = call_returned three key' pass3 pass' last;
           batch = keeps.batch ∙ all.goes_on.0.batch ∙ ap (λ (z : Slot). z.batch) notes.2.1.is ∙ so.0 ∙ ap (λ (z : Slot). z.batch) notes.2.1.was ∙ begins.keeps.batch;

@@ -1,6 +1,8 @@
+pub mod Alone
 pub mod Attempts
 pub mod Batches
 pub mod Events
+pub mod Exactly
 pub mod Handed
 pub mod Handings
 pub mod Inserts

@@ -15,7 +15,7 @@ use Rattle.seize_machine.proofs.Facts.{Step, Stands, some_is, step_of}
 use Rattle.seize_book.specs.Adding.{private}
 use Rattle.seize_book.specs.Blocks.{block_for, block_of, word_of}
 use Rattle.seize_book.specs.Book.{IsLegalList, after}
-use Rattle.seize_book.specs.Entry.{Deed, Entry as Logged}
+use Rattle.seize_book.specs.Entry.{Deed, Entry as Logged, Made}
 use Rattle.seize_book.specs.Ledger.{Held}
 use Rattle.seize_book.specs.Private.{labels_of}
 use Rattle.seize_words.specs.Heads.{reads_at}
@@ -29,6 +29,8 @@ use Rattle.seize_book.specs.declared.book.pass.Pass.{Pass}
 use Rattle.seize_book.specs.declared.book.slot_key.SlotKey.{SlotKey}
 use Rattle.seize_words.specs.declared.reservation.Head.{Head as Word}
 use Rattle.seize_words.proofs.Facts.{events_grew, knows_noted, knows_still, life_kept, more_seen, more_slots, note_seen, seen_grows}
+use Rattle.seize_calls.specs.Alone.{AddsAlone}
+use Rattle.seize_calls.proofs.Alone.{alone_looked, alone_none, alone_noted, alone_twice}
 use Rattle.seize_calls.proofs.Batches.{counted_is}
 use Rattle.seize_calls.proofs.Named.{batch_named}
 use Rattle.seize_calls.specs.Batches.{Spot, slot_noted, slots_of, spots_of, unslotted, without_slot}
@@ -109,6 +111,7 @@ pub record IsReading {key : SlotKey} (at : BeginsToMark key) (end : ℕ) (pass :
   pub knows : Knows key' pass'
   pub there : end ≤ slots_seen pass'
   pub grows : IsPrefix pass.seen pass'.seen
+  pub alone : AddsAlone pass pass'
   pub batch : (slot_of key').batch ≡ (slot_of key).batch
   pub used : (slot_of key').used ≡ (slot_of key).used
   pub active : active_of key' ≡ active_of key
@@ -135,6 +138,7 @@ none_read key at end pass round knows there book is =
       knows = knows;
       there = there;
       grows = ([], append-nil pass.seen);
+      alone = alone_none pass;
       batch = refl;
       used = refl;
       active = refl;
@@ -264,6 +268,9 @@ module _ (key0 : SlotKey) (at : BeginsToMark key0) (end : ℕ) (pass0 : Pass) (h
     pub grown : IsPrefix pass0.seen pass'.seen
     grown = prefix_trans pass0.seen pass.seen pass'.seen r.grows (seen_grows pass.name pass.id pass.seen pass'.seen _ noted.2.0)
 
+    adds_alone : AddsAlone pass0 pass'
+    adds_alone = alone_twice pass0 pass pass' r.same r.alone (alone_noted pass pass' (Made (private pass (ReadHead (number_of key) (slot head)))) refl noted.2.0)
+
     pub there : end ≤ slots_seen pass'
     there =
         let n = pass.name in
@@ -302,6 +309,7 @@ module _ (key0 : SlotKey) (at : BeginsToMark key0) (end : ℕ) (pass0 : Pass) (h
           knows = knows;
           there = there;
           grows = grown;
+          alone = adds_alone;
           batch = same_batch;
           used = same_used;
           active = same_active;
@@ -354,6 +362,7 @@ module _ (key0 : SlotKey) (at : BeginsToMark key0) (end : ℕ) (pass0 : Pass) (h
           knows = knows_still key' pass' pass'' knows looks;
           there = let more = more_seen pass' pass'' looks in omega (arith, there, more);
           grows = prefix_trans pass0.seen pass'.seen pass''.seen grown looks.grows;
+          alone = alone_twice pass0 pass' pass'' same adds_alone (alone_looked pass' pass'' looks);
           batch = same_batch;
           used = same_used;
           active = same_active;
@@ -390,6 +399,7 @@ module _ (key0 : SlotKey) (at : BeginsToMark key0) (end : ℕ) (pass0 : Pass) (h
           finds = r.finds ++ true ∷ [];
           within = omega (arith, less, there, long true);
           grows = grown;
+          alone = adds_alone;
           made = made true (is_on some);
           batch = same_batch;
           used = same_used;
@@ -411,6 +421,7 @@ all_read {key0} at end pass0 held i k key pass round r all le = record {
   finds = r.finds;
   within = let there = r.there in let read = r.read in omega (arith, all, there, read);
   grows = r.grows;
+  alone = r.alone;
   made = r.made;
   batch = r.batch;
   used = r.used;
@@ -437,6 +448,7 @@ ends_before {key0} at pass0 pass1 key pass spots ends looks e =
       finds = e.finds;
       within = e.within;
       grows = prefix_trans pass0.seen pass1.seen pass.seen looks.grows e.grows;
+      alone = alone_twice pass0 pass1 pass looks.same (alone_looked pass0 pass1 looks) e.alone;
       made = e.made ∙ ap (λ (log : List (Deed × Answer)). log ++ readings pass1 (number_of key0) 0 e.finds) (ap events_in looks.none_made)
           ∙ ap (λ (log : List (Deed × Answer)). events_by pass0 ++ log) (same_readings (number_of key0) 0 e.finds);
       batch = e.batch;

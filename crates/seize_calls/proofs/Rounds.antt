@@ -7,9 +7,8 @@ use Rattle.seize_book.specs.Book.{blocks}
 use Rattle.seize_book.specs.Entry.{Entry}
 use Rattle.seize_book.specs.Ledger.{Held}
 use Rattle.seize_book.specs.Linked.{are_joined, are_linked, joined, leads_first, linked, next_in}
-use Rattle.seize_book.specs.Notes.{with_note}
 use Rattle.seize_book.specs.Private.{is_one, label_of, labels_of, note_of}
-use Rattle.seize_book.proofs.Linked.{closed_after}
+use Rattle.seize_words.proofs.Facts.{closed_after}
 use Rattle.seize_calls.specs.Numbered.{starts_at}
 
 abbrev Keys : Type 0
@@ -20,11 +19,6 @@ pub one_held : (held : Keys) → is_one blocks held ≡ true → (h : Held Entry
 one_held [] one = absurd (cc)
 one_held (h ∷ []) one = (h, refl)
 one_held (h ∷ k ∷ held) one = absurd (cc)
-
-pub noted_one : (held : Keys) (g : Gv) → is_one blocks held ≡ true → (is_one blocks (with_note g held) ≡ true) × (label_of (with_note g held) ≡ label_of held) × (note_of (with_note g held) ≡ g)
-noted_one [] g one = absurd (cc)
-noted_one (h ∷ []) g one = (one, refl, refl)
-noted_one (h ∷ k ∷ held) g one = absurd (cc)
 
 -- whoever leads on to a value leads on to another of the same block
 joined_like : (a : Keys) (h k : Held Entry) (b c : Keys) → k.label ≡ h.label → joined a (h ∷ b) ≡ true → joined a (k ∷ c) ≡ true
@@ -68,14 +62,6 @@ leads_past (Some store) a all (h ∷ []) [] rest is is' same parts l c = absurd 
 leads_past (Some store) a all (h ∷ []) (k ∷ y ∷ one') rest is is' same parts l c = absurd (cc)
 leads_past (Some store) a all (h ∷ []) (k ∷ []) rest is is' same parts l c =
     joined_past a k rest (first_like h.note k.note rest same (first_rest h rest (subst (λ (r : Keys). linked r ≡ true) parts l) (subst (λ (r : Keys). joined r [] ≡ true) parts c)))
-
--- and what comes after it is closed where all are
-pub rest_closed : (store : Option (List ℕ)) (all one rest : Keys) → is_one blocks one ≡ true → all ≡ one ++ rest → are_joined store all [] ≡ true → are_joined store rest [] ≡ true
-rest_closed None all one rest is parts c = refl
-rest_closed (Some store) all [] rest is parts c = absurd (cc)
-rest_closed (Some store) all (h ∷ x ∷ one) rest is parts c = absurd (cc)
-rest_closed (Some store) all (h ∷ []) [] is parts c = refl
-rest_closed (Some store) all (h ∷ []) (k ∷ rest) is parts c = subst (λ (r : Keys). joined r [] ≡ true) parts c
 
 -- all are closed where those to come are, and where there are none, those before
 pub all_closed : (store : Option (List ℕ)) (a b : Keys) → are_joined store a b ≡ true → are_joined store b [] ≡ true → are_joined store (a ++ b) [] ≡ true

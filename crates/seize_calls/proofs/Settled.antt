@@ -1,5 +1,5 @@
 -- Where a call has come to that attempted, and returned.
-use Rattle.std.proofs.Common.{◌≡◌, ℕ, ◌≤◌, Bool, true, false, if◌then◌else◌, List, [], ◌∷◌, ◌++◌, length, Some, refl, sym, ap, subst, ◌∙◌, append-nil}
+use Rattle.std.proofs.Common.{◌≡◌, ℕ, ◌≤◌, Bool, true, false, if◌then◌else◌, List, [], ◌∷◌, ◌++◌, length, Some, refl, sym, ap, subst, ◌∙◌, append-nil, inr}
 use base.Growing.{prefix_trans}
 use mathlib.Core.List.{IsPrefix}
 use Rattle.seize_machine.specs.Machine.State.{Rest}
@@ -22,20 +22,24 @@ use Rattle.seize_book.specs.declared.book.pass.Pass.{Pass}
 use Rattle.seize_book.specs.declared.book.slot_key.SlotKey.{SlotKey}
 use Rattle.seize_book.specs.declared.book.value_keys.ValueKeys.{ValueKeys}
 use Rattle.seize_words.proofs.Facts.{own_reached}
+use Rattle.seize_calls.specs.Alone.{AddsAlone}
 use Rattle.seize_calls.specs.Attempts.{Retires}
 use Rattle.seize_calls.specs.Calls.{Goes, Marking, Stays, done}
-use Rattle.seize_calls.specs.Batches.{AreRemarked}
+use Rattle.seize_calls.specs.Batches.{AreRemarked, kepts_of}
+use Rattle.seize_calls.specs.Handing.{Had, HasHad}
 use Rattle.seize_calls.specs.Inserts.{turns_at}
 use Rattle.seize_calls.specs.Marks.{BeginsToMark, Ends, actives, readings}
 use Rattle.seize_calls.specs.Walking.{HandsAll, IsGiven, hands}
 use Rattle.seize_calls.specs.Numbered.{starts_at}
 use Rattle.seize_calls.specs.declared.marking.Marked.TheVariants.{TooMany}
+use Rattle.seize_calls.proofs.Alone.{alone_twice}
 use Rattle.seize_calls.proofs.Attempts.{first_block}
-use Rattle.seize_calls.proofs.Batches.{remarked_labels, renewed_labels}
+use Rattle.seize_calls.proofs.Batches.{kepts, remarked_kepts, remarked_labels, renewed_kepts, renewed_labels}
 use Rattle.seize_calls.proofs.Events.{call_returned, keeps_returned, made_returned, same_done}
+use Rattle.seize_calls.proofs.Handed.{had_none}
 use Rattle.seize_calls.proofs.Strolls.{same_hands}
 
-module _ (key : SlotKey) (pass : Pass) (values : ValueKeys) (m : Marking key) where
+module _ (key : SlotKey) (pass : Pass) (values : ValueKeys) (had : Had) (m : Marking key) where
   abbrev at : BeginsToMark key
   at = m.0
 
@@ -47,12 +51,13 @@ module _ (key : SlotKey) (pass : Pass) (values : ValueKeys) (m : Marking key) wh
     pub stays_over : (slot_of key1).call ≡ Some (record { place = Rest [] []; queue = [] })
     stays_over = ends.stands.0 ∙ ap (λ (q : List ℕ). Some (record { place = Rest [] []; queue = q })) m.1
 
-    pub has_stayed : (values1 : ValueKeys) → AreRemarked values values1 → (key2 : SlotKey) (pass2 : Pass) → Notes key1 pass1 key2 pass2 (Return (number_of key1)) → Stays key pass values key2 pass2 values1
+    pub has_stayed : (values1 : ValueKeys) → AreRemarked values values1 → (key2 : SlotKey) (pass2 : Pass) → Notes key1 pass1 key2 pass2 (Return (number_of key1)) → Stays key pass values had key2 pass2 values1 had
     has_stayed values1 remarked key2 pass2 notes =
         let keeps = keeps_returned key1 key2 pass1 pass2 notes in
         record {
           same = (keeps.same.0 ∙ same.0, keeps.same.1 ∙ same.1);
           grows = prefix_trans pass.seen pass1.seen pass2.seen ends.grows keeps.grows;
+          alone = alone_twice pass pass1 pass2 same ends.alone keeps.alone;
           rests = record {
             its = (keeps.its.0 ∙ its.0, keeps.its.1 ∙ its.1);
             call = call_returned key1 key2 pass1 pass2 notes;
@@ -64,7 +69,9 @@ module _ (key : SlotKey) (pass : Pass) (values : ValueKeys) (m : Marking key) wh
           finds = ends.finds;
           made = made_returned key1 key2 pass1 pass2 notes ∙ ap (λ (log : List (Deed × Answer)). log ++ done pass1 (Return (number_of key1))) ends.made
               ∙ ap (λ (log : List (Deed × Answer)). (events_by pass ++ readings pass (number_of key) 0 ends.finds) ++ log) (same_done pass pass1 same Return (number_of key) (number_of key1) its.1);
+          too_few = inr ends.stands.1;
           keys = remarked;
+          had_none = refl;
         }
 
   -- or it was retired
@@ -83,15 +90,17 @@ module _ (key : SlotKey) (pass : Pass) (values : ValueKeys) (m : Marking key) wh
     waits_over off =
         r.stands ∙ ap (λ (z : Bool). Some (record { place = Rest (if z then batch else []) []; queue = at.queue })) off ∙ ap (λ (q : List ℕ). Some (record { place = Rest [] []; queue = q })) m.1
 
-    finished : (key2 : SlotKey) (pass2 : Pass) (values2 : ValueKeys) (key3 : SlotKey) (pass3 : Pass) → IsSame pass pass2 → IsPrefix pass.seen pass2.seen → (key2.keys.name ≡ key.keys.name) × (number_of key2 ≡ s)
+    finished : (key2 : SlotKey) (pass2 : Pass) (values2 : ValueKeys) (had2 : Had) (key3 : SlotKey) (pass3 : Pass) → IsSame pass pass2 → IsPrefix pass.seen pass2.seen → AddsAlone pass pass2 → (key2.keys.name ≡ key.keys.name) × (number_of key2 ≡ s)
         → ((slot_of key2).batch ≡ []) × ((slot_of key2).used ≡ (slot_of key).used) × (active_of key2 ≡ active_of key) × (life_of key2 ≡ life_of key)
         → events_by pass2 ≡ before ++ hands pass s (if is_zero r.count then batch else [])
-        → (notes : Notes key2 pass2 key3 pass3 (Return (number_of key2))) → IsEmpty values2 pass3 → Goes key pass key3 pass3 values2
-    finished key2 pass2 values2 key3 pass3 same2 grows2 its2 kept made notes none =
+        → (notes : Notes key2 pass2 key3 pass3 (Return (number_of key2))) → IsEmpty values2 pass3
+        → HasHad (if is_zero r.count then batch else []) (if is_zero r.count then kepts_of values else []) had had2 → Goes key pass values had key3 pass3 values2 had2
+    finished key2 pass2 values2 had2 key3 pass3 same2 grows2 alone2 its2 kept made notes none theirs =
         let keeps = keeps_returned key2 key3 pass2 pass3 notes in
         record {
           same = (keeps.same.0 ∙ same2.0, keeps.same.1 ∙ same2.1);
           grows = prefix_trans pass.seen pass2.seen pass3.seen grows2 keeps.grows;
+          alone = alone_twice pass pass2 pass3 same2 alone2 keeps.alone;
           rests = record {
             its = (keeps.its.0 ∙ its2.0, keeps.its.1 ∙ its2.1);
             call = call_returned key2 key3 pass2 pass3 notes;
@@ -107,14 +116,16 @@ module _ (key : SlotKey) (pass : Pass) (values : ValueKeys) (m : Marking key) wh
           made = made_returned key2 key3 pass2 pass3 notes ∙ ap (λ (log : List (Deed × Answer)). log ++ done pass2 (Return (number_of key2))) made
               ∙ ap (λ (log : List (Deed × Answer)). (before ++ hands pass s (if is_zero r.count then batch else [])) ++ log) (same_done pass pass2 same2 Return s (number_of key2) its2.1);
           none = none;
+          has_had = theirs;
         }
 
-    pub has_waited : zero ≡ false → (key2 : SlotKey) (pass2 : Pass) → Notes key1 pass1 key2 pass2 (Return (number_of key1)) → Goes key pass key2 pass2 values1
+    pub has_waited : zero ≡ false → (key2 : SlotKey) (pass2 : Pass) → Notes key1 pass1 key2 pass2 (Return (number_of key1)) → Goes key pass values had key2 pass2 values1 had
     has_waited off key2 pass2 notes =
         let none = sym r.is_count ∙ off in
-        finished key1 pass1 values1 key2 pass2 same r.grows its (r.batch, r.used, r.active, r.life)
+        finished key1 pass1 values1 had key2 pass2 same r.grows r.alone its (r.batch, r.used, r.active, r.life)
         (r.made ∙ sym (append-nil before) ∙ ap (λ (vs : List ℕ). before ++ hands pass s vs) (ap (λ (z : Bool). if z then batch else []) (sym none))) notes
         (r.keys.0 ∙ sym (keeps_returned key1 key2 pass1 pass2 notes).same.0, r.keys.1 ∙ ap (λ (z : Bool). renewed (if z then r.marked.keys.held else []) pass1.seen) off)
+        (subst (λ (z : Bool). HasHad (if z then batch else []) (if z then kepts_of values else []) had had) (sym none) (had_none had))
 
     -- or its values are given up to the call
     module _ (on : zero ≡ true) (front : ℕ) (starts : starts_at front (values_of values1) ≡ true) (full : 1 ≤ length batch) (values_are : values_of values ≡ batch) where
@@ -127,6 +138,9 @@ module _ (key : SlotKey) (pass : Pass) (values : ValueKeys) (m : Marking key) wh
 
       pub same_values : values_of values1 ≡ batch
       same_values = ap labels_of kept_keys ∙ renewed_labels r.marked.keys.held pass1.seen ∙ remarked_labels r.marked.keys.held values.keys.held r.remarked.1 ∙ values_are
+
+      same_kepts : kepts_of values1 ≡ kepts_of values
+      same_kepts = ap kepts kept_keys ∙ renewed_kepts r.marked.keys.held pass1.seen ∙ remarked_kepts r.marked.keys.held values.keys.held r.remarked.1
 
       abbrev pub given_now : IsGiven key1 pass1 values1 front
       given_now =
@@ -144,16 +158,18 @@ module _ (key : SlotKey) (pass : Pass) (values : ValueKeys) (m : Marking key) wh
             closed = r.keys.3;
           }
 
-      module _ (key2 : SlotKey) (pass2 : Pass) (values2 : ValueKeys) (handed : HandsAll given_now key2 pass2 values2) where
+      module _ (key2 : SlotKey) (pass2 : Pass) (values2 : ValueKeys) (had2 : Had) (handed : HandsAll given_now key2 pass2 values2) (theirs : HasHad (values_of values1) (kepts_of values1) had had2) where
         pub handed_over : (slot_of key2).call ≡ Some (record { place = Rest [] []; queue = [] })
         handed_over = handed.walks_on ∙ ap (λ (q : List ℕ). Some (record { place = Rest [] []; queue = q })) m.1
 
-        pub has_handed : (key3 : SlotKey) (pass3 : Pass) → Notes key2 pass2 key3 pass3 (Return (number_of key2)) → Goes key pass key3 pass3 values2
+        pub has_handed : (key3 : SlotKey) (pass3 : Pass) → Notes key2 pass2 key3 pass3 (Return (number_of key2)) → Goes key pass values had key3 pass3 values2 had2
         has_handed key3 pass3 notes =
             let keeps = handed.goes_on.0 in let all = sym r.is_count ∙ on in
-            finished key2 pass2 values2 key3 pass3 (keeps.same.0 ∙ same.0, keeps.same.1 ∙ same.1) (prefix_trans pass.seen pass1.seen pass2.seen r.grows keeps.grows) (keeps.its.0 ∙ its.0, keeps.its.1 ∙ its.1) (keeps.batch ∙ r.batch, keeps.used ∙ r.used, keeps.active ∙ r.active, keeps.life ∙ r.life)
+            finished key2 pass2 values2 had2 key3 pass3 (keeps.same.0 ∙ same.0, keeps.same.1 ∙ same.1) (prefix_trans pass.seen pass1.seen pass2.seen r.grows keeps.grows) (alone_twice pass pass1 pass2 same r.alone keeps.alone) (keeps.its.0 ∙ its.0, keeps.its.1 ∙ its.1) (keeps.batch ∙ r.batch, keeps.used ∙ r.used, keeps.active ∙ r.active, keeps.life ∙ r.life)
             (handed.made ∙ ap (λ (log : List (Deed × Answer)). log ++ hands pass1 (number_of key1) (values_of values1)) r.made
             ∙ ap (λ (log : List (Deed × Answer)). before ++ log)
             (same_hands pass pass1 same (number_of key1) (values_of values1) ∙ ap (λ (k : ℕ). hands pass k (values_of values1)) its.1
             ∙ ap (hands pass s) (same_values ∙ ap (λ (z : Bool). if z then batch else []) (sym all)))) notes
             (handed.none.0 ∙ sym (keeps_returned key2 key3 pass2 pass3 notes).same.0, handed.none.1)
+            (subst (λ (z : Bool). HasHad (if z then batch else []) (if z then kepts_of values else []) had had2) (sym all)
+            (subst (λ (t : List ℕ × List ℕ). HasHad t.0 t.1 had had2) (λ i. (same_values i, same_kepts i)) theirs))

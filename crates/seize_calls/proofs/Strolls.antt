@@ -18,6 +18,7 @@ use Rattle.seize_book.specs.declared.book.pass.Pass.{Pass}
 use Rattle.seize_book.specs.declared.book.slot_key.SlotKey.{SlotKey}
 use Rattle.seize_book.specs.declared.book.value_keys.ValueKeys.{ValueKeys}
 use Rattle.seize_words.proofs.Facts.{word_stays}
+use Rattle.seize_calls.proofs.Alone.{alone_none}
 use Rattle.seize_calls.specs.Handing.{Had, HasHad}
 use Rattle.seize_calls.specs.Batches.{kepts_of}
 use Rattle.seize_calls.specs.Walking.{Ends, GoesOn, HandsAll, IsAtWalk, IsGiven, Stops, WalksAll, WalksTo, counting, countings, handed_in, hands, steps}
@@ -104,7 +105,7 @@ pub record IsStrolling {key : SlotKey} {word : ℕ} (at : IsAtWalk key word) (pa
 
 abbrev pub none_strolled : (key : SlotKey) (word : ℕ) (at : IsAtWalk key word) (pass : Pass) (had : Had) → IsStrolling at pass key pass word had had
 none_strolled key word at pass had = record {
-  goes_on = (record { same = (refl, refl); its = (refl, refl); batch = refl; used = refl; active = refl; life = refl; seen = omega arith; grows = ([], append-nil pass.seen) }, ([], append-nil (own_list key)));
+  goes_on = (record { same = (refl, refl); its = (refl, refl); batch = refl; used = refl; active = refl; life = refl; seen = omega arith; grows = ([], append-nil pass.seen); alone = alone_none pass }, ([], append-nil (own_list key)));
   walked = [];
   kepts = [];
   has_had = had_none had;

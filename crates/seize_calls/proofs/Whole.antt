@@ -1,5 +1,5 @@
 -- Whole calls, put together of what their parts did.
-use Rattle.std.proofs.Common.{◌≡◌, ℕ, ◌<◌, ◌≤◌, ◌==◌, Bool, true, false, if◌then◌else◌, nat_le, List, [], ◌∷◌, ◌++◌, length, max, Some, refl, sym, ap, ◌∙◌, append-nil, arith}
+use Rattle.std.proofs.Common.{◌≡◌, ℕ, ◌<◌, ◌≤◌, ◌==◌, Bool, true, false, if◌then◌else◌, nat_le, List, [], ◌∷◌, ◌++◌, length, max, Some, refl, sym, ap, ◌∙◌, append-nil, inl, arith}
 use base.Growing.{prefix_trans}
 use Rattle.seize_machine.specs.Machine.State.{Append, Mark, Rest}
 use Rattle.seize_machine.specs.Machine.Event.{Begin, Put, Return}
@@ -16,20 +16,25 @@ use Rattle.seize_book.specs.declared.book.pass.Pass.{Pass}
 use Rattle.seize_book.specs.declared.book.slot_key.SlotKey.{SlotKey}
 use Rattle.seize_book.specs.declared.book.value_keys.ValueKeys.{ValueKeys}
 use Rattle.seize_calls.specs.Calls.{Begins, Marking, Puts, Stays, done}
+use Rattle.seize_calls.specs.Handing.{Had}
+use Rattle.seize_calls.proofs.Alone.{alone_looked, alone_twice}
 use Rattle.seize_calls.proofs.Events.{begins_so, begun_retire_so, call_begun, call_put, call_returned, flush_call, flush_so, keeps_returned, made_returned, put_st, puts_so}
 use Rattle.seize_calls.proofs.Keeps.{state_before}
 
 -- nothing was attempted, and the call returns
-pub only_returned : (key key' : SlotKey) (pass pass' : Pass) (values : ValueKeys) → Notes key pass key' pass' (Return (number_of key)) → Stays key pass values key' pass' values
-only_returned key key' pass pass' values notes =
+pub only_returned : (key key' : SlotKey) (pass pass' : Pass) (values : ValueKeys) (had : Had) → Notes key pass key' pass' (Return (number_of key)) → Stays key pass values had key' pass' values had
+only_returned key key' pass pass' values had notes =
     let keeps = keeps_returned key key' pass pass' notes in
     record {
       same = keeps.same;
       grows = keeps.grows;
+      alone = keeps.alone;
       rests = record { its = keeps.its; call = call_returned key key' pass pass' notes; batch_is = keeps.batch; used = keeps.used; active = keeps.active; life = keeps.life };
       finds = [];
       made = made_returned key key' pass pass' notes ∙ ap (λ (log : List (Deed × Answer)). log ++ done pass (Return (number_of key))) (sym (append-nil (events_by pass)));
       keys = (refl, refl);
+      too_few = inl refl;
+      had_none = refl;
     }
 
 pub not_none : (n : ℕ) → (n == 0) ≡ false → 0 < n
@@ -121,6 +126,7 @@ pub puts_looked : (key two : SlotKey) (pass pass1 pass2 : Pass) (v : ℕ) → Pu
 puts_looked key two pass pass1 pass2 v puts looks = record {
   same = (looks.same.0 ∙ puts.same.0, looks.same.1 ∙ puts.same.1);
   grows = prefix_trans pass.seen pass1.seen pass2.seen puts.grows looks.grows;
+  alone = alone_twice pass pass1 pass2 puts.same puts.alone (alone_looked pass1 pass2 looks);
   its = puts.its;
   batch = puts.batch;
   used = puts.used;

@@ -4,7 +4,8 @@
 --     Retires at pass values key' pass' values' zero      all that was made with the pass is that the slot read the heads, detached the
 --                        batch, took a turn at each slot whose head was active (`turns_at`), and added the insertions won; the count is 0
 --                        then or isn't. Where it is 0 the batch's values are given up to the call, with their keys. Nothing else of the
---                        slot has changed but its batch, which is empty
+--                        slot has changed but its batch, which is empty. What was added where the pass is alone was made with it
+--                        (AddsAlone)
 use Rattle.std.specs.Prelude.{◌≡◌, ℤ, Bool, true, false, if◌then◌else◌, List, [], ◌∷◌, ◌++◌, length, Some}
 use mathlib.Core.List.{IsPrefix}
 use Rattle.seize_machine.specs.Machine.Event.{AddCount, Detach}
@@ -18,6 +19,7 @@ use Rattle.seize_book.specs.Slots.{active_of, life_of, number_of, slot_of}
 use Rattle.seize_book.specs.declared.book.pass.Pass.{Pass}
 use Rattle.seize_book.specs.declared.book.slot_key.SlotKey.{SlotKey}
 use Rattle.seize_book.specs.declared.book.value_keys.ValueKeys.{ValueKeys}
+use Rattle.seize_calls.specs.Alone.{AddsAlone}
 use Rattle.seize_calls.specs.Batches.{AreRemarked}
 use Rattle.seize_calls.specs.Inserts.{Turn, turns_at}
 use Rattle.seize_calls.specs.Marks.{BeginsToMark, Ends, actives, readings}
@@ -33,6 +35,7 @@ pub record Retires {key : SlotKey} (at : BeginsToMark key) (pass : Pass) (values
   pub count : ℤ
   pub is_count : zero ≡ is_zero count
   pub grows : IsPrefix pass.seen pass'.seen
+  pub alone : AddsAlone pass pass'
   pub made : let s = number_of key in
       events_by pass' ≡ (((events_by pass ++ readings pass s 0 finds) ++ (private pass (Detach s), Done) ∷ [])
       ++ turns_at pass s (actives 0 finds) turns) ++ (private pass (AddCount s), Count count) ∷ []

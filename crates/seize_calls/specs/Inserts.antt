@@ -5,7 +5,8 @@
 --     turns_at pass s ms turns   those of a turn at each of these slots, in order;  won_in turns     how many insertions were won
 --     plan_in key b          how batch b was detached, as the slot's key knows
 --     Keeps key pass key' pass'  it is the same key and pass, and the slot's batch, whether it is in use and active, and its last
---                            activation, are as they were; the pass has seen all that it had seen, and so no fewer slots
+--                            activation, are as they were; the pass has seen all that it had seen, and so no fewer slots; and what was
+--                            added where it is alone was made with it (AddsAlone)
 --     IsAtTry key head header seen block front     the slot's call is about to insert its batch at this head, where it saw this word, with
 --                            the block of this number and header; and this is the number of the batch's first block
 --     Tried at pass key' pass' won   it tried once, and won or lost
@@ -43,6 +44,7 @@ use Rattle.seize_book.specs.declared.book.pass.Pass.{Pass}
 use Rattle.seize_book.specs.declared.book.slot_key.SlotKey.{SlotKey}
 use Rattle.seize_words.specs.declared.chunk.Header.{Header}
 use Rattle.seize_words.specs.declared.reservation.Head.{Head}
+use Rattle.seize_calls.specs.Alone.{AddsAlone}
 use Rattle.seize_calls.specs.Batches.{Spot, slot_noted, slots_of}
 use Rattle.seize_calls.specs.Marks.{reading}
 use Rattle.seize_calls.specs.Rounds.{book_at, done_in, rest_in}
@@ -90,6 +92,7 @@ pub record Keeps (key : SlotKey) (pass : Pass) (key' : SlotKey) (pass' : Pass) :
   pub life : life_of key' ≡ life_of key
   pub seen : slots_seen pass ≤ slots_seen pass'
   pub grows : IsPrefix pass.seen pass'.seen
+  pub alone : AddsAlone pass pass'
 
 pub record IsAtTry (key : SlotKey) (head : Head) (header : Header) (seen block front : ℕ) : Type 0 where
   pub tries : IsTrying (start_of key) (number_of key) (own_list key) (slot head) seen block

@@ -1,3 +1,4 @@
+pub mod Alone
 pub mod Attempts
 pub mod Batches
 pub mod Calls

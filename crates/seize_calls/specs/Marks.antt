@@ -1,4 +1,5 @@
--- How a call marks that has put the value with which its batch is full, or that begins to flush. The pass has seen what it had seen.
+-- How a call marks that has put the value with which its batch is full, or that begins to flush. The pass has seen what it had seen, and
+-- what was added where it is alone was made with it (AddsAlone).
 --     BeginsToMark key       the slot's call is to read the first head
 --     readings pass s n finds     slot s read heads, with the pass: from this number on, in order, as many as there are answers, which say
 --                            whether the head was active
@@ -22,6 +23,7 @@ use Rattle.seize_book.specs.Slots.{active_of, life_of, number_of, slot_of}
 use Rattle.seize_words.specs.Totals.{slots_seen}
 use Rattle.seize_book.specs.declared.book.pass.Pass.{Pass}
 use Rattle.seize_book.specs.declared.book.slot_key.SlotKey.{SlotKey}
+use Rattle.seize_calls.specs.Alone.{AddsAlone}
 use Rattle.seize_calls.specs.Batches.{Spot, slots_of}
 use Rattle.seize_calls.specs.declared.marking.Marked.{Marked}
 use Rattle.seize_calls.specs.declared.marking.Marked.TheVariants.{Ready, TooMany}
@@ -57,6 +59,7 @@ pub record Ends {key : SlotKey} (at : BeginsToMark key) (pass : Pass) (key' : Sl
   pub finds : List Bool
   pub within : length finds ≤ slots_seen pass'
   pub grows : IsPrefix pass.seen pass'.seen
+  pub alone : AddsAlone pass pass'
   pub made : events_by pass' ≡ events_by pass ++ readings pass (number_of key) 0 finds
   pub batch : (slot_of key').batch ≡ (slot_of key).batch
   pub used : (slot_of key').used ≡ (slot_of key).used

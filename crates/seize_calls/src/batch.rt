@@ -10,6 +10,9 @@ use seize_words::note::Note;
 
 /// The keys of the values of a slot's batch, in the order in which they were put. Of each block it is noted which one comes next, and of
 /// the last one's that none does.
+///
+/// A batch that is dropped leaves its blocks, and what is lent in them, where they are for good: nothing is handed, and no row of theirs
+/// goes back.
 #[derive(Drop)]
 pub struct Batch {
     // The numbers of the blocks of the first and the last value, where there are some.
@@ -75,6 +78,7 @@ impl Batch {
             kept,
         };
         blocks.set_note(number, note, &mut value, pass);
+        // So it is known that the number is one of a row, and that its word fits. Nothing runs here.
         let _known = pass.seek(number);
         Batch::lead_on(blocks, self.len, self.last, number, &mut self.values, pass);
         let first = if self.len == 0 { number } else { self.first };

@@ -3,7 +3,7 @@
 ghost use Rattle.std.specs.Prelude.{◌≡◌, false, true};
 ghost use Rattle.seize_machine.specs.declared.machine.event.Job.TheVariants.{Leave, Refresh};
 ghost use Rattle.seize_machine.specs.Machine.Event.{SwapOut};
-ghost use Rattle.seize_calls.specs.Calls.{Flushes, IsInside, Leaves, Marking, RetiresOne, Settles};
+ghost use Rattle.seize_calls.specs.Calls.{Flushes, HasBegun, IsInside, Leaves, Marking, RetiresOne, Settles};
 ghost use Rattle.seize_calls.specs.Batches.{keys_in};
 ghost use Rattle.seize_book.specs.Blocks.{block_of};
 ghost use Rattle.seize_book.specs.Adding.{private};
@@ -43,7 +43,8 @@ fn settle<T: Drop, R: Reclaim<T>>(
     requires marking { Marking key.old }
     requires batch { AreOfBook (keys_in batch.old) pass.old × (values_of (keys_in batch.old) ≡ (slot_of key.old).batch) }
     ensures knows { Knows key.new pass.new }
-    ensures settles { Settles key.old pass.old (keys_in batch.old) key.new pass.new (keys_in batch.new) result }
+    ensures settles { let had = R.had reclaimer.old in let had' = R.had reclaimer.new in
+        Settles key.old pass.old (keys_in batch.old) had key.new pass.new (keys_in batch.new) had' result }
 {
     match attempt(slots, blocks, batch, key, pass, rt) {
         Attempted::Stays => {
@@ -80,7 +81,8 @@ pub fn flush<T: Drop, R: Reclaim<T>>(
     requires inside { IsInside key.old }
     requires batch { AreOfBook (keys_in batch.old) pass.old × (values_of (keys_in batch.old) ≡ (slot_of key.old).batch) }
     ensures knows { Knows key.new pass.new }
-    ensures flushes { Flushes key.old pass.old (keys_in batch.old) key.new pass.new (keys_in batch.new) result }
+    ensures flushes { let had = R.had reclaimer.old in let had' = R.had reclaimer.new in
+        Flushes key.old pass.old (keys_in batch.old) had key.new pass.new (keys_in batch.new) had' result }
 {
     key.begin_flush(pass);
     if batch.len == 0 {
@@ -115,8 +117,8 @@ pub fn retire<T: Drop, R: Reclaim<T>>(
     requires size { size ≡ size_of key.old }
     requires batch { AreOfBook (keys_in batch.old) pass.old × (values_of (keys_in batch.old) ≡ (slot_of key.old).batch) }
     ensures knows { Knows key.new pass.new }
-    ensures retires { let values = keys_in batch.old in
-        RetiresOne key.old pass.old (value_of value) kept values key.new pass.new (keys_in batch.new) result }
+    ensures retires { let values = keys_in batch.old in let had = R.had reclaimer.old in let had' = R.had reclaimer.new in
+        RetiresOne key.old pass.old (value_of value) kept values had key.new pass.new (keys_in batch.new) had' result }
 {
     let mut value = value;
     key.begin_retire(&mut value, pass);
@@ -169,6 +171,7 @@ pub fn refresh<T: Drop, R: Reclaim<T>>(
     requires last { IsLastOf key.old activation.old }
     ensures knows { Knows key.new pass.new }
     ensures last { IsLastOf key.new activation.new }
+    ensures begun { HasBegun activation.new pass.new }
     ensures leaves { let swap = beginning pass.old activation.new.life (SwapOut (number_of key.old)) in
         Leaves Refresh true swap key.old pass.old key.new pass.new (R.had reclaimer.old) (R.had reclaimer.new) }
 {

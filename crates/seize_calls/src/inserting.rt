@@ -109,6 +109,7 @@ fn insert_at<T: Drop>(
     ensures inserted { (next : IsAtNext key.old pass.old round.old front) → Inserted next.at pass.old key.new pass.new result }
 {
     let block = round.number();
+    // So it is known that the number is one of a row, and that its word fits. Nothing runs here.
     let _known = pass.seek(block);
     let header = blocks.header(block, pass);
     let note = round.next(header);

@@ -44,7 +44,10 @@ pub use Rattle.seize_book.proofs.Renames.{follows_value}
 pub use Rattle.seize_words.proofs.Chunked.{settles_block, settles_hollow, takes_block}
 -- keys lead on: in a book without a store, where there are none, and where the last one's note says the next one's word; so the next block is
 -- found, and the keys are closed where it says none
-pub use Rattle.seize_book.proofs.Leading.{closed_anywhere, follows_leads, follows_noted, has_noted, last_closes, last_leads, leads_anywhere, leads_next, leads_on_anywhere, none_closed, none_leads, one_leads}
+pub use Rattle.seize_book.proofs.Leading.{closed_anywhere, has_noted, last_closes, last_leads, leads_next, none_closed, one_leads}
+pub use Rattle.seize_book.proofs.Linked.{closed_after, none_joined, parted_joined}
+pub use Rattle.seize_book.proofs.Firsts.{noted_one, one_label, others_closed, others_know, own_is, unchanged_last, unchanged_value}
+pub use Rattle.seize_book.proofs.Values.{labels_append}
 -- the blocks of a store have cells for notes, and what was noted there is what is read
 pub use Rattle.seize_words.proofs.Noted.{blocks_stored, noted_back, same_note}
 -- with a value that was named something is lent, if the blocks of its book lie in a store

@@ -5,7 +5,7 @@ use seplogic.Ra.Ura.{Ura}
 use base.Fml.{Lft, Share, Fml, ftrue, flent}
 use base.Logic.{SProp, ent, ex, guard, sep, upd, upd_i}
 use base.Stored.{Gv}
-use types.Kit.{‵, raw, ◌⊛◌, ◌$◌, ◌∵◌, !, qed, move, keep, drop, split, group, fsplit, fjoin, fpick, fpack, frame, show, check, suffices, settle, done, rewrite, use1, use2, use3}
+use types.Kit.{‵, raw, ◌⊛◌, ◌$◌, ◌∵◌, !, qed, move, keep, drop, split, group, fsplit, fjoin, fpick, fpack, frame, suffices, settle, done, rewrite, use1, use2, use3}
 use types.Logic.{Logic, sem}
 use denote.Steps.{nothing}
 use Rattle.seize_content.specs.Contents.{sight_owns}
@@ -14,18 +14,19 @@ use Rattle.seize_content.proofs.Readers.{reads, share_of}
 use Rattle.seize_machine.specs.Machine.State.{State}
 use Rattle.seize_book.specs.Entry.{Entry, entry_coded}
 use Rattle.seize_book.specs.Book.{blocks}
-use Rattle.seize_words.specs.Glimpses.{IsLentWith, Piece, SightFor, glimpse, sight_if, taken, taken_if, taken_of}
+use Rattle.seize_words.specs.Glimpses.{IsLentWith, Piece, SightFor, glimpse, taken, taken_if, taken_of}
 use Rattle.seize_book.specs.Laws.{Reader}
 use Rattle.seize_book.specs.Ledger.{Held, reached}
 use Rattle.seize_book.specs.Loans.{Carries, IsReader, Loan, lent_as, loan, loan_if, loan_of, reader, reader_by, readers}
 use Rattle.seize_book.specs.Tokens.{Name, keys_own, start, way}
 use Rattle.seize_words.specs.Words.{IsKeyOf}
+use Rattle.seize_book.proofs.Peeks.{sights}
+use Rattle.seize_book.proofs.Sent.{sight_keyless}
 use Rattle.seize_book.proofs.Ways.{block_ways, way_closes, way_opens}
 use base.Shift.{Keyless}
 use denote.Laws.{Is, Tells}
 use denote.Ref.{NamedLft}
 use mir.Val.{of_list}
-use Rattle.seize_content.proofs.Sends.{sight_sent}
 use Rattle.seize_words.specs.contracts.glimpse.Glimpse as glimpse
 use Rattle.seize_book.proofs.Fields.{no_bytes}
 use Rattle.seize_book.proofs.Kit.{vstruct}
@@ -119,19 +120,11 @@ module _ {M : Type 1} {𝓤 : Ura M} (𝓛 : Logic 𝓤) (κ : Lft) where
   abbrev Seen : Option ℕ → ℕ × (ℕ × Gv) → SProp 𝓤
   Seen o t = guard 𝓤 (IsOf o t) (sem 𝓛 (sight_owns κ t.0 t.1.0 t.1.1))
 
-  lent_one : (k v : ℕ) → ¬ (k ≡ 0) → ent 𝓤 (sem 𝓛 (sight_if k κ v)) (ex 𝓤 (Seen (Some v)))
-  lent_one zero v some = absurd (some refl)
-  lent_one (suc k) v some = qed 𝓛 (‵ (sight_if (suc k) κ v) ∷ []) ∵ fpick ! (λ t. fsplit ! $ fpick ! (λ carries. drop ! $ show ! (Seen (Some v)) t $ check ! carries $ done !))
-
   pub glimpsed : (o : Option ℕ) → IsLentWith o → ent 𝓤 (sem 𝓛 (glimpse κ o)) (ex 𝓤 (Seen o))
   glimpsed None lent = absurd lent
-  glimpsed (Some v) lent = lent_one (loan_of v) v lent
+  glimpsed (Some v) lent = sights 𝓛 κ v lent
 
 -- It may go to another thread.
-
-sight_keyless : (k : ℕ) (κ : Lft) (v : ℕ) → Keyless (sight_if k κ v)
-sight_keyless zero κ v = tt
-sight_keyless (suc k) κ v = λ t. ((λ _. tt), sight_sent κ t.0 t.1.0 t.1.1)
 
 pub glimpse_keyless : (κ : Lft) (o : Option ℕ) → Keyless (glimpse κ o)
 glimpse_keyless κ None = tt

@@ -9,11 +9,11 @@
 use Rattle.std.specs.Prelude.{ℕ, zero, suc, Bool, true, false, Option, Some, None}
 use base.Fml.{Lft, Share, Fml, ftrue, fsep, fex}
 use base.Stored.{Gv}
-use Rattle.seize_content.specs.Contents.{sight_owns}
 use Rattle.seize_content.specs.Readers.{found, ready}
 use Rattle.seize_content.specs.declared.loan.Sight.{Sight}
 use Rattle.seize_book.specs.Ledger.{fact}
 use Rattle.seize_book.specs.Loans.{Carries, CarriesNone, loan_of}
+pub use Rattle.seize_book.specs.Peeks.{sight_if, sight_of}
 
 abbrev pub shown : Bool → Option ℕ → Option ℕ
 shown true o = None
@@ -36,13 +36,6 @@ taken_if (suc k) γ v = fex Piece (taken_of γ v)
 abbrev pub taken : ℕ → Option ℕ → Fml
 taken γ None = ready γ
 taken γ (Some v) = taken_if (loan_of v) γ v
-
-abbrev pub sight_of : Lft → ℕ → ℕ × (ℕ × Gv) → Fml
-sight_of κ v t = fsep (fact (Carries v t.0 t.1.1)) (sight_owns κ t.0 t.1.0 t.1.1)
-
-abbrev pub sight_if : ℕ → Lft → ℕ → Fml
-sight_if zero κ v = ftrue
-sight_if (suc k) κ v = fex (ℕ × (ℕ × Gv)) (sight_of κ v)
 
 abbrev pub glimpse : Lft → Option ℕ → Fml
 glimpse κ None = ftrue

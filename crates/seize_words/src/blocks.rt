@@ -146,6 +146,20 @@ impl<T: Drop> Blocks<T> {
         self.store.see(number as usize, &known, glimpse.sight())
     }
 
+    /// What is lent with the value that this key is for, for as long as the store and the key are borrowed: a value of the code that the
+    /// value's name says. The number is that of the value's block. So whoever took a value out of a link reads it while others see it by
+    /// their activations, and whoever has one that was never named reads that. No event is made, and the list is not looked at.
+    ///
+    /// It takes no memory: three loads, each of which waits for the one before, with that of what is read in the value.
+    pub fn peek<'g>(&'g self, number: u64, key: &'g ValueKey) -> &'g T
+        requires book { book_of key.now ≡ book_in self.now }
+        requires lent { IsLentKey key.now × (block_of (value_of key.now) ≡ number) }
+        ensures code { IsLentAs (value_of key.now) (T.row.coded.code result.now) }
+    {
+        let row = key.row();
+        self.store.see(number as usize, &row, key.sight())
+    }
+
     /// The block whose value the slot's call is about to hand to its reclaimer, in hand again: nobody sees it any more, and its reclaimer
     /// may have it before that names further ones. It has a value of the code that was lent. The key is for another value of the block
     /// then, which may be named, or laid back with the block, when this one was handed (`ValueKey::settle`). The pass looks at the list.

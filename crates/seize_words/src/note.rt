@@ -1,5 +1,6 @@
 //! Notes: what the holder of the key of a block's values keeps beside the block, in plain memory of its chunk, while others may see the
 //! value.
+ghost use Rattle.std.specs.Prelude.{◌≡◌};
 
 /// What is noted of a block by its owner of the moment. Who retires a value notes what comes next in its batch, and so whoever is given the
 /// batch finds its blocks one after the other; a batch takes no memory.
@@ -15,7 +16,9 @@ pub struct Note {
 
 impl Note {
     /// Nothing is noted.
-    pub fn new() -> Note {
+    pub fn new() -> Note
+        ensures { (result.next ≡ 0) × (result.slot ≡ 0) × (result.kept ≡ 0) }
+    {
         Note {
             next: 0,
             slot: 0,

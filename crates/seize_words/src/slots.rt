@@ -17,7 +17,7 @@ pub use next::NextSlot;
 use seize_book::book::{
     Book, BookKeys, Keeps, LinkKeys, NumbersKey, Pass, SlotKey, TotalKey, Unopened,
 };
-use seize_table::thread_id::Thread;
+use seize_table::thread_id::{MAX_INDEX, Thread};
 use seize_table::tls::{AllFilled, ThreadLocal};
 use seize_table::{Labelled, Refusal};
 use std::alloc::Global;
@@ -72,9 +72,9 @@ pub struct Slots {
 }
 
 impl Slots {
-    ghost use Rattle.std.specs.Prelude.{◌<◌, IfErr, IfOk};
+    ghost use Rattle.std.specs.Prelude.{◌<◌, ◌⊎◌, ◌↔◌, Err, IfErr, IfOk};
     ghost use Rattle.seize_table.specs.Place.{all_numbers};
-    ghost use Rattle.seize_table.specs.declared.refusal.Refusal.TheVariants.{NoMemory};
+    ghost use Rattle.seize_table.specs.declared.refusal.Refusal.TheVariants.{NoMemory, NoNumbers};
     ghost use Rattle.seize_book.specs.Books.{Opens};
     ghost use Rattle.seize_words.specs.Named.{total_key_book};
     ghost use Rattle.seize_book.specs.Passes.{LooksOn};
@@ -86,14 +86,16 @@ impl Slots {
     ///
     /// # Errors
     ///
-    /// As for the table: `NoNumbers` where `capacity` is above the greatest number, and `NoMemory` where a growth was refused.
+    /// As for the table: `NoNumbers` where `capacity` is above the greatest number, and only then; `NoMemory` where a growth was refused.
     pub fn new(
         alloc: Global,
         capacity: usize,
         links: usize,
         size: usize,
     ) -> Result<(Slots, NumbersKey, NextSlot, LinkKeys), Refusal>
-        ensures { IfOk result (λ opened. OpensSlots opened.0 opened.1 opened.2 opened.3 links size) }
+        ensures made { IfOk result (λ opened. OpensSlots opened.0 opened.1 opened.2 opened.3 links size) }
+        ensures refused { IfErr result (λ e. (e ≡ NoNumbers) ⊎ (e ≡ NoMemory)) }
+        ensures no_numbers { (result ≡ Err NoNumbers) ↔ (MAX_INDEX < capacity) }
     {
         let table = ThreadLocal::with_capacity(alloc, capacity)?;
         let (unopened, _) = Unopened::new();

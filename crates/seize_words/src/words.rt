@@ -33,7 +33,7 @@ pub struct Words<T> {
 }
 
 impl<T: Drop> Words<T> {
-    ghost use Rattle.std.specs.Prelude.{ℕ, ◌<◌, ◌⊎◌, IfErr, IfOk, IfSome, Some, false, is_some, true};
+    ghost use Rattle.std.specs.Prelude.{ℕ, ◌<◌, ◌⊎◌, ◌↔◌, Err, IfErr, IfOk, IfSome, Some, false, is_some, true};
     ghost use Rattle.seize_machine.specs.Machine.Event.{Enter, Insert, ReadHead, SwapOut};
     ghost use Rattle.seize_machine.specs.Machine.State.{is_idle};
     ghost use Rattle.seize_store.specs.Named.{name_of as store_name};
@@ -55,7 +55,7 @@ impl<T: Drop> Words<T> {
     ///
     /// # Errors
     ///
-    /// `NoNumbers` where `capacity` is above the greatest number, and `NoMemory` where a growth was refused.
+    /// `NoNumbers` where `capacity` is above the greatest number, and only then; `NoMemory` where a growth was refused.
     pub fn new(
         alloc: Global,
         capacity: usize,
@@ -63,7 +63,8 @@ impl<T: Drop> Words<T> {
         size: usize,
     ) -> Result<(Words<T>, NumbersKey, NextSlot), Refusal>
         ensures made { IfOk result (λ opened. OpensWords opened.0 opened.1 opened.2 links size) }
-        ensures refused { IfErr result (λ e. ((e ≡ NoNumbers) × (MAX_INDEX < capacity)) ⊎ (e ≡ NoMemory)) }
+        ensures refused { IfErr result (λ e. (e ≡ NoNumbers) ⊎ (e ≡ NoMemory)) }
+        ensures no_numbers { (result ≡ Err NoNumbers) ↔ (MAX_INDEX < capacity) }
     {
         let table = ThreadLocal::with_capacity(alloc, capacity)?;
         let (unopened, family) = Unopened::new();
@@ -84,7 +85,8 @@ impl<T: Drop> Words<T> {
         size: usize,
     ) -> Result<(Words<T>, Pass, NumbersKey, NextSlot), Refusal>
         ensures made { IfOk result (λ opened. OpensWordsAlone opened.0 opened.1 opened.2 opened.3 links size) }
-        ensures refused { IfErr result (λ e. ((e ≡ NoNumbers) × (MAX_INDEX < capacity)) ⊎ (e ≡ NoMemory)) }
+        ensures refused { IfErr result (λ e. (e ≡ NoNumbers) ⊎ (e ≡ NoMemory)) }
+        ensures no_numbers { (result ≡ Err NoNumbers) ↔ (MAX_INDEX < capacity) }
     {
         let table = ThreadLocal::with_capacity(alloc, capacity)?;
         let (unopened, family) = Unopened::new();

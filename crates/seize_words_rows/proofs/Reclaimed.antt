@@ -24,28 +24,13 @@ use Rattle.seize_words.specs.Counts.{Leaves}
 use Rattle.seize_words.specs.Noted.{IsNoted}
 use Rattle.seize_words.specs.declared.note.Note.{Note}
 use Rattle.seize_words.specs.Walks.{Knows}
-use Rattle.seize_words.proofs.Facts.{knows_noted, knows_still, leads_next, looks_twice}
+use Rattle.seize_words.proofs.Facts.{knows_noted, knows_still, leads_next, looks_twice, others_know, own_is}
 use Rattle.seize_words_rows.specs.Reclaiming.{AreReady, IsFirstAt, Reclaims}
 use Rattle.seize_words_rows.specs.Stages as stages
 use Rattle.seize_words_rows.specs.Stages.{Goes, IsAt, Leads, Sees, Stage}
 use Rattle.seize_words_rows.proofs.Stages.{looks_on, steps}
 
 -- Keys without the first.
-
-others_know : (held rest : List (Held Entry)) (seen : List Entry) → is_one blocks held ≡ true → held ++ rest ≡ renewed (held ++ rest) seen → rest ≡ renewed rest seen
-others_know [] rest seen one same = absurd (cc)
-others_know (h ∷ []) rest seen one same = ap tail_of same
-  where
-    tail_of : List (Held Entry) → List (Held Entry)
-    tail_of [] = []
-    tail_of (x ∷ xs) = xs
-others_know (h ∷ g ∷ held) rest seen one same = absurd (cc)
-
--- and what the first knows
-own_is : (held rest : List (Held Entry)) (seen : List Entry) → is_one blocks held ≡ true → held ++ rest ≡ renewed (held ++ rest) seen → own_of held ≡ seen
-own_is [] rest seen one same = absurd (cc)
-own_is (h ∷ []) rest seen one same = ap own_of same
-own_is (h ∷ g ∷ held) rest seen one same = absurd (cc)
 
 among_all : (v u : ℕ) (us vs : List ℕ) → vs ≡ u ∷ us → Contains us v → Contains vs v
 among_all v u us vs is among = subst (λ (ws : List ℕ). Contains ws v) (sym is) (suc among.0, let less = among.1 in omega (arith, less), among.2)
@@ -79,14 +64,6 @@ module _ (values : ValueKeys) (slot : SlotKey) (pass : Pass) (ready : AreReady v
     knows = others_know key.keys.held rest.keys.held ready.since.seen key.one whole;
     last = λ v there. ready.last v (among v there);
   }
-
--- a key that is unchanged is for the same value
-pub unchanged_value : (value value' : ValueKey) → IsUnchanged value value' → value_of value' ≡ value_of value
-unchanged_value value value' same = ap label_of same.1
-
--- and it knows the same
-pub unchanged_last : (value value' : ValueKey) → IsUnchanged value value' → IsLast value → IsLast value'
-unchanged_last value value' same last = subst (λ (t : Name × List (Held Entry)). IsLastIn (label_of t.1) (after (start t.0) (own_of t.1))) (λ j. (sym same.0 j, sym same.1 j)) last
 
 -- a block's number by its word
 pub one_less : (number word : ℕ) → number + 1 ≡ word → number ≡ word - 1

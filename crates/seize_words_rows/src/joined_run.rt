@@ -5,11 +5,12 @@
 //! As in `worked_run`, the book is open to one pass alone, so its holder knows the whole list, and the contracts say which words are found:
 //! they are those of the number that the store gave.
 ghost use Rattle.std.specs.Prelude.{◌≡◌, ◌+◌, ◌<◌, IfSome};
-ghost use Rattle.seize_book.specs.Others.{MayRetire, book_of};
+ghost use Rattle.seize_book.specs.Others.{MayRetire, book_of, value_of};
 ghost use Rattle.seize_words.specs.Joined.{words_book};
 ghost use Rattle.seize_words.specs.Named.{numbers_book};
 ghost use Rattle.seize_words.specs.Reserved.{HasNext};
 ghost use Rattle.seize_words.specs.Totals.{made_of};
+ghost use Rattle.seize_words_rows.specs.BlockRuns.{IsIn};
 ghost use Rattle.seize_words_rows.specs.JoinedRuns.{HasBegun, HasTwo, IsInside, IsLeft, IsLinked, IsOut, Stay, both_in, one_made, opened, two_made};
 ghost use Rattle.seize_words_rows.specs.Stages.{Knows, Leads, Sees};
 
@@ -183,6 +184,34 @@ pub fn note_beside(
     words.blocks.set_note(lent.number, note, &mut key, pass);
     let noted = words.blocks.note(lent.number, &mut key, pass);
     (*value, noted, key)
+}
+
+/// The slot that finds sees what is lent with the value in link 1. While it does, the other slot takes the value out, and sees the same by
+/// the value's key. It gives what each of them sees, and the key.
+pub fn peek_beside(
+    words: &Words<u64>,
+    lent: Lent,
+    finder: &Activation,
+    other: &Activation,
+    pass: &mut Pass,
+) -> (u64, u64, ValueKey)
+    requires words { HasTwo words.now × HasBegun words.now finder.now pass.old 0 × HasBegun words.now other.now pass.old 1 }
+    requires linked { IsLinked words.now lent pass.old }
+    ensures seen { (result.0 ≡ lent.value) × (result.1 ≡ lent.value) }
+    ensures out { IsOut words.now lent result.2 pass.new }
+{
+    let value = see(words, lent, finder, pass);
+    let (_, key) = take_out(words, lent, other, pass);
+    let peeked = peek(words, lent, &key);
+    (*value, peeked, key)
+}
+
+/// What is lent in the block, by the key of the value there.
+pub fn peek(words: &Words<u64>, lent: Lent, key: &ValueKey) -> u64
+    requires key { IsIn lent (value_of key.now) × (book_of key.now ≡ words_book words.now) }
+    ensures { result ≡ lent.value }
+{
+    *words.blocks.peek(lent.number, key)
 }
 
 // What is lent with the value in link 1, for as long as the activation is borrowed.

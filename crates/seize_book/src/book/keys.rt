@@ -5,13 +5,14 @@ ghost use Rattle.seize_machine.specs.Machine.Event.{Event, Return};
 ghost use Rattle.seize_book.specs.Book.{blocks, slots};
 ghost use Rattle.seize_book.specs.Entry.{Entry};
 ghost use Rattle.seize_book.specs.Ledger.{Held};
+ghost use Rattle.seize_book.specs.Peeks.{keys_show};
 ghost use Rattle.seize_book.specs.Private.{is_one, label_of};
 ghost use Rattle.seize_book.specs.Tokens.{Name, held_coded, keys_own, name_coded};
 
 use crate::book::opened::Opened;
 use crate::book::pass::Pass;
 use crate::book::rights::Rights;
-use seize_content::{CellToken, Pool, Ticket};
+use seize_content::{CellToken, Pool, Sight, Ticket};
 use seize_store::Known;
 use seize_table::tls::FilledAt;
 use std::marker::{Brand, Model, PhantomData};
@@ -29,6 +30,8 @@ pub struct Keys {
 
 impl Model for Keys {
     ghost also_owns = { λ k. keys_own k.name k.held };
+
+    ghost also_shares = { λ k _ κ. keys_show k.name k.held κ };
 }
 
 /// An event. A caller passes `Brand`, and its proof picks the event; the one below stands where none is picked.
@@ -46,6 +49,7 @@ impl Keys {
     ghost use Rattle.seize_book.specs.Lending.{IsRowAt, Lends, MayLend, MayRedeem, MayWithdraw, Redeems};
     ghost use Rattle.seize_book.specs.Notes.{MayOpen, Opens};
     ghost use Rattle.seize_book.specs.Others.{Renames};
+    ghost use Rattle.seize_book.specs.Peeking.{MaySee, SightBy};
     ghost use Rattle.seize_book.specs.Tables.{GetsPlace, LiesAt};
 
     /// Adds the event with the pass.
@@ -117,11 +121,21 @@ impl Keys {
     }
 
     /// What shows the row in which the block of the first key's value lies.
-    pub(crate) fn row(&mut self) -> Known
-        requires { (is_one blocks self.old.held ≡ true) × (is_some self.old.name.store ≡ true) }
-        ensures { (self.new ≡ self.old) × IsRowAt self.old.name (label_of self.old.held) result }
+    pub(crate) fn row(&self) -> Known
+        requires { (is_one blocks self.now.held ≡ true) × (is_some self.now.name.store ≡ true) }
+        ensures { IsRowAt self.now.name (label_of self.now.held) result }
     {
         Known {
+            marker: PhantomData,
+        }
+    }
+
+    /// A sight of what went with the first key, for as long as the keys are borrowed.
+    pub(crate) fn sight(&self) -> Sight<'_>
+        requires { MaySee self.now }
+        ensures { SightBy self.now result }
+    {
+        Sight {
             marker: PhantomData,
         }
     }
@@ -198,3 +212,5 @@ impl Drop for Keys {
 }
 
 unsafe impl Send for Keys {}
+
+unsafe impl Sync for Keys {}

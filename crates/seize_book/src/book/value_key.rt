@@ -9,7 +9,7 @@ use crate::book::bare_key::BareKey;
 use crate::book::keys::Keys;
 use crate::book::pass::Pass;
 use crate::book::slot_key::SlotKey;
-use seize_content::{Pool, Ticket, TokenCell};
+use seize_content::{Pool, Sight, Ticket, TokenCell};
 use seize_store::Known;
 
 /// The right to name the values of one block, of which it is this one's turn: to put it into a link, out of one, and to begin to retire it.
@@ -31,6 +31,7 @@ impl ValueKey {
     ghost use Rattle.seize_book.specs.Notes.{HasNoted, IsStored, IsUnchanged, cell_in, noted_in};
     ghost use Rattle.seize_book.specs.Others.{FollowsValue, HasGone, IsLast, IsVacated, IsValueOf, book_of, value_of};
     ghost use Rattle.seize_book.specs.Passes.{LooksOn};
+    ghost use Rattle.seize_book.specs.Peeking.{SightWith};
     ghost use Rattle.seize_book.specs.Slots.{IsOf, IsStill, hands_next, slot_of};
 
     /// The key is for the next value of its block then, which words hold by the same number. The last one was reclaimed, as the pass has
@@ -110,12 +111,20 @@ impl ValueKey {
     }
 
     /// What shows the row of the store in which the block lies, whether one of its values was ever named or not.
-    pub fn row(&mut self) -> Known
-        requires store { is_some (book_of self.old).store ≡ true }
-        ensures same { self.new ≡ self.old }
-        ensures row { IsRowAt (book_of self.old) (value_of self.old) result }
+    pub fn row(&self) -> Known
+        requires store { is_some (book_of self.now).store ≡ true }
+        ensures row { IsRowAt (book_of self.now) (value_of self.now) result }
     {
         self.keys.row()
+    }
+
+    /// Sees the content that is lent with the value, for as long as the key is borrowed, whether the value was ever named or not, and while
+    /// others see it by their activations: what is left of the loan is with the key, and comes back from it by `&mut` alone.
+    pub fn sight(&self) -> Sight<'_>
+        requires lent { IsLentKey self.now }
+        ensures sight { SightWith self.now result }
+    {
+        self.keys.sight()
     }
 
     /// What is noted of the block, in the cell of its chunk.

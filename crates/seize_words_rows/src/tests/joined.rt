@@ -71,6 +71,24 @@ fn a_seen_block_is_noted(rt: HostRuntime) {
     drop((key, other, second));
 }
 
+// A value that came out of a link is seen by its key, while a reader sees it by its activation: both see what went in.
+#[test]
+fn a_value_that_came_out_is_seen_by_its_key(rt: HostRuntime) {
+    let Some((words, mut finder, mut other, mut pass)) = joined_run::begin(rt.alloc()) else {
+        panic!(rt; "no memory");
+    };
+    let (first, second) = joined_run::enter(&words, &mut finder, &mut other, &mut pass);
+    let Some((_, lent)) = joined_run::put_in(&words, 70, &second, &mut pass) else {
+        panic!(rt; "no memory");
+    };
+    let (seen, peeked, key) = joined_run::peek_beside(&words, lent, &first, &second, &mut pass);
+    assert_eq!(rt; (seen, peeked), (70, 70));
+    let left = joined_run::leave(&words, 0, first, &mut finder, &mut pass);
+    assert_eq!(rt; left, 1);
+    assert_eq!(rt; joined_run::peek(&words, lent, &key), 70);
+    drop((key, other, second));
+}
+
 // Each of two threads swaps a value into one link, and then waits for that of the other and sees it: it holds only where both run.
 #[test]
 fn each_thread_sees_what_the_other_put_in(rt: HostRuntime) {

@@ -22,7 +22,7 @@ returns-then-batch-eq0-clause-flushes g c =
       begun = one;
       mid = pass;
       begins = flush_begins key one c.args.pass.now pass c.begin_flush.ensures.noted;
-      settles = only_returned one c.finish.new.self pass c.finish.new.pass (keys_in c.args.batch.now) c.finish.ensures.noted;
+      settles = only_returned one c.finish.new.self pass c.finish.new.pass (keys_in c.args.batch.now) (g.R.Reclaim.had c.args.reclaimer.now) c.finish.ensures.noted;
     }
 
 pub settle-requires : goal.settle-requires

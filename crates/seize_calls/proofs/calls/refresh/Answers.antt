@@ -1,4 +1,5 @@
-use Rattle.std.proofs.Common.{ℕ, List, [], lit<, sym, ap, ◌∙◌, true}
+use Rattle.std.proofs.Common.{ℕ, List, [], lit<, sym, ap, ◌∙◌, subst, true}
+use mathlib.Core.List.{IsPrefix}
 use Rattle.seize_machine.specs.Machine.State.{Call, Out}
 use Rattle.seize_machine.specs.Machine.Event.{Return, SwapOut}
 use Rattle.seize_machine.specs.declared.machine.event.Job.TheVariants.{Refresh}
@@ -60,3 +61,18 @@ returns-clause-last g c =
     let its = c.refresh-word.ensures.activation in let walked = (c.walk_all.ensures.walks (at_walk key one two pass pass1 pass2 Refresh true c.refresh-word.new.activation.life begins c.requires.inside.1 out c.refresh-word.ensures.noted c.args.head.now c.refresh-word.result (c.refresh-word.ensures.walks ([], out)) c.requires.book.2)).goes_on.0 in
     let over = keeps_returned c.walk_all.new.key c.finish.new.self c.walk_all.new.pass c.finish.new.pass c.finish.ensures.noted in let both = keeps_twice two c.walk_all.new.key c.finish.new.self pass2 c.walk_all.new.pass c.finish.new.pass walked over in
     (its.book ∙ sym both.its.0, its.slot ∙ sym both.its.1, sym its.its ∙ ap (λ (t : ℕ × List Entry). life t.0 t.1) (λ i. (its.slot i, its.since i)) ∙ sym both.life)
+
+pub returns-clause-begun : goal.returns-clause-begun
+returns-clause-begun g c =
+    let key = c.args.key.now in let one = c.begin_refresh.new.self in let two = c.refresh-word.new.key in let pass = c.args.pass.now in let pass1 = c.begin_refresh.new.pass in let pass2 = c.refresh-word.new.pass in
+    let call : Call = record { place = Out true; queue = [] } in let so = refresh_so key one pass pass1 c.begin_refresh.ensures.noted in
+    let begins = begins_so key one pass pass1 Refresh c.begin_refresh.ensures.noted call so in let out = call_begun key one pass pass1 Refresh c.begin_refresh.ensures.noted call so in
+    let its = c.refresh-word.ensures.activation in let walked = (c.walk_all.ensures.walks (at_walk key one two pass pass1 pass2 Refresh true c.refresh-word.new.activation.life begins c.requires.inside.1 out c.refresh-word.ensures.noted c.args.head.now c.refresh-word.result (c.refresh-word.ensures.walks ([], out)) c.requires.book.2)).goes_on.0 in
+    let over = keeps_returned c.walk_all.new.key c.finish.new.self c.walk_all.new.pass c.finish.new.pass c.finish.ensures.noted in let both = keeps_twice two c.walk_all.new.key c.finish.new.self pass2 c.walk_all.new.pass c.finish.new.pass walked over in
+    let noted = c.refresh-word.ensures.noted in let named = noted.0.0 ∙ begins.keeps.same.0 in
+    record {
+      book = its.book ∙ (noted.1.0 ∙ begins.keeps.its.0 ∙ c.requires.book.0 ∙ sym named) ∙ sym both.same.0;
+      active = its.active;
+      its = its.its;
+      known = subst (λ (log : List Entry). IsPrefix log c.finish.new.pass.seen) (sym (its.since ∙ noted.1.2)) both.grows;
+    }

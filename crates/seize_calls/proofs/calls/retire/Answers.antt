@@ -71,7 +71,7 @@ returns-then-batch-size-clause-retires g c =
       puts = puts_looked one two pass1 pass2 c.push.new.pass v puts c.push.ensures.looks;
       pushed = c.push.new.self.values;
       all = subst (λ (w : ℕ). IsPushed (keys_in c.args.batch.now) w c.args.kept c.push.new.self.values) label c.push.ensures.pushes;
-      settles = only_returned two c.finish.new.self c.push.new.pass c.finish.new.pass c.push.new.self.values c.finish.ensures.noted;
+      settles = only_returned two c.finish.new.self c.push.new.pass c.finish.new.pass c.push.new.self.values (g.R.Reclaim.had c.args.reclaimer.now) c.finish.ensures.noted;
     }
 
 pub settle-requires : goal.settle-requires

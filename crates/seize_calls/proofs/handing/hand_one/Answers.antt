@@ -5,8 +5,8 @@ use Rattle.seize_book.specs.Others.{value_of}
 use Rattle.seize_book.specs.Slots.{IsOf, Notes, hands_next, number_of, slot_of}
 use Rattle.seize_book.specs.Tokens.{Name}
 use Rattle.seize_book.specs.declared.book.slot_key.SlotKey.{SlotKey}
-use Rattle.seize_words.proofs.Facts.{handing_named, knows_still, looks_twice, same_key, settles_after}
-use Rattle.seize_calls.proofs.Handed.{hands_so, soon_lent, unchanged_last, unchanged_value}
+use Rattle.seize_words.proofs.Facts.{handing_named, knows_still, looks_twice, same_key, settles_after, unchanged_last, unchanged_value}
+use Rattle.seize_calls.proofs.Handed.{hands_so, soon_lent}
 use Rattle.seize_calls.proofs.handing.hand_one.Goals as goal
 
 pub note-note-requires : goal.note-note-requires

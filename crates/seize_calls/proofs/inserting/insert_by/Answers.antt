@@ -4,13 +4,14 @@ use Rattle.seize_book.specs.Adding.{private}
 use Rattle.seize_words.specs.Reservations.{slot}
 use Rattle.seize_book.specs.Slots.{number_of}
 use Rattle.seize_words.proofs.Facts.{knows_noted}
+use Rattle.seize_calls.proofs.Alone.{alone_none}
 use Rattle.seize_calls.proofs.Keeps.{keeps_book}
 use Rattle.seize_calls.proofs.Turns.{at_try, keeps_read, lost_turn, may_read, reads_again, skipped, turns_begin, won_turn}
 use Rattle.seize_calls.proofs.inserting.insert_by.Goals as goal
 
 pub loop-init : goal.loop-init
 loop-init g c = λ at.
-    turns_begin c.args.key.now at c.args.pass.now (record { same = (refl, refl); its = (refl, refl); batch = refl; used = refl; active = refl; life = refl; seen = omega arith; grows = ([], append-nil c.args.pass.now.seen) })
+    turns_begin c.args.key.now at c.args.pass.now (record { same = (refl, refl); its = (refl, refl); batch = refl; used = refl; active = refl; life = refl; seen = omega arith; grows = ([], append-nil c.args.pass.now.seen); alone = alone_none c.args.pass.now })
 
 pub read-seen-requires-clause-book : goal.read-seen-requires-clause-book
 read-seen-requires-clause-book g c =

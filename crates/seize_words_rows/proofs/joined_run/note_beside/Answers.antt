@@ -4,12 +4,11 @@ use Rattle.seize_book.specs.Blocks.{block_of}
 use Rattle.seize_book.specs.Others.{value_of}
 use Rattle.seize_words.specs.Joined.{words_book}
 use Rattle.seize_words.specs.Noted.{note_code}
-use Rattle.seize_words.proofs.Facts.{has_noted, noted_back}
+use Rattle.seize_words.proofs.Facts.{has_noted, noted_back, unchanged_value}
 use Rattle.seize_words_rows.specs.BlockRuns.{IsIn}
 use Rattle.seize_words_rows.specs.JoinedRuns.{left}
 use Rattle.seize_words_rows.specs.Stages.{Sees}
 use Rattle.seize_words_rows.proofs.BlockRuns.{has_among, is_named}
-use Rattle.seize_words_rows.proofs.Reclaimed.{unchanged_value}
 use Rattle.seize_words_rows.proofs.Stages.{sees_on}
 use Rattle.seize_words_rows.proofs.joined_run.note_beside.Goals as goal
 

@@ -11,9 +11,9 @@ use Rattle.seize_book.specs.Values.{values_of}
 use Rattle.seize_book.specs.declared.book.pass.Pass.{Pass}
 use Rattle.seize_words.specs.Chunks.{IsLentAs}
 use Rattle.seize_words.specs.Walks.{Knows}
-use Rattle.seize_words.proofs.Facts.{blocks_stored, handing_named, knows_still, none_new}
+use Rattle.seize_words.proofs.Facts.{blocks_stored, handing_named, knows_still, none_new, unchanged_last, unchanged_value}
 use Rattle.seize_words_rows.specs.Reclaiming.{Reclaims}
-use Rattle.seize_words_rows.proofs.Reclaimed.{first_is, is_last, its_book, looked_too, next_noted, reclaimed_by, rest_ready, unchanged_last, unchanged_value}
+use Rattle.seize_words_rows.proofs.Reclaimed.{first_is, is_last, its_book, looked_too, next_noted, reclaimed_by, rest_ready}
 use Rattle.seize_words_rows.proofs.reclaiming.reclaim_next.Goals as goal
 
 pub note-note-requires : goal.note-note-requires

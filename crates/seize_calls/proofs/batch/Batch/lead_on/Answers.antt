@@ -9,11 +9,10 @@ use Rattle.seize_book.specs.Others.{value_of}
 use Rattle.seize_book.specs.Private.{label_of, labels_of, note_of}
 use Rattle.seize_book.specs.Tokens.{Name}
 use Rattle.seize_words.proofs.Chunked.{named_seen}
-use Rattle.seize_words.proofs.Facts.{looks_twice}
+use Rattle.seize_words.proofs.Facts.{looks_twice, none_joined, noted_one}
 use Rattle.seize_calls.specs.Batches.{kept_noted}
 use Rattle.seize_calls.specs.Numbered.{ends_at}
-use Rattle.seize_calls.proofs.Batches.{contains_last, ends_last, joined_last, kept_one, kepts, kepts_append, last_joined, none_counted, none_joined, some_counted}
-use Rattle.seize_calls.proofs.Rounds.{noted_one}
+use Rattle.seize_calls.proofs.Batches.{contains_last, ends_last, joined_last, kept_one, kepts, kepts_append, last_joined, none_counted, some_counted}
 use Rattle.seize_calls.proofs.batch.Batch.lead_on.Goals as goal
 
 pub pop-value-requires : goal.pop-value-requires

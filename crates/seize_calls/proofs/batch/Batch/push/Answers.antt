@@ -4,11 +4,10 @@ use Rattle.seize_book.specs.Others.{value_of}
 use Rattle.seize_book.specs.Private.{label_of, labels_of, note_of}
 use Rattle.seize_book.specs.Linked.{next_in}
 use Rattle.seize_words.proofs.Chunked.{named_seen}
-use Rattle.seize_words.proofs.Facts.{last_closes, looks_twice}
+use Rattle.seize_words.proofs.Facts.{last_closes, looks_twice, noted_one}
 use Rattle.seize_calls.specs.Batches.{kept_noted}
 use Rattle.seize_calls.specs.Numbered.{counted, ends_at, starts_at}
 use Rattle.seize_calls.proofs.Batches.{counted_is, counted_push, kept_one, kepts, kepts_append, last_ends, none_counted, starts_push}
-use Rattle.seize_calls.proofs.Rounds.{noted_one}
 use Rattle.seize_calls.proofs.batch.Batch.push.Goals.{then-self-eq0, else-self-eq0}
 use Rattle.seize_calls.proofs.batch.Batch.push.Goals as goal
 

@@ -8,7 +8,8 @@ use Rattle.seize_book.specs.Loans.{cell_of}
 use Rattle.seize_book.specs.Private.{label_of, labels_of, note_of}
 use Rattle.seize_book.specs.Tokens.{Name}
 use Rattle.seize_calls.specs.Numbered.{starts_at}
-use Rattle.seize_calls.proofs.Rounds.{first_label, leads_past, leads_to, next_starts, noted_one, number_of_first, rest_closed}
+use Rattle.seize_calls.proofs.Rounds.{first_label, leads_past, leads_to, next_starts, number_of_first}
+use Rattle.seize_words.proofs.Facts.{noted_one, others_closed}
 use Rattle.seize_words.proofs.Chunked.{named_seen}
 use Rattle.seize_calls.proofs.round.Round.mark.Goals as goal
 
@@ -52,5 +53,7 @@ invariant_of-self g c =
       leads = subst (λ (t : Name × List (Held Entry)). are_joined (t.0).store t.1 rest.keys.held ≡ true) (λ i. ((round.one_book ∙ sym c.push.ensures.0) i, (sym c.push.ensures.2) i))
           (leads_past (round.rest.keys.name).store round.done.keys.held round.rest.keys.held value.keys.held c.set_note.new.self.keys.held rest.keys.held value.one c.set_note.new.self.one
           (ap next_in noted ∙ ap next_in c.note-note.ensures.note) c.next-value.ensures.3 round.rest.linked round.closed);
-      closed = subst (λ (n : Name). are_joined n.store rest.keys.held [] ≡ true) (sym c.next-value.ensures.0) (rest_closed (round.rest.keys.name).store round.rest.keys.held value.keys.held rest.keys.held value.one c.next-value.ensures.3 round.closed);
+      closed = subst (λ (n : Name). are_joined n.store rest.keys.held [] ≡ true) (sym c.next-value.ensures.0)
+          (others_closed (round.rest.keys.name).store value.keys.held rest.keys.held value.one
+          (subst (λ (held : List (Held Entry)). are_joined (round.rest.keys.name).store held [] ≡ true) c.next-value.ensures.3 round.closed));
     }

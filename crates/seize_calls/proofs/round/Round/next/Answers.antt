@@ -5,7 +5,8 @@ use Rattle.seize_book.specs.Ledger.{Held}
 use Rattle.seize_book.specs.Linked.{are_joined, next_in}
 use Rattle.seize_book.specs.Private.{is_one, label_of, note_of}
 use Rattle.seize_book.specs.Tokens.{Name}
-use Rattle.seize_calls.proofs.Rounds.{leads_past, leads_to, next_starts, rest_closed}
+use Rattle.seize_calls.proofs.Rounds.{leads_past, leads_to, next_starts}
+use Rattle.seize_words.proofs.Facts.{others_closed}
 use Rattle.seize_calls.proofs.round.Round.next.Goals as goal
 
 pub push-requires-clause-leads : goal.push-requires-clause-leads
@@ -23,5 +24,7 @@ invariant_of-self c =
           (next_starts (round.rest.keys.name).store c.requires.store.0 round.rest.keys.held value.keys.held rest.keys.held (ap (λ (n : Name). n.store) round.one_book ∙ c.requires.store.1) value.one c.next-value.ensures.3 round.rest.linked round.closed));
       leads = subst (λ (t : Name × List (Held Entry)). are_joined (t.0).store t.1 rest.keys.held ≡ true) (λ i. ((round.one_book ∙ sym c.push.ensures.0) i, (sym c.push.ensures.2) i))
           (leads_past (round.rest.keys.name).store round.done.keys.held round.rest.keys.held value.keys.held seen.keys.held rest.keys.held value.one seen.one (ap (λ (held : List (Held Entry)). next_in (note_of held)) c.note-note.ensures.same.1) c.next-value.ensures.3 round.rest.linked round.closed);
-      closed = subst (λ (n : Name). are_joined n.store rest.keys.held [] ≡ true) (sym c.next-value.ensures.0) (rest_closed (round.rest.keys.name).store round.rest.keys.held value.keys.held rest.keys.held value.one c.next-value.ensures.3 round.closed);
+      closed = subst (λ (n : Name). are_joined n.store rest.keys.held [] ≡ true) (sym c.next-value.ensures.0)
+          (others_closed (round.rest.keys.name).store value.keys.held rest.keys.held value.one
+          (subst (λ (held : List (Held Entry)). are_joined (round.rest.keys.name).store held [] ≡ true) c.next-value.ensures.3 round.closed));
     }

@@ -1,0 +1,88 @@
+-- What is added where a pass is alone.
+use Rattle.std.proofs.Common.{◌≡◌, ℕ, ◌==◌, Bool, true, cond, List, [], ◌∷◌, ◌++◌, filter, map, refl, sym, ap, subst, ◌∙◌, append_assoc, append-nil, arith}
+use Rattle.std.proofs.lemmas.List.{append_cancel_left}
+use Rattle.std.proofs.lemmas.List.Elements.{filter-append}
+use Rattle.seize_machine.specs.Machine.State.{State}
+use Rattle.seize_machine.specs.Machine.Next.{next}
+use Rattle.seize_machine.specs.Machine.History.{done_by}
+use Rattle.seize_machine.specs.declared.machine.event.Answer.{Answer}
+use Rattle.seize_machine.specs.declared.machine.event.Answer.TheVariants.{Done}
+use Rattle.seize_book.specs.Book.{after, answered, mine}
+use Rattle.seize_book.specs.Entry.{Deed, Entry, Made, Used, deeds, maker, timed}
+use Rattle.seize_book.specs.Passes.{IsSame, LooksOn, events_by, events_in, mine_of}
+use Rattle.seize_book.specs.Tokens.{IsSole, Name, Noted, start}
+use Rattle.seize_book.specs.declared.book.pass.Pass.{Pass}
+use Rattle.seize_book.proofs.Lists.{deeds_append}
+use Rattle.seize_calls.specs.Alone.{AddsAlone, AllBy}
+
+abbrev pub alone_none : (pass : Pass) → AddsAlone pass pass
+alone_none pass = λ sole. ([], sym (append-nil pass.seen), tt)
+
+pub alone_looked : (pass pass' : Pass) → LooksOn pass pass' → AddsAlone pass pass'
+alone_looked pass pass' looks = λ sole. ([], looks.alone sole ∙ sym (append-nil pass.seen), tt)
+
+pub alone_noted : (pass pass' : Pass) (e : Entry) → maker e ≡ pass.id → Noted pass.name pass.id pass.seen pass'.seen e → AddsAlone pass pass'
+alone_noted pass pass' e by noted = λ sole. (e ∷ [], noted.appended ∙ ap (λ (log : List Entry). log ++ e ∷ []) (noted.alone sole), (by, tt))
+
+all_append : (p : ℕ) (a b : List Entry) → AllBy p a → AllBy p b → AllBy p (a ++ b)
+all_append p [] b one two = two
+all_append p (e ∷ a) b one two = (one.0, all_append p a b one.1 two)
+
+pub alone_twice : (one two three : Pass) → IsSame one two → AddsAlone one two → AddsAlone two three → AddsAlone one three
+alone_twice one two three same first second = λ sole.
+    let a = first sole in let b = second (subst (λ (n : Name). IsSole n.gate) (sym same.0) sole) in (
+      a.0 ++ b.0,
+      b.1 ∙ ap (λ (log : List Entry). log ++ b.0) a.1 ∙ append_assoc one.seen a.0 b.0,
+      all_append one.id a.0 b.0 a.2 (subst (λ (p : ℕ). AllBy p b.0) same.1 b.2),
+    )
+
+-- Then the list has the events that were made with the pass, in their order, and no others. This is for callers: by it they know the state.
+
+answered_append : (st : State) (a b : List Entry) → answered st (a ++ b) ≡ answered st a ++ answered (after st a) b
+answered_append st [] b = refl
+answered_append st (Made d ∷ a) b = ap (λ (more : List (Entry × Answer)). (Made d, (done_by next st (timed d)).1) ∷ more) (answered_append (done_by next st (timed d)).0 a b)
+answered_append st (Used u ∷ a) b = ap (λ (more : List (Entry × Answer)). (Used u, Done) ∷ more) (answered_append st a b)
+
+same_number : (a b : ℕ) → a ≡ b → (a == b) ≡ true
+same_number a b e = grind arith
+
+all_mine : (st : State) (p : ℕ) (log : List Entry) → AllBy p log → filter (λ a. maker a.0 == p) (answered st log) ≡ answered st log
+all_mine st p [] all = refl
+all_mine st p (Made d ∷ log) all =
+    let st1 = (done_by next st (timed d)).0 in let more = filter (λ a. maker a.0 == p) (answered st1 log) in
+    ap (λ (b : Bool). cond b ((Made d, (done_by next st (timed d)).1) ∷ more) more) (same_number d.pass p all.0)
+    ∙ ap (λ (rest : List (Entry × Answer)). (Made d, (done_by next st (timed d)).1) ∷ rest) (all_mine st1 p log all.1)
+all_mine st p (Used u ∷ log) all =
+    let more = filter (λ a. maker a.0 == p) (answered st log) in
+    ap (λ (b : Bool). cond b ((Used u, Done) ∷ more) more) (same_number u.pass p all.0) ∙ ap (λ (rest : List (Entry × Answer)). (Used u, Done) ∷ rest) (all_mine st p log all.1)
+
+events_append : (a b : List (Entry × Answer)) → events_in (a ++ b) ≡ events_in a ++ events_in b
+events_append [] b = refl
+events_append ((Made d, answer) ∷ a) b = ap (λ (log : List (Deed × Answer)). (d, answer) ∷ log) (events_append a b)
+events_append ((Used u, answer) ∷ a) b = events_append a b
+
+their_deeds : (st : State) (log : List Entry) → map (λ a. a.0) (events_in (answered st log)) ≡ deeds log
+their_deeds st [] = refl
+their_deeds st (Made d ∷ log) = ap (λ (ds : List Deed). d ∷ ds) (their_deeds (done_by next st (timed d)).0 log)
+their_deeds st (Used u ∷ log) = their_deeds st log
+
+pub made_alone : (pass pass' : Pass) (made : List (Deed × Answer)) → IsSame pass pass' → AddsAlone pass pass' → IsSole pass.name.gate → events_by pass' ≡ events_by pass ++ made
+    → deeds pass'.seen ≡ deeds pass.seen ++ map (λ a. a.0) made
+made_alone pass pass' made same adds sole events = ap deeds more.1 ∙ deeds_append pass.seen more.0 ∙ ap (λ (ds : List Deed). deeds pass.seen ++ ds) (sym (their_deeds st more.0) ∙ ap (λ (log : List (Deed × Answer)). map (λ a. a.0) log) all)
+  where
+    more : (added : List Entry) × (pass'.seen ≡ pass.seen ++ added) × AllBy pass.id added
+    more = adds sole
+
+    st : State
+    st = after (start pass.name) pass.seen
+
+    mine_now : mine_of pass' ≡ mine_of pass ++ answered st more.0
+    mine_now =
+        ap (λ (t : Name × ℕ). mine (start t.0) t.1 pass'.seen) (λ i. (same.0 i, same.1 i))
+        ∙ ap (λ (log : List Entry). mine (start pass.name) pass.id log) more.1
+        ∙ ap (filter (λ a. maker a.0 == pass.id)) (answered_append (start pass.name) pass.seen more.0)
+        ∙ filter-append (λ a. maker a.0 == pass.id) (answered (start pass.name) pass.seen) (answered st more.0)
+        ∙ ap (λ (log : List (Entry × Answer)). mine_of pass ++ log) (all_mine st pass.id more.0 more.2)
+
+    all : events_in (answered st more.0) ≡ made
+    all = append_cancel_left (events_by pass) (events_in (answered st more.0)) made (sym (events_append (mine_of pass) (answered st more.0)) ∙ sym (ap events_in mine_now) ∙ events)

@@ -1,0 +1,255 @@
+-- What a worker knows after each call of its slot.
+use Rattle.std.proofs.Common.{◌≡◌, ◌≢◌, ℕ, ◌+◌, ◌<◌, ◌≤◌, Bool, true, false, ◌&&◌, not, List, [], ◌∷◌, ◌++◌, length, Option, None, Some, is_some, append-nil, refl, sym, ap, ◌∙◌, subst, arith}
+use base.Growing.{prefix_trans}
+use mathlib.Core.List.{IsPrefix}
+use Rattle.seize_machine.proofs.Facts.{Step, and_true, next_of, some_is}
+use Rattle.seize_machine.specs.Machine.Event.{Enter}
+use Rattle.seize_machine.specs.Machine.Next.{next, set_head}
+use Rattle.seize_machine.specs.Machine.State.{Slot, State, head_at, is_active, is_idle}
+use Rattle.seize_machine.specs.Machine.State.{Active as Entered}
+use Rattle.seize_machine.specs.declared.machine.event.Answer.{Answer}
+use Rattle.seize_machine.specs.declared.machine.event.Answer.TheVariants.{Done}
+use Rattle.seize_machine.specs.declared.machine.event.Job.{Job}
+use Rattle.seize_book.specs.Blocks.{block_of, link_word}
+use Rattle.seize_book.specs.Book.{IsLegalList, after}
+use Rattle.seize_book.specs.Entry.{Deed, Entry}
+use Rattle.seize_book.specs.Laws.{life}
+use Rattle.seize_book.specs.Ledger.{Held}
+use Rattle.seize_book.specs.Passes.{IsSame, LooksOn}
+use Rattle.seize_book.specs.Private.{label_of, labels_of}
+use Rattle.seize_book.specs.Slots.{Moves, NotesAs, active_of, life_of, number_of, own_list, size_of, slot_of, start_of}
+use Rattle.seize_book.specs.Tokens.{Name, Noted, start}
+use Rattle.seize_book.specs.Values.{book_in, values_of}
+use Rattle.seize_book.specs.declared.book.pass.Pass.{Pass}
+use Rattle.seize_book.specs.declared.book.slot_key.SlotKey.{SlotKey}
+use Rattle.seize_book.specs.declared.book.value_keys.ValueKeys.{ValueKeys}
+use Rattle.seize_calls.specs.Batches.{keys_in}
+use Rattle.seize_calls.specs.Calls.{Flushes, Leaves, Rests, RetiresOne, Settles}
+use Rattle.seize_calls.specs.Handing.{Had}
+use Rattle.seize_calls.specs.declared.batch.Batch.{Batch}
+use Rattle.seize_calls.proofs.Batches.{remarked_labels}
+use Rattle.seize_words.specs.Joined.{IsHolder, IsInAt}
+use Rattle.seize_words.specs.Links.{IsWithin, value_in}
+use Rattle.seize_words.specs.Named.{slot_book}
+use Rattle.seize_words.specs.Reservations.{IsActivationOf, IsLastOf, beginning}
+use Rattle.seize_words.specs.Totals.{slots_seen}
+use Rattle.seize_words.specs.Walks.{Knows}
+use Rattle.seize_words.specs.declared.activation.Activation.{Activation}
+use Rattle.seize_words.proofs.Facts.{more_seen, more_slots, moved, seen_grows}
+use Rattle.seize_calls_rows.specs.Workers.{GoesOn, MayWork, Shared, Stands, Works}
+use Rattle.seize_calls_rows.specs.declared.worker.Active.{Active}
+use Rattle.seize_calls_rows.specs.declared.worker.Worker.{Worker}
+
+-- after an entry with the pass
+pub goes_noted : (pass pass' : Pass) (e : Entry) → IsSame pass pass' → Noted pass.name pass.id pass.seen pass'.seen e → GoesOn pass pass'
+goes_noted pass pass' e same noted =
+    let grows = seen_grows pass.name pass.id pass.seen pass'.seen e noted in
+    record {
+      same = same;
+      seen = grows;
+      slots = subst (λ (n : Name). slots_seen pass ≤ length (after (start n) pass'.seen).slots) (sym same.0) (more_slots pass.name pass.seen pass'.seen grows noted.legal);
+    }
+
+-- and after a look
+pub goes_looked : (pass pass' : Pass) → LooksOn pass pass' → GoesOn pass pass'
+goes_looked pass pass' looks = record { same = looks.same; seen = looks.grows; slots = more_seen pass pass' looks }
+
+pub goes_twice : (one two three : Pass) → GoesOn one two → GoesOn two three → GoesOn one three
+goes_twice one two three first last =
+    let many = first.slots in let more = last.slots in
+    record {
+      same = (last.same.0 ∙ first.same.0, last.same.1 ∙ first.same.1);
+      seen = prefix_trans one.seen two.seen three.seen first.seen last.seen;
+      slots = omega (arith, many, more);
+    }
+
+pub goes_same : (one two three : Pass) → two ≡ one → GoesOn two three → GoesOn one three
+goes_same one two three same goes = subst (λ (p : Pass). GoesOn p three) same goes
+
+-- with a pass that has seen no less, an activation that has begun may step on the link
+in_still : (a : Activation) (pass pass' : Pass) (l : ℕ) → GoesOn pass pass' → IsInAt a pass l → IsInAt a pass' l
+in_still a pass pass' l goes in_ = (
+  in_.0 ∙ sym goes.same.0,
+  subst (λ (n : Name). IsWithin n a.slot a.life a.since pass'.seen l) (sym goes.same.0)
+      (record { active = in_.1.active; its = in_.1.its; known = prefix_trans a.since pass.seen pass'.seen in_.1.known goes.seen; is_link = in_.1.is_link }),
+)
+
+-- an activation that has just begun may step on each link
+begun_in : (key : SlotKey) (a : Activation) (pass : Pass) (l : ℕ) → IsActivationOf key a → key.keys.name ≡ pass.name → own_list key ≡ pass.seen → l < length pass.name.links → IsInAt a pass l
+begun_in key a pass l begun book own is =
+    let its : a.name ≡ pass.name = begun.book ∙ book in (
+      its,
+      record {
+        active = subst (λ (m : Name). is_active (head_at (after (start m) a.since) a.slot) ≡ true) its begun.active;
+        its = begun.its;
+        known = ([], append-nil a.since ∙ (begun.since ∙ own));
+        is_link = is;
+      },
+    )
+
+-- entering leaves the slot's record
+entered_so : (key key' : SlotKey) (log : List Entry) (later : State) (answer : Answer) → Moves key key' log (Enter (number_of key)) later answer → is_idle (slot_of key) ≡ true → active_of key ≡ false → slot_of key' ≡ slot_of key
+entered_so key key' log later answer moves idle off =
+    let s = number_of key in let st = after (start_of key) log in let d : State × Answer = (set_head st s (Entered []), Done) in
+    let is : next (size_of key) st (Enter s) ≡ Some d = next_of (size_of key) st (Enter s) d (Step.entered s (ap is_idle moves.was ∙ idle) (moves.was_active ∙ off)) in
+    moved key key' log (Enter s) later answer moves d is ∙ moves.was
+
+-- a slot without a call
+pub idle_of : (slot : Slot) → slot.used ≡ true → slot.call ≡ None → is_idle slot ≡ true
+idle_of slot used none = λ i. used i && not (is_some (none i))
+
+pub used_of : (slot : Slot) → is_idle slot ≡ true → slot.used ≡ true
+used_of slot idle = (and_true _ _ idle).0
+
+-- a pass that has seen no less, and what its slot's key knows
+pub goes_known : (key' : SlotKey) (pass pass' : Pass) → IsSame pass pass' → IsPrefix pass.seen pass'.seen → Knows key' pass' → GoesOn pass pass'
+goes_known key' pass pass' same grows knows =
+    let legal : IsLegalList (start pass.name) pass'.seen = subst (λ (n : Name). IsLegalList (start n) pass'.seen) same.0 knows.legal in
+    record {
+      same = same;
+      seen = grows;
+      slots = subst (λ (n : Name). slots_seen pass ≤ length (after (start n) pass'.seen).slots) (sym same.0) (more_slots pass.name pass.seen pass'.seen grows legal);
+    }
+
+-- what a word shows that is not 0
+pub word_of_some : (o : Option ℕ) (w : ℕ) → w ≡ link_word o → w ≢ 0 → (v : ℕ) × (o ≡ Some v) × (w ≡ block_of v + 1)
+word_of_some None w is some = absurd (some is)
+word_of_some (Some v) w is some = (v, refl, is)
+
+pub label_is : (held : List (Held Entry)) (v : ℕ) → value_in held ≡ Some v → label_of held ≡ v
+label_is [] v e = absurd (let none : None ≡ Some v = e in cc)
+label_is (h ∷ held) v e = some_is _ _ e
+
+-- Where a call of the slot has settled.
+
+pub record Settled (key : SlotKey) (pass : Pass) (values : ValueKeys) (key' : SlotKey) (pass' : Pass) (values' : ValueKeys) : Type 0 where
+  pub same : IsSame pass pass'
+  pub grows : IsPrefix pass.seen pass'.seen
+  pub batch : List ℕ
+  pub rests : Rests key key' batch
+  pub book : book_in values ≡ pass.name → book_in values' ≡ pass'.name
+  pub its : values_of values ≡ (slot_of key).batch → values_of values' ≡ batch
+
+pub settled : (key : SlotKey) (pass : Pass) (values : ValueKeys) (had : Had) (key' : SlotKey) (pass' : Pass) (values' : ValueKeys) (had' : Had) (retired : Bool)
+    → Settles key pass values had key' pass' values' had' retired → Settled key pass values key' pass' values'
+settled key pass values had key' pass' values' had' false s = record {
+  same = s.same;
+  grows = s.grows;
+  batch = (slot_of key).batch;
+  rests = s.rests;
+  book = λ book. s.keys.0 ∙ book ∙ sym s.same.0;
+  its = λ is. remarked_labels _ _ s.keys.1 ∙ is;
+}
+settled key pass values had key' pass' values' had' true s = record {
+  same = s.same;
+  grows = s.grows;
+  batch = [];
+  rests = s.rests;
+  book = λ book. s.none.0;
+  its = λ is. ap labels_of s.none.1;
+}
+
+-- the slot's last activation stays so
+pub last_kept : (key key' : SlotKey) → slot_book key' ≡ slot_book key → number_of key' ≡ number_of key → life_of key' ≡ life_of key → (a : Activation) → IsLastOf key a → IsLastOf key' a
+last_kept key key' book number life a last = (last.0 ∙ sym book, last.1 ∙ sym number, last.2 ∙ sym life)
+
+pub holder_kept : (key key' : SlotKey) (pass pass' : Pass) (s : ℕ) → GoesOn pass pass' → slot_book key' ≡ slot_book key → number_of key' ≡ number_of key → IsHolder key pass s → IsHolder key' pass' s
+holder_kept key key' pass pass' s goes book number its =
+    let more = goes.slots in let there = its.2 in
+    (book ∙ its.0 ∙ sym goes.same.0, number ∙ its.1, omega (arith, more, there))
+
+-- What is known of the slot after a call that leaves its batch, or gives it another one.
+works_with : (words : Shared) (slot size : ℕ) (batch batch' : Batch) (key key' : SlotKey) (pass pass' : Pass) → Works words slot size batch key pass → GoesOn pass pass'
+    → slot_book key' ≡ slot_book key → number_of key' ≡ number_of key → book_in (keys_in batch') ≡ pass'.name → values_of (keys_in batch') ≡ (slot_of key').batch → Works words slot size batch' key' pass'
+works_with words slot size batch batch' key key' pass pass' works goes book number of_book values = record {
+  links = works.links;
+  book = works.book ∙ sym goes.same.0;
+  size_is = works.size_is ∙ ap (λ (n : Name). n.size) (sym goes.same.0);
+  holder = holder_kept key key' pass pass' slot goes book number works.holder;
+  batch_is = (of_book, values);
+}
+
+works_on : (words : Shared) (slot size : ℕ) (batch : Batch) (key key' : SlotKey) (pass pass' : Pass) → Works words slot size batch key pass → GoesOn pass pass'
+    → slot_book key' ≡ slot_book key → number_of key' ≡ number_of key → (slot_of key').batch ≡ (slot_of key).batch → Works words slot size batch key' pass'
+works_on words slot size batch key key' pass pass' works goes book number same =
+    works_with words slot size batch batch key key' pass pass' works goes book number (works.batch_is.0 ∙ sym goes.same.0) (works.batch_is.1 ∙ sym same)
+
+-- The slot has entered.
+module _ (words : Shared) (w : Worker) (may : MayWork words w) (key' : SlotKey) (pass' : Pass) (a : Activation)
+    (notes : NotesAs w.key w.pass key' pass' (beginning w.pass a.life (Enter w.slot))) (is : IsActivationOf key' a) where
+  goes_in : GoesOn w.pass pass'
+  goes_in = goes_noted w.pass pass' _ notes.0 notes.2.0
+
+  same_record : slot_of key' ≡ slot_of w.key
+  same_record =
+      let n = notes.2.0 in
+      entered_so w.key key' n.before n.later n.answer (subst (λ (k : ℕ). Moves w.key key' n.before (Enter k) n.later n.answer) (sym may.0.holder.1) notes.2.1) may.1.0 may.1.1
+
+  pub entered : Stands words (record { slot = w.slot; size = w.size; key = key'; batch = w.batch; pass = pass'; activation = a })
+  entered =
+      let works = works_on words w.slot w.size w.batch w.key key' w.pass pass' may.0 goes_in notes.1.0 notes.1.1 (ap (λ (z : Slot). z.batch) same_record) in
+      let many = ap (λ (n : Name). length n.links) (sym works.book) ∙ works.links.1 in
+      record {
+        works = works;
+        inside = (ap is_idle same_record ∙ may.1.0, (λ i. is_active (head_at (after (start (sym is.book i)) (sym is.since i)) (sym is.slot i))) ∙ is.active);
+        last = (is.book, is.slot, sym is.its ∙ (λ i. life (is.slot i) (is.since i)));
+        begun = λ l less. begun_in key' a pass' l is works.holder.0 notes.1.2 (omega (arith, less, many));
+      }
+
+-- It stands as before where the pass alone has gone on.
+pub stands_on : (words : Shared) (active : Active) (pass' : Pass) → Stands words active → GoesOn active.pass pass'
+    → Stands words (record { slot = active.slot; size = active.size; key = active.key; batch = active.batch; pass = pass'; activation = active.activation })
+stands_on words active pass' stands goes = record {
+  works = works_on words active.slot active.size active.batch active.key active.key active.pass pass' stands.works goes refl refl refl;
+  inside = stands.inside;
+  last = stands.last;
+  begun = λ l less. in_still active.activation active.pass pass' l goes (stands.begun l less);
+}
+
+-- A call has settled that began so.
+module _ (words : Shared) (active : Active) (stands : Stands words active) (full key' : SlotKey) (later pass' : Pass) (batch' : Batch) (pushed : ValueKeys) (b : Bool) (had had' : Had)
+    (settles : Settles full later pushed had key' pass' (keys_in batch') had' b) (knows : Knows key' pass') (same : IsSame active.pass later) (grows : IsPrefix active.pass.seen later.seen)
+    (its : (slot_book full ≡ slot_book active.key) × (number_of full ≡ number_of active.key)) (used : (slot_of full).used ≡ (slot_of active.key).used)
+    (is_active_so : active_of full ≡ active_of active.key) (life_so : life_of full ≡ life_of active.key)
+    (of_book : book_in pushed ≡ later.name) (values : values_of pushed ≡ (slot_of full).batch) where
+  pub stands_settled : Stands words (record { slot = active.slot; size = active.size; key = key'; batch = batch'; pass = pass'; activation = active.activation })
+  stands_settled =
+      let s = settled full later pushed had key' pass' (keys_in batch') had' b settles in let rests = s.rests in
+      let goes = goes_known key' active.pass pass' (s.same.0 ∙ same.0, s.same.1 ∙ same.1) (prefix_trans active.pass.seen later.seen pass'.seen grows s.grows) knows in
+      let book = rests.its.0 ∙ its.0 in let number = rests.its.1 ∙ its.1 in
+      record {
+        works = works_with words active.slot active.size active.batch batch' active.key key' active.pass pass' stands.works goes book number (s.book of_book) (s.its values ∙ sym rests.batch_is);
+        inside = (idle_of (slot_of key') (rests.used ∙ used ∙ used_of (slot_of active.key) stands.inside.0) rests.call, rests.active ∙ is_active_so ∙ stands.inside.1);
+        last = last_kept active.key key' book number (rests.life ∙ life_so) active.activation stands.last;
+        begun = λ l less. in_still active.activation active.pass pass' l goes (stands.begun l less);
+      }
+
+module _ (words : Shared) (active : Active) (stands : Stands words active) (key' : SlotKey) (pass' : Pass) (batch' : Batch) (b : Bool) (had had' : Had) (knows : Knows key' pass') where
+  pub retired_so : (v kept : ℕ) → RetiresOne active.key active.pass v kept (keys_in active.batch) had key' pass' (keys_in batch') had' b
+      → Stands words (record { slot = active.slot; size = active.size; key = key'; batch = batch'; pass = pass'; activation = active.activation })
+  retired_so v kept r =
+      let keeps = r.begins.keeps in let puts = r.puts in let of_book = stands.works.batch_is in
+      stands_settled words active stands r.full key' r.later pass' batch' r.pushed b had had' r.settles knows
+      (puts.same.0 ∙ keeps.same.0, puts.same.1 ∙ keeps.same.1) (prefix_trans active.pass.seen r.mid.seen r.later.seen keeps.grows puts.grows)
+      (puts.its.0 ∙ keeps.its.0, puts.its.1 ∙ keeps.its.1) (puts.used ∙ keeps.used) (puts.active ∙ keeps.active) (puts.life ∙ keeps.life)
+      (r.all.0 ∙ of_book.0 ∙ sym (puts.same.0 ∙ keeps.same.0)) (r.all.1 ∙ ap (λ (vs : List ℕ). vs ++ v ∷ []) (of_book.1 ∙ sym keeps.batch) ∙ sym puts.batch)
+
+  pub flushed_so : Flushes active.key active.pass (keys_in active.batch) had key' pass' (keys_in batch') had' b
+      → Stands words (record { slot = active.slot; size = active.size; key = key'; batch = batch'; pass = pass'; activation = active.activation })
+  flushed_so f =
+      let keeps = f.begins.keeps in let of_book = stands.works.batch_is in
+      stands_settled words active stands f.begun key' f.mid pass' batch' (keys_in active.batch) b had had' f.settles knows
+      keeps.same keeps.grows keeps.its keeps.used keeps.active keeps.life (of_book.0 ∙ sym keeps.same.0) (of_book.1 ∙ sym keeps.batch)
+
+-- It leaves, or refreshes, after a look at the list.
+module _ (words : Shared) (slot size : ℕ) (batch : Batch) (key : SlotKey) (pass : Pass) (works : Works words slot size batch key pass) (idle : is_idle (slot_of key) ≡ true)
+    (mid : Pass) (looks : LooksOn pass mid) (job : Job) (stays : Bool) (swap : Deed) (key' : SlotKey) (pass' : Pass) (had had' : Had)
+    (leaves : Leaves job stays swap key mid key' pass' had had') (knows : Knows key' pass') where
+  goes_out : GoesOn pass pass'
+  goes_out = goes_twice pass mid pass' (goes_looked pass mid looks) (goes_known key' mid pass' leaves.same leaves.grows knows)
+
+  pub idle_out : is_idle (slot_of key') ≡ true
+  idle_out = idle_of (slot_of key') (leaves.used ∙ used_of (slot_of key) idle) leaves.call
+
+  pub works_out : Works words slot size batch key' pass'
+  works_out = works_on words slot size batch key key' pass pass' works goes_out leaves.its.0 leaves.its.1 leaves.batch

@@ -1,0 +1,92 @@
+-- What a worker knows of its slot, before and after each call.
+--     GoesOn pass pass'                it is the same pass, which has seen no less
+--     IsOutside key                    no call of the slot is under way, and it is not active
+--     Shared                           words of blocks of numbers
+--     HasLinks words                   many may append to their book, which has eight links
+--     made_by source, size_in source   how many slots were made, and how many values a batch has
+--     CanMake source words             the next slot of the book can be made, and it has a number
+--     HasOneMore source source' words  one more slot was made, and where there is one more number, so can the slot after it
+--     IsBatchOf batch key pass         these are the keys of the slot's batch, of the pass's book
+--     Works words slot size batch key pass     the slot is there, and a batch has this size; and these are the keys of the slot's batch
+--     MayWork words worker             so it is with this worker's, and it is outside
+--     Stands words active              so it is with this one's, it is inside, and its activation has begun: each link may be stepped on
+--     IsOut words out                  the value may be retired, as its key knows, and its block has this number
+use Rattle.std.specs.Prelude.{◌≡◌, ℕ, suc, ◌<◌, ◌≤◌, true, false, length}
+use mathlib.Core.List.{IsPrefix}
+use Rattle.seize_table.specs.Place.{all_numbers}
+use Rattle.seize_machine.specs.Machine.State.{is_idle}
+use Rattle.seize_book.specs.Blocks.{block_of}
+use Rattle.seize_book.specs.Others.{MayRetire, book_of, value_of}
+use Rattle.seize_book.specs.Passes.{IsSame}
+use Rattle.seize_book.specs.Slots.{active_of, slot_of}
+use Rattle.seize_book.specs.Tokens.{many}
+use Rattle.seize_book.specs.Values.{AreOfBook, values_of}
+use Rattle.seize_calls.specs.Batches.{keys_in}
+use Rattle.seize_calls.specs.Calls.{IsInside}
+use Rattle.seize_words.specs.Joined.{IsHolder, IsInAt, words_book}
+use Rattle.seize_words.specs.Named.{numbers_book}
+use Rattle.seize_words.specs.Reservations.{IsLastOf}
+use Rattle.seize_words.specs.Reserved.{HasNext}
+use Rattle.seize_words.specs.Totals.{made_of, slots_seen}
+use Rattle.seize_book.specs.declared.book.pass.Pass.{Pass}
+use Rattle.seize_book.specs.declared.book.slot_key.SlotKey.{SlotKey}
+use Rattle.seize_calls.specs.declared.batch.Batch.{Batch}
+use Rattle.seize_words.specs.declared.words.Words.{Words}
+use Rattle.seize_calls_rows.specs.declared.worker.Active.{Active}
+use Rattle.seize_calls_rows.specs.declared.worker.Out.{Out}
+use Rattle.seize_calls_rows.specs.declared.worker.Source.{Source}
+use Rattle.seize_calls_rows.specs.declared.worker.Worker.{Worker}
+
+pub record GoesOn (pass pass' : Pass) : Type 0 where
+  pub same : IsSame pass pass'
+  pub seen : IsPrefix pass.seen pass'.seen
+  pub slots : slots_seen pass ≤ slots_seen pass'
+
+abbrev pub IsOutside : SlotKey → Type 0
+IsOutside key = (is_idle (slot_of key) ≡ true) × (active_of key ≡ false)
+
+abbrev pub Shared : Type 0
+Shared = Words ℕ
+
+abbrev pub HasLinks : Shared → Type 0
+HasLinks words = ((words_book words).gate ≡ many) × (length (words_book words).links ≡ 8)
+
+abbrev pub made_by : Source → ℕ
+made_by source = source.made
+
+abbrev pub size_in : Source → ℕ
+size_in source = source.size
+
+pub record CanMake (source : Source) (words : Shared) : Type 0 where
+  pub links : HasLinks words
+  pub size : size_in source ≡ (words_book words).size
+  pub book : numbers_book source.numbers ≡ words_book words
+  pub next : HasNext source.numbers source.next
+  pub count : made_of source.numbers ≡ made_by source
+
+abbrev pub HasOneMore : Source → Source → Shared → Type 0
+HasOneMore source source' words =
+    (made_by source' ≡ suc (made_by source)) × (made_by source' < all_numbers → CanMake source' words)
+
+abbrev pub IsBatchOf : Batch → SlotKey → Pass → Type 0
+IsBatchOf batch key pass = AreOfBook (keys_in batch) pass × (values_of (keys_in batch) ≡ (slot_of key).batch)
+
+pub record Works (words : Shared) (slot size : ℕ) (batch : Batch) (key : SlotKey) (pass : Pass) : Type 0 where
+  pub links : HasLinks words
+  pub book : words_book words ≡ pass.name
+  pub size_is : size ≡ pass.name.size
+  pub holder : IsHolder key pass slot
+  pub batch_is : IsBatchOf batch key pass
+
+abbrev pub MayWork : Shared → Worker → Type 0
+MayWork words worker = Works words worker.slot worker.size worker.batch worker.key worker.pass × IsOutside worker.key
+
+pub record Stands (words : Shared) (active : Active) : Type 0 where
+  pub works : Works words active.slot active.size active.batch active.key active.pass
+  pub inside : IsInside active.key
+  pub last : IsLastOf active.key active.activation
+  pub begun : (l : ℕ) → l < 8 → IsInAt active.activation active.pass l
+
+abbrev pub IsOut : Shared → Out → Type 0
+IsOut words out =
+    (book_of out.value ≡ words_book words) × MayRetire out.value × (block_of (value_of out.value) ≡ out.number)

@@ -1,0 +1,10 @@
+//! Callers of a slot's whole calls: a worker with a slot of its own enters, swaps the values of new blocks into links, retires what comes
+//! out, flushes, refreshes and leaves, beside others. They show that the contracts of the calls, with the exported lemmas, suffice for a
+//! caller.
+#![tactic(auto)]
+
+pub mod counting;
+pub mod running;
+#[cfg(test)]
+mod tests;
+pub mod worker;

@@ -1,0 +1,229 @@
+//! Whole calls of slots: by one thread, and by threads that each have a slot.
+ghost use Rattle.seize_calls_rows.specs.Workers.{MayWork};
+
+use crate::counting::Counting;
+use crate::running::Tally;
+use crate::worker::{LINKS, Worker, open};
+use seize_words::words::Words;
+use std::alloc::{AllocError, Global};
+use std::sync::Wait;
+use std::sync::atomic::{AtomicU64, Ordering};
+use std::test::*;
+use std::thread;
+use std::thread::Threads;
+
+// How many turns each thread makes.
+const TURNS: u64 = 20_000;
+
+// So many marks, none of which was set.
+fn marks(alloc: Global, many: u64) -> Result<Vec<AtomicU64>, AllocError> {
+    let mut marks = Vec::new(alloc);
+    for _ in 0..many {
+        marks.push(AtomicU64::new(0))?;
+    }
+    Ok(marks)
+}
+
+// How many of the marks are 0, and how many are above 1.
+fn told(marks: &[AtomicU64]) -> (u64, u64) {
+    let (mut none, mut more): (u64, u64) = (0, 0);
+    for mark in marks.iter() {
+        let ends = mark.load(Ordering::SeqCst);
+        none = none.wrapping_add(u64::from(ends == 0));
+        more = more.wrapping_add(u64::from(ends > 1));
+    }
+    (none, more)
+}
+
+// A batch of two is full while its slot is active: both values wait for the slot, and it hands them when it leaves, in their order.
+#[test]
+fn a_full_batch_waits_for_its_own_slot(rt: HostRuntime) {
+    let Ok(marks) = marks(rt.alloc(), 10) else {
+        panic!(rt; "no memory");
+    };
+    let Some((words, source)) = open(rt.alloc(), 2) else {
+        panic!(rt; "no memory");
+    };
+    let Some((worker, _)) = source.make(&words) else {
+        panic!(rt; "no memory");
+    };
+    let mut counting = Counting::new(marks.as_slice());
+    let active = worker.enter(&words);
+    let (active, put) = active.swap_in(&words, 0, 5);
+    assert!(rt; put.is_some_and(|out| out.is_none()));
+    let (active, swapped) = active.swap_in(&words, 0, 6);
+    let Some(Some(first)) = swapped else {
+        panic!(rt; "no memory");
+    };
+    let (active, found) = active.find(&words, 0);
+    assert_eq!(rt; found, Some(6));
+    let (active, retired) = active.retire(&words, first, 70, &mut counting, &rt);
+    assert!(rt; !retired);
+    assert_eq!(rt; active.batch.len(), 1);
+    let (active, swapped) = active.swap_in(&words, 0, 7);
+    let Some(Some(second)) = swapped else {
+        panic!(rt; "no memory");
+    };
+    let (active, retired) = active.retire(&words, second, 7, &mut counting, &rt);
+    assert!(rt; retired);
+    assert_eq!(rt; (active.batch.len(), counting.count), (0, 0));
+    let worker = active.leave(&words, &mut counting);
+    assert_eq!(rt;
+        (counting.count, counting.sum, counting.last, counting.kept),
+        (2, 11, 6, 77)
+    );
+    assert_eq!(rt; told(marks.as_slice()), (8, 0));
+    drop(worker);
+}
+
+// A batch of one value stays where two slots are active, also with a flush; where one is, a flush retires it. The slot hands it when it
+// refreshes, and nothing more when it leaves.
+#[test]
+fn a_short_batch_stays_while_more_slots_are_active(rt: HostRuntime) {
+    let Ok(marks) = marks(rt.alloc(), 10) else {
+        panic!(rt; "no memory");
+    };
+    let Some((words, source)) = open(rt.alloc(), 4) else {
+        panic!(rt; "no memory");
+    };
+    let Some((worker, source)) = source.make(&words) else {
+        panic!(rt; "no memory");
+    };
+    let Some((other, _)) = source.make(&words) else {
+        panic!(rt; "no memory");
+    };
+    let mut counting = Counting::new(marks.as_slice());
+    let other = other.enter(&words);
+    let active = worker.enter(&words);
+    let (active, _) = active.swap_in(&words, 3, 5);
+    let (active, swapped) = active.swap_in(&words, 3, 6);
+    let Some(Some(out)) = swapped else {
+        panic!(rt; "no memory");
+    };
+    let (active, retired) = active.retire(&words, out, 70, &mut counting, &rt);
+    assert!(rt; !retired);
+    let (active, flushed) = active.flush(&words, &mut counting, &rt);
+    assert!(rt; !flushed);
+    assert_eq!(rt; (active.batch.len(), counting.count), (1, 0));
+    let other = other.leave(&words, &mut counting);
+    let (active, flushed) = active.flush(&words, &mut counting, &rt);
+    assert!(rt; flushed);
+    assert_eq!(rt; (active.batch.len(), counting.count), (0, 0));
+    let (active, found) = active.find(&words, 3);
+    assert_eq!(rt; found, Some(6));
+    let (worker, count) = active.refresh_and_leave(&words, &mut counting);
+    assert_eq!(rt; (count, counting.count), (1, 1));
+    assert_eq!(rt; (counting.last, counting.kept), (5, 70));
+    drop((worker, other));
+}
+
+// Two threads make turns.
+fn both<R: Threads + Wait + Sync>(
+    rt: &R,
+    words: &Words<u64>,
+    marks: &[AtomicU64],
+    first: u64,
+    a: Worker,
+    b: Worker,
+) -> Option<(Tally, Tally)>
+    requires { MayWork words.now a × MayWork words.now b }
+{
+    let second = first.wrapping_add(TURNS);
+    let (one, two) = thread::join(
+        rt,
+        move || -> Option<Tally>
+            requires { MayWork words.now a }
+        { a.run(words, first, TURNS, marks, rt) },
+        move || -> Option<Tally>
+            requires { MayWork words.now b }
+        { b.run(words, second, TURNS, marks, rt) },
+    );
+    Some((one?, two?))
+}
+
+// Of what two threads retired at most as much is left in each batch as its bound allows, nothing that was found had ended before its reader
+// left, and each value ended at most once: all but those in the links and in the batches ended.
+#[test]
+fn two_threads_end_each_value_at_most_once(rt: HostRuntime) {
+    let Ok(marks) = marks(rt.alloc(), 2 * TURNS) else {
+        panic!(rt; "no memory");
+    };
+    let Some((words, source)) = open(rt.alloc(), 32) else {
+        panic!(rt; "no memory");
+    };
+    let Some((a, source)) = source.make(&words) else {
+        panic!(rt; "no memory");
+    };
+    let Some((b, _)) = source.make(&words) else {
+        panic!(rt; "no memory");
+    };
+    let Some((one, two)) = both(&rt, &words, marks.as_slice(), 0, a, b) else {
+        panic!(rt; "no memory");
+    };
+    let left = one.left.wrapping_add(two.left);
+    assert!(rt; one.left < 32 && two.left < 32);
+    assert_eq!(rt; (one.early, two.early), (0, 0));
+    assert_eq!(rt;
+        one.count.wrapping_add(two.count),
+        (2 * TURNS).wrapping_sub(LINKS).wrapping_sub(left)
+    );
+    assert_eq!(rt; told(marks.as_slice()), (left.wrapping_add(LINKS), 0));
+}
+
+// Four threads make turns.
+fn all<R: Threads + Wait + Sync>(
+    rt: &R,
+    words: &Words<u64>,
+    marks: &[AtomicU64],
+    first: (Worker, Worker),
+    last: (Worker, Worker),
+) -> Option<(Tally, Tally, Tally, Tally)>
+    requires { MayWork words.now first.0 × MayWork words.now first.1 × MayWork words.now last.0 × MayWork words.now last.1 }
+{
+    let (a, b) = first;
+    let (c, d) = last;
+    let (one, two) = thread::join(
+        rt,
+        move || -> Option<(Tally, Tally)>
+            requires { MayWork words.now a × MayWork words.now b }
+        { both(rt, words, marks, 0, a, b) },
+        move || -> Option<(Tally, Tally)>
+            requires { MayWork words.now c × MayWork words.now d }
+        { both(rt, words, marks, 2 * TURNS, c, d) },
+    );
+    let ((a, b), (c, d)) = (one?, two?);
+    Some((a, b, c, d))
+}
+
+#[test]
+fn four_threads_end_each_value_at_most_once(rt: HostRuntime) {
+    let Ok(marks) = marks(rt.alloc(), 4 * TURNS) else {
+        panic!(rt; "no memory");
+    };
+    let Some((words, source)) = open(rt.alloc(), 32) else {
+        panic!(rt; "no memory");
+    };
+    let Some((a, source)) = source.make(&words) else {
+        panic!(rt; "no memory");
+    };
+    let Some((b, source)) = source.make(&words) else {
+        panic!(rt; "no memory");
+    };
+    let Some((c, source)) = source.make(&words) else {
+        panic!(rt; "no memory");
+    };
+    let Some((d, _)) = source.make(&words) else {
+        panic!(rt; "no memory");
+    };
+    let Some((a, b, c, d)) = all(&rt, &words, marks.as_slice(), (a, b), (c, d)) else {
+        panic!(rt; "no memory");
+    };
+    assert!(rt; a.left < 32 && b.left < 32 && c.left < 32 && d.left < 32);
+    assert_eq!(rt; (a.early, b.early, c.early, d.early), (0, 0, 0, 0));
+    let left = a
+        .left
+        .wrapping_add(b.left)
+        .wrapping_add(c.left)
+        .wrapping_add(d.left);
+    assert_eq!(rt; told(marks.as_slice()), (left.wrapping_add(LINKS), 0));
+}

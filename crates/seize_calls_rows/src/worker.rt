@@ -1,0 +1,381 @@
+//! Workers over all words of one book: each has a slot of its own and the slot's batch, and makes whole calls of the slot. Others may add
+//! any events meanwhile.
+ghost use Rattle.std.specs.Prelude.{◌≡◌, ◌<◌, IfSome};
+ghost use Rattle.seize_calls_rows.specs.Workers.{CanMake, GoesOn, HasOneMore, IsOut, MayWork, Stands, Works, made_by, size_in};
+ghost use Rattle.seize_calls.specs.Calls.{IsInside};
+ghost use Rattle.seize_words.specs.Joined.{IsInAt, words_book};
+ghost use Rattle.seize_words.specs.Reservations.{IsLastOf};
+
+use crate::counting::Counting;
+use seize_calls::batch::Batch;
+use seize_calls::calls;
+use seize_words::activation::Activation;
+use seize_words::book::{NumbersKey, Pass, SlotKey, ValueKey};
+use seize_words::link::MaybeKey;
+use seize_words::slots::NextSlot;
+use seize_words::words::Words;
+use std::alloc::Global;
+use std::sync::Wait;
+
+/// How many links the book has.
+pub const LINKS: u64 = 8;
+
+/// What the slots of a book are made with, and how many there are.
+#[derive(Drop)]
+pub struct Source {
+    pub numbers: NumbersKey,
+    pub next: NextSlot,
+    pub made: usize,
+    pub size: usize,
+}
+
+/// What the holder of a slot has beside the slot's key and its batch.
+#[derive(Drop)]
+pub struct Worker {
+    pub slot: usize,
+    pub size: usize,
+    pub key: SlotKey,
+    pub batch: Batch,
+    pub pass: Pass,
+}
+
+/// A worker whose slot has entered.
+#[derive(Drop)]
+pub struct Active {
+    pub slot: usize,
+    pub size: usize,
+    pub key: SlotKey,
+    pub batch: Batch,
+    pub pass: Pass,
+    pub activation: Activation,
+}
+
+/// A value that was taken out of a link, and the number of its block.
+#[derive(Drop)]
+pub struct Out {
+    pub number: u64,
+    pub value: ValueKey,
+}
+
+/// The words of a new book, and what its slots are made with. A batch has `size` values. Nothing comes where memory was refused.
+pub fn open(alloc: Global, size: usize) -> Option<(Words<u64>, Source)>
+    ensures { IfSome result (λ opened. CanMake opened.1 opened.0 × (made_by opened.1 ≡ 0) × (size_in opened.1 ≡ size)) }
+{
+    let Ok((words, numbers, next)) = Words::new(alloc, 0, LINKS as usize, size) else {
+        return None;
+    };
+    let source = Source {
+        numbers,
+        next,
+        made: 0,
+        size,
+    };
+    Some((words, source))
+}
+
+impl Source {
+    /// Makes the next slot. Nothing comes where the growth of the table was refused.
+    pub fn make(self, words: &Words<u64>) -> Option<(Worker, Source)>
+        requires can { CanMake self words.now }
+        ensures may { IfSome result (λ made. MayWork words.now made.0) }
+        ensures made { IfSome result (λ made. HasOneMore self made.1 words.now) }
+    {
+        let Source {
+            mut numbers,
+            next,
+            made,
+            size,
+        } = self;
+        let mut pass = words.blocks.book.pass();
+        let Ok((key, next)) = words.make_slot(next, &mut numbers, &mut pass) else {
+            return None;
+        };
+        let batch = Batch::new(&mut pass);
+        let worker = Worker {
+            slot: made,
+            size,
+            key,
+            batch,
+            pass,
+        };
+        let source = Source {
+            numbers,
+            next,
+            made: made + 1,
+            size,
+        };
+        Some((worker, source))
+    }
+}
+
+impl Worker {
+    /// The slot enters.
+    pub fn enter(self, words: &Words<u64>) -> Active
+        requires may { MayWork words.now self }
+        ensures stands { Stands words.now result }
+    {
+        let Worker {
+            slot,
+            size,
+            mut key,
+            batch,
+            mut pass,
+        } = self;
+        let activation = words.enter_head(slot, &mut key, &mut pass);
+        Active {
+            slot,
+            size,
+            key,
+            batch,
+            pass,
+            activation,
+        }
+    }
+}
+
+impl Active {
+    /// What the link holds, if it holds something.
+    pub fn find(self, words: &Words<u64>, link: usize) -> (Active, Option<u64>)
+        requires stands { Stands words.now self }
+        requires link { link < 8 }
+        ensures stands { Stands words.now result.0 }
+    {
+        let Active {
+            slot,
+            size,
+            key,
+            batch,
+            mut pass,
+            activation,
+        } = self;
+        let found = read(words, link, &activation, &mut pass);
+        let active = Active {
+            slot,
+            size,
+            key,
+            batch,
+            pass,
+            activation,
+        };
+        (active, found)
+    }
+
+    /// Swaps the value of a new block, which is lent, into the link. It gives what came out, if there was something. Nothing comes where a
+    /// growth of the store was refused, and then nothing was put in.
+    pub fn swap_in(
+        self,
+        words: &Words<u64>,
+        link: usize,
+        value: u64,
+    ) -> (Active, Option<Option<Out>>)
+        requires stands { Stands words.now self }
+        requires link { link < 8 }
+        ensures stands { Stands words.now result.0 }
+        ensures out { IfSome result.1 (λ swapped. IfSome swapped (λ out. IsOut words.now out)) }
+    {
+        let Active {
+            slot,
+            size,
+            key,
+            batch,
+            mut pass,
+            activation,
+        } = self;
+        let out = put(words, link, value, &activation, &mut pass);
+        let active = Active {
+            slot,
+            size,
+            key,
+            batch,
+            pass,
+            activation,
+        };
+        (active, out)
+    }
+
+    /// Retires what was taken out. It says whether the batch was retired with it.
+    pub fn retire(
+        self,
+        words: &Words<u64>,
+        out: Out,
+        kept: u64,
+        counting: &mut Counting<'_>,
+        rt: &impl Wait,
+    ) -> (Active, bool)
+        requires stands { Stands words.now self }
+        requires out { IsOut words.now out }
+        ensures stands { Stands words.now result.0 }
+    {
+        let Active {
+            slot,
+            size,
+            mut key,
+            mut batch,
+            mut pass,
+            activation,
+        } = self;
+        let Out { number, value } = out;
+        let (slots, blocks) = (&words.slots, &words.blocks);
+        let retired = calls::retire(
+            slots, blocks, &mut batch, size, number, kept, value, &mut key, counting, &mut pass, rt,
+        );
+        let active = Active {
+            slot,
+            size,
+            key,
+            batch,
+            pass,
+            activation,
+        };
+        (active, retired)
+    }
+
+    /// Flushes. It says whether the batch was retired.
+    pub fn flush(
+        self,
+        words: &Words<u64>,
+        counting: &mut Counting<'_>,
+        rt: &impl Wait,
+    ) -> (Active, bool)
+        requires stands { Stands words.now self }
+        ensures stands { Stands words.now result.0 }
+    {
+        let Active {
+            slot,
+            size,
+            mut key,
+            mut batch,
+            mut pass,
+            activation,
+        } = self;
+        let (slots, blocks) = (&words.slots, &words.blocks);
+        let retired = calls::flush(slots, blocks, &mut batch, &mut key, counting, &mut pass, rt);
+        let active = Active {
+            slot,
+            size,
+            key,
+            batch,
+            pass,
+            activation,
+        };
+        (active, retired)
+    }
+
+    /// Refreshes, and then leaves. It gives how many values the reclaimer had in between.
+    pub fn refresh_and_leave(self, words: &Words<u64>, counting: &mut Counting<'_>) -> (Worker, u64)
+        requires stands { Stands words.now self }
+        ensures may { MayWork words.now result.0 }
+    {
+        let Active {
+            slot,
+            size,
+            mut key,
+            batch,
+            mut pass,
+            mut activation,
+        } = self;
+        let head = words.slots.head(slot, &mut pass);
+        calls::refresh(
+            head,
+            &words.blocks,
+            &mut activation,
+            &mut key,
+            counting,
+            &mut pass,
+        );
+        let count = counting.count;
+        let worker = leave(words, slot, size, activation, key, batch, counting, pass);
+        (worker, count)
+    }
+
+    /// Leaves.
+    pub fn leave(self, words: &Words<u64>, counting: &mut Counting<'_>) -> Worker
+        requires stands { Stands words.now self }
+        ensures may { MayWork words.now result }
+    {
+        let Active {
+            slot,
+            size,
+            key,
+            batch,
+            pass,
+            activation,
+        } = self;
+        leave(words, slot, size, activation, key, batch, counting, pass)
+    }
+}
+
+// The slot leaves by its head.
+fn leave(
+    words: &Words<u64>,
+    slot: usize,
+    size: usize,
+    activation: Activation,
+    key: SlotKey,
+    batch: Batch,
+    counting: &mut Counting<'_>,
+    pass: Pass,
+) -> Worker
+    requires works { Works words.now slot size batch key pass }
+    requires inside { IsInside key × IsLastOf key activation }
+    ensures may { MayWork words.now result }
+{
+    let (mut key, mut pass) = (key, pass);
+    let head = words.slots.head(slot, &mut pass);
+    calls::leave(
+        head,
+        &words.blocks,
+        activation,
+        &mut key,
+        counting,
+        &mut pass,
+    );
+    Worker {
+        slot,
+        size,
+        key,
+        batch,
+        pass,
+    }
+}
+
+// Reads the link, and sees what is lent with the value there, if there is one.
+fn read(words: &Words<u64>, link: usize, activation: &Activation, pass: &mut Pass) -> Option<u64>
+    requires within { (words_book words.now ≡ pass.old.name) × IsInAt activation.now pass.old link }
+    ensures goes_on { GoesOn pass.old pass.new }
+{
+    let (word, glimpse) = words.read_link(link, activation, pass);
+    if word == 0 {
+        return None;
+    }
+    Some(*words.blocks.see(word - 1, glimpse, pass))
+}
+
+// Swaps the value of a new block into the link, as `Active::swap_in`.
+fn put(
+    words: &Words<u64>,
+    link: usize,
+    value: u64,
+    activation: &Activation,
+    pass: &mut Pass,
+) -> Option<Option<Out>>
+    requires within { (words_book words.now ≡ pass.old.name) × IsInAt activation.now pass.old link }
+    ensures goes_on { GoesOn pass.old pass.new }
+    ensures out { IfSome result (λ swapped. IfSome swapped (λ out. IsOut words.now out)) }
+{
+    let Ok((mut key, block)) = words.blocks.add(value, pass) else {
+        return None;
+    };
+    let number = block.number() as u64;
+    words.blocks.lend(&mut key, block);
+    let mut value = MaybeKey::some(key);
+    let old = words.swap_link(link, number + 1, &mut value, activation, pass);
+    if old == 0 {
+        return Some(None);
+    }
+    let out = Out {
+        number: old - 1,
+        value: value.value(),
+    };
+    Some(Some(out))
+}
