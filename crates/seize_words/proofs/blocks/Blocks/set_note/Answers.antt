@@ -1,4 +1,4 @@
-use Rattle.std.proofs.Common.{sym, ap, ◌∙◌}
+use Rattle.std.proofs.Common.{ap, ◌∙◌}
 use Rattle.seize_store.specs.Named.{name_of}
 use Rattle.seize_book.specs.Tokens.{Name}
 use Rattle.seize_words.proofs.blocks.Blocks.set_note.Goals as goal
