@@ -1,5 +1,5 @@
 //! Blocks in a store: from the number that a word shows to the words of its block. It stands on chunks and on the store.
-ghost use Rattle.std.specs.Prelude.{◌≡◌, ◌+◌, ◌<◌, ◌^◌, IfErr, IfOk, Some};
+ghost use Rattle.std.specs.Prelude.{◌≡◌, ◌+◌, ◌<◌, ◌^◌, IfErr, IfOk, Some, ℕ, ◌↔◌, true};
 ghost use Rattle.seize_store.specs.Known.{family_in};
 ghost use Rattle.seize_store.specs.Named.{name_of};
 
@@ -27,7 +27,7 @@ impl<T: Drop> Blocks<T> {
     ghost use Rattle.seize_book.specs.Books.{IsNextIn, Opens, OpensAlone};
     ghost use Rattle.seize_store.specs.Named.{bare_number, bare_value};
     ghost use Rattle.seize_table.specs.declared.refusal.Refusal.TheVariants.{NoMemory};
-    ghost use Rattle.seize_words.specs.Chunks.{IsBlockAfter, IsBlockIn, IsFoundAs, IsFoundAt, IsHeaderOf, IsLentAs, LayIn, LendsIn, LiesIn, OpensAloneIn, OpensIn, book_in};
+    ghost use Rattle.seize_words.specs.Chunks.{IsBlockAfter, IsBlockIn, IsFoundAs, IsFoundAt, IsHeaderOf, IsLentAs, LayIn, LendsIn, LiesIn, OpensAloneIn, OpensIn, StandsAt, book_in};
     ghost use Rattle.seize_book.specs.Others.{IsLast, IsVacated, IsValueOf, book_of, value_of};
     ghost use Rattle.seize_book.specs.Blocks.{block_of};
     ghost use Rattle.seize_book.specs.Notes.{HasNoted, IsUnchanged, cell_in};
@@ -251,6 +251,18 @@ impl<T: Drop> Blocks<T> {
         let header = place.header();
         pass.agree(&header.book);
         header
+    }
+
+    /// Whether these are the numbers of one block. So two values that stand, as the pass has seen then, are the same just where their
+    /// numbers are; that of a value which was reclaimed may be another one's too. The pass looks at the list. It only compares.
+    pub fn same(&self, one: u64, other: u64, pass: &mut Pass) -> bool
+        requires book { book_in self.now ≡ pass.old.name }
+        requires named { HasNumber one (state_seen pass.old) }
+        ensures looks { LooksOn pass.old pass.new }
+        ensures same { (v w : ℕ) → StandsAt v one pass.new → StandsAt w other pass.new → (result ≡ true) ↔ (v ≡ w) }
+    {
+        pass.seek(one);
+        one == other
     }
 
     /// The cell where whoever has this key notes what it keeps of the block with this number, in which the key's value lies, whether that
