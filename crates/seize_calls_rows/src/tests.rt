@@ -1,6 +1,8 @@
 //! Whole calls of slots: by one thread, and by threads that each have a slot.
 ghost use Rattle.seize_calls_rows.specs.Workers.{MayWork};
 
+mod holding;
+
 use crate::counting::Counting;
 use crate::running::Tally;
 use crate::worker::{LINKS, Worker, open};

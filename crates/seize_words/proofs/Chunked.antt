@@ -25,6 +25,7 @@ use Rattle.seize_store.specs.Titled.{content_of, label_of}
 use Rattle.seize_store.specs.declared.bare.Bare.{Bare}
 use Rattle.seize_store.specs.declared.hollow.Hollow.{Hollow}
 use Rattle.seize_store.specs.declared.known.Title.{Title}
+use Rattle.seize_words.specs.Counts.{home}
 use Rattle.seize_words.specs.Chunks.{IsBlockAfter, IsBlockAs, IsBlockIn, IsHollowAfter, IsHollowAs, IsHollowIn, StandsAt}
 use Rattle.seize_words.specs.declared.blocks.Blocks.{Blocks}
 use Rattle.seize_words.specs.declared.chunk.Header.{Header}
@@ -47,6 +48,10 @@ same_home n m k c j d same = sym (left_pair k c) ∙ (ap left_of (same_number n 
 
 pub same_cell : (n m : Name) (k c j d : ℕ) → chunk_label n k c ≡ chunk_label m j d → c ≡ d
 same_cell n m k c j d same = sym (right_pair k c) ∙ (ap right_of (same_number n m (pair k c) (pair j d) same) ∙ right_pair j d)
+
+-- the label of a header
+abbrev pub label : Header → ℕ
+label header = chunk_label header.book.name (home header.count) header.note.name
 
 -- the labels of a store's chunks are of its family
 pub label_kin : (known : Known) (number : ℕ) → IsPlace number known.row (entry_of known.row number)
