@@ -98,7 +98,7 @@ pub fn retire(
         slot: 0,
         kept: 0,
     };
-    words.blocks.set_note(lent.number, last, &mut key, pass);
+    words.blocks.set_note(lent.number, last, &mut key);
     let mut values = ValueKeys::new(pass);
     values.push(key);
     Some(Retired { lent, values })
