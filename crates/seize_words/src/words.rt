@@ -182,6 +182,8 @@ impl<T: Drop> Words<T> {
     }
 
     /// The slot becomes active: the event `Enter`, which begins the activation. See `Head::enter`.
+    ///
+    /// It takes no memory and waits for nobody: the look-up of the head, as `Slots::head`, and one atomic swap.
     pub fn enter_head(&self, slot: usize, key: &mut SlotKey, pass: &mut Pass) -> Activation
         requires book { words_book self.now ≡ pass.old.name }
         requires holder { IsHolder key.old pass.old slot }
@@ -193,6 +195,8 @@ impl<T: Drop> Words<T> {
     }
 
     /// Reads a slot's head: the event `ReadHead`. See `Head::read`.
+    ///
+    /// It takes no memory and waits for nobody: the look-up of the head, as `Slots::head`, and one atomic load.
     pub fn read_head(&self, slot: usize, key: &mut SlotKey, pass: &mut Pass) -> u64
         requires book { words_book self.now ≡ pass.old.name }
         requires reads { MayReadAt key.old pass.old slot }
@@ -204,6 +208,8 @@ impl<T: Drop> Words<T> {
 
     /// Inserts the slot's batch at a slot's head, with this block, if the head's word is still what was seen: the event `Insert`. It gives
     /// the word that it found. See `Head::insert`.
+    ///
+    /// It takes no memory and waits for nobody: the look-up of the head, as `Slots::head`, and one atomic compare and exchange.
     pub fn insert(
         &self,
         slot: usize,
@@ -222,6 +228,8 @@ impl<T: Drop> Words<T> {
 
     /// The slot leaves: the event `SwapOut` of a leave, which ends the activation. It gives the word of the head that comes out. See
     /// `Head::leave`.
+    ///
+    /// It takes no memory and waits for nobody: the look-up of the head, as `Slots::head`, and one atomic swap.
     pub fn swap_out(
         &self,
         slot: usize,
@@ -241,6 +249,8 @@ impl<T: Drop> Words<T> {
 
     /// The slot refreshes: the event `SwapOut` of a refresh, which ends the activation and begins another one. It gives the word of the
     /// head that comes out. See `Head::refresh`.
+    ///
+    /// It takes no memory and waits for nobody: the look-up of the head, as `Slots::head`, and one atomic swap.
     pub fn refresh_head(
         &self,
         slot: usize,
@@ -307,6 +317,8 @@ impl<T: Drop> Words<T> {
     }
 
     /// Reads a link: the event `ReadLink`. It gives the link's word and a glimpse of what the link holds. See `Link::see`.
+    ///
+    /// It takes no memory and waits for nobody: one load to find the link, and one atomic load.
     pub fn read_link<'g>(
         &self,
         link: usize,
@@ -345,6 +357,8 @@ impl<T: Drop> Words<T> {
     }
 
     /// Exchanges what a link holds for a value that was never named, or for none, in any case: the event `ExchangeLink`. See `Link::swap`.
+    ///
+    /// It takes no memory and waits for nobody: one load to find the link, and one atomic swap.
     pub fn swap_link(
         &self,
         link: usize,
@@ -363,6 +377,8 @@ impl<T: Drop> Words<T> {
     }
 
     /// The same, but only if the link's word is what was seen. See `Link::compare_exchange`.
+    ///
+    /// It takes no memory and waits for nobody: one load to find the link, and one atomic compare and exchange.
     pub fn exchange_link<'g>(
         &self,
         link: usize,
