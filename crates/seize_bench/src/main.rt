@@ -5,7 +5,9 @@
 
 mod blocks;
 mod clock;
+mod dropping;
 mod lookups;
+mod slots;
 mod team;
 mod words;
 mod work;

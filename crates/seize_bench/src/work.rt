@@ -1,11 +1,18 @@
-//! The works by their names. `blocks` makes and ends blocks, `lookups` finds them, and `words` steps on words.
+//! The works by their names. `blocks` makes and ends blocks, `lookups` finds them, `words` steps on words, and `slots` makes whole
+//! calls of slots.
 use crate::clock::{Report, Samples};
-use crate::{blocks, lookups, words};
+use crate::slots::Job;
+use crate::{blocks, lookups, slots, words};
+use seize_calls_rows::worker::ROW;
 use std::alloc::Global;
 use std::io;
 use std::rt::Clock;
+use std::sync::Wait;
 use std::thread::Threads;
 use std::time::CpuClock;
+
+/// How many links a slot goes on from one turn to the next where it has 1,024.
+const STEP: u64 = 389;
 
 /// What is timed.
 #[derive(Clone, Copy)]
@@ -36,6 +43,20 @@ pub(crate) enum Work {
     Read1k,
     /// 1,024 links read by all threads, which share one activation.
     Protect1k,
+    /// One link read by a slot of each thread, which enters before and leaves after.
+    Read1,
+    /// A new value put into one link and what was there retired, by a slot that enters before and leaves after. 32 fill a batch.
+    Update1,
+    /// The same with 1,024 links, one after the other.
+    Update1k,
+    /// The same where each value fills a batch.
+    Update1kB1,
+    /// A new value retired that was never in a link. 32 fill a batch; the slot enters before them and leaves after.
+    Retire,
+    /// `Update1k`, but that every other turn reads.
+    Mix50,
+    /// `Update1k`, but that every tenth turn reads.
+    Mix90,
 }
 
 impl Work {
@@ -54,6 +75,13 @@ impl Work {
             "Exchange1" => Some(Work::Exchange1),
             "Read1k" => Some(Work::Read1k),
             "Protect1k" => Some(Work::Protect1k),
+            "Read1" => Some(Work::Read1),
+            "Update1" => Some(Work::Update1),
+            "Update1k" => Some(Work::Update1k),
+            "Update1kB1" => Some(Work::Update1kB1),
+            "Retire" => Some(Work::Retire),
+            "Mix50" => Some(Work::Mix50),
+            "Mix90" => Some(Work::Mix90),
             _ => None,
         }
     }
@@ -73,6 +101,13 @@ impl Work {
             Work::Exchange1 => "Exchange1",
             Work::Read1k => "Read1k",
             Work::Protect1k => "Protect1k",
+            Work::Read1 => "Read1",
+            Work::Update1 => "Update1",
+            Work::Update1k => "Update1k",
+            Work::Update1kB1 => "Update1kB1",
+            Work::Retire => "Retire",
+            Work::Mix50 => "Mix50",
+            Work::Mix90 => "Mix90",
         }
     }
 
@@ -96,17 +131,31 @@ impl Work {
         }
     }
 
-    /// The greatest number of values that stand at once.
+    // What a slot does in it.
+    fn job(self) -> Job {
+        match self {
+            Work::Update1 => Job::update(0, 32, 100),
+            Work::Update1k => Job::update(STEP, 32, 100),
+            Work::Update1kB1 => Job::update(STEP, 1, 100),
+            Work::Mix50 => Job::update(STEP, 32, 50),
+            Work::Mix90 => Job::update(STEP, 32, 90),
+            Work::Retire => Job::retire(),
+            _ => Job::read(),
+        }
+    }
+
+    /// The greatest number of values that stand at once; 0 where none does, and where there is no such number.
     pub(crate) fn peak(self, threads: u64) -> u64 {
         match self {
             Work::Make | Work::MakeBare | Work::MakeBox => threads,
             Work::Pipe | Work::PipeBox => 2 * blocks::PIPED,
             Work::Look | Work::Token | Work::LookPlain | Work::LookWide => lookups::STAND,
-            Work::Enter | Work::Exchange1 | Work::Read1k | Work::Protect1k => 0,
+            Work::Read1 => ROW as u64,
+            _ => 0,
         }
     }
 
-    pub(crate) fn measure<R: Clock + CpuClock + Threads + Sync>(
+    pub(crate) fn measure<R: Clock + CpuClock + Threads + Wait + Sync>(
         self,
         rt: &R,
         threads: u64,
@@ -127,6 +176,7 @@ impl Work {
             Work::Exchange1 => words::exchange(rt, threads, &mut samples)?,
             Work::Read1k => words::read(rt, threads, alloc, &mut samples)?,
             Work::Protect1k => words::protect(rt, threads, alloc, &mut samples)?,
+            _ => slots::measure(rt, threads, alloc, self.job(), &mut samples)?,
         }
         Ok(samples.report())
     }

@@ -2,7 +2,7 @@
 --     GoesOn pass pass'                it is the same pass, which has seen no less
 --     IsOutside key                    no call of the slot is under way, and it is not active
 --     Shared                           words of blocks of numbers
---     HasLinks words                   many may append to their book, which has eight links
+--     HasLinks words                   many may append to their book, which has 1,024 links
 --     made_by source, size_in source   how many slots were made, and how many values a batch has
 --     CanMake source words             the next slot of the book can be made, and it has a number
 --     HasOneMore source source' words  one more slot was made, and where there is one more number, so can the slot after it
@@ -49,7 +49,7 @@ abbrev pub Shared : Type 0
 Shared = Words ℕ
 
 abbrev pub HasLinks : Shared → Type 0
-HasLinks words = ((words_book words).gate ≡ many) × (length (words_book words).links ≡ 8)
+HasLinks words = ((words_book words).gate ≡ many) × (length (words_book words).links ≡ 1024)
 
 abbrev pub made_by : Source → ℕ
 made_by source = source.made
@@ -85,7 +85,7 @@ pub record Stands (words : Shared) (active : Active) : Type 0 where
   pub works : Works words active.slot active.size active.batch active.key active.pass
   pub inside : IsInside active.key
   pub last : IsLastOf active.key active.activation
-  pub begun : (l : ℕ) → l < 8 → IsInAt active.activation active.pass l
+  pub begun : (l : ℕ) → l < 1024 → IsInAt active.activation active.pass l
 
 abbrev pub IsOut : Shared → Out → Type 0
 IsOut words out =

@@ -82,7 +82,7 @@ impl Active {
         marks: &[AtomicU64],
     ) -> (Active, Option<Held>)
         requires stands { Stands words.now self }
-        requires link { link < 8 }
+        requires link { link < 1024 }
         ensures stands { Stands words.now result.0 }
     {
         let Active {

@@ -18,6 +18,9 @@ use std::alloc::Global;
 use std::sync::Wait;
 
 /// How many links the book has.
+pub const ROW: usize = 1024;
+
+/// In how many of them the turns of a run put values.
 pub const LINKS: u64 = 8;
 
 /// What the slots of a book are made with, and how many there are.
@@ -61,7 +64,7 @@ pub struct Out {
 pub fn open(alloc: Global, size: usize) -> Option<(Words<u64>, Source)>
     ensures { IfSome result (λ opened. CanMake opened.1 opened.0 × (made_by opened.1 ≡ 0) × (size_in opened.1 ≡ size)) }
 {
-    let Ok((words, numbers, next)) = Words::new(alloc, 0, LINKS as usize, size) else {
+    let Ok((words, numbers, next)) = Words::new(alloc, 0, ROW, size) else {
         return None;
     };
     let source = Source {
@@ -137,7 +140,7 @@ impl Active {
     /// What the link holds, if it holds something.
     pub fn find(self, words: &Words<u64>, link: usize) -> (Active, Option<u64>)
         requires stands { Stands words.now self }
-        requires link { link < 8 }
+        requires link { link < 1024 }
         ensures stands { Stands words.now result.0 }
     {
         let Active {
@@ -169,7 +172,7 @@ impl Active {
         value: u64,
     ) -> (Active, Option<Option<Out>>)
         requires stands { Stands words.now self }
-        requires link { link < 8 }
+        requires link { link < 1024 }
         ensures stands { Stands words.now result.0 }
         ensures out { IfSome result.1 (λ swapped. IfSome swapped (λ out. IsOut words.now out)) }
     {
