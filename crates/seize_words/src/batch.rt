@@ -5,7 +5,7 @@ ghost use Rattle.seize_machine.specs.Machine.Event.{AddCount, SubCount};
 ghost use Rattle.seize_words.specs.Words.{IsCount};
 
 use crate::word::Word;
-use seize_book::book::{CountKey, Pass, SlotKey, ValueKeys};
+use seize_book::book::{CountKey, Keys, Pass, SlotKey, ValueKeys};
 use std::marker::Brand;
 
 /// The count of one block, which threads share.
@@ -18,7 +18,8 @@ pub struct Count {
 }
 
 impl Count {
-    ghost use Rattle.seize_words.specs.Counts.{AddsTo, AddsWith, Counts, GivesUp, IsCountOf, IsOfBook, Leaves, Takes, Walks};
+    ghost use Rattle.seize_words.specs.Counts.{AddsTo, AddsWith, Counts, GivesUp, IsCountOf, IsOfBook, Leaves, Takes, Walks, count_seen};
+    ghost use Rattle.seize_book.specs.Passes.{LooksOn};
     ghost use Rattle.seize_book.specs.Values.{AreOfBook, IsEmpty};
     ghost use Rattle.seize_book.specs.Books.{count_known, deposit_known};
     ghost use Rattle.seize_book.specs.Slots.{IsOf, number_of};
@@ -32,6 +33,19 @@ impl Count {
         Count {
             word: Word::new(0, &mut keys),
         }
+    }
+
+    /// What the word shows in the list that the pass has seen then: modulo 2^64, the count of the batch whose first value lies in the block.
+    /// It is no event, and nothing is added to the list.
+    ///
+    /// It takes no memory and waits for nobody: one atomic load.
+    pub fn load(&self, pass: &mut Pass) -> u64
+        requires { IsOfBook self.now pass.old }
+        ensures looks { LooksOn pass.old pass.new }
+        ensures shows { result ≡ count_seen self.now pass.new }
+    {
+        let mut none = Keys::empty(pass);
+        self.word.look(&mut none, pass)
     }
 
     /// Adds the insertions won to the batch's count: the event `AddCount` of the slot that detached the batch. It says whether the count
