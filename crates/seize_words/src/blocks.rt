@@ -1,5 +1,5 @@
 //! Blocks in a store: from the number that a word shows to the words of its block. It stands on chunks and on the store.
-ghost use Rattle.std.specs.Prelude.{◌≡◌, IfErr, IfOk, Some};
+ghost use Rattle.std.specs.Prelude.{◌≡◌, ◌+◌, ◌<◌, ◌^◌, IfErr, IfOk, Some};
 ghost use Rattle.seize_store.specs.Known.{family_in};
 ghost use Rattle.seize_store.specs.Named.{name_of};
 
@@ -7,6 +7,7 @@ use crate::chunk::{Header, Part};
 use crate::glimpse::Glimpse;
 use crate::note::Note;
 use seize_book::book::{Book, BookKeys, Keeps, Pass, SlotKey, Unopened, ValueKey, ValueKeys};
+use seize_content::TokenCell;
 use seize_store::{Bare, Hollow, Store};
 use seize_table::Refusal;
 use std::alloc::Global;
@@ -29,7 +30,7 @@ impl<T: Drop> Blocks<T> {
     ghost use Rattle.seize_words.specs.Chunks.{IsBlockAfter, IsBlockIn, IsFoundAs, IsFoundAt, IsHeaderOf, IsLentAs, LayIn, LendsIn, LiesIn, OpensAloneIn, OpensIn, book_in};
     ghost use Rattle.seize_book.specs.Others.{IsLast, IsVacated, IsValueOf, book_of, value_of};
     ghost use Rattle.seize_book.specs.Blocks.{block_of};
-    ghost use Rattle.seize_book.specs.Notes.{HasNoted, IsUnchanged};
+    ghost use Rattle.seize_book.specs.Notes.{HasNoted, IsUnchanged, cell_in};
     ghost use Rattle.seize_words.specs.Noted.{IsNoted, IsSeenAt, note_code};
     ghost use Rattle.seize_book.specs.Lending.{IsInBlockOf, IsLentKey};
     ghost use Rattle.seize_book.specs.Homesteads.{HasNumber, state_seen};
@@ -279,6 +280,22 @@ impl<T: Drop> Blocks<T> {
     {
         let header = self.header(number, pass);
         key.set_note(&header.note, note);
+    }
+
+    /// The cell where whoever has this key notes what it keeps of the block with this number, in which the key's value lies, whether that
+    /// was ever named or not. No event is made, and the list is not looked at.
+    ///
+    /// It takes no memory: two loads, each of which waits for the one before.
+    pub fn cell(&self, number: u64, key: &ValueKey) -> &TokenCell<Note>
+        requires book { book_of key.now ≡ book_in self.now }
+        requires number { block_of (value_of key.now) ≡ number }
+        ensures cell { result.now.name ≡ cell_in key.now }
+        ensures fits { number + 2 < 2 ^ 64 }
+    {
+        let row = key.row();
+        let place = self.store.place(number as usize, &row);
+        let header = place.header();
+        &header.note
     }
 
     /// Counts down the next batch of a walk, to which this word leads: that of the slot's head as it came out, or what the step before
