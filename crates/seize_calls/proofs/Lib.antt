@@ -1,6 +1,7 @@
 pub mod Alone
 pub mod Attempts
 pub mod Batches
+pub mod Chains
 pub mod Events
 pub mod Exactly
 pub mod Handed

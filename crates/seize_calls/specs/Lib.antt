@@ -2,6 +2,7 @@ pub mod Alone
 pub mod Attempts
 pub mod Batches
 pub mod Calls
+pub mod Furthers
 pub mod Handing
 pub mod Inserts
 pub mod Marks

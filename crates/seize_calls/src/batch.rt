@@ -4,9 +4,9 @@ ghost use Rattle.std.specs.Prelude.{◌≡◌, true};
 ghost use Rattle.seize_calls.specs.Numbered.{counted, ends_at, starts_at};
 ghost use Rattle.seize_book.specs.Values.{AreClosed, values_of};
 
+use crate::chain::join;
 use seize_words::blocks::Blocks;
 use seize_words::book::{Pass, ValueKey, ValueKeys};
-use seize_words::note::Note;
 
 /// The keys of the values of a slot's batch, in the order in which they were put. Of each block it is noted which one comes next, and of
 /// the last one's that none does.
@@ -27,13 +27,12 @@ pub struct Batch {
 }
 
 impl Batch {
-    ghost use Rattle.std.specs.Prelude.{length, min, ◌+◌, ◌-◌, ◌<◌, ◌^◌};
-    ghost use Rattle.seize_book.specs.Others.{IsValueOf, value_of};
-    ghost use Rattle.seize_book.specs.Passes.{LooksOn};
-    ghost use Rattle.seize_book.specs.Values.{AreOfBook, IsEmpty};
-    ghost use Rattle.seize_calls.specs.Batches.{AreNamed, IsPushed, LeadsFrom, keys_in};
+    ghost use Rattle.std.specs.Prelude.{length, min, ◌-◌, ◌^◌};
+    ghost use Rattle.seize_book.specs.Blocks.{block_of};
+    ghost use Rattle.seize_book.specs.Others.{book_of, value_of};
+    ghost use Rattle.seize_book.specs.Values.{IsEmpty};
+    ghost use Rattle.seize_calls.specs.Batches.{IsPushed, keys_book, keys_in};
     ghost use Rattle.seize_words.specs.Chunks.{book_in};
-    ghost use Rattle.seize_words.specs.Noted.{IsSeenAt};
 
     /// A batch of no values, of the pass's book.
     pub fn new(pass: &mut Pass) -> Batch
@@ -63,59 +62,23 @@ impl Batch {
         number: u64,
         kept: u64,
         value: ValueKey,
-        pass: &mut Pass,
     )
-        requires book { AreOfBook (keys_in self.old) pass.old × IsValueOf value pass.old × (book_in blocks.now ≡ pass.old.name) }
-        requires number { IsSeenAt value number pass.old }
-        requires named { AreNamed (values_of (keys_in self.old)) pass.old }
-        ensures looks { LooksOn pass.old pass.new }
-        ensures pushes { IsPushed (keys_in self.old) (value_of value) kept (keys_in self.new) }
+        requires book { (keys_book (keys_in self.old) ≡ book_in blocks.now) × (book_of value ≡ book_in blocks.now) }
+        requires number { block_of (value_of value) ≡ number }
+        ensures { IsPushed (keys_in self.old) (value_of value) kept (keys_in self.new) }
     {
-        let mut value = value;
-        let note = Note {
-            next: 0,
-            slot: 0,
+        let empty = self.len == 0;
+        join(
+            blocks,
+            &mut self.values,
+            empty,
+            self.last,
+            number,
             kept,
-        };
-        blocks.set_note(number, note, &mut value, pass);
-        // So it is known that the number is one of a row, and that its word fits. Nothing runs here.
-        let _known = pass.seek(number);
-        Batch::lead_on(blocks, self.len, self.last, number, &mut self.values, pass);
-        let first = if self.len == 0 { number } else { self.first };
-        self.values.push(value);
-        self.first = first;
+            value,
+        );
+        self.first = if empty { number } else { self.first };
         self.last = number;
         self.len = self.len.saturating_add(1);
-    }
-
-    // What is noted of the last value's block says then that the block of this number comes next, where there are values.
-    fn lead_on<T: Drop>(
-        blocks: &Blocks<T>,
-        len: usize,
-        last: u64,
-        number: u64,
-        values: &mut ValueKeys,
-        pass: &mut Pass,
-    )
-        requires book { AreOfBook values.old pass.old × (book_in blocks.now ≡ pass.old.name) }
-        requires len { counted len (values_of values.old) ≡ true }
-        requires last { ends_at last (values_of values.old) ≡ true }
-        requires named { AreNamed (values_of values.old) pass.old }
-        requires fits { number + 1 < 2 ^ 64 }
-        ensures looks { (before : Pass) → LooksOn before pass.old → LooksOn before pass.new }
-        ensures leads { LeadsFrom values.old number values.new }
-    {
-        if len == 0 {
-            return;
-        }
-        let mut value = values.pop();
-        let header = blocks.header(last, pass);
-        let note = value.note(&header.note);
-        let note = Note {
-            next: number + 1,
-            ..note
-        };
-        value.set_note(&header.note, note);
-        values.push(value);
     }
 }

@@ -8,6 +8,8 @@
 pub mod attempt;
 pub mod batch;
 pub mod calls;
+mod chain;
+pub mod further;
 pub mod handing;
 pub mod inserting;
 pub mod marking;
