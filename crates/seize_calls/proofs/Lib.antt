@@ -11,6 +11,7 @@ pub mod Keeps
 pub mod Leaving
 pub mod Marks
 pub mod Named
+pub mod Onwards
 pub mod Rounds
 pub mod Settled
 pub mod Strolls

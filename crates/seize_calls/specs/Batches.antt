@@ -11,8 +11,8 @@
 --     IsPushed keys v kept keys'    one value more comes last, of which this is kept
 --     LeadsFrom keys number keys'   they are the same keys, and the last one leads on to the block of this number
 --     keys_book keys           the book of the keys
---     IsNew value              its value was never named, all that lay in its block before were reclaimed, and something is lent with it, as
---                              AreNew says of several
+--     IsNew value              its value was never named, all that lay in its block before were reclaimed, and something is lent with
+--                              it, as AreNew says of several
 use Rattle.std.specs.Prelude.{◌≡◌, ℕ, true, map, List, [], ◌∷◌, ◌++◌}
 use base.Stored.{Gv, gnil, gnum, gcons}
 use Rattle.seize_book.specs.Blocks.{block_of}

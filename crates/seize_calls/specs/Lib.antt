@@ -8,4 +8,5 @@ pub mod Inserts
 pub mod Marks
 pub mod Numbered
 pub mod Rounds
+pub mod Settling
 pub mod Walking
