@@ -2,7 +2,7 @@
 use Rattle.std.proofs.Common.{◌≡◌, ℕ, ◌<◌, ◌≤◌, Bool, true, false, List, [], ◌∷◌, ◌++◌, length, get_or, Option, Some, None, refl, sym, ap, ◌∙◌, ◌⊎◌, inl, inr}
 use Rattle.std.proofs.lemmas.List.{get_or-set_same, get_or_past}
 use Rattle.std.proofs.lemmas.Bool.{cases_lt}
-use Rattle.seize_machine.specs.Machine.State.{Append, Call, Head, Inactive, Out, Place, Slot, State, head_at, is_active, is_idle, no_slot, slot_at}
+use Rattle.seize_machine.specs.Machine.State.{Append, Call, Head, Inactive, Out, Place, Rest, Slot, State, head_at, is_active, is_idle, no_slot, slot_at}
 use Rattle.seize_machine.specs.Machine.Event.{Begin, Event, Put, Return}
 use Rattle.seize_machine.specs.Machine.Next.{begun_at, flushing_at, set_slot}
 use Rattle.seize_machine.specs.declared.machine.event.Answer.{Answer}
@@ -17,7 +17,8 @@ use Rattle.seize_book.specs.Slots.{Notes, number_of, size_of, slot_of}
 use Rattle.seize_book.specs.declared.book.pass.Pass.{Pass}
 use Rattle.seize_book.specs.declared.book.slot_key.SlotKey.{SlotKey}
 use Rattle.seize_words.proofs.Facts.{events_grew, life_kept, seen_grows}
-use Rattle.seize_calls.specs.Calls.{Begins, Puts, done}
+use Rattle.seize_calls.specs.Calls.{Begins}
+use Rattle.seize_calls.specs.Settling.{Puts, done}
 use Rattle.seize_calls.specs.Inserts.{Keeps}
 use Rattle.seize_calls.proofs.Alone.{alone_noted}
 use Rattle.seize_calls.proofs.Keeps.{keeps_from, outcome, same_private, state_before, step_noted}
@@ -117,7 +118,8 @@ module _ (key key' : SlotKey) (pass pass' : Pass) where
   begun_retire_so v notes = retire_so (size_of key) _ (number_of key) v _ (step_noted key key' pass pass' (Begin (number_of key) (Retire v)) notes)
 
 -- A value is put.
-module _ (key key' : SlotKey) (pass pass' : Pass) (notes : Notes key pass key' pass' (Put (number_of key))) (v : ℕ) (stands : (slot_of key).call ≡ Some (record { place = Append v; queue = [] })) where
+module _ (key key' : SlotKey) (pass pass' : Pass) (notes : Notes key pass key' pass' (Put (number_of key))) (v : ℕ) (from : Place) (before after : List ℕ)
+    (stands : (slot_of key).call ≡ Some (record { place = from; queue = before })) (turn : ((from ≡ Append v) × (before ≡ after)) ⊎ ((from ≡ Rest [] []) × (before ≡ v ∷ after))) where
   abbrev put : Event
   put = Put (number_of key)
 
@@ -128,29 +130,31 @@ module _ (key key' : SlotKey) (pass pass' : Pass) (notes : Notes key pass key' p
   batch = (slot_of key).batch
 
   abbrev new : Slot
-  new = let z = slot_at put_st (number_of key) in record { used = z.used; batch = z.batch ++ v ∷ []; call = Some (record { place = after_put (size_of key) (length put_st.slots) (z.batch ++ v ∷ []); queue = [] }) }
+  new = let z = slot_at put_st (number_of key) in record { used = z.used; batch = z.batch ++ v ∷ []; call = Some (record { place = after_put (size_of key) (length put_st.slots) (z.batch ++ v ∷ []); queue = after }) }
 
-  here : (slot_at put_st (number_of key)).call ≡ Some (record { place = Append v; queue = [] })
+  here : (slot_at put_st (number_of key)).call ≡ Some (record { place = from; queue = before })
   here = ap (λ (z : Slot). z.call) notes.2.1.was ∙ stands
 
   is_put : outcome key key' pass pass' put notes ≡ (set_slot put_st (number_of key) new, Done)
-  is_put = some_is _ _ (sym notes.2.1.legal ∙ next_of (size_of key) put_st put _ (step_put (size_of key) put_st (number_of key) v (Append v) [] [] here (inl (refl, refl))))
+  is_put = some_is _ _ (sym notes.2.1.legal ∙ next_of (size_of key) put_st put _ (step_put (size_of key) put_st (number_of key) v from before after here turn))
 
   slot_put : slot_of key' ≡ new
   slot_put = notes.2.1.is ∙ ap (λ (x : State × Answer). slot_at x.0 (number_of key)) is_put ∙ get_or-set_same put_st.slots (number_of key) new no_slot (within put_st (number_of key) _ here)
 
   pub puts_so : Puts key pass v key' pass'
   puts_so = record {
-    same = notes.0;
-    grows = seen_grows pass.name pass.id pass.seen pass'.seen _ notes.2.0;
-    alone = alone_noted pass pass' (Made (private pass put)) refl notes.2.0;
-    its = (notes.1.0, notes.1.1);
+    on = record {
+      same = notes.0;
+      its = (notes.1.0, notes.1.1);
+      used = ap (λ (z : Slot). z.used) slot_put ∙ ap (λ (z : Slot). z.used) notes.2.1.was;
+      active = notes.2.1.is_now_active ∙ ap (λ (x : State × Answer). is_active (head_at x.0 (number_of key))) is_put ∙ notes.2.1.was_active;
+      life = life_kept key key' pass pass' (private pass put) notes refl;
+      grows = seen_grows pass.name pass.id pass.seen pass'.seen _ notes.2.0;
+      alone = alone_noted pass pass' (Made (private pass put)) refl notes.2.0;
+    };
     batch = ap (λ (z : Slot). z.batch) slot_put ∙ ap (λ (z : Slot). z.batch ++ v ∷ []) notes.2.1.was;
-    used = ap (λ (z : Slot). z.used) slot_put ∙ ap (λ (z : Slot). z.used) notes.2.1.was;
-    active = notes.2.1.is_now_active ∙ ap (λ (x : State × Answer). is_active (head_at x.0 (number_of key))) is_put ∙ notes.2.1.was_active;
-    life = life_kept key key' pass pass' (private pass put) notes refl;
     made = events_grew pass pass' put notes.0 notes.2.0 ∙ ap (λ (x : State × Answer). events_by pass ++ (private pass put, x.1) ∷ []) is_put;
   }
 
-  pub call_put : (slot_of key').call ≡ Some (record { place = after_put (size_of key) (length put_st.slots) (batch ++ v ∷ []); queue = [] })
-  call_put = ap (λ (z : Slot). z.call) slot_put ∙ ap (λ (z : Slot). Some (record { place = after_put (size_of key) (length put_st.slots) (z.batch ++ v ∷ []); queue = [] })) notes.2.1.was
+  pub call_put : (slot_of key').call ≡ Some (record { place = after_put (size_of key) (length put_st.slots) (batch ++ v ∷ []); queue = after })
+  call_put = ap (λ (z : Slot). z.call) slot_put ∙ ap (λ (z : Slot). Some (record { place = after_put (size_of key) (length put_st.slots) (z.batch ++ v ∷ []); queue = after })) notes.2.1.was

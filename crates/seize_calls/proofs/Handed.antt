@@ -1,7 +1,7 @@
 -- One value goes to its reclaimer, out of its block.
 use Rattle.std.proofs.Common.{◌≡◌, ℕ, true, List, [], ◌∷◌, ◌++◌, get_or, Some, is_some, refl, sym, ap, ◌∙◌, append_assoc, append-nil}
 use Rattle.std.proofs.lemmas.List.{get_or-set_same}
-use Rattle.seize_machine.specs.Machine.State.{Head, Inactive, Rest, Slot, State, is_active, no_slot, slot_at}
+use Rattle.seize_machine.specs.Machine.State.{Head, Inactive, Slot, State, is_active, no_slot, slot_at}
 use Rattle.seize_machine.specs.Machine.Event.{Event, Hand}
 use Rattle.seize_machine.specs.Machine.Next.{handing_at, of_call}
 use Rattle.seize_machine.specs.declared.machine.event.Answer.{Answer}
@@ -15,19 +15,21 @@ use Rattle.seize_book.specs.Passes.{LooksOn, events_by}
 use Rattle.seize_book.specs.Slots.{IsOf, Notes, hands_next, number_of, size_of, slot_of}
 use Rattle.seize_book.specs.Tokens.{Name}
 use Rattle.seize_words.specs.Walks.{Knows}
+use Rattle.seize_book.specs.Values.{values_of}
 use Rattle.seize_book.specs.declared.book.pass.Pass.{Pass}
 use Rattle.seize_book.specs.declared.book.slot_key.SlotKey.{SlotKey}
 use Rattle.seize_book.specs.declared.book.value_key.ValueKey.{ValueKey}
 use Rattle.seize_words.proofs.Facts.{events_grew, hand_leaves, handing_named, knows_noted, knows_still, lent_key, named_lent}
-use Rattle.seize_calls.specs.Handing.{AreTheirs, Had, HasHad}
+use Rattle.seize_book.specs.declared.book.value_keys.ValueKeys.{ValueKeys}
+use Rattle.seize_calls.specs.Handing.{AreTheirs, Had, Handings, HasHad, Queues, values_handed, values_put}
 use Rattle.seize_calls.specs.Walking.{GoesOn, HandsOne}
 use Rattle.seize_calls.proofs.Keeps.{keeps_from, keeps_looked, keeps_twice, looked_same, outcome, own_grows, same_private, state_before, step_noted}
 use Rattle.seize_calls.proofs.Marks.{within}
 
--- the machine hands a value whose reclaimer puts none
-after_hand : (size : ℕ) (st : State) (s v : ℕ) (d : State × Answer) → Step size st (Hand s []) d → hands_next (slot_at st s) ≡ Some v
+-- the machine hands a value whose reclaimer puts these
+after_hand : (size : ℕ) (st : State) (s v : ℕ) (puts : List ℕ) (d : State × Answer) → Step size st (Hand s puts) d → hands_next (slot_at st s) ≡ Some v
     → ((slot_at d.0 s).batch ≡ (slot_at st s).batch) × ((slot_at d.0 s).used ≡ (slot_at st s).used) × (d.0.heads ≡ st.heads) × (d.1 ≡ Handed v)
-after_hand size st _ v _ (Step.handed s w _ given walk queue stands fresh) next =
+after_hand size st _ v _ _ (Step.handed s w puts given walk queue stands fresh) next =
     let same = get_or-set_same st.slots s _ no_slot (within st s _ stands) in (
       ap (λ (z : Slot). z.batch) same,
       ap (λ (z : Slot). z.used) same,
@@ -36,15 +38,15 @@ after_hand size st _ v _ (Step.handed s w _ given walk queue stands fresh) next 
     )
 
 -- The event, with the looks before and after it.
-module _ (key key' : SlotKey) (pass looked handed pass' : Pass) (v : ℕ) (before : LooksOn pass looked) (notes : Notes key looked key' handed (Hand (number_of key) [])) (behind : LooksOn handed pass') (soon : hands_next (slot_of key) ≡ Some v) where
+module _ (key key' : SlotKey) (pass looked handed pass' : Pass) (v : ℕ) (puts : List ℕ) (before : LooksOn pass looked) (notes : Notes key looked key' handed (Hand (number_of key) puts)) (behind : LooksOn handed pass') (soon : hands_next (slot_of key) ≡ Some v) where
   abbrev event : Event
-  event = Hand (number_of key) []
+  event = Hand (number_of key) puts
 
   so : ((slot_at (outcome key key' looked handed event notes).0 (number_of key)).batch ≡ (slot_at (state_before key key' looked handed event notes) (number_of key)).batch)
       × ((slot_at (outcome key key' looked handed event notes).0 (number_of key)).used ≡ (slot_at (state_before key key' looked handed event notes) (number_of key)).used)
       × ((outcome key key' looked handed event notes).0.heads ≡ (state_before key key' looked handed event notes).heads) × ((outcome key key' looked handed event notes).1 ≡ Handed v)
   so =
-      after_hand (size_of key) (state_before key key' looked handed event notes) (number_of key) v (outcome key key' looked handed event notes) (step_noted key key' looked handed event notes)
+      after_hand (size_of key) (state_before key key' looked handed event notes) (number_of key) v puts (outcome key key' looked handed event notes) (step_noted key key' looked handed event notes)
       (ap hands_next notes.2.1.was ∙ soon)
 
   goes_on : GoesOn key pass key' pass'
@@ -54,16 +56,17 @@ module _ (key key' : SlotKey) (pass looked handed pass' : Pass) (v : ℕ) (befor
     own_grows key key' looked handed event notes,
   )
 
-  pub hands_so : HandsOne key pass v key' pass'
-  hands_so = record {
+  pub hands_so : (queue queue' : ValueKeys) → Queues queue puts queue' → HandsOne key pass v queue key' pass' queue'
+  hands_so queue queue' queued = record {
     goes_on = goes_on;
+    puts = puts;
+    queued = queued;
     made =
         looked_same handed pass' behind ∙ events_grew looked handed event notes.0 notes.2.0
         ∙ ap (λ (a : Answer). events_by looked ++ (private looked event, a) ∷ []) so.3
         ∙ ap (λ (log : List (Deed × Answer)). log ++ (private looked event, Handed v) ∷ []) (looked_same pass looked before)
         ∙ ap (λ (d : Deed). events_by pass ++ (d, Handed v) ∷ []) (same_private pass looked before.same event);
-    stands = λ given walk queue is.
-        hand_leaves key key' looked handed [] given walk queue v notes is ∙ ap (λ (q : List ℕ). Some (record { place = Rest given walk; queue = q })) (append-nil queue);
+    stands = λ given walk waits is. hand_leaves key key' looked handed puts given walk waits v notes is;
   }
 
   pub knows_after : Knows key' pass'
@@ -95,3 +98,24 @@ had_more a b k l had had1 had2 one two = record {
   theirs = theirs_append a b k l one.more two.more one.theirs two.theirs;
   after = two.after ∙ (ap (λ (log : Had). log ++ two.more) one.after ∙ append_assoc had one.more two.more);
 }
+
+-- What was handed, and more.
+
+pub handed_append : (one two : Handings) → values_handed (one ++ two) ≡ values_handed one ++ values_handed two
+handed_append [] two = refl
+handed_append (first ∷ one) two = ap (λ (vs : List ℕ). first.0 ∷ vs) (handed_append one two)
+
+pub put_append : (one two : Handings) → values_put (one ++ two) ≡ values_put one ++ values_put two
+put_append [] two = refl
+put_append (first ∷ one) two = ap (λ (vs : List ℕ). first.1 ++ vs) (put_append one two) ∙ sym (append_assoc first.1 (values_put one) (values_put two))
+
+-- and what came to the queue
+
+pub queues_none : (queue : ValueKeys) → Queues queue [] queue
+queues_none queue = (refl, sym (append-nil (values_of queue)))
+
+pub queues_more : (queue queue1 queue2 : ValueKeys) (one two : Handings) → Queues queue (values_put one) queue1 → Queues queue1 (values_put two) queue2 → Queues queue (values_put (one ++ two)) queue2
+queues_more queue queue1 queue2 one two first second = (
+  second.0 ∙ first.0,
+  second.1 ∙ (ap (λ (vs : List ℕ). vs ++ values_put two) first.1 ∙ (append_assoc (values_of queue) (values_put one) (values_put two) ∙ ap (λ (vs : List ℕ). values_of queue ++ vs) (sym (put_append one two)))),
+)

@@ -24,11 +24,11 @@ use Rattle.seize_book.specs.declared.book.slot_key.SlotKey.{SlotKey}
 use Rattle.seize_book.specs.declared.book.value_key.ValueKey.{ValueKey}
 use Rattle.seize_book.specs.declared.book.value_keys.ValueKeys.{ValueKeys}
 use Rattle.seize_calls.proofs.Alone.{alone_none}
-use Rattle.seize_calls.specs.Handing.{Had, HasHad}
+use Rattle.seize_calls.specs.Handing.{Had, Handings, HasHad, Queues, values_handed, values_put}
 use Rattle.seize_calls.specs.Batches.{kept_noted, kepts_of}
 use Rattle.seize_calls.specs.Walking.{GoesOn, HandsAll, HandsOne, IsGiven, hands}
 use Rattle.seize_calls.proofs.Batches.{kept_one, kepts, kepts_append}
-use Rattle.seize_calls.proofs.Handed.{had_more, had_none}
+use Rattle.seize_calls.proofs.Handed.{had_more, had_none, handed_append, put_append, queues_more, queues_none}
 use Rattle.seize_words.proofs.Facts.{labels_append, one_label, others_closed, others_know, own_is}
 use Rattle.seize_calls.proofs.Strolls.{goes_twice, same_hands}
 
@@ -37,9 +37,9 @@ Keys = List (Held Entry)
 
 -- The events of some, and of more.
 
-hands_append : (pass : Pass) (s : ℕ) (vs ws : List ℕ) → hands pass s (vs ++ ws) ≡ hands pass s vs ++ hands pass s ws
-hands_append pass s [] ws = refl
-hands_append pass s (v ∷ vs) ws = ap (λ (log : List (Deed × Answer)). hands pass s (v ∷ []) ++ log) (hands_append pass s vs ws)
+hands_append : (pass : Pass) (s : ℕ) (one two : Handings) → hands pass s (one ++ two) ≡ hands pass s one ++ hands pass s two
+hands_append pass s [] two = refl
+hands_append pass s (first ∷ one) two = ap (λ (log : List (Deed × Answer)). hands pass s (first ∷ []) ++ log) (hands_append pass s one two)
 
 -- what is noted of the first one's block leads to the next, or to none
 leads_on : (store : Option (List ℕ)) (held rest : Keys) → is_some store ≡ true → is_one blocks held ≡ true → are_linked store (held ++ rest) ≡ true → are_joined store (held ++ rest) [] ≡ true
@@ -62,12 +62,15 @@ among_all : (v u : ℕ) (us vs : List ℕ) → vs ≡ u ∷ us → Contains us v
 among_all v u us vs is among = subst (λ (ws : List ℕ). Contains ws v) (sym is) (suc among.0, let less = among.1 in omega (arith, less), among.2)
 
 -- some were handed, and some are left
-pub record IsHanding {key : SlotKey} {pass : Pass} {values : ValueKeys} {front : ℕ} (given : IsGiven key pass values front) (had : Had) (key' : SlotKey) (pass' : Pass) (values' : ValueKeys) (number : ℕ) (had' : Had) : Type 0 where
+pub record IsHanding {key : SlotKey} {pass : Pass} {values : ValueKeys} {front : ℕ} (given : IsGiven key pass values front) (queue : ValueKeys) (had : Had) (key' : SlotKey) (pass' : Pass) (values' queue' : ValueKeys) (number : ℕ) (had' : Had) : Type 0 where
   pub goes_on : GoesOn key pass key' pass'
   pub done : Keys
   pub split : values.keys.held ≡ done ++ values'.keys.held
-  pub made : events_by pass' ≡ events_by pass ++ hands pass (number_of key) (labels_of done)
-  pub stands : (slot_of key').call ≡ Some (record { place = Rest (values_of values') given.walk; queue = given.queue })
+  pub handed : Handings
+  pub which : values_handed handed ≡ labels_of done
+  pub made : events_by pass' ≡ events_by pass ++ hands pass (number_of key) handed
+  pub stands : (slot_of key').call ≡ Some (record { place = Rest (values_of values') given.walk; queue = given.queue ++ values_put handed })
+  pub queued : Queues queue (values_put handed) queue'
   pub book : book_in values' ≡ pass.name
   pub knows : values'.keys.held ≡ renewed values'.keys.held pass.seen
   pub last : AreLast values' pass
@@ -77,13 +80,16 @@ pub record IsHanding {key : SlotKey} {pass : Pass} {values : ValueKeys} {front :
   pub its_block : number ≡ block_of first
   pub theirs : HasHad (labels_of done) (kepts done) had had'
 
-abbrev pub none_handed : (key : SlotKey) (pass : Pass) (values : ValueKeys) (front : ℕ) (given : IsGiven key pass values front) (had : Had) → IsHanding given had key pass values front had
-none_handed key pass values front given had = record {
+abbrev pub none_handed : (key : SlotKey) (pass : Pass) (values : ValueKeys) (front : ℕ) (given : IsGiven key pass values front) (queue : ValueKeys) (had : Had) → IsHanding given queue had key pass values queue front had
+none_handed key pass values front given queue had = record {
   goes_on = (record { same = (refl, refl); its = (refl, refl); batch = refl; used = refl; active = refl; life = refl; seen = omega arith; grows = ([], append-nil pass.seen); alone = alone_none pass }, ([], append-nil (own_list key)));
   done = [];
   split = refl;
+  handed = [];
+  which = refl;
   made = sym (append-nil (events_by pass));
-  stands = given.given_up;
+  stands = given.given_up ∙ ap (λ (q : List ℕ). Some (record { place = Rest (values_of values) given.walk; queue = q })) (sym (append-nil given.queue));
+  queued = queues_none queue;
   book = given.book;
   knows = given.keys.2;
   last = given.last;
@@ -94,8 +100,8 @@ none_handed key pass values front given had = record {
   theirs = had_none had;
 }
 
-module _ (key0 : SlotKey) (pass0 : Pass) (values0 : ValueKeys) (front : ℕ) (given : IsGiven key0 pass0 values0 front) (had0 : Had) (key : SlotKey) (pass : Pass) (values : ValueKeys) (number : ℕ) (had : Had)
-    (r : IsHanding given had0 key pass values number had) where
+module _ (key0 : SlotKey) (pass0 : Pass) (values0 : ValueKeys) (front : ℕ) (given : IsGiven key0 pass0 values0 front) (queue0 : ValueKeys) (had0 : Had) (key : SlotKey) (pass : Pass) (values queue : ValueKeys) (number : ℕ) (had : Had)
+    (r : IsHanding given queue0 had0 key pass values queue number had) where
   pub some_left : values_of values ≢ []
   some_left none = absurd (let e : None ≡ Some r.first = sym (ap first_of none) ∙ r.is_first in cc)
 
@@ -114,8 +120,11 @@ module _ (key0 : SlotKey) (pass0 : Pass) (values0 : ValueKeys) (front : ℕ) (gi
         let v : ℕ = value_of value in let its = subst (λ (ws : List ℕ). Contains ws v) (sym nexts.2) (zero, omega arith, refl) in
         subst (λ (t : Name × List Entry). IsLastIn v (after (start t.0) t.1)) (λ i. (sym (nexts.1 ∙ r.book) i, sym (own_is value.keys.held rest.keys.held pass0.seen value.one whole) i)) (r.last v its)
 
-    here : (slot_of key).call ≡ Some (record { place = Rest (value_of value ∷ values_of rest) given.walk; queue = given.queue })
-    here = r.stands ∙ ap (λ (vs : List ℕ). Some (record { place = Rest vs given.walk; queue = given.queue })) nexts.2
+    abbrev waits : List ℕ
+    waits = given.queue ++ values_put r.handed
+
+    here : (slot_of key).call ≡ Some (record { place = Rest (value_of value ∷ values_of rest) given.walk; queue = waits })
+    here = r.stands ∙ ap (λ (vs : List ℕ). Some (record { place = Rest vs given.walk; queue = waits })) nexts.2
 
     pub is_soon : hands_next (slot_of key) ≡ Some (value_of value)
     is_soon = ap (of_call handing_at) here
@@ -123,7 +132,7 @@ module _ (key0 : SlotKey) (pass0 : Pass) (values0 : ValueKeys) (front : ℕ) (gi
     pub is_there : block_of (value_of value) ≡ number
     is_there = ap block_of (some_is _ _ (sym (ap first_of nexts.2) ∙ r.is_first)) ∙ sym r.its_block
 
-    module _ (store : is_some pass0.name.store ≡ true) (key' : SlotKey) (pass' : Pass) (had' : Had) (hand : HandsOne key pass (value_of value) key' pass') (more : HasHad (value_of value ∷ []) (kept_noted (noted_in value) ∷ []) had had') where
+    module _ (store : is_some pass0.name.store ≡ true) (key' : SlotKey) (pass' : Pass) (queue' : ValueKeys) (had' : Had) (hand : HandsOne key pass (value_of value) queue key' pass' queue') (more : HasHad (value_of value ∷ []) (kept_noted (noted_in value) ∷ []) had had') where
       leads : leads_first (noted_in value) rest.keys.held ≡ true
       leads =
           leads_on (book_in values).store value.keys.held rest.keys.held (ap (λ (n : Name). is_some n.store) r.book ∙ store) value.one
@@ -135,14 +144,24 @@ module _ (key0 : SlotKey) (pass0 : Pass) (values0 : ValueKeys) (front : ℕ) (gi
       split_more : values0.keys.held ≡ (r.done ++ value.keys.held) ++ rest.keys.held
       split_more = r.split ∙ (ap (λ (held : Keys). r.done ++ held) nexts.3 ∙ sym (append_assoc r.done value.keys.held rest.keys.held))
 
-      made_more : events_by pass' ≡ events_by pass0 ++ hands pass0 (number_of key0) (labels_of (r.done ++ value.keys.held))
+      abbrev one : Handings
+      one = (value_of value, hand.puts) ∷ []
+
+      which_more : values_handed (r.handed ++ one) ≡ labels_of (r.done ++ value.keys.held)
+      which_more =
+          handed_append r.handed one
+          ∙ (λ i. r.which i ++ sym (one_label value.keys.held value.one) i) ∙ sym (labels_append r.done value.keys.held)
+
+      made_more : events_by pass' ≡ events_by pass0 ++ hands pass0 (number_of key0) (r.handed ++ one)
       made_more =
-          let s = number_of key0 in let one = value_of value ∷ [] in let behind = hands pass0 s (labels_of r.done) in
+          let s = number_of key0 in let behind = hands pass0 s r.handed in
           hand.made ∙ ap (λ (log : List (Deed × Answer)). log ++ hands pass (number_of key) one) r.made
           ∙ ap (λ (log : List (Deed × Answer)). (events_by pass0 ++ behind) ++ log) (same_hands pass0 pass r.goes_on.0.same (number_of key) one ∙ ap (λ (k : ℕ). hands pass0 k one) r.goes_on.0.its.1)
           ∙ append_assoc (events_by pass0) behind (hands pass0 s one)
-          ∙ ap (λ (log : List (Deed × Answer)). events_by pass0 ++ log)
-          (sym (hands_append pass0 s (labels_of r.done) one) ∙ ap (hands pass0 s) (ap (λ (vs : List ℕ). labels_of r.done ++ vs) (sym (one_label value.keys.held value.one)) ∙ sym (labels_append r.done value.keys.held)))
+          ∙ ap (λ (log : List (Deed × Answer)). events_by pass0 ++ log) (sym (hands_append pass0 s r.handed one))
+
+      queued_more : Queues queue0 (values_put (r.handed ++ one)) queue'
+      queued_more = queues_more queue0 queue queue' r.handed one r.queued (hand.queued.0, hand.queued.1 ∙ ap (λ (vs : List ℕ). values_of queue ++ vs) (sym (append-nil hand.puts)))
 
       theirs_more : HasHad (labels_of (r.done ++ value.keys.held)) (kepts (r.done ++ value.keys.held)) had0 had'
       theirs_more =
@@ -153,19 +172,26 @@ module _ (key0 : SlotKey) (pass0 : Pass) (values0 : ValueKeys) (front : ℕ) (gi
           ))
           (had_more (labels_of r.done) (value_of value ∷ []) (kepts r.done) (kept_noted (noted_in value) ∷ []) had0 had had' r.theirs more)
 
-      stands_more : (slot_of key').call ≡ Some (record { place = Rest (values_of rest) given.walk; queue = given.queue })
-      stands_more = hand.stands (values_of rest) given.walk given.queue here
+      stands_more : (slot_of key').call ≡ Some (record { place = Rest (values_of rest) given.walk; queue = given.queue ++ values_put (r.handed ++ one) })
+      stands_more =
+          hand.stands (values_of rest) given.walk waits here
+          ∙ ap (λ (q : List ℕ). Some (record { place = Rest (values_of rest) given.walk; queue = q }))
+          (append_assoc given.queue (values_put r.handed) hand.puts
+          ∙ ap (λ (vs : List ℕ). given.queue ++ vs) (sym (put_append r.handed one ∙ ap (λ (vs : List ℕ). values_put r.handed ++ vs) (append-nil hand.puts))))
 
       -- the next one's block is that of the word
-      pub handed_on : next_in (noted_in value) ≢ 0 → IsHanding given had0 key' pass' rest (next_in (noted_in value) - 1) had'
+      pub handed_on : next_in (noted_in value) ≢ 0 → IsHanding given queue0 had0 key' pass' rest queue' (next_in (noted_in value) - 1) had'
       handed_on some =
           let first = first_after (noted_in value) rest.keys.held leads some in
           record {
             goes_on = goes;
             done = r.done ++ value.keys.held;
             split = split_more;
+            handed = r.handed ++ one;
+            which = which_more;
             made = made_more;
             stands = stands_more;
+            queued = queued_more;
             book = nexts.0 ∙ r.book;
             knows = others_know value.keys.held rest.keys.held pass0.seen value.one whole;
             last = λ v there. r.last v (among v there);
@@ -185,12 +211,15 @@ module _ (key0 : SlotKey) (pass0 : Pass) (values0 : ValueKeys) (front : ℕ) (gi
         all_done : values0.keys.held ≡ r.done ++ value.keys.held
         all_done = split_more ∙ (ap (λ (held : Keys). (r.done ++ value.keys.held) ++ held) empty ∙ append-nil (r.done ++ value.keys.held))
 
-        pub handed_over : HandsAll given key' pass' rest
+        pub handed_over : HandsAll given queue0 key' pass' rest queue'
         handed_over = record {
           goes_on = goes;
-          made = made_more ∙ ap (λ (held : Keys). events_by pass0 ++ hands pass0 (number_of key0) (labels_of held)) (sym all_done);
-          walks_on = stands_more ∙ ap (λ (held : Keys). Some (record { place = Rest (labels_of held) given.walk; queue = given.queue })) empty;
+          handed = r.handed ++ one;
+          which = which_more ∙ ap labels_of (sym all_done);
+          made = made_more;
+          walks_on = stands_more ∙ ap (λ (held : Keys). Some (record { place = Rest (labels_of held) given.walk; queue = given.queue ++ values_put (r.handed ++ one) })) empty;
           none = (nexts.0 ∙ (r.book ∙ sym goes.0.same.0), empty);
+          queued = queued_more;
         }
 
         pub all_had : HasHad (values_of values0) (kepts_of values0) had0 had'

@@ -22,10 +22,17 @@ use Rattle.seize_book.specs.declared.book.slot_key.SlotKey.{SlotKey}
 use Rattle.seize_words.specs.declared.reservation.Head.{Head as Word}
 use Rattle.seize_words.proofs.Facts.{seen_grows}
 use Rattle.seize_calls.proofs.Alone.{alone_noted, alone_twice}
-use Rattle.seize_calls.specs.Calls.{Begins, Leaves, done}
-use Rattle.seize_calls.specs.Handing.{Had}
-use Rattle.seize_calls.specs.Walking.{IsAtWalk, WalksAll, steps}
-use Rattle.seize_calls.proofs.Events.{call_returned, keeps_returned, made_returned, same_done}
+use Rattle.seize_book.specs.Slots.{IsOf}
+use Rattle.seize_book.specs.Values.{AreOfBook, values_of}
+use Rattle.seize_book.specs.declared.book.value_keys.ValueKeys.{ValueKeys}
+use Rattle.seize_words.specs.Walks.{Knows}
+use Rattle.seize_machine.specs.Machine.State.{Rest}
+use Rattle.seize_calls.specs.Calls.{Begins, Leaves}
+use Rattle.seize_calls.specs.Handing.{Had, values_put}
+use Rattle.seize_calls.specs.Settling.{Drains, HasQueue, Onward, Sits, Stand, done}
+use Rattle.seize_calls.specs.Walking.{IsAtWalk, WalksAll, handed_in, steps}
+use Rattle.seize_calls.proofs.Events.{keeps_returned}
+use Rattle.seize_calls.proofs.Whole.{returned, whole_rests}
 use Rattle.seize_calls.proofs.Marks.{within}
 use Rattle.seize_calls.proofs.Strolls.{same_steps}
 
@@ -104,35 +111,57 @@ module _ (key one two : SlotKey) (pass pass1 pass2 : Pass) (job : Job) (stays : 
       ∙ ap (λ (a : Answer). (events_by pass ++ done pass (Begin s job)) ++ (beginning pass1 life (SwapOut (number_of one)), a) ∷ []) so.3
       ∙ ap (λ (x : Deed). (events_by pass ++ done pass (Begin s job)) ++ (x, Done) ∷ []) (same_beginning pass pass1 begins.keeps.same life (SwapOut (number_of one)) ∙ ap (λ (k : ℕ). beginning pass life (SwapOut k)) begins.keeps.its.1)
 
-  module _ (three : SlotKey) (pass3 : Pass) (had had' : Had) (all : WalksAll at_walk pass2 three pass3 had had') (key' : SlotKey) (pass' : Pass) (last : Notes three pass3 key' pass' (Return (number_of three))) where
-    same_three : IsSame pass pass3
+  module _ (three : SlotKey) (pass3 : Pass) (values queue0 queue3 : ValueKeys) (had had3 : Had) (none : values_of queue0 ≡ []) (all : WalksAll at_walk pass2 queue0 had three pass3 queue3 had3) where
+    abbrev pub behind : Stand
+    behind = record { key = three; pass = pass3; batch = values; queue = queue3; had = had3 }
+
+    pub same_three : IsSame pass pass3
     same_three = (all.goes_on.0.same.0 ∙ same_two.0, all.goes_on.0.same.1 ∙ same_two.1)
 
     its_three : (three.keys.name ≡ key.keys.name) × (number_of three ≡ s)
     its_three = (all.goes_on.0.its.0 ∙ its_two.0, all.goes_on.0.its.1 ∙ its_two.1)
 
-    pub has_left : Leaves job stays swap key pass key' pass' had had'
-    has_left =
-        let keeps = keeps_returned three key' pass3 pass' last in
-        record {
-          same = (keeps.same.0 ∙ same_three.0, keeps.same.1 ∙ same_three.1);
-          grows =
-              prefix_trans pass.seen pass1.seen pass'.seen begins.keeps.grows
-              (prefix_trans pass1.seen pass2.seen pass'.seen (seen_grows pass1.name pass1.id pass1.seen pass2.seen _ notes.2.0) (prefix_trans pass2.seen pass3.seen pass'.seen all.goes_on.0.grows keeps.grows));
-          alone =
-              alone_twice pass pass1 pass' begins.keeps.same begins.keeps.alone
-              (alone_twice pass1 pass2 pass' notes.0 (alone_noted pass1 pass2 (Made (beginning pass1 life (SwapOut (number_of one)))) refl notes.2.0)
-              (alone_twice pass2 pass3 pass' all.goes_on.0.same all.goes_on.0.alone keeps.alone));
-          its = (keeps.its.0 ∙ its_three.0, keeps.its.1 ∙ its_three.1);
-          call = call_returned three key' pass3 pass' last;
-          batch = keeps.batch ∙ all.goes_on.0.batch ∙ ap (λ (z : Slot). z.batch) notes.2.1.is ∙ so.0 ∙ ap (λ (z : Slot). z.batch) notes.2.1.was ∙ begins.keeps.batch;
-          used = keeps.used ∙ all.goes_on.0.used ∙ ap (λ (z : Slot). z.used) notes.2.1.is ∙ so.1 ∙ ap (λ (z : Slot). z.used) notes.2.1.was ∙ begins.keeps.used;
-          active = keeps.active ∙ all.goes_on.0.active ∙ notes.2.1.is_now_active ∙ so.2;
-          walked = all.walked;
-          kepts = all.kepts;
-          has_had = all.has_had;
-          made = made_returned three key' pass3 pass' last ∙ ap (λ (log : List (Deed × Answer)). log ++ done pass3 (Return (number_of three))) (all.made ∙ ap (λ (log : List (Deed × Answer)). log ++ steps pass2 (number_of two) all.walked) made_two)
-              ∙ ap (λ (log : List (Deed × Answer)). (((events_by pass ++ done pass (Begin s job)) ++ (swap, Done) ∷ []) ++ log) ++ done pass3 (Return (number_of three)))
-              (same_steps pass pass2 same_two (number_of two) all.walked ∙ ap (λ (k : ℕ). steps pass k all.walked) its_two.1)
-              ∙ ap (λ (log : List (Deed × Answer)). (((events_by pass ++ done pass (Begin s job)) ++ (swap, Done) ∷ []) ++ steps pass s all.walked) ++ log) (same_done pass pass3 same_three Return s (number_of three) its_three.1);
-        }
+    walked_queue : values_of queue3 ≡ values_put (handed_in all.walked)
+    walked_queue = all.queued.1 ∙ ap (λ (vs : List ℕ). vs ++ values_put (handed_in all.walked)) none
+
+    pub walked_over : HasQueue three queue3
+    walked_over = all.over ∙ ap (λ (q : List ℕ). Some (record { place = Rest [] []; queue = q })) (sym walked_queue)
+
+    batch_three : (slot_of three).batch ≡ (slot_of key).batch
+    batch_three = all.goes_on.0.batch ∙ ap (λ (z : Slot). z.batch) notes.2.1.is ∙ so.0 ∙ ap (λ (z : Slot). z.batch) notes.2.1.was ∙ begins.keeps.batch
+
+    pub walked_sits : IsOf key pass → Knows three pass3 → AreOfBook values pass × (values_of values ≡ (slot_of key).batch) → AreOfBook queue0 pass → Sits behind
+    walked_sits book knows batch queue = record {
+      its = its_three.0 ∙ (book ∙ sym same_three.0);
+      knows = knows;
+      batch = (batch.0 ∙ sym same_three.0, batch.1 ∙ sym batch_three);
+      queue = all.queued.0 ∙ (queue ∙ sym same_three.0);
+    }
+
+    module _ (b : Stand) (drains : Drains behind b) (onward : Onward three pass3 b.key b.pass) (sits : Sits b) (empty : values_of b.queue ≡ []) (key' : SlotKey) (pass' : Pass) (last : Notes b.key b.pass key' pass' (Return (number_of b.key))) where
+      pub has_left : Leaves job stays swap key pass values had key' pass' b.batch b.had
+      has_left = record {
+        walked = all.walked;
+        kepts = all.kepts;
+        behind = behind;
+        made = all.made ∙ ap (λ (log : List (Deed × Answer)). log ++ steps pass2 (number_of two) all.walked) made_two
+            ∙ ap (λ (log : List (Deed × Answer)). ((events_by pass ++ done pass (Begin s job)) ++ (swap, Done) ∷ []) ++ log)
+            (same_steps pass pass2 same_two (number_of two) all.walked ∙ ap (λ (k : ℕ). steps pass k all.walked) its_two.1);
+        has_had = all.has_had;
+        queued = walked_queue;
+        batch = refl;
+        drained = b;
+        drains = drains;
+        returns = returned b key' pass' last empty;
+        rests =
+            whole_rests key pass b key' pass' (onward.same.0 ∙ same_three.0, onward.same.1 ∙ same_three.1)
+            (prefix_trans pass.seen pass1.seen b.pass.seen begins.keeps.grows
+            (prefix_trans pass1.seen pass2.seen b.pass.seen (seen_grows pass1.name pass1.id pass1.seen pass2.seen _ notes.2.0) (prefix_trans pass2.seen pass3.seen b.pass.seen all.goes_on.0.grows onward.grows)))
+            (alone_twice pass pass1 b.pass begins.keeps.same begins.keeps.alone
+            (alone_twice pass1 pass2 b.pass notes.0 (alone_noted pass1 pass2 (Made (beginning pass1 life (SwapOut (number_of one)))) refl notes.2.0)
+            (alone_twice pass2 pass3 b.pass all.goes_on.0.same all.goes_on.0.alone onward.alone)))
+            (onward.its.0 ∙ its_three.0, onward.its.1 ∙ its_three.1)
+            (onward.used ∙ all.goes_on.0.used ∙ ap (λ (z : Slot). z.used) notes.2.1.is ∙ so.1 ∙ ap (λ (z : Slot). z.used) notes.2.1.was ∙ begins.keeps.used)
+            sits last;
+        active = (keeps_returned b.key key' b.pass pass' last).active ∙ onward.active ∙ all.goes_on.0.active ∙ notes.2.1.is_now_active ∙ so.2;
+      }

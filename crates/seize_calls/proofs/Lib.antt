@@ -1,6 +1,7 @@
 pub mod Alone
 pub mod Attempts
 pub mod Batches
+pub mod Chains
 pub mod Events
 pub mod Exactly
 pub mod Handed
@@ -10,6 +11,7 @@ pub mod Keeps
 pub mod Leaving
 pub mod Marks
 pub mod Named
+pub mod Onwards
 pub mod Rounds
 pub mod Settled
 pub mod Strolls

@@ -26,7 +26,7 @@ joined_like [] h k b c same j = refl
 joined_like (x ∷ []) h k b c same j = ap (λ (v : ℕ). next_in x.note == suc (block_of v)) same ∙ j
 joined_like (x ∷ y ∷ a) h k b c same j = joined_like (y ∷ a) h k b c same j
 
-are_joined_like : (store : Option (List ℕ)) (a : Keys) (h k : Held Entry) (b c : Keys) → k.label ≡ h.label → are_joined store a (h ∷ b) ≡ true → are_joined store a (k ∷ c) ≡ true
+pub are_joined_like : (store : Option (List ℕ)) (a : Keys) (h k : Held Entry) (b c : Keys) → k.label ≡ h.label → are_joined store a (h ∷ b) ≡ true → are_joined store a (k ∷ c) ≡ true
 are_joined_like None a h k b c same j = refl
 are_joined_like (Some store) a h k b c same j = joined_like a h k b c same j
 

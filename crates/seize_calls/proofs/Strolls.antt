@@ -8,7 +8,6 @@ use Rattle.seize_machine.specs.Machine.Event.{Hand, SubCount}
 use Rattle.seize_machine.specs.Machine.Laws.{walk_of}
 use Rattle.seize_machine.specs.declared.machine.event.Answer.{Answer}
 use Rattle.seize_machine.specs.declared.machine.event.Answer.TheVariants.{Count as Counted, Handed}
-use Rattle.seize_book.specs.Adding.{private}
 use Rattle.seize_book.specs.Entry.{Deed}
 use Rattle.seize_book.specs.Passes.{IsSame, events_by}
 use Rattle.seize_book.specs.Slots.{IsOf, number_of, own_list, slot_of}
@@ -19,11 +18,11 @@ use Rattle.seize_book.specs.declared.book.slot_key.SlotKey.{SlotKey}
 use Rattle.seize_book.specs.declared.book.value_keys.ValueKeys.{ValueKeys}
 use Rattle.seize_words.proofs.Facts.{word_stays}
 use Rattle.seize_calls.proofs.Alone.{alone_none}
-use Rattle.seize_calls.specs.Handing.{Had, HasHad}
+use Rattle.seize_calls.specs.Handing.{Had, Handings, HasHad, Queues, values_handed, values_put}
 use Rattle.seize_calls.specs.Batches.{kepts_of}
 use Rattle.seize_calls.specs.Walking.{Ends, GoesOn, HandsAll, IsAtWalk, IsGiven, Stops, WalksAll, WalksTo, counting, countings, handed_in, hands, steps}
 use Rattle.seize_calls.specs.declared.walking.Walked.TheVariants.{GivesUp, Over}
-use Rattle.seize_calls.proofs.Handed.{had_more, had_none}
+use Rattle.seize_calls.proofs.Handed.{had_more, had_none, handed_append, put_append, queues_more, queues_none}
 use Rattle.seize_calls.proofs.Keeps.{keeps_twice, same_private}
 
 pub goes_twice : (key one two : SlotKey) (pass pass1 pass2 : Pass) → GoesOn key pass one pass1 → GoesOn one pass1 two pass2 → GoesOn key pass two pass2
@@ -39,12 +38,11 @@ same_countings pass pass' same s [] = refl
 same_countings pass pass' same s (count ∷ counts) =
     ap (λ (x : Deed × Answer). x ∷ countings pass' s counts) (same_counting pass pass' same s count) ∙ ap (λ (log : List (Deed × Answer)). counting pass s count ∷ log) (same_countings pass pass' same s counts)
 
-pub same_hands : (pass pass' : Pass) → IsSame pass pass' → (s : ℕ) (values : List ℕ) → hands pass' s values ≡ hands pass s values
+pub same_hands : (pass pass' : Pass) → IsSame pass pass' → (s : ℕ) (handed : Handings) → hands pass' s handed ≡ hands pass s handed
 same_hands pass pass' same s [] = refl
-same_hands pass pass' same s (v ∷ values) =
-    ap (λ (d : Deed). (d, Handed v) ∷ hands pass' s values) (same_private pass pass' same (Hand s [])) ∙ ap (λ (log : List (Deed × Answer)). (private pass (Hand s []), Handed v) ∷ log) (same_hands pass pass' same s values)
+same_hands pass pass' same s (one ∷ handed) = λ i. (same_private pass pass' same (Hand s one.1) i, Handed one.0) ∷ same_hands pass pass' same s handed i
 
-pub same_steps : (pass pass' : Pass) → IsSame pass pass' → (s : ℕ) (walked : List (ℤ × List ℕ)) → steps pass' s walked ≡ steps pass s walked
+pub same_steps : (pass pass' : Pass) → IsSame pass pass' → (s : ℕ) (walked : List (ℤ × Handings)) → steps pass' s walked ≡ steps pass s walked
 same_steps pass pass' same s [] = refl
 same_steps pass pass' same s (step ∷ walked) =
     ap (λ (x : Deed × Answer). (x ∷ hands pass' s step.1) ++ steps pass' s walked) (same_counting pass pass' same s step.0)
@@ -53,10 +51,10 @@ same_steps pass pass' same s (step ∷ walked) =
 
 -- Counts without values, and one with them.
 
-abbrev plain : List ℤ → List (ℤ × List ℕ)
+abbrev plain : List ℤ → List (ℤ × Handings)
 plain counts = map (λ (count : ℤ). (count, [])) counts
 
-steps_append : (pass : Pass) (s : ℕ) (one two : List (ℤ × List ℕ)) → steps pass s (one ++ two) ≡ steps pass s one ++ steps pass s two
+steps_append : (pass : Pass) (s : ℕ) (one two : List (ℤ × Handings)) → steps pass s (one ++ two) ≡ steps pass s one ++ steps pass s two
 steps_append pass s [] two = refl
 steps_append pass s (step ∷ one) two =
     ap (λ (log : List (Deed × Answer)). (counting pass s step.0 ∷ hands pass s step.1) ++ log) (steps_append pass s one two)
@@ -70,41 +68,42 @@ plain_many : (counts : List ℤ) → length (plain counts) ≡ length counts
 plain_many [] = refl
 plain_many (count ∷ counts) = ap suc (plain_many counts)
 
-last_step : (pass : Pass) (s : ℕ) (counts : List ℤ) (zero : ℤ) (values : List ℕ) → countings pass s (counts ++ zero ∷ []) ++ hands pass s values ≡ steps pass s (plain counts ++ (zero, values) ∷ [])
+last_step : (pass : Pass) (s : ℕ) (counts : List ℤ) (zero : ℤ) (values : Handings) → countings pass s (counts ++ zero ∷ []) ++ hands pass s values ≡ steps pass s (plain counts ++ (zero, values) ∷ [])
 last_step pass s [] zero values = ap (λ (log : List (Deed × Answer)). counting pass s zero ∷ log) (sym (append-nil (hands pass s values)))
 last_step pass s (count ∷ counts) zero values = ap (λ (log : List (Deed × Answer)). counting pass s count ∷ log) (last_step pass s counts zero values)
 
-handed_append : (one two : List (ℤ × List ℕ)) → handed_in (one ++ two) ≡ handed_in one ++ handed_in two
-handed_append [] two = refl
-handed_append (step ∷ one) two = ap (λ (vs : List ℕ). step.1 ++ vs) (handed_append one two) ∙ sym (append_assoc step.1 (handed_in one) (handed_in two))
+walked_append : (one two : List (ℤ × Handings)) → handed_in (one ++ two) ≡ handed_in one ++ handed_in two
+walked_append [] two = refl
+walked_append (step ∷ one) two = ap (λ (vs : Handings). step.1 ++ vs) (walked_append one two) ∙ sym (append_assoc step.1 (handed_in one) (handed_in two))
 
 plain_handed : (counts : List ℤ) → handed_in (plain counts) ≡ []
 plain_handed [] = refl
 plain_handed (count ∷ counts) = plain_handed counts
 
 -- of counts none is handed
-handed_plain : (walked : List (ℤ × List ℕ)) (counts : List ℤ) → handed_in walked ≡ handed_in (walked ++ plain counts)
-handed_plain walked counts = sym (handed_append walked (plain counts) ∙ ap (λ (vs : List ℕ). handed_in walked ++ vs) (plain_handed counts) ∙ append-nil (handed_in walked))
+handed_plain : (walked : List (ℤ × Handings)) (counts : List ℤ) → handed_in walked ≡ handed_in (walked ++ plain counts)
+handed_plain walked counts = sym (walked_append walked (plain counts) ∙ ap (λ (vs : Handings). handed_in walked ++ vs) (plain_handed counts) ∙ append-nil (handed_in walked))
 
 -- and of the last one these values
-handed_last : (walked : List (ℤ × List ℕ)) (counts : List ℤ) (zero : ℤ) (values : List ℕ) → handed_in walked ++ values ≡ handed_in (walked ++ (plain counts ++ (zero, values) ∷ []))
+handed_last : (walked : List (ℤ × Handings)) (counts : List ℤ) (zero : ℤ) (values : Handings) → handed_in walked ++ values ≡ handed_in (walked ++ (plain counts ++ (zero, values) ∷ []))
 handed_last walked counts zero values =
-    sym (handed_append walked (plain counts ++ (zero, values) ∷ []) ∙ ap (λ (vs : List ℕ). handed_in walked ++ vs)
-    (handed_append (plain counts) ((zero, values) ∷ []) ∙ ap (λ (vs : List ℕ). vs ++ (values ++ [])) (plain_handed counts) ∙ append-nil values))
+    sym (walked_append walked (plain counts ++ (zero, values) ∷ []) ∙ ap (λ (vs : Handings). handed_in walked ++ vs)
+    (walked_append (plain counts) ((zero, values) ∷ []) ∙ ap (λ (vs : Handings). vs ++ (values ++ [])) (plain_handed counts) ∙ append-nil values))
 
 -- some of the walk is behind
-pub record IsStrolling {key : SlotKey} {word : ℕ} (at : IsAtWalk key word) (pass : Pass) (key' : SlotKey) (pass' : Pass) (leads' : ℕ) (had had' : Had) : Type 0 where
+pub record IsStrolling {key : SlotKey} {word : ℕ} (at : IsAtWalk key word) (pass : Pass) (queue : ValueKeys) (had : Had) (key' : SlotKey) (pass' : Pass) (leads' : ℕ) (queue' : ValueKeys) (had' : Had) : Type 0 where
   pub goes_on : GoesOn key pass key' pass'
-  pub walked : List (ℤ × List ℕ)
+  pub walked : List (ℤ × Handings)
   pub kepts : List ℕ
-  pub has_had : HasHad (handed_in walked) kepts had had'
+  pub has_had : HasHad (values_handed (handed_in walked)) kepts had had'
   pub made : events_by pass' ≡ events_by pass ++ steps pass (number_of key) walked
   pub here : IsAtWalk key' leads'
   pub each : length walked + length here.walk ≡ length at.walk
-  pub same_queue : here.queue ≡ at.queue
+  pub same_queue : here.queue ≡ at.queue ++ values_put (handed_in walked)
+  pub queued : Queues queue (values_put (handed_in walked)) queue'
 
-abbrev pub none_strolled : (key : SlotKey) (word : ℕ) (at : IsAtWalk key word) (pass : Pass) (had : Had) → IsStrolling at pass key pass word had had
-none_strolled key word at pass had = record {
+abbrev pub none_strolled : (key : SlotKey) (word : ℕ) (at : IsAtWalk key word) (pass : Pass) (queue : ValueKeys) (had : Had) → IsStrolling at pass queue had key pass word queue had
+none_strolled key word at pass queue had = record {
   goes_on = (record { same = (refl, refl); its = (refl, refl); batch = refl; used = refl; active = refl; life = refl; seen = omega arith; grows = ([], append-nil pass.seen); alone = alone_none pass }, ([], append-nil (own_list key)));
   walked = [];
   kepts = [];
@@ -112,10 +111,11 @@ none_strolled key word at pass had = record {
   made = sym (append-nil (events_by pass));
   here = at;
   each = omega arith;
-  same_queue = refl;
+  same_queue = sym (append-nil at.queue);
+  queued = queues_none queue;
 }
 
-module _ (key0 : SlotKey) (word : ℕ) (at : IsAtWalk key0 word) (pass0 : Pass) (key : SlotKey) (pass : Pass) (leads : ℕ) (had0 had : Had) (r : IsStrolling at pass0 key pass leads had0 had) (key1 : SlotKey) (pass1 : Pass) (values : ValueKeys) where
+module _ (key0 : SlotKey) (word : ℕ) (at : IsAtWalk key0 word) (pass0 : Pass) (queue0 : ValueKeys) (had0 : Had) (key : SlotKey) (pass : Pass) (leads : ℕ) (queue : ValueKeys) (had : Had) (r : IsStrolling at pass0 queue0 had0 key pass leads queue had) (key1 : SlotKey) (pass1 : Pass) (values : ValueKeys) where
   abbrev s : ℕ
   s = number_of key0
 
@@ -126,20 +126,21 @@ module _ (key0 : SlotKey) (word : ℕ) (at : IsAtWalk key0 word) (pass0 : Pass) 
   goes counts same its = same_countings pass0 pass same (number_of key) counts ∙ ap (λ (k : ℕ). countings pass0 k counts) its
 
   -- the walk is over
-  pub strolled : WalksTo r.here pass key1 pass1 values Over → WalksAll at pass0 key1 pass1 had0 had
+  pub strolled : WalksTo r.here pass key1 pass1 values Over → WalksAll at pass0 queue0 had0 key1 pass1 queue had
   strolled w =
       let ends : Ends r.here w.held pass key1 pass1 values = w.ends_so in
       record {
         goes_on = goes_twice key0 key key1 pass0 pass pass1 r.goes_on w.goes_on;
         walked = r.walked ++ plain w.held;
         kepts = r.kepts;
-        has_had = subst (λ (vs : List ℕ). HasHad vs r.kepts had0 had) (handed_plain r.walked w.held) r.has_had;
+        has_had = subst (λ (vs : Handings). HasHad (values_handed vs) r.kepts had0 had) (handed_plain r.walked w.held) r.has_had;
         each = length-append r.walked (plain w.held) ∙ ap (λ (n : ℕ). length r.walked + n) (plain_many w.held ∙ ends.each) ∙ r.each;
         made = ends.made ∙ ap (λ (log : List (Deed × Answer)). log ++ countings pass (number_of key) w.held) r.made
             ∙ append_assoc (events_by pass0) behind (countings pass (number_of key) w.held)
             ∙ ap (λ (log : List (Deed × Answer)). events_by pass0 ++ log)
             (ap (λ (log : List (Deed × Answer)). behind ++ log) (goes w.held r.goes_on.0.same r.goes_on.0.its.1 ∙ sym (plain_steps pass0 s w.held)) ∙ sym (steps_append pass0 s r.walked (plain w.held)));
-        over = ends.over ∙ ap (λ (q : List ℕ). Some (record { place = Rest [] []; queue = q })) r.same_queue;
+        over = ends.over ∙ ap (λ (q : List ℕ). Some (record { place = Rest [] []; queue = q })) (r.same_queue ∙ ap (λ (vs : Handings). at.queue ++ values_put vs) (handed_plain r.walked w.held));
+        queued = subst (λ (vs : Handings). Queues queue0 (values_put vs) queue) (handed_plain r.walked w.held) r.queued;
       }
 
   -- or a batch was given up, and is handed
@@ -150,16 +151,18 @@ module _ (key0 : SlotKey) (word : ℕ) (at : IsAtWalk key0 word) (pass0 : Pass) 
     abbrev pub given_now : IsGiven key1 pass1 values front
     given_now = stop.gives
 
-    module _ (key2 : SlotKey) (pass2 : Pass) (values2 : ValueKeys) (had2 : Had) (handed : HandsAll given_now key2 pass2 values2) (more : HasHad (values_of values) (kepts_of values) had had2) where
-      pub handed_on : IsStrolling at pass0 key2 pass2 rest had0 had2
+    module _ (key2 : SlotKey) (pass2 : Pass) (values2 queue2 : ValueKeys) (had2 : Had) (handed : HandsAll given_now queue key2 pass2 values2 queue2) (more : HasHad (values_of values) (kepts_of values) had had2) where
+      pub handed_on : IsStrolling at pass0 queue0 had0 key2 pass2 rest queue2 had2
       handed_on =
-          let one = goes_twice key0 key key1 pass0 pass pass1 r.goes_on w.goes_on in let vs = values_of values in
+          let one = goes_twice key0 key key1 pass0 pass pass1 r.goes_on w.goes_on in let vs = handed.handed in
           record {
             goes_on = goes_twice key0 key1 key2 pass0 pass1 pass2 one handed.goes_on;
             walked = r.walked ++ (plain w.held ++ (stop.zero, vs) ∷ []);
             kepts = r.kepts ++ kepts_of values;
-            has_had = subst (λ (us : List ℕ). HasHad us (r.kepts ++ kepts_of values) had0 had2) (handed_last r.walked w.held stop.zero vs)
-                (had_more (handed_in r.walked) vs r.kepts (kepts_of values) had0 had had2 r.has_had more);
+            has_had = subst (λ (us : List ℕ). HasHad us (r.kepts ++ kepts_of values) had0 had2)
+                (ap (λ (us : List ℕ). values_handed (handed_in r.walked) ++ us) (sym handed.which) ∙ (sym (handed_append (handed_in r.walked) vs) ∙ ap values_handed (handed_last r.walked w.held stop.zero vs)))
+                (had_more (values_handed (handed_in r.walked)) (values_of values) r.kepts (kepts_of values) had0 had had2 r.has_had more);
+            queued = subst (λ (us : Handings). Queues queue0 (values_put us) queue2) (handed_last r.walked w.held stop.zero vs) (queues_more queue0 queue queue2 (handed_in r.walked) vs r.queued handed.queued);
             made = handed.made
                 ∙ ap (λ (log : List (Deed × Answer)). log ++ hands pass1 (number_of key1) vs) (stop.made ∙ ap (λ (log : List (Deed × Answer)). log ++ countings pass (number_of key) (w.held ++ stop.zero ∷ [])) r.made
                 ∙ ap (λ (log : List (Deed × Answer)). (events_by pass0 ++ behind) ++ log) (goes (w.held ++ stop.zero ∷ []) r.goes_on.0.same r.goes_on.0.its.1))
@@ -171,7 +174,7 @@ module _ (key0 : SlotKey) (word : ℕ) (at : IsAtWalk key0 word) (pass0 : Pass) 
                 ∙ ap (λ (log : List (Deed × Answer)). events_by pass0 ++ log) (sym (steps_append pass0 s r.walked (plain w.held ++ (stop.zero, vs) ∷ [])));
             here = record {
               walk = given_now.walk;
-              queue = given_now.queue;
+              queue = given_now.queue ++ values_put vs;
               walking = handed.walks_on;
               leads = stop.leads
                   ∙ word_stays key1 key2 pass1 0 given_now.walk given_now.queue book knows handed.goes_on.0.its.0 handed.goes_on.0.its.1 handed.goes_on.1
@@ -181,7 +184,9 @@ module _ (key0 : SlotKey) (word : ℕ) (at : IsAtWalk key0 word) (pass0 : Pass) 
                 let a = length-append r.walked (plain w.held ++ (stop.zero, vs) ∷ []) in let b = length_push (plain w.held) (stop.zero, vs) in let c = plain_many w.held in let d = stop.each in
                 let e = length_push w.held stop.zero in let f = ap (λ (bs : List ℕ). length bs) stop.walked ∙ length-append stop.done given_now.walk in let g = r.each in
                 omega (arith, a, b, c, d, e, f, g);
-            same_queue = stop.same_queue ∙ r.same_queue;
+            same_queue = ap (λ (q : List ℕ). q ++ values_put vs) (stop.same_queue ∙ r.same_queue)
+                ∙ (append_assoc at.queue (values_put (handed_in r.walked)) (values_put vs)
+                ∙ ap (λ (us : List ℕ). at.queue ++ us) (sym (put_append (handed_in r.walked) vs) ∙ ap values_put (handed_last r.walked w.held stop.zero vs)));
           }
 
       -- there is less to walk

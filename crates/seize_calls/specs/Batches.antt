@@ -10,18 +10,19 @@
 --     IsAsBefore batch batch'  the keys and the first number are as they were, and what is noted
 --     IsPushed keys v kept keys'    one value more comes last, of which this is kept
 --     LeadsFrom keys number keys'   they are the same keys, and the last one leads on to the block of this number
---     AreNamed values pass     they were named, as the pass has seen
+--     keys_book keys           the book of the keys
+--     IsNew value              its value was never named, all that lay in its block before were reclaimed, and something is lent with
+--                              it, as AreNew says of several
 use Rattle.std.specs.Prelude.{◌≡◌, ℕ, true, map, List, [], ◌∷◌, ◌++◌}
-use Rattle.std.specs.List.{Contains}
 use base.Stored.{Gv, gnil, gnum, gcons}
-use Rattle.seize_machine.specs.Machine.State.{has}
 use Rattle.seize_book.specs.Blocks.{block_of}
 use Rattle.seize_book.specs.Entry.{Entry}
-use Rattle.seize_book.specs.Homesteads.{state_seen}
 use Rattle.seize_book.specs.Ledger.{Held}
 use Rattle.seize_book.specs.Linked.{are_joined}
-use Rattle.seize_book.specs.Values.{book_in, values_of}
-use Rattle.seize_book.specs.declared.book.pass.Pass.{Pass}
+use Rattle.seize_book.specs.Others.{book_of}
+use Rattle.seize_book.specs.Tokens.{Name}
+use Rattle.seize_book.specs.Values.{AllNew, book_in, values_of}
+use Rattle.seize_book.specs.declared.book.value_key.ValueKey.{ValueKey}
 use Rattle.seize_book.specs.declared.book.value_keys.ValueKeys.{ValueKeys}
 use Rattle.seize_calls.specs.declared.batch.Batch.{Batch}
 
@@ -84,5 +85,8 @@ LeadsFrom keys number keys' =
     (book_in keys' ≡ book_in keys) × (values_of keys' ≡ values_of keys) × (kepts_of keys' ≡ kepts_of keys)
     × ((h : Held Entry) → block_of h.label ≡ number → are_joined (book_in keys').store keys'.keys.held (h ∷ []) ≡ true)
 
-abbrev pub AreNamed : List ℕ → Pass → Type 0
-AreNamed values pass = (v : ℕ) → Contains values v → has v (state_seen pass).named ≡ true
+abbrev pub keys_book : ValueKeys → Name
+keys_book keys = book_in keys
+
+abbrev pub IsNew : ValueKey → Type 0
+IsNew value = AllNew (book_of value) value.keys.held

@@ -1,10 +1,19 @@
--- What reclaimers had of the values that slots' calls handed to them.
+-- What reclaimers had of the values that slots' calls handed to them, and what they put.
 --     Had                       what was had: of each value the word that was kept of it, and its code, the oldest first
 --     HasHad values kepts had had'     these values were had, in order, beside what was had before: each with the word that was kept of it,
 --                               and with a code that is lent with it
+--     Handings                  values that were handed, each with those that its reclaimer put
+--     values_handed handed, values_put handed     those that were handed, in order;  all that were put, in order
+--     Queues queue puts queue'  these came to the queue, last
+--     TakesFirst queue v kept queue'     v was the first of the queue, of which this is kept, and the others are left
+--     IsServed keys name        the keys are of this book, and each of their values may be put by a reclaimer (AreNew)
 use Rattle.std.specs.Prelude.{◌≡◌, ℕ, List, [], ◌∷◌, ◌++◌}
 use base.Stored.{Gv}
+use Rattle.seize_book.specs.Tokens.{Name}
+use Rattle.seize_book.specs.Values.{AreNew, book_in, values_of}
+use Rattle.seize_book.specs.declared.book.value_keys.ValueKeys.{ValueKeys}
 use Rattle.seize_words.specs.Chunks.{IsLentAs}
+use Rattle.seize_calls.specs.Batches.{kepts_of}
 
 abbrev pub Had : Type 0
 Had = List (ℕ × Gv)
@@ -18,3 +27,24 @@ pub record HasHad (values kepts : List ℕ) (had had' : Had) : Type 0 where
   pub more : Had
   pub theirs : AreTheirs values kepts more
   pub after : had' ≡ had ++ more
+
+abbrev pub Handings : Type 0
+Handings = List (ℕ × List ℕ)
+
+abbrev pub values_handed : Handings → List ℕ
+values_handed [] = []
+values_handed (one ∷ handed) = one.0 ∷ values_handed handed
+
+abbrev pub values_put : Handings → List ℕ
+values_put [] = []
+values_put (one ∷ handed) = one.1 ++ values_put handed
+
+abbrev pub Queues : ValueKeys → List ℕ → ValueKeys → Type 0
+Queues queue puts queue' = (book_in queue' ≡ book_in queue) × (values_of queue' ≡ values_of queue ++ puts)
+
+abbrev pub TakesFirst : ValueKeys → ℕ → ℕ → ValueKeys → Type 0
+TakesFirst queue v kept queue' =
+    (book_in queue' ≡ book_in queue) × (values_of queue ≡ v ∷ values_of queue') × (kepts_of queue ≡ kept ∷ kepts_of queue')
+
+abbrev pub IsServed : ValueKeys → Name → Type 0
+IsServed keys name = (book_in keys ≡ name) × AreNew keys

@@ -2,9 +2,11 @@ pub mod Alone
 pub mod Attempts
 pub mod Batches
 pub mod Calls
+pub mod Furthers
 pub mod Handing
 pub mod Inserts
 pub mod Marks
 pub mod Numbered
 pub mod Rounds
+pub mod Settling
 pub mod Walking

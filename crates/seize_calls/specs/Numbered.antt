@@ -1,7 +1,9 @@
 -- What a slot's holder knows of the values of a batch by numbers.
 --     starts_at n values, ends_at n values     n is the number of the first one's block, or of the last one's, where there are some
 --     counted n values         there are so many of them, or more than can be said
-use Rattle.std.specs.Prelude.{ℕ, Bool, true, ◌==◌, ◌-◌, ◌^◌, min, List, [], ◌∷◌, length}
+--     word_of_first values     the word that leads to the first one's block: its number and one more, or 0 where there is none
+--     are_none values          whether there are none
+use Rattle.std.specs.Prelude.{ℕ, suc, Bool, true, false, ◌==◌, ◌-◌, ◌^◌, min, List, [], ◌∷◌, length}
 use Rattle.seize_book.specs.Blocks.{block_of}
 
 abbrev pub starts_at : ℕ → List ℕ → Bool
@@ -15,3 +17,11 @@ ends_at n (v ∷ w ∷ values) = ends_at n (w ∷ values)
 
 abbrev pub counted : ℕ → List ℕ → Bool
 counted n values = n == min (length values) (2 ^ 64 - 1)
+
+abbrev pub word_of_first : List ℕ → ℕ
+word_of_first [] = 0
+word_of_first (v ∷ values) = suc (block_of v)
+
+abbrev pub are_none : List ℕ → Bool
+are_none [] = true
+are_none (v ∷ values) = false

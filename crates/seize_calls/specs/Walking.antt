@@ -1,6 +1,6 @@
 -- How a call walks what came out of its own head, and hands what is given up to it.
---     countings pass s counts    slot s counted batches down with the pass, and these were the counts then;  hands pass s vs     it handed
---                                these values to their reclaimers, which put none
+--     countings pass s counts    slot s counted batches down with the pass, and these were the counts then;  hands pass s handed     it
+--                                handed these values to their reclaimers, each of which put those beside it
 --     GoesOn key pass key' pass'     as Keeps, and the key knows all that it knew
 --     IsAtWalk key word          the slot's call has nothing to hand, and walks some batches, to which this word leads;  walk_at   these
 --     IsGiven key pass values front     these values were given up to the slot's call, which is to hand them next: their keys know all
@@ -8,12 +8,14 @@
 --                                of the first one's block; each leads on to the next, and the last to none
 --     WalksTo at pass key' pass' values' ends    it counted batches down: all of the walk, and none was given up; or the last was, and it
 --                                has still to walk the others
---     HandsOne key pass v key' pass'     it handed this value, and nothing else was made; it has still to hand what came after it
---     HandsAll given key' pass' values'     it handed them all, in order, and nothing else was made
+--     HandsOne key pass v queue key' pass' queue'     it handed this value, and nothing else was made; it has still to hand what came after
+--                                it, and what the reclaimer put came to its queue, last
+--     HandsAll given queue key' pass' values' queue'     it handed them all, in order, and nothing else was made; what their reclaimers put
+--                                came to its queue
 --     steps pass s walked        it counted batches down, which came to these counts, and after each it handed these values
---     handed_in walked           the values that it handed
---     WalksAll at pass key' pass' had had'     it counted down each batch of the walk once, in order, and after each it handed what was
---                                given up, which the reclaimer had (HasHad)
+--     handed_in walked           the values that it handed, each with those that its reclaimer put
+--     WalksAll at pass queue had key' pass' queue' had'     it counted down each batch of the walk once, in order, and after each it handed
+--                                what was given up, which the reclaimer had (HasHad); what was put came to its queue
 use Rattle.std.specs.Prelude.{◌≡◌, ℕ, ℤ, true, false, List, [], ◌∷◌, ◌++◌, length, Some}
 use mathlib.Core.List.{IsPrefix}
 use Rattle.seize_machine.specs.Machine.Event.{Hand, SubCount}
@@ -32,7 +34,7 @@ use Rattle.seize_words.specs.Walks.{word_for}
 use Rattle.seize_book.specs.declared.book.pass.Pass.{Pass}
 use Rattle.seize_book.specs.declared.book.slot_key.SlotKey.{SlotKey}
 use Rattle.seize_book.specs.declared.book.value_keys.ValueKeys.{ValueKeys}
-use Rattle.seize_calls.specs.Handing.{Had, HasHad}
+use Rattle.seize_calls.specs.Handing.{Had, Handings, HasHad, Queues, values_handed, values_put}
 use Rattle.seize_calls.specs.Inserts.{Keeps}
 use Rattle.seize_calls.specs.declared.walking.Walked.{Walked}
 use Rattle.seize_calls.specs.declared.walking.Walked.TheVariants.{GivesUp, Over}
@@ -44,9 +46,12 @@ abbrev pub countings : Pass → ℕ → List ℤ → List (Deed × Answer)
 countings pass s [] = []
 countings pass s (count ∷ counts) = counting pass s count ∷ countings pass s counts
 
-abbrev pub hands : Pass → ℕ → List ℕ → List (Deed × Answer)
+abbrev pub handing : Pass → ℕ → ℕ × List ℕ → Deed × Answer
+handing pass s one = (private pass (Hand s one.1), Handed one.0)
+
+abbrev pub hands : Pass → ℕ → Handings → List (Deed × Answer)
 hands pass s [] = []
-hands pass s (v ∷ vs) = (private pass (Hand s []), Handed v) ∷ hands pass s vs
+hands pass s (one ∷ handed) = handing pass s one ∷ hands pass s handed
 
 abbrev pub GoesOn : SlotKey → Pass → SlotKey → Pass → Type 0
 GoesOn key pass key' pass' = Keeps key pass key' pass' × IsPrefix (own_list key) (own_list key')
@@ -108,33 +113,40 @@ pub record WalksTo {key : SlotKey} {word : ℕ} (at : IsAtWalk key word) (pass :
 
 -- Values are handed.
 
-pub record HandsOne (key : SlotKey) (pass : Pass) (v : ℕ) (key' : SlotKey) (pass' : Pass) : Type 0 where
+pub record HandsOne (key : SlotKey) (pass : Pass) (v : ℕ) (queue : ValueKeys) (key' : SlotKey) (pass' : Pass)
+    (queue' : ValueKeys) : Type 0 where
   pub goes_on : GoesOn key pass key' pass'
-  pub made : events_by pass' ≡ events_by pass ++ hands pass (number_of key) (v ∷ [])
-  pub stands : (given walk queue : List ℕ) → (slot_of key).call ≡ Some (record { place = Rest (v ∷ given) walk; queue = queue })
-      → (slot_of key').call ≡ Some (record { place = Rest given walk; queue = queue })
+  pub puts : List ℕ
+  pub made : events_by pass' ≡ events_by pass ++ hands pass (number_of key) ((v, puts) ∷ [])
+  pub stands : (given walk waits : List ℕ) → (slot_of key).call ≡ Some (record { place = Rest (v ∷ given) walk; queue = waits })
+      → (slot_of key').call ≡ Some (record { place = Rest given walk; queue = waits ++ puts })
+  pub queued : Queues queue puts queue'
 
-pub record HandsAll {key : SlotKey} {pass : Pass} {values : ValueKeys} {front : ℕ} (given : IsGiven key pass values front) (key' : SlotKey)
-    (pass' : Pass) (values' : ValueKeys) : Type 0 where
+pub record HandsAll {key : SlotKey} {pass : Pass} {values : ValueKeys} {front : ℕ} (given : IsGiven key pass values front)
+    (queue : ValueKeys) (key' : SlotKey) (pass' : Pass) (values' queue' : ValueKeys) : Type 0 where
   pub goes_on : GoesOn key pass key' pass'
-  pub made : events_by pass' ≡ events_by pass ++ hands pass (number_of key) (values_of values)
-  pub walks_on : (slot_of key').call ≡ Some (record { place = Rest [] given.walk; queue = given.queue })
+  pub handed : Handings
+  pub which : values_handed handed ≡ values_of values
+  pub made : events_by pass' ≡ events_by pass ++ hands pass (number_of key) handed
+  pub walks_on : (slot_of key').call ≡ Some (record { place = Rest [] given.walk; queue = given.queue ++ values_put handed })
   pub none : IsEmpty values' pass'
+  pub queued : Queues queue (values_put handed) queue'
 
-abbrev pub steps : Pass → ℕ → List (ℤ × List ℕ) → List (Deed × Answer)
+abbrev pub steps : Pass → ℕ → List (ℤ × Handings) → List (Deed × Answer)
 steps pass s [] = []
 steps pass s (step ∷ walked) = (counting pass s step.0 ∷ hands pass s step.1) ++ steps pass s walked
 
-abbrev pub handed_in : List (ℤ × List ℕ) → List ℕ
+abbrev pub handed_in : List (ℤ × Handings) → Handings
 handed_in [] = []
 handed_in (step ∷ walked) = step.1 ++ handed_in walked
 
-pub record WalksAll {key : SlotKey} {word : ℕ} (at : IsAtWalk key word) (pass : Pass) (key' : SlotKey) (pass' : Pass)
-    (had had' : Had) : Type 0 where
+pub record WalksAll {key : SlotKey} {word : ℕ} (at : IsAtWalk key word) (pass : Pass) (queue : ValueKeys) (had : Had) (key' : SlotKey)
+    (pass' : Pass) (queue' : ValueKeys) (had' : Had) : Type 0 where
   pub goes_on : GoesOn key pass key' pass'
-  pub walked : List (ℤ × List ℕ)
+  pub walked : List (ℤ × Handings)
   pub kepts : List ℕ
-  pub has_had : HasHad (handed_in walked) kepts had had'
+  pub has_had : HasHad (values_handed (handed_in walked)) kepts had had'
   pub each : length walked ≡ length at.walk
   pub made : events_by pass' ≡ events_by pass ++ steps pass (number_of key) walked
-  pub over : (slot_of key').call ≡ Some (record { place = Rest [] []; queue = at.queue })
+  pub over : (slot_of key').call ≡ Some (record { place = Rest [] []; queue = at.queue ++ values_put (handed_in walked) })
+  pub queued : Queues queue (values_put (handed_in walked)) queue'

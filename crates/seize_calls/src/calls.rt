@@ -1,9 +1,9 @@
 //! Whole calls of a slot, each from its begin to its return. They make their own events with the pass, in the order of the scheme, beside
-//! whatever others add.
+//! whatever others add. What reclaimers put meanwhile is retired in the same call, when it has nothing else to do.
 ghost use Rattle.std.specs.Prelude.{◌≡◌, false, true};
 ghost use Rattle.seize_machine.specs.declared.machine.event.Job.TheVariants.{Leave, Refresh};
 ghost use Rattle.seize_machine.specs.Machine.Event.{SwapOut};
-ghost use Rattle.seize_calls.specs.Calls.{Flushes, HasBegun, IsInside, Leaves, Marking, RetiresOne, Settles};
+ghost use Rattle.seize_calls.specs.Calls.{Flushes, HasBegun, IsInside, Leaves, RetiresOne};
 ghost use Rattle.seize_calls.specs.Batches.{keys_in};
 ghost use Rattle.seize_book.specs.Blocks.{block_of};
 ghost use Rattle.seize_book.specs.Adding.{private};
@@ -16,9 +16,11 @@ ghost use Rattle.seize_words.specs.Reserved.{slots_book};
 ghost use Rattle.seize_book.specs.Slots.{IsOf, number_of, size_of, slot_of};
 ghost use Rattle.seize_words.specs.Walks.{Knows};
 
-use crate::attempt::{Attempted, attempt};
 use crate::batch::Batch;
-use crate::handing::{Reclaim, hand_all};
+use crate::draining::drain;
+use crate::further::Further;
+use crate::handing::Reclaim;
+use crate::settling::{put, settle};
 use crate::walking::walk_all;
 use seize_words::activation::Activation;
 use seize_words::blocks::Blocks;
@@ -27,51 +29,16 @@ use seize_words::reservation::Head;
 use seize_words::slots::Slots;
 use std::sync::Wait;
 
-// Attempts the batch, hands its values if they are given up, and returns. It says whether the batch was retired: if it was, it has no
-// values any more.
-fn settle<T: Drop, R: Reclaim<T>>(
-    slots: &Slots,
-    blocks: &Blocks<T>,
-    batch: &mut Batch,
-    key: &mut SlotKey,
-    reclaimer: &mut R,
-    pass: &mut Pass,
-    rt: &impl Wait,
-) -> bool
-    requires book { IsOf key.old pass.old × (slots_book slots.now ≡ pass.old.name) × (book_in blocks.now ≡ pass.old.name) }
-    requires knows { Knows key.old pass.old }
-    requires marking { Marking key.old }
-    requires batch { AreOfBook (keys_in batch.old) pass.old × (values_of (keys_in batch.old) ≡ (slot_of key.old).batch) }
-    ensures knows { Knows key.new pass.new }
-    ensures settles { let had = R.had reclaimer.old in let had' = R.had reclaimer.new in
-        Settles key.old pass.old (keys_in batch.old) had key.new pass.new (keys_in batch.new) had' result }
-{
-    match attempt(slots, blocks, batch, key, pass, rt) {
-        Attempted::Stays => {
-            key.finish(pass);
-            false
-        }
-        Attempted::Waits => {
-            key.finish(pass);
-            true
-        }
-        Attempted::GivenUp => {
-            hand_all(blocks, batch.first, &mut batch.values, reclaimer, key, pass);
-            batch.len = 0;
-            key.finish(pass);
-            true
-        }
-    }
-}
-
-/// Attempts the slot's batch at any length, which is this one. It says whether the batch was retired: if it was, it has no values any more.
+/// Attempts the slot's batch at any length, which is this one. It says whether the batch was retired with the values that it had.
 ///
-/// It takes no memory, but for what the handing does. An insertion is tried again as often as others change the head between a look at it
-/// and the try.
+/// What reclaimers put meanwhile is retired then, one after the other: the batch may have some of these values afterwards. `size` is the
+/// size of the book, as with `retire`. It takes no memory, but for what the handing does. An insertion is tried again as often as others
+/// change the head between a look at it and the try.
 pub fn flush<T: Drop, R: Reclaim<T>>(
     slots: &Slots,
     blocks: &Blocks<T>,
     batch: &mut Batch,
+    size: usize,
     key: &mut SlotKey,
     reclaimer: &mut R,
     pass: &mut Pass,
@@ -79,25 +46,34 @@ pub fn flush<T: Drop, R: Reclaim<T>>(
 ) -> bool
     requires book { IsOf key.old pass.old × (slots_book slots.now ≡ pass.old.name) × (book_in blocks.now ≡ pass.old.name) }
     requires inside { IsInside key.old }
+    requires size { size ≡ size_of key.old }
     requires batch { AreOfBook (keys_in batch.old) pass.old × (values_of (keys_in batch.old) ≡ (slot_of key.old).batch) }
+    requires serves { R.serves reclaimer.old (book_in blocks.now) }
     ensures knows { Knows key.new pass.new }
+    ensures serves { R.serves reclaimer.new (book_in blocks.now) }
     ensures flushes { let had = R.had reclaimer.old in let had' = R.had reclaimer.new in
         Flushes key.old pass.old (keys_in batch.old) had key.new pass.new (keys_in batch.new) had' result }
 {
+    let mut queue = Further::new(pass);
     key.begin_flush(pass);
     if batch.len == 0 {
         key.finish(pass);
         return false;
     }
-    settle(slots, blocks, batch, key, reclaimer, pass, rt)
+    let retired = settle(slots, blocks, batch, &mut queue, key, reclaimer, pass, rt);
+    drain(
+        slots, blocks, batch, size, &mut queue, key, reclaimer, pass, rt,
+    );
+    key.finish(pass);
+    retired
 }
 
 /// Retires the value of this key, which lies in the block of this number: it joins the slot's batch, which is this one, and comes last.
 /// What its owner keeps of it is noted of its block. Where the batch has `size` values or more, which is the size of the book, it is
-/// attempted. It says whether the batch was retired: if it was, it has no values any more.
+/// attempted. It says whether the batch was retired, with the values that it had then.
 ///
-/// It takes no memory, but for what the handing does. An insertion is tried again as often as others change the head between a look at it
-/// and the try.
+/// What reclaimers put meanwhile is retired then, one after the other: the batch may have some of these values afterwards. It takes no
+/// memory, but for what the handing does. An insertion is tried again as often as others change the head between a look at it and the try.
 pub fn retire<T: Drop, R: Reclaim<T>>(
     slots: &Slots,
     blocks: &Blocks<T>,
@@ -116,67 +92,103 @@ pub fn retire<T: Drop, R: Reclaim<T>>(
     requires value { (book_of value ≡ pass.old.name) × MayRetire value × (block_of (value_of value) ≡ number) }
     requires size { size ≡ size_of key.old }
     requires batch { AreOfBook (keys_in batch.old) pass.old × (values_of (keys_in batch.old) ≡ (slot_of key.old).batch) }
+    requires serves { R.serves reclaimer.old (book_in blocks.now) }
     ensures knows { Knows key.new pass.new }
+    ensures serves { R.serves reclaimer.new (book_in blocks.now) }
     ensures retires { let values = keys_in batch.old in let had = R.had reclaimer.old in let had' = R.had reclaimer.new in
         RetiresOne key.old pass.old (value_of value) kept values had key.new pass.new (keys_in batch.new) had' result }
 {
+    let mut queue = Further::new(pass);
     let mut value = value;
     key.begin_retire(&mut value, pass);
-    key.put(pass);
-    batch.push(blocks, number, kept, value);
-    if batch.len < size {
-        key.finish(pass);
-        return false;
-    }
-    settle(slots, blocks, batch, key, reclaimer, pass, rt)
+    let retired = put(
+        slots, blocks, batch, size, number, kept, value, &mut queue, key, reclaimer, pass, rt,
+    );
+    drain(
+        slots, blocks, batch, size, &mut queue, key, reclaimer, pass, rt,
+    );
+    key.finish(pass);
+    retired
 }
 
-/// The slot leaves, by its own head. It counts down what waited for it, and hands what is given up.
+/// The slot leaves, by its own head. It counts down what waited for it, and hands what is given up. What reclaimers put meanwhile joins the
+/// slot's batch then, which is this one, as with `retire`.
 ///
-/// It takes no memory and waits for nobody, but for what the handing does.
+/// It takes no memory, but for what the handing does. An insertion is tried again as often as others change the head between a look at it
+/// and the try.
 pub fn leave<T: Drop, R: Reclaim<T>>(
+    slots: &Slots,
     head: &Head,
     blocks: &Blocks<T>,
+    batch: &mut Batch,
+    size: usize,
     activation: Activation,
     key: &mut SlotKey,
     reclaimer: &mut R,
     pass: &mut Pass,
+    rt: &impl Wait,
 )
-    requires book { IsOf key.old pass.old × IsOfBook head.now pass.old × IsOwn head.now key.old × (book_in blocks.now ≡ pass.old.name) }
+    requires words { (slots_book slots.now ≡ pass.old.name) × (book_in blocks.now ≡ pass.old.name) }
+    requires book { IsOf key.old pass.old × IsOfBook head.now pass.old × IsOwn head.now key.old }
     requires inside { IsInside key.old }
     requires last { IsLastOf key.old activation }
+    requires size { size ≡ size_of key.old }
+    requires batch { AreOfBook (keys_in batch.old) pass.old × (values_of (keys_in batch.old) ≡ (slot_of key.old).batch) }
+    requires serves { R.serves reclaimer.old (book_in blocks.now) }
     ensures knows { Knows key.new pass.new }
-    ensures leaves { let swap = private pass.old (SwapOut (number_of key.old)) in
-        Leaves Leave false swap key.old pass.old key.new pass.new (R.had reclaimer.old) (R.had reclaimer.new) }
+    ensures serves { R.serves reclaimer.new (book_in blocks.now) }
+    ensures leaves { let swap = private pass.old (SwapOut (number_of key.old)) in let had = R.had reclaimer.old in
+        let had' = R.had reclaimer.new in
+        Leaves Leave false swap key.old pass.old (keys_in batch.old) had key.new pass.new (keys_in batch.new) had' }
 {
+    let mut queue = Further::new(pass);
     key.begin_leave(pass);
     let word = head.leave(activation, key, pass);
-    walk_all(blocks, word, key, reclaimer, pass);
+    walk_all(blocks, word, key, reclaimer, &mut queue, pass);
+    drain(
+        slots, blocks, batch, size, &mut queue, key, reclaimer, pass, rt,
+    );
     key.finish(pass);
 }
 
-/// The slot refreshes, by its own head, and stays active. It counts down what waited for it, and hands what is given up.
+/// The slot refreshes, by its own head, and stays active. It counts down what waited for it, and hands what is given up. What reclaimers
+/// put meanwhile joins the slot's batch then, which is this one, as with `retire`.
 ///
-/// It takes no memory and waits for nobody, but for what the handing does.
+/// It takes no memory, but for what the handing does. An insertion is tried again as often as others change the head between a look at it
+/// and the try.
 pub fn refresh<T: Drop, R: Reclaim<T>>(
+    slots: &Slots,
     head: &Head,
     blocks: &Blocks<T>,
+    batch: &mut Batch,
+    size: usize,
     activation: &mut Activation,
     key: &mut SlotKey,
     reclaimer: &mut R,
     pass: &mut Pass,
+    rt: &impl Wait,
 )
-    requires book { IsOf key.old pass.old × IsOfBook head.now pass.old × IsOwn head.now key.old × (book_in blocks.now ≡ pass.old.name) }
+    requires words { (slots_book slots.now ≡ pass.old.name) × (book_in blocks.now ≡ pass.old.name) }
+    requires book { IsOf key.old pass.old × IsOfBook head.now pass.old × IsOwn head.now key.old }
     requires inside { IsInside key.old }
     requires last { IsLastOf key.old activation.old }
+    requires size { size ≡ size_of key.old }
+    requires batch { AreOfBook (keys_in batch.old) pass.old × (values_of (keys_in batch.old) ≡ (slot_of key.old).batch) }
+    requires serves { R.serves reclaimer.old (book_in blocks.now) }
     ensures knows { Knows key.new pass.new }
     ensures last { IsLastOf key.new activation.new }
     ensures begun { HasBegun activation.new pass.new }
-    ensures leaves { let swap = beginning pass.old activation.new.life (SwapOut (number_of key.old)) in
-        Leaves Refresh true swap key.old pass.old key.new pass.new (R.had reclaimer.old) (R.had reclaimer.new) }
+    ensures serves { R.serves reclaimer.new (book_in blocks.now) }
+    ensures leaves { let swap = beginning pass.old activation.new.life (SwapOut (number_of key.old)) in let had = R.had reclaimer.old in
+        let had' = R.had reclaimer.new in
+        Leaves Refresh true swap key.old pass.old (keys_in batch.old) had key.new pass.new (keys_in batch.new) had' }
 {
+    let mut queue = Further::new(pass);
     key.begin_refresh(pass);
     let word = head.refresh(activation, key, pass);
-    walk_all(blocks, word, key, reclaimer, pass);
+    walk_all(blocks, word, key, reclaimer, &mut queue, pass);
+    drain(
+        slots, blocks, batch, size, &mut queue, key, reclaimer, pass, rt,
+    );
     key.finish(pass);
 }

@@ -7,47 +7,63 @@ ghost use Rattle.seize_book.specs.Linked.{next_in};
 ghost use Rattle.seize_book.specs.Notes.{noted_in};
 ghost use Rattle.seize_book.specs.Others.{IsLast, IsValueOf, value_of};
 ghost use Rattle.seize_book.specs.Slots.{IsOf, hands_next, slot_of};
-ghost use Rattle.seize_book.specs.Values.{values_of};
+ghost use Rattle.seize_book.specs.Tokens.{Name};
+ghost use Rattle.seize_book.specs.Values.{AreOfBook, values_of};
 ghost use Rattle.seize_calls.specs.Batches.{kept_noted, kepts_of};
-ghost use Rattle.seize_calls.specs.Handing.{HasHad};
+ghost use Rattle.seize_calls.specs.Furthers.{further_in};
+ghost use Rattle.seize_calls.specs.Handing.{HasHad, IsServed};
 ghost use Rattle.seize_calls.specs.Walking.{HandsAll, HandsOne, IsGiven};
 ghost use Rattle.seize_words.specs.Chunks.{book_in};
 ghost use Rattle.seize_words.specs.Walks.{Knows};
 
+use crate::further::Further;
 use seize_words::blocks::Blocks;
 use seize_words::book::{Pass, SlotKey, ValueKey, ValueKeys};
 
-/// What becomes of values that nobody can see any more. It puts no further ones.
+/// What becomes of values that nobody can see any more.
 pub trait Reclaim<T> {
     /// What it had so far: of each value the word that was kept of it, and the value's code, the oldest first.
     ghost had: { Self → List (ℕ × Gv) };
 
-    /// Ends the value, or hands it on. The word is what was kept of it by whoever retired it.
-    fn reclaim(&mut self, kept: u64, value: T)
-        ensures { had self.new ≡ had self.old ++ (kept, T.row.coded.code value) ∷ [] };
+    /// It may be called for this book: what it holds to put is of that.
+    ghost serves: { Self → Name → Type 0 };
+
+    /// Ends the value, or hands it on. The word is what was kept of it by whoever retired it. What it puts (`Further::put`) the call
+    /// retires when it has nothing else to do, in the order in which it was put; the blocks are those of the book.
+    fn reclaim(&mut self, kept: u64, value: T, further: &mut Further, blocks: &Blocks<T>)
+        requires serves { serves self.old (book_in blocks.now) }
+        requires further { IsServed (further_in further.old) (book_in blocks.now) }
+        ensures had { had self.new ≡ had self.old ++ (kept, T.row.coded.code value) ∷ [] }
+        ensures serves { serves self.new (book_in blocks.now) }
+        ensures further { IsServed (further_in further.new) (book_in blocks.now) };
 }
 
 /// Hands the value of this block, which is what the slot's call is about to hand: the value goes to the reclaimer, with the word that is
-/// kept of it, and then the block goes back into its store. It gives the word that is noted of what comes next.
+/// kept of it, what that puts joins the call's queue, and then the block goes back into its store. It gives the word that is noted of what
+/// comes next.
 ///
-/// It takes no memory and waits for nobody, but for what the reclaimer does: two look-ups, a plain read, and one atomic swap.
+/// It takes no memory and waits for nobody, but for what the reclaimer does: three look-ups, plain reads and writes, and one atomic swap.
 pub fn hand_one<T: Drop, R: Reclaim<T>>(
     blocks: &Blocks<T>,
     number: u64,
     value: ValueKey,
     reclaimer: &mut R,
+    queue: &mut Further,
     key: &mut SlotKey,
     pass: &mut Pass,
 ) -> u64
     requires book { IsValueOf value pass.old × IsOf key.old pass.old × (book_in blocks.now ≡ pass.old.name) }
+    requires queue { AreOfBook (further_in queue.old) pass.old }
     requires knows { Knows key.old pass.old }
     requires soon { hands_next (slot_of key.old) ≡ Some (value_of value) }
     requires last { IsLast value }
     requires number { block_of (value_of value) ≡ number }
+    requires serves { R.serves reclaimer.old (book_in blocks.now) }
     ensures book { IsOf key.new pass.new }
     ensures knows { Knows key.new pass.new }
-    ensures handed { HandsOne key.old pass.old (value_of value) key.new pass.new }
+    ensures handed { HandsOne key.old pass.old (value_of value) (further_in queue.old) key.new pass.new (further_in queue.new) }
     ensures had { HasHad (value_of value ∷ []) (kept_noted (noted_in value) ∷ []) (R.had reclaimer.old) (R.had reclaimer.new) }
+    ensures serves { R.serves reclaimer.new (book_in blocks.now) }
     ensures next { result ≡ next_in (noted_in value) }
 {
     let mut value = value;
@@ -55,15 +71,18 @@ pub fn hand_one<T: Drop, R: Reclaim<T>>(
     let note = value.note(&header.note);
     let block = blocks.redeem(number, &mut value, key, pass);
     let (content, hollow) = block.take();
-    reclaimer.reclaim(note.kept, content);
-    key.hand(pass);
+    let mut further = Further::new(pass);
+    reclaimer.reclaim(note.kept, content, &mut further, blocks);
+    further.hand(key, pass);
+    queue.append(blocks, &mut further);
     value.settle(pass);
     blocks.lay_back(value, hollow);
     note.next
 }
 
 /// Hands all these values, which were given up to the slot's call, in their order: each goes to the reclaimer, with the word that is kept
-/// of it. The number is that of the first one's block, and what is noted of each block leads to the next one's. No keys are left.
+/// of it, and what that puts joins the call's queue. The number is that of the first one's block, and what is noted of each block leads to
+/// the next one's. No keys are left.
 ///
 /// It takes no memory and waits for nobody, but for what the reclaimer does: for each value, what `hand_one` does.
 pub fn hand_all<T: Drop, R: Reclaim<T>>(
@@ -71,20 +90,25 @@ pub fn hand_all<T: Drop, R: Reclaim<T>>(
     front: u64,
     values: &mut ValueKeys,
     reclaimer: &mut R,
+    queue: &mut Further,
     key: &mut SlotKey,
     pass: &mut Pass,
 )
     requires book { IsOf key.old pass.old × (book_in blocks.now ≡ pass.old.name) }
+    requires queue { AreOfBook (further_in queue.old) pass.old }
     requires knows { Knows key.old pass.old }
     requires given { IsGiven key.old pass.old values.old front }
+    requires serves { R.serves reclaimer.old (book_in blocks.now) }
     ensures knows { Knows key.new pass.new }
-    ensures handed { (given : IsGiven key.old pass.old values.old front) → HandsAll given key.new pass.new values.new }
+    ensures handed { (given : IsGiven key.old pass.old values.old front)
+        → HandsAll given (further_in queue.old) key.new pass.new values.new (further_in queue.new) }
     ensures had { HasHad (values_of values.old) (kepts_of values.old) (R.had reclaimer.old) (R.had reclaimer.new) }
+    ensures serves { R.serves reclaimer.new (book_in blocks.now) }
 {
     let mut number = front;
     loop {
         let value = values.next();
-        let next = hand_one(blocks, number, value, reclaimer, key, pass);
+        let next = hand_one(blocks, number, value, reclaimer, queue, key, pass);
         if next == 0 {
             return;
         }

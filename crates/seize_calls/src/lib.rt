@@ -8,8 +8,12 @@
 pub mod attempt;
 pub mod batch;
 pub mod calls;
+mod chain;
+pub mod draining;
+pub mod further;
 pub mod handing;
 pub mod inserting;
 pub mod marking;
 pub mod round;
+pub mod settling;
 pub mod walking;

@@ -4,9 +4,11 @@ ghost use Rattle.std.specs.Prelude.{◌≡◌};
 ghost use Rattle.seize_calls.specs.Walking.{IsAtWalk, WalksAll, WalksTo};
 ghost use Rattle.seize_words.specs.Chunks.{book_in};
 ghost use Rattle.seize_book.specs.Slots.{IsOf};
-ghost use Rattle.seize_book.specs.Values.{IsEmpty};
+ghost use Rattle.seize_book.specs.Values.{AreOfBook, IsEmpty};
+ghost use Rattle.seize_calls.specs.Furthers.{further_in};
 ghost use Rattle.seize_words.specs.Walks.{Knows};
 
+use crate::further::Further;
 use crate::handing::{Reclaim, hand_all};
 use seize_words::blocks::Blocks;
 use seize_words::book::{Pass, SlotKey, ValueKeys};
@@ -49,7 +51,8 @@ pub fn walk<T: Drop>(
     Walked::Over
 }
 
-/// Counts down all the batches to which this word leads. What one of them gives up is handed before the walk goes on.
+/// Counts down all the batches to which this word leads. What one of them gives up is handed before the walk goes on, and what the
+/// reclaimer puts joins the call's queue.
 ///
 /// It takes no memory and waits for nobody, but for what the handing does.
 pub fn walk_all<T: Drop, R: Reclaim<T>>(
@@ -57,14 +60,19 @@ pub fn walk_all<T: Drop, R: Reclaim<T>>(
     word: u64,
     key: &mut SlotKey,
     reclaimer: &mut R,
+    queue: &mut Further,
     pass: &mut Pass,
 )
     requires book { IsOf key.old pass.old × (book_in blocks.now ≡ pass.old.name) }
+    requires queue { AreOfBook (further_in queue.old) pass.old }
     requires knows { Knows key.old pass.old }
     requires at { IsAtWalk key.old word }
+    requires serves { R.serves reclaimer.old (book_in blocks.now) }
     ensures book { IsOf key.new pass.new }
     ensures knows { Knows key.new pass.new }
-    ensures walks { (at : IsAtWalk key.old word) → WalksAll at pass.old key.new pass.new (R.had reclaimer.old) (R.had reclaimer.new) }
+    ensures walks { (at : IsAtWalk key.old word) → let had = R.had reclaimer.old in let had' = R.had reclaimer.new in
+        WalksAll at pass.old (further_in queue.old) had key.new pass.new (further_in queue.new) had' }
+    ensures serves { R.serves reclaimer.new (book_in blocks.now) }
 {
     let mut values = ValueKeys::new(pass);
     let mut leads = word;
@@ -72,7 +80,7 @@ pub fn walk_all<T: Drop, R: Reclaim<T>>(
         match walk(blocks, leads, key, &mut values, pass) {
             Walked::Over => return,
             Walked::GivesUp(front, rest) => {
-                hand_all(blocks, front, &mut values, reclaimer, key, pass);
+                hand_all(blocks, front, &mut values, reclaimer, queue, key, pass);
                 leads = rest;
             }
         }

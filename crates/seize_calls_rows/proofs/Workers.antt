@@ -1,5 +1,5 @@
 -- What a worker knows after each call of its slot.
-use Rattle.std.proofs.Common.{◌≡◌, ◌≢◌, ℕ, ◌+◌, ◌<◌, ◌≤◌, Bool, true, false, ◌&&◌, not, List, [], ◌∷◌, ◌++◌, length, Option, None, Some, is_some, append-nil, refl, sym, ap, ◌∙◌, subst, arith}
+use Rattle.std.proofs.Common.{◌≡◌, ◌≢◌, ℕ, ◌+◌, ◌<◌, ◌≤◌, true, false, ◌&&◌, not, List, [], ◌∷◌, length, Option, None, Some, is_some, append-nil, refl, sym, ap, ◌∙◌, subst, arith}
 use base.Growing.{prefix_trans}
 use mathlib.Core.List.{IsPrefix}
 use Rattle.seize_machine.proofs.Facts.{Step, and_true, next_of, some_is}
@@ -9,25 +9,21 @@ use Rattle.seize_machine.specs.Machine.State.{Slot, State, head_at, is_active, i
 use Rattle.seize_machine.specs.Machine.State.{Active as Entered}
 use Rattle.seize_machine.specs.declared.machine.event.Answer.{Answer}
 use Rattle.seize_machine.specs.declared.machine.event.Answer.TheVariants.{Done}
-use Rattle.seize_machine.specs.declared.machine.event.Job.{Job}
 use Rattle.seize_book.specs.Blocks.{block_of, link_word}
 use Rattle.seize_book.specs.Book.{IsLegalList, after}
-use Rattle.seize_book.specs.Entry.{Deed, Entry}
+use Rattle.seize_book.specs.Entry.{Entry}
 use Rattle.seize_book.specs.Laws.{life}
 use Rattle.seize_book.specs.Ledger.{Held}
 use Rattle.seize_book.specs.Passes.{IsSame, LooksOn}
-use Rattle.seize_book.specs.Private.{label_of, labels_of}
+use Rattle.seize_book.specs.Private.{label_of}
 use Rattle.seize_book.specs.Slots.{Moves, NotesAs, active_of, life_of, number_of, own_list, size_of, slot_of, start_of}
 use Rattle.seize_book.specs.Tokens.{Name, Noted, start}
 use Rattle.seize_book.specs.Values.{book_in, values_of}
 use Rattle.seize_book.specs.declared.book.pass.Pass.{Pass}
 use Rattle.seize_book.specs.declared.book.slot_key.SlotKey.{SlotKey}
-use Rattle.seize_book.specs.declared.book.value_keys.ValueKeys.{ValueKeys}
 use Rattle.seize_calls.specs.Batches.{keys_in}
-use Rattle.seize_calls.specs.Calls.{Flushes, Leaves, Rests, RetiresOne, Settles}
-use Rattle.seize_calls.specs.Handing.{Had}
+use Rattle.seize_calls.specs.Calls.{Rests}
 use Rattle.seize_calls.specs.declared.batch.Batch.{Batch}
-use Rattle.seize_calls.proofs.Batches.{remarked_labels}
 use Rattle.seize_words.specs.Joined.{IsHolder, IsInAt}
 use Rattle.seize_words.specs.Links.{IsWithin, value_in}
 use Rattle.seize_words.specs.LinkWords.{Finds}
@@ -127,35 +123,6 @@ pub label_is : (held : List (Held Entry)) (v : ℕ) → value_in held ≡ Some v
 label_is [] v e = absurd (let none : None ≡ Some v = e in cc)
 label_is (h ∷ held) v e = some_is _ _ e
 
--- Where a call of the slot has settled.
-
-pub record Settled (key : SlotKey) (pass : Pass) (values : ValueKeys) (key' : SlotKey) (pass' : Pass) (values' : ValueKeys) : Type 0 where
-  pub same : IsSame pass pass'
-  pub grows : IsPrefix pass.seen pass'.seen
-  pub batch : List ℕ
-  pub rests : Rests key key' batch
-  pub book : book_in values ≡ pass.name → book_in values' ≡ pass'.name
-  pub its : values_of values ≡ (slot_of key).batch → values_of values' ≡ batch
-
-pub settled : (key : SlotKey) (pass : Pass) (values : ValueKeys) (had : Had) (key' : SlotKey) (pass' : Pass) (values' : ValueKeys) (had' : Had) (retired : Bool)
-    → Settles key pass values had key' pass' values' had' retired → Settled key pass values key' pass' values'
-settled key pass values had key' pass' values' had' false s = record {
-  same = s.same;
-  grows = s.grows;
-  batch = (slot_of key).batch;
-  rests = s.rests;
-  book = λ book. s.keys.0 ∙ book ∙ sym s.same.0;
-  its = λ is. remarked_labels _ _ s.keys.1 ∙ is;
-}
-settled key pass values had key' pass' values' had' true s = record {
-  same = s.same;
-  grows = s.grows;
-  batch = [];
-  rests = s.rests;
-  book = λ book. s.none.0;
-  its = λ is. ap labels_of s.none.1;
-}
-
 -- the slot's last activation stays so
 pub last_kept : (key key' : SlotKey) → slot_book key' ≡ slot_book key → number_of key' ≡ number_of key → life_of key' ≡ life_of key → (a : Activation) → IsLastOf key a → IsLastOf key' a
 last_kept key key' book number life a last = (last.0 ∙ sym book, last.1 ∙ sym number, last.2 ∙ sym life)
@@ -213,50 +180,27 @@ stands_on words active pass' stands goes = record {
   begun = λ l less. in_still active.activation active.pass pass' l goes (stands.begun l less);
 }
 
--- A call has settled that began so.
-module _ (words : Shared) (active : Active) (stands : Stands words active) (full key' : SlotKey) (later pass' : Pass) (batch' : Batch) (pushed : ValueKeys) (b : Bool) (had had' : Had)
-    (settles : Settles full later pushed had key' pass' (keys_in batch') had' b) (knows : Knows key' pass') (same : IsSame active.pass later) (grows : IsPrefix active.pass.seen later.seen)
-    (its : (slot_book full ≡ slot_book active.key) × (number_of full ≡ number_of active.key)) (used : (slot_of full).used ≡ (slot_of active.key).used)
-    (is_active_so : active_of full ≡ active_of active.key) (life_so : life_of full ≡ life_of active.key)
-    (of_book : book_in pushed ≡ later.name) (values : values_of pushed ≡ (slot_of full).batch) where
-  pub stands_settled : Stands words (record { slot = active.slot; size = active.size; key = key'; batch = batch'; pass = pass'; activation = active.activation })
-  stands_settled =
-      let s = settled full later pushed had key' pass' (keys_in batch') had' b settles in let rests = s.rests in
-      let goes = goes_known key' active.pass pass' (s.same.0 ∙ same.0, s.same.1 ∙ same.1) (prefix_trans active.pass.seen later.seen pass'.seen grows s.grows) knows in
-      let book = rests.its.0 ∙ its.0 in let number = rests.its.1 ∙ its.1 in
+-- A call has returned, of a slot that stays active.
+module _ (words : Shared) (active : Active) (stands : Stands words active) (key' : SlotKey) (pass' : Pass) (batch' : Batch) (knows : Knows key' pass') (rests : Rests active.key active.pass key' pass' (keys_in batch')) (on : active_of key' ≡ active_of active.key)
+    (life_so : life_of key' ≡ life_of active.key) where
+  pub stands_after : Stands words (record { slot = active.slot; size = active.size; key = key'; batch = batch'; pass = pass'; activation = active.activation })
+  stands_after =
+      let goes = goes_known key' active.pass pass' rests.same rests.grows knows in
       record {
-        works = works_with words active.slot active.size active.batch batch' active.key key' active.pass pass' stands.works goes book number (s.book of_book) (s.its values ∙ sym rests.batch_is);
-        inside = (idle_of (slot_of key') (rests.used ∙ used ∙ used_of (slot_of active.key) stands.inside.0) rests.call, rests.active ∙ is_active_so ∙ stands.inside.1);
-        last = last_kept active.key key' book number (rests.life ∙ life_so) active.activation stands.last;
+        works = works_with words active.slot active.size active.batch batch' active.key key' active.pass pass' stands.works goes rests.its.0 rests.its.1 rests.batch.0 rests.batch.1;
+        inside = (idle_of (slot_of key') (rests.used ∙ used_of (slot_of active.key) stands.inside.0) rests.call, on ∙ stands.inside.1);
+        last = last_kept active.key key' rests.its.0 rests.its.1 life_so active.activation stands.last;
         begun = λ l less. in_still active.activation active.pass pass' l goes (stands.begun l less);
       }
 
-module _ (words : Shared) (active : Active) (stands : Stands words active) (key' : SlotKey) (pass' : Pass) (batch' : Batch) (b : Bool) (had had' : Had) (knows : Knows key' pass') where
-  pub retired_so : (v kept : ℕ) → RetiresOne active.key active.pass v kept (keys_in active.batch) had key' pass' (keys_in batch') had' b
-      → Stands words (record { slot = active.slot; size = active.size; key = key'; batch = batch'; pass = pass'; activation = active.activation })
-  retired_so v kept r =
-      let keeps = r.begins.keeps in let puts = r.puts in let of_book = stands.works.batch_is in
-      stands_settled words active stands r.full key' r.later pass' batch' r.pushed b had had' r.settles knows
-      (puts.same.0 ∙ keeps.same.0, puts.same.1 ∙ keeps.same.1) (prefix_trans active.pass.seen r.mid.seen r.later.seen keeps.grows puts.grows)
-      (puts.its.0 ∙ keeps.its.0, puts.its.1 ∙ keeps.its.1) (puts.used ∙ keeps.used) (puts.active ∙ keeps.active) (puts.life ∙ keeps.life)
-      (r.all.0 ∙ of_book.0 ∙ sym (puts.same.0 ∙ keeps.same.0)) (r.all.1 ∙ ap (λ (vs : List ℕ). vs ++ v ∷ []) (of_book.1 ∙ sym keeps.batch) ∙ sym puts.batch)
-
-  pub flushed_so : Flushes active.key active.pass (keys_in active.batch) had key' pass' (keys_in batch') had' b
-      → Stands words (record { slot = active.slot; size = active.size; key = key'; batch = batch'; pass = pass'; activation = active.activation })
-  flushed_so f =
-      let keeps = f.begins.keeps in let of_book = stands.works.batch_is in
-      stands_settled words active stands f.begun key' f.mid pass' batch' (keys_in active.batch) b had had' f.settles knows
-      keeps.same keeps.grows keeps.its keeps.used keeps.active keeps.life (of_book.0 ∙ sym keeps.same.0) (of_book.1 ∙ sym keeps.batch)
-
 -- It leaves, or refreshes, after a look at the list.
 module _ (words : Shared) (slot size : ℕ) (batch : Batch) (key : SlotKey) (pass : Pass) (works : Works words slot size batch key pass) (idle : is_idle (slot_of key) ≡ true)
-    (mid : Pass) (looks : LooksOn pass mid) (job : Job) (stays : Bool) (swap : Deed) (key' : SlotKey) (pass' : Pass) (had had' : Had)
-    (leaves : Leaves job stays swap key mid key' pass' had had') (knows : Knows key' pass') where
+    (mid : Pass) (looks : LooksOn pass mid) (key' : SlotKey) (pass' : Pass) (batch' : Batch) (rests : Rests key mid key' pass' (keys_in batch')) (knows : Knows key' pass') where
   goes_out : GoesOn pass pass'
-  goes_out = goes_twice pass mid pass' (goes_looked pass mid looks) (goes_known key' mid pass' leaves.same leaves.grows knows)
+  goes_out = goes_twice pass mid pass' (goes_looked pass mid looks) (goes_known key' mid pass' rests.same rests.grows knows)
 
   pub idle_out : is_idle (slot_of key') ≡ true
-  idle_out = idle_of (slot_of key') (leaves.used ∙ used_of (slot_of key) idle) leaves.call
+  idle_out = idle_of (slot_of key') (rests.used ∙ used_of (slot_of key) idle) rests.call
 
-  pub works_out : Works words slot size batch key' pass'
-  works_out = works_on words slot size batch key key' pass pass' works goes_out leaves.its.0 leaves.its.1 leaves.batch
+  pub works_out : Works words slot size batch' key' pass'
+  works_out = works_with words slot size batch batch' key key' pass pass' works goes_out rests.its.0 rests.its.1 rests.batch.0 rests.batch.1

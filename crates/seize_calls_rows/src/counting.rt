@@ -5,7 +5,9 @@ ghost use Rattle.seize_calls.specs.Handing.{Had};
 ghost use base.Fml.{ftrue};
 ghost use denote.Struct.Codes.{itself};
 
+use seize_calls::further::Further;
 use seize_calls::handing::Reclaim;
+use seize_words::blocks::Blocks;
 use std::marker::{Model, PhantomData};
 use std::sync::atomic::{AtomicU64, Ordering};
 
@@ -84,10 +86,14 @@ impl<'a> Counting<'a> {
     }
 }
 
-impl Reclaim<u64> for Counting<'_> {
-    ghost had = { λ counting. counting.told.had };
+impl Counting<'_> {
+    ghost use Rattle.std.specs.Prelude.{◌≡◌, [], ◌∷◌, ◌++◌};
+    ghost use base.Stored.{gnum};
 
-    fn reclaim(&mut self, kept: u64, value: u64) {
+    /// It has this value, of which this was kept.
+    pub fn count(&mut self, kept: u64, value: u64)
+        ensures { self.new.told.had ≡ self.old.told.had ++ (kept, gnum value) ∷ [] }
+    {
         self.count = self.count.saturating_add(1);
         self.sum = self.sum.wrapping_add(value);
         self.last = value;
@@ -96,5 +102,16 @@ impl Reclaim<u64> for Counting<'_> {
             mark.fetch_add(1, Ordering::SeqCst);
         }
         self.told.note(kept, value);
+    }
+}
+
+/// It puts none.
+impl Reclaim<u64> for Counting<'_> {
+    ghost had = { λ counting. counting.told.had };
+
+    ghost serves = { λ _ _. Unit {0} };
+
+    fn reclaim(&mut self, kept: u64, value: u64, _further: &mut Further, _blocks: &Blocks<u64>) {
+        self.count(kept, value);
     }
 }

@@ -46,7 +46,7 @@ impl Worker {
             Some(value) => counting.ends_of(value) != 0,
             None => false,
         };
-        Some((active.leave(words, counting), early))
+        Some((active.leave(words, counting, rt), early))
     }
 
     /// Makes so many turns, with one link after the other and the values from this one on, then enters, flushes and leaves. Nothing comes
@@ -72,7 +72,7 @@ impl Worker {
             early = early.wrapping_add(u64::from(ended));
         }
         let (active, _) = worker.enter(words).flush(words, &mut counting, rt);
-        let worker = active.leave(words, &mut counting);
+        let worker = active.leave(words, &mut counting, rt);
         Some(Tally {
             count: counting.count,
             left: worker.batch.len() as u64,

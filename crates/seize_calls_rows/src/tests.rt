@@ -69,7 +69,7 @@ fn a_full_batch_waits_for_its_own_slot(rt: HostRuntime) {
     let (active, retired) = active.retire(&words, second, 7, &mut counting, &rt);
     assert!(rt; retired);
     assert_eq!(rt; (active.batch.len(), counting.count), (0, 0));
-    let worker = active.leave(&words, &mut counting);
+    let worker = active.leave(&words, &mut counting, &rt);
     assert_eq!(rt;
         (counting.count, counting.sum, counting.last, counting.kept),
         (2, 11, 6, 77)
@@ -107,13 +107,13 @@ fn a_short_batch_stays_while_more_slots_are_active(rt: HostRuntime) {
     let (active, flushed) = active.flush(&words, &mut counting, &rt);
     assert!(rt; !flushed);
     assert_eq!(rt; (active.batch.len(), counting.count), (1, 0));
-    let other = other.leave(&words, &mut counting);
+    let other = other.leave(&words, &mut counting, &rt);
     let (active, flushed) = active.flush(&words, &mut counting, &rt);
     assert!(rt; flushed);
     assert_eq!(rt; (active.batch.len(), counting.count), (0, 0));
     let (active, found) = active.find(&words, 3);
     assert_eq!(rt; found, Some(6));
-    let (worker, count) = active.refresh_and_leave(&words, &mut counting);
+    let (worker, count) = active.refresh_and_leave(&words, &mut counting, &rt);
     assert_eq!(rt; (count, counting.count), (1, 1));
     assert_eq!(rt; (counting.last, counting.kept), (5, 70));
     drop((worker, other));

@@ -9,6 +9,7 @@ ghost use Rattle.seize_words.specs.Reservations.{IsLastOf};
 use crate::counting::Counting;
 use seize_calls::batch::Batch;
 use seize_calls::calls;
+use seize_calls::handing::Reclaim;
 use seize_words::activation::Activation;
 use seize_words::book::{NumbersKey, Pass, SlotKey, ValueKey};
 use seize_words::link::MaybeKey;
@@ -197,17 +198,19 @@ impl Active {
     }
 
     /// Retires what was taken out. It says whether the batch was retired with it.
-    pub fn retire(
+    pub fn retire<R: Reclaim<u64>>(
         self,
         words: &Words<u64>,
         out: Out,
         kept: u64,
-        counting: &mut Counting<'_>,
+        reclaimer: &mut R,
         rt: &impl Wait,
     ) -> (Active, bool)
         requires stands { Stands words.now self }
         requires out { IsOut words.now out }
+        requires serves { R.serves reclaimer.old (words_book words.now) }
         ensures stands { Stands words.now result.0 }
+        ensures serves { R.serves reclaimer.new (words_book words.now) }
     {
         let Active {
             slot,
@@ -220,7 +223,8 @@ impl Active {
         let Out { number, value } = out;
         let (slots, blocks) = (&words.slots, &words.blocks);
         let retired = calls::retire(
-            slots, blocks, &mut batch, size, number, kept, value, &mut key, counting, &mut pass, rt,
+            slots, blocks, &mut batch, size, number, kept, value, &mut key, reclaimer, &mut pass,
+            rt,
         );
         let active = Active {
             slot,
@@ -234,14 +238,16 @@ impl Active {
     }
 
     /// Flushes. It says whether the batch was retired.
-    pub fn flush(
+    pub fn flush<R: Reclaim<u64>>(
         self,
         words: &Words<u64>,
-        counting: &mut Counting<'_>,
+        reclaimer: &mut R,
         rt: &impl Wait,
     ) -> (Active, bool)
         requires stands { Stands words.now self }
+        requires serves { R.serves reclaimer.old (words_book words.now) }
         ensures stands { Stands words.now result.0 }
+        ensures serves { R.serves reclaimer.new (words_book words.now) }
     {
         let Active {
             slot,
@@ -252,7 +258,9 @@ impl Active {
             activation,
         } = self;
         let (slots, blocks) = (&words.slots, &words.blocks);
-        let retired = calls::flush(slots, blocks, &mut batch, &mut key, counting, &mut pass, rt);
+        let retired = calls::flush(
+            slots, blocks, &mut batch, size, &mut key, reclaimer, &mut pass, rt,
+        );
         let active = Active {
             slot,
             size,
@@ -265,7 +273,12 @@ impl Active {
     }
 
     /// Refreshes, and then leaves. It gives how many values the reclaimer had in between.
-    pub fn refresh_and_leave(self, words: &Words<u64>, counting: &mut Counting<'_>) -> (Worker, u64)
+    pub fn refresh_and_leave(
+        self,
+        words: &Words<u64>,
+        counting: &mut Counting<'_>,
+        rt: &impl Wait,
+    ) -> (Worker, u64)
         requires stands { Stands words.now self }
         ensures may { MayWork words.now result.0 }
     {
@@ -273,28 +286,41 @@ impl Active {
             slot,
             size,
             mut key,
-            batch,
+            mut batch,
             mut pass,
             mut activation,
         } = self;
         let head = words.slots.head(slot, &mut pass);
         calls::refresh(
+            &words.slots,
             head,
             &words.blocks,
+            &mut batch,
+            size,
             &mut activation,
             &mut key,
             counting,
             &mut pass,
+            rt,
         );
         let count = counting.count;
-        let worker = leave(words, slot, size, activation, key, batch, counting, pass);
+        let worker = leave(
+            words, slot, size, activation, key, batch, counting, pass, rt,
+        );
         (worker, count)
     }
 
     /// Leaves.
-    pub fn leave(self, words: &Words<u64>, counting: &mut Counting<'_>) -> Worker
+    pub fn leave<R: Reclaim<u64>>(
+        self,
+        words: &Words<u64>,
+        reclaimer: &mut R,
+        rt: &impl Wait,
+    ) -> Worker
         requires stands { Stands words.now self }
+        requires serves { R.serves reclaimer.old (words_book words.now) }
         ensures may { MayWork words.now result }
+        ensures serves { R.serves reclaimer.new (words_book words.now) }
     {
         let Active {
             slot,
@@ -304,34 +330,43 @@ impl Active {
             pass,
             activation,
         } = self;
-        leave(words, slot, size, activation, key, batch, counting, pass)
+        leave(
+            words, slot, size, activation, key, batch, reclaimer, pass, rt,
+        )
     }
 }
 
 // The slot leaves by its head.
-fn leave(
+fn leave<R: Reclaim<u64>>(
     words: &Words<u64>,
     slot: usize,
     size: usize,
     activation: Activation,
     key: SlotKey,
     batch: Batch,
-    counting: &mut Counting<'_>,
+    reclaimer: &mut R,
     pass: Pass,
+    rt: &impl Wait,
 ) -> Worker
     requires works { Works words.now slot size batch key pass }
     requires inside { IsInside key × IsLastOf key activation }
+    requires serves { R.serves reclaimer.old (words_book words.now) }
     ensures may { MayWork words.now result }
+    ensures serves { R.serves reclaimer.new (words_book words.now) }
 {
-    let (mut key, mut pass) = (key, pass);
+    let (mut key, mut batch, mut pass) = (key, batch, pass);
     let head = words.slots.head(slot, &mut pass);
     calls::leave(
+        &words.slots,
         head,
         &words.blocks,
+        &mut batch,
+        size,
         activation,
         &mut key,
-        counting,
+        reclaimer,
         &mut pass,
+        rt,
     );
     Worker {
         slot,

@@ -1,15 +1,40 @@
-use Rattle.std.proofs.Common.{ℕ, ◌<◌, List, length, lit<, sym, subst, ◌∙◌}
+use Rattle.std.proofs.Common.{ℕ, ◌<◌, List, length, lit<, refl, sym, ap, subst, ◌∙◌}
 use Rattle.seize_machine.specs.Machine.Event.{Begin, Return}
 use Rattle.seize_machine.specs.declared.machine.event.Job.TheVariants.{Flush}
 use Rattle.seize_book.specs.Adding.{private}
+use Rattle.seize_book.specs.Private.{labels_of}
 use Rattle.seize_book.specs.Slots.{number_of, slot_of}
+use Rattle.seize_book.specs.Tokens.{Name}
 use Rattle.seize_words.proofs.Facts.{knows_noted}
 use Rattle.seize_book.specs.Values.{values_of}
+use Rattle.seize_book.specs.declared.book.pass.Pass.{Pass}
 use Rattle.seize_calls.specs.Batches.{keys_in}
-use Rattle.seize_calls.proofs.Batches.{some_counted}
-use Rattle.seize_calls.proofs.Keeps.{keeps_book}
-use Rattle.seize_calls.proofs.Whole.{flush_begins, flush_marks, only_returned}
+use Rattle.seize_calls.specs.Furthers.{further_in}
+use Rattle.seize_calls.specs.Settling.{Drains, stand}
+use Rattle.seize_calls.proofs.Batches.{none_counted, some_counted}
+use Rattle.seize_calls.proofs.Events.{keeps_returned}
+use Rattle.seize_calls.proofs.Onwards.{keeps_onward, onward_twice, only_stays, settles_on, settles_rest}
+use Rattle.seize_calls.proofs.Whole.{begun_notes, begun_sits, flush_begins, flush_marks, flush_over, is_over, returned, whole_rests}
 use Rattle.seize_calls.proofs.calls.flush.Goals as goal
+
+-- The pass is as it was when the queue was made.
+
+pub begin_flush-requires-clause-book : goal.begin_flush-requires-clause-book
+begin_flush-requires-clause-book g c = c.requires.book.0 ∙ sym (ap (λ (p : Pass). p.name) c.new-queue.ensures.1)
+
+pub finish-requires-clause-over : goal.finish-requires-clause-over
+finish-requires-clause-over g c =
+    let key = c.args.key.now in let pass = c.args.pass.now in let one = c.begin_flush.new.self in let pass1 = c.begin_flush.new.pass in let made = c.new-queue in let queue = further_in made.result in let had = g.R.Reclaim.had c.args.reclaimer.now in
+    let notes = begun_notes key one made.new.pass pass pass1 (Begin (number_of key) Flush) made.ensures.1 c.begin_flush.ensures.noted in let begins = flush_begins key one pass pass1 notes in let none = ap labels_of made.ensures.0.1 in
+    is_over one queue (flush_over key one pass pass1 notes queue none (sym c.requires.batch.1 ∙ none_counted c.args.batch.now.len (values_of (keys_in c.args.batch.now)) c.args.batch.now.many c.if-batch-eq0.true)) none
+
+pub finish-requires-clause-book : goal.finish-requires-clause-book
+finish-requires-clause-book g c =
+    let key = c.args.key.now in let pass = c.args.pass.now in let one = c.begin_flush.new.self in let pass1 = c.begin_flush.new.pass in let made = c.new-queue in let queue = further_in made.result in let had = g.R.Reclaim.had c.args.reclaimer.now in
+    let notes = begun_notes key one made.new.pass pass pass1 (Begin (number_of key) Flush) made.ensures.1 c.begin_flush.ensures.noted in let begins = flush_begins key one pass pass1 notes in let none = ap labels_of made.ensures.0.1 in
+    let a = stand one pass1 c.args.batch.now made.result had in
+    let sits = begun_sits key pass Flush a begins c.requires.book.0 (knows_noted key one pass pass1 (private pass (Begin (number_of key) Flush)) notes) c.requires.batch made.ensures.0.0 in
+    sits.its
 
 pub returns-then-batch-eq0-clause-knows : goal.returns-then-batch-eq0-clause-knows
 returns-then-batch-eq0-clause-knows g c =
@@ -17,33 +42,79 @@ returns-then-batch-eq0-clause-knows g c =
 
 pub returns-then-batch-eq0-clause-flushes : goal.returns-then-batch-eq0-clause-flushes
 returns-then-batch-eq0-clause-flushes g c =
-    let key = c.args.key.now in let one = c.begin_flush.new.self in let pass = c.begin_flush.new.pass in
+    let key = c.args.key.now in let pass = c.args.pass.now in let one = c.begin_flush.new.self in let pass1 = c.begin_flush.new.pass in let made = c.new-queue in let queue = further_in made.result in let had = g.R.Reclaim.had c.args.reclaimer.now in
+    let notes = begun_notes key one made.new.pass pass pass1 (Begin (number_of key) Flush) made.ensures.1 c.begin_flush.ensures.noted in let begins = flush_begins key one pass pass1 notes in let none = ap labels_of made.ensures.0.1 in
+    let a = stand one pass1 c.args.batch.now made.result had in
+    let sits = begun_sits key pass Flush a begins c.requires.book.0 (knows_noted key one pass pass1 (private pass (Begin (number_of key) Flush)) notes) c.requires.batch made.ensures.0.0 in
+    let keeps = begins.keeps in let last = c.finish in let over = keeps_returned one last.new.self pass1 last.new.pass last.ensures.noted in
     record {
-      begun = one;
-      mid = pass;
-      begins = flush_begins key one c.args.pass.now pass c.begin_flush.ensures.noted;
-      settles = only_returned one c.finish.new.self pass c.finish.new.pass (keys_in c.args.batch.now) (g.R.Reclaim.had c.args.reclaimer.now) c.finish.ensures.noted;
+      begun = a;
+      begins = record { begins = begins; batch = refl; none = none; had_none = refl };
+      settled = a;
+      settles = only_stays a (flush_over key one pass pass1 notes queue none (sym c.requires.batch.1 ∙ none_counted c.args.batch.now.len (values_of (keys_in c.args.batch.now)) c.args.batch.now.many c.if-batch-eq0.true));
+      drained = a;
+      drains = Drains.over;
+      returns = returned a last.new.self last.new.pass last.ensures.noted none;
+      rests = whole_rests key pass a last.new.self last.new.pass keeps.same keeps.grows keeps.alone keeps.its keeps.used sits last.ensures.noted;
+      active = over.active ∙ keeps.active;
+      life = over.life ∙ keeps.life;
     }
 
-pub settle-requires : goal.settle-requires
-settle-requires g c =
-    let key = c.args.key.now in let one = c.begin_flush.new.self in let pass = c.begin_flush.new.pass in
-    let begins = flush_begins key one c.args.pass.now pass c.begin_flush.ensures.noted in let keeps = begins.keeps in
-    let some : 0 < length (slot_of key).batch = subst (λ (vs : List ℕ). 0 < length vs) c.requires.batch.1 (some_counted c.args.batch.now.len (values_of (keys_in c.args.batch.now)) c.args.batch.now.many c.if-batch-eq0.false) in (
+pub settle-retired-requires : goal.settle-retired-requires
+settle-retired-requires g c =
+    let key = c.args.key.now in let pass = c.args.pass.now in let one = c.begin_flush.new.self in let pass1 = c.begin_flush.new.pass in let made = c.new-queue in let queue = further_in made.result in let had = g.R.Reclaim.had c.args.reclaimer.now in
+    let notes = begun_notes key one made.new.pass pass pass1 (Begin (number_of key) Flush) made.ensures.1 c.begin_flush.ensures.noted in let begins = flush_begins key one pass pass1 notes in let none = ap labels_of made.ensures.0.1 in
+    let a = stand one pass1 c.args.batch.now made.result had in
+    let sits = begun_sits key pass Flush a begins c.requires.book.0 (knows_noted key one pass pass1 (private pass (Begin (number_of key) Flush)) notes) c.requires.batch made.ensures.0.0 in
+    let some : 0 < length (slot_of key).batch = subst (λ (vs : List ℕ). 0 < length vs) c.requires.batch.1 (some_counted c.args.batch.now.len (values_of (keys_in c.args.batch.now)) c.args.batch.now.many c.if-batch-eq0.false) in
+    let same = sym begins.keeps.same.0 in
+    (lit< tt, ((c.requires.book.1 ∙ same, c.requires.book.2 ∙ same), (sits, (flush_marks key one pass pass1 notes queue none some, c.requires.serves))))
+
+pub drain-requires : goal.drain-requires
+drain-requires g c =
+    let key = c.args.key.now in let pass = c.args.pass.now in let one = c.begin_flush.new.self in let pass1 = c.begin_flush.new.pass in let made = c.new-queue in let queue = further_in made.result in let had = g.R.Reclaim.had c.args.reclaimer.now in
+    let notes = begun_notes key one made.new.pass pass pass1 (Begin (number_of key) Flush) made.ensures.1 c.begin_flush.ensures.noted in let begins = flush_begins key one pass pass1 notes in let none = ap labels_of made.ensures.0.1 in
+    let a = stand one pass1 c.args.batch.now made.result had in
+    let sits = begun_sits key pass Flush a begins c.requires.book.0 (knows_noted key one pass pass1 (private pass (Begin (number_of key) Flush)) notes) c.requires.batch made.ensures.0.0 in
+    let settle = c.settle-retired in let b = stand settle.new.key settle.new.pass settle.new.batch settle.new.queue (g.R.Reclaim.had settle.new.reclaimer) in
+    let on = onward_twice key one b.key pass pass1 b.pass (keeps_onward key one pass pass1 begins.keeps) (settles_on a b settle.result settle.ensures.settles) in
+    let same = sym on.same.0 in (
       lit< tt,
       (
-        (keeps_book key one c.args.pass.now pass keeps c.requires.book.0, c.requires.book.1 ∙ sym keeps.same.0, c.requires.book.2 ∙ sym keeps.same.0),
-        (
-          knows_noted key one c.args.pass.now pass (private c.args.pass.now (Begin (number_of key) Flush)) c.begin_flush.ensures.noted,
-          (
-            flush_marks key one c.args.pass.now pass c.begin_flush.ensures.noted some,
-            (c.requires.batch.0 ∙ sym keeps.same.0, c.requires.batch.1 ∙ sym keeps.batch),
-          ),
-        ),
+        (c.requires.book.1 ∙ same, c.requires.book.2 ∙ same),
+        (c.requires.size ∙ ap (λ (n : Name). n.size) (sym on.its.0), (settle.ensures.sits, (settles_rest a b settle.result settle.ensures.settles, settle.ensures.serves))),
       ),
     )
 
+pub finish-requires-2-clause-over : goal.finish-requires-2-clause-over
+finish-requires-2-clause-over g c = let over = c.drain.ensures.over in is_over c.drain.new.key (further_in c.drain.new.queue) over.0 over.1
+
+pub finish-requires-2-clause-book : goal.finish-requires-2-clause-book
+finish-requires-2-clause-book g c = c.drain.ensures.sits.its
+
+pub returns-clause-knows : goal.returns-clause-knows
+returns-clause-knows g c = let key = c.drain.new.key in let pass = c.drain.new.pass in let last = c.finish-2 in knows_noted key last.new.self pass last.new.pass (private pass (Return (number_of key))) last.ensures.noted
+
 pub returns-clause-flushes : goal.returns-clause-flushes
 returns-clause-flushes g c =
-    let key = c.args.key.now in let one = c.begin_flush.new.self in let pass = c.begin_flush.new.pass in
-    record { begun = one; mid = pass; begins = flush_begins key one c.args.pass.now pass c.begin_flush.ensures.noted; settles = c.settle.ensures.settles }
+    let key = c.args.key.now in let pass = c.args.pass.now in let one = c.begin_flush.new.self in let pass1 = c.begin_flush.new.pass in let made = c.new-queue in let queue = further_in made.result in let had = g.R.Reclaim.had c.args.reclaimer.now in
+    let notes = begun_notes key one made.new.pass pass pass1 (Begin (number_of key) Flush) made.ensures.1 c.begin_flush.ensures.noted in let begins = flush_begins key one pass pass1 notes in let none = ap labels_of made.ensures.0.1 in
+    let a = stand one pass1 c.args.batch.now made.result had in
+    let sits = begun_sits key pass Flush a begins c.requires.book.0 (knows_noted key one pass pass1 (private pass (Begin (number_of key) Flush)) notes) c.requires.batch made.ensures.0.0 in
+    let settle = c.settle-retired in let b = stand settle.new.key settle.new.pass settle.new.batch settle.new.queue (g.R.Reclaim.had settle.new.reclaimer) in
+    let on = onward_twice key one b.key pass pass1 b.pass (keeps_onward key one pass pass1 begins.keeps) (settles_on a b settle.result settle.ensures.settles) in
+    let drain = c.drain in let d = stand drain.new.key drain.new.pass drain.new.batch drain.new.queue (g.R.Reclaim.had drain.new.reclaimer) in
+    let all = onward_twice key b.key d.key pass b.pass d.pass on drain.ensures.on in let last = c.finish-2 in
+    let over = keeps_returned d.key last.new.self d.pass last.new.pass last.ensures.noted in
+    record {
+      begun = a;
+      begins = record { begins = begins; batch = refl; none = none; had_none = refl };
+      settled = b;
+      settles = settle.ensures.settles;
+      drained = d;
+      drains = drain.ensures.drains;
+      returns = returned d last.new.self last.new.pass last.ensures.noted drain.ensures.over.1;
+      rests = whole_rests key pass d last.new.self last.new.pass all.same all.grows all.alone all.its all.used drain.ensures.sits last.ensures.noted;
+      active = over.active ∙ all.active;
+      life = over.life ∙ all.life;
+    }

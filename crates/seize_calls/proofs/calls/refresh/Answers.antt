@@ -1,78 +1,145 @@
 use Rattle.std.proofs.Common.{ℕ, List, [], lit<, sym, ap, ◌∙◌, subst, true}
 use mathlib.Core.List.{IsPrefix}
 use Rattle.seize_machine.specs.Machine.State.{Call, Out}
-use Rattle.seize_machine.specs.Machine.Event.{Return, SwapOut}
+use Rattle.seize_machine.specs.Machine.Event.{Begin, Return, SwapOut}
 use Rattle.seize_machine.specs.declared.machine.event.Job.TheVariants.{Refresh}
 use Rattle.seize_book.specs.Adding.{private}
-use Rattle.seize_book.specs.Entry.{Entry}
-use Rattle.seize_book.specs.Laws.{life}
+use Rattle.seize_book.specs.Private.{labels_of}
 use Rattle.seize_words.specs.Reservations.{beginning}
 use Rattle.seize_book.specs.Slots.{number_of}
+use Rattle.seize_book.specs.Tokens.{Name}
+use Rattle.seize_book.specs.declared.book.pass.Pass.{Pass}
 use Rattle.seize_words.proofs.Facts.{knows_noted}
-use Rattle.seize_calls.proofs.Keeps.{keeps_twice}
+use Rattle.seize_calls.specs.Furthers.{further_in}
+use Rattle.seize_calls.specs.Settling.{stand}
+use Rattle.seize_book.specs.Entry.{Entry}
+use Rattle.seize_book.specs.Laws.{life}
 use Rattle.seize_calls.proofs.Events.{begins_so, call_begun, keeps_returned, refresh_so}
-use Rattle.seize_calls.proofs.Leaving.{at_walk, has_left}
+use Rattle.seize_calls.proofs.Leaving.{at_walk, has_left, walked_over, walked_sits}
+use Rattle.seize_calls.proofs.Onwards.{keeps_onward, onward_twice}
+use Rattle.seize_calls.proofs.Whole.{begun_notes, is_over}
 use Rattle.seize_calls.proofs.calls.refresh.Goals as goal
+
+-- The pass is as it was when the queue was made.
+
+pub begin_refresh-requires-clause-book : goal.begin_refresh-requires-clause-book
+begin_refresh-requires-clause-book g c = c.requires.book.0 ∙ sym (ap (λ (p : Pass). p.name) c.new-queue.ensures.1)
+
+pub refresh-word-requires-clause-book : goal.refresh-word-requires-clause-book
+refresh-word-requires-clause-book g c =
+    let key = c.args.key.now in let pass = c.args.pass.now in let one = c.begin_refresh.new.self in let pass1 = c.begin_refresh.new.pass in let made = c.new-queue in let queue = further_in made.result in let had = g.R.Reclaim.had c.args.reclaimer.now in
+    let notes = begun_notes key one made.new.pass pass pass1 (Begin (number_of key) Refresh) made.ensures.1 c.begin_refresh.ensures.noted in let none = ap labels_of made.ensures.0.1 in
+    let call : Call = record { place = Out true; queue = [] } in let so = refresh_so key one pass pass1 notes in
+    let begins = begins_so key one pass pass1 Refresh notes call so in let out = call_begun key one pass pass1 Refresh notes call so in
+    let keeps = begins.keeps in (keeps.its.0 ∙ (c.requires.book.0 ∙ sym keeps.same.0), c.requires.book.1 ∙ sym keeps.same.0, c.requires.book.2 ∙ sym keeps.its.1)
+
+pub refresh-word-requires-clause-refreshing : goal.refresh-word-requires-clause-refreshing
+refresh-word-requires-clause-refreshing g c =
+    let key = c.args.key.now in let pass = c.args.pass.now in let one = c.begin_refresh.new.self in let pass1 = c.begin_refresh.new.pass in let made = c.new-queue in let queue = further_in made.result in let had = g.R.Reclaim.had c.args.reclaimer.now in
+    let notes = begun_notes key one made.new.pass pass pass1 (Begin (number_of key) Refresh) made.ensures.1 c.begin_refresh.ensures.noted in let none = ap labels_of made.ensures.0.1 in
+    let call : Call = record { place = Out true; queue = [] } in let so = refresh_so key one pass pass1 notes in
+    let begins = begins_so key one pass pass1 Refresh notes call so in let out = call_begun key one pass pass1 Refresh notes call so in
+    ([], out)
 
 pub refresh-word-requires-clause-last : goal.refresh-word-requires-clause-last
 refresh-word-requires-clause-last g c =
-    let key = c.args.key.now in let one = c.begin_refresh.new.self in let pass = c.args.pass.now in let pass1 = c.begin_refresh.new.pass in
-    let call : Call = record { place = Out true; queue = [] } in let so = refresh_so key one pass pass1 c.begin_refresh.ensures.noted in
-    let begins = begins_so key one pass pass1 Refresh c.begin_refresh.ensures.noted call so in
+    let key = c.args.key.now in let pass = c.args.pass.now in let one = c.begin_refresh.new.self in let pass1 = c.begin_refresh.new.pass in let made = c.new-queue in let queue = further_in made.result in let had = g.R.Reclaim.had c.args.reclaimer.now in
+    let notes = begun_notes key one made.new.pass pass pass1 (Begin (number_of key) Refresh) made.ensures.1 c.begin_refresh.ensures.noted in let none = ap labels_of made.ensures.0.1 in
+    let call : Call = record { place = Out true; queue = [] } in let so = refresh_so key one pass pass1 notes in
+    let begins = begins_so key one pass pass1 Refresh notes call so in let out = call_begun key one pass pass1 Refresh notes call so in
     let last = c.requires.last in (last.0 ∙ sym begins.keeps.its.0, last.1 ∙ sym begins.keeps.its.1, last.2 ∙ sym begins.keeps.life)
 
 pub walk_all-requires : goal.walk_all-requires
 walk_all-requires g c =
-    let key = c.args.key.now in let one = c.begin_refresh.new.self in let two = c.refresh-word.new.key in let pass = c.args.pass.now in let pass1 = c.begin_refresh.new.pass in let pass2 = c.refresh-word.new.pass in
-    let call : Call = record { place = Out true; queue = [] } in let so = refresh_so key one pass pass1 c.begin_refresh.ensures.noted in
-    let begins = begins_so key one pass pass1 Refresh c.begin_refresh.ensures.noted call so in let out = call_begun key one pass pass1 Refresh c.begin_refresh.ensures.noted call so in
-    let noted = c.refresh-word.ensures.noted in let named = noted.0.0 ∙ begins.keeps.same.0 in (
+    let key = c.args.key.now in let pass = c.args.pass.now in let one = c.begin_refresh.new.self in let pass1 = c.begin_refresh.new.pass in let made = c.new-queue in let queue = further_in made.result in let had = g.R.Reclaim.had c.args.reclaimer.now in
+    let notes = begun_notes key one made.new.pass pass pass1 (Begin (number_of key) Refresh) made.ensures.1 c.begin_refresh.ensures.noted in let none = ap labels_of made.ensures.0.1 in
+    let call : Call = record { place = Out true; queue = [] } in let so = refresh_so key one pass pass1 notes in
+    let begins = begins_so key one pass pass1 Refresh notes call so in let out = call_begun key one pass pass1 Refresh notes call so in
+    let swap = c.refresh-word in let two = swap.new.key in let pass2 = swap.new.pass in let noted = swap.ensures.noted in let named = noted.0.0 ∙ begins.keeps.same.0 in
+    let at = at_walk key one two pass pass1 pass2 Refresh true swap.new.activation.life begins c.requires.inside.1 out noted c.args.head.now swap.result (swap.ensures.walks ([], out)) c.requires.book.2 in (
       lit< tt,
       (
-        (noted.1.0 ∙ begins.keeps.its.0 ∙ c.requires.book.0 ∙ sym named, c.requires.book.3 ∙ sym named),
-        (knows_noted one two pass1 pass2 (beginning pass1 c.refresh-word.new.activation.life (SwapOut (number_of one))) noted, at_walk key one two pass pass1 pass2 Refresh true c.refresh-word.new.activation.life begins c.requires.inside.1 out c.refresh-word.ensures.noted c.args.head.now c.refresh-word.result (c.refresh-word.ensures.walks ([], out)) c.requires.book.2),
+        (noted.1.0 ∙ begins.keeps.its.0 ∙ c.requires.book.0 ∙ sym named, c.requires.words.1 ∙ sym named),
+        (
+          made.ensures.0.0 ∙ sym named,
+          (knows_noted one two pass1 pass2 (beginning pass1 swap.new.activation.life (SwapOut (number_of one))) noted, (at, c.requires.serves)),
+        ),
+      ),
+    )
+
+pub drain-requires : goal.drain-requires
+drain-requires g c =
+    let key = c.args.key.now in let pass = c.args.pass.now in let one = c.begin_refresh.new.self in let pass1 = c.begin_refresh.new.pass in let made = c.new-queue in let queue = further_in made.result in let had = g.R.Reclaim.had c.args.reclaimer.now in
+    let notes = begun_notes key one made.new.pass pass pass1 (Begin (number_of key) Refresh) made.ensures.1 c.begin_refresh.ensures.noted in let none = ap labels_of made.ensures.0.1 in
+    let call : Call = record { place = Out true; queue = [] } in let so = refresh_so key one pass pass1 notes in
+    let begins = begins_so key one pass pass1 Refresh notes call so in let out = call_begun key one pass pass1 Refresh notes call so in
+    let swap = c.refresh-word in let two = swap.new.key in let pass2 = swap.new.pass in let noted = swap.ensures.noted in let named = noted.0.0 ∙ begins.keeps.same.0 in
+    let at = at_walk key one two pass pass1 pass2 Refresh true swap.new.activation.life begins c.requires.inside.1 out noted c.args.head.now swap.result (swap.ensures.walks ([], out)) c.requires.book.2 in
+    let walk = c.walk_all in let three = walk.new.key in let pass3 = walk.new.pass in let queue3 = further_in walk.new.queue in let had3 = g.R.Reclaim.had walk.new.reclaimer in let values = c.args.batch.now.values in let all = walk.ensures.walks at in
+    let same = sym (all.goes_on.0.same.0 ∙ named) in (
+      lit< tt,
+      (
+        (c.requires.words.0 ∙ same, c.requires.words.1 ∙ same),
+        (
+          c.requires.size ∙ ap (λ (n : Name). n.size) (sym (all.goes_on.0.its.0 ∙ (noted.1.0 ∙ begins.keeps.its.0))),
+          (
+            walked_sits key one two pass pass1 pass2 Refresh true swap.new.activation.life begins c.requires.inside.1 out noted c.args.head.now swap.result (swap.ensures.walks ([], out)) c.requires.book.2 three pass3 values queue queue3 had had3 none all c.requires.book.0 walk.ensures.knows c.requires.batch made.ensures.0.0,
+            (walked_over key one two pass pass1 pass2 Refresh true swap.new.activation.life begins c.requires.inside.1 out noted c.args.head.now swap.result (swap.ensures.walks ([], out)) c.requires.book.2 three pass3 values queue queue3 had had3 none all, walk.ensures.serves),
+          ),
+        ),
       ),
     )
 
 pub finish-requires-clause-over : goal.finish-requires-clause-over
-finish-requires-clause-over g c =
-    let key = c.args.key.now in let one = c.begin_refresh.new.self in let two = c.refresh-word.new.key in let pass = c.args.pass.now in let pass1 = c.begin_refresh.new.pass in let pass2 = c.refresh-word.new.pass in
-    let call : Call = record { place = Out true; queue = [] } in let so = refresh_so key one pass pass1 c.begin_refresh.ensures.noted in
-    let begins = begins_so key one pass pass1 Refresh c.begin_refresh.ensures.noted call so in let out = call_begun key one pass pass1 Refresh c.begin_refresh.ensures.noted call so in
-    (c.walk_all.ensures.walks (at_walk key one two pass pass1 pass2 Refresh true c.refresh-word.new.activation.life begins c.requires.inside.1 out c.refresh-word.ensures.noted c.args.head.now c.refresh-word.result (c.refresh-word.ensures.walks ([], out)) c.requires.book.2)).over
+finish-requires-clause-over g c = let over = c.drain.ensures.over in is_over c.drain.new.key (further_in c.drain.new.queue) over.0 over.1
+
+pub finish-requires-clause-book : goal.finish-requires-clause-book
+finish-requires-clause-book g c = c.drain.ensures.sits.its
 
 pub returns-clause-knows : goal.returns-clause-knows
-returns-clause-knows g c =
-    let key = c.walk_all.new.key in let pass = c.walk_all.new.pass in knows_noted key c.finish.new.self pass c.finish.new.pass (private pass (Return (number_of key))) c.finish.ensures.noted
+returns-clause-knows g c = let key = c.drain.new.key in let pass = c.drain.new.pass in knows_noted key c.finish.new.self pass c.finish.new.pass (private pass (Return (number_of key))) c.finish.ensures.noted
 
 pub returns-clause-leaves : goal.returns-clause-leaves
 returns-clause-leaves g c =
-    let key = c.args.key.now in let one = c.begin_refresh.new.self in let two = c.refresh-word.new.key in let pass = c.args.pass.now in let pass1 = c.begin_refresh.new.pass in let pass2 = c.refresh-word.new.pass in
-    let call : Call = record { place = Out true; queue = [] } in let so = refresh_so key one pass pass1 c.begin_refresh.ensures.noted in
-    let begins = begins_so key one pass pass1 Refresh c.begin_refresh.ensures.noted call so in let out = call_begun key one pass pass1 Refresh c.begin_refresh.ensures.noted call so in
-    let walk = at_walk key one two pass pass1 pass2 Refresh true c.refresh-word.new.activation.life begins c.requires.inside.1 out c.refresh-word.ensures.noted c.args.head.now c.refresh-word.result (c.refresh-word.ensures.walks ([], out)) c.requires.book.2 in
-    has_left key one two pass pass1 pass2 Refresh true c.refresh-word.new.activation.life begins c.requires.inside.1 out c.refresh-word.ensures.noted c.args.head.now c.refresh-word.result (c.refresh-word.ensures.walks ([], out)) c.requires.book.2 c.walk_all.new.key c.walk_all.new.pass (g.R.Reclaim.had c.args.reclaimer.now) (g.R.Reclaim.had c.walk_all.new.reclaimer) (c.walk_all.ensures.walks walk) c.finish.new.self c.finish.new.pass c.finish.ensures.noted
+    let key = c.args.key.now in let pass = c.args.pass.now in let one = c.begin_refresh.new.self in let pass1 = c.begin_refresh.new.pass in let made = c.new-queue in let queue = further_in made.result in let had = g.R.Reclaim.had c.args.reclaimer.now in
+    let notes = begun_notes key one made.new.pass pass pass1 (Begin (number_of key) Refresh) made.ensures.1 c.begin_refresh.ensures.noted in let none = ap labels_of made.ensures.0.1 in
+    let call : Call = record { place = Out true; queue = [] } in let so = refresh_so key one pass pass1 notes in
+    let begins = begins_so key one pass pass1 Refresh notes call so in let out = call_begun key one pass pass1 Refresh notes call so in
+    let swap = c.refresh-word in let two = swap.new.key in let pass2 = swap.new.pass in let noted = swap.ensures.noted in let named = noted.0.0 ∙ begins.keeps.same.0 in
+    let at = at_walk key one two pass pass1 pass2 Refresh true swap.new.activation.life begins c.requires.inside.1 out noted c.args.head.now swap.result (swap.ensures.walks ([], out)) c.requires.book.2 in
+    let walk = c.walk_all in let three = walk.new.key in let pass3 = walk.new.pass in let queue3 = further_in walk.new.queue in let had3 = g.R.Reclaim.had walk.new.reclaimer in let values = c.args.batch.now.values in let all = walk.ensures.walks at in
+    let drain = c.drain in let d = stand drain.new.key drain.new.pass drain.new.batch drain.new.queue (g.R.Reclaim.had drain.new.reclaimer) in let on = drain.ensures.on in let last = c.finish in
+    has_left key one two pass pass1 pass2 Refresh true swap.new.activation.life begins c.requires.inside.1 out noted c.args.head.now swap.result (swap.ensures.walks ([], out)) c.requires.book.2 three pass3 values queue queue3 had had3 none all d drain.ensures.drains on drain.ensures.sits drain.ensures.over.1 last.new.self last.new.pass last.ensures.noted
 
 pub returns-clause-last : goal.returns-clause-last
 returns-clause-last g c =
-    let key = c.args.key.now in let one = c.begin_refresh.new.self in let two = c.refresh-word.new.key in let pass = c.args.pass.now in let pass1 = c.begin_refresh.new.pass in let pass2 = c.refresh-word.new.pass in
-    let call : Call = record { place = Out true; queue = [] } in let so = refresh_so key one pass pass1 c.begin_refresh.ensures.noted in
-    let begins = begins_so key one pass pass1 Refresh c.begin_refresh.ensures.noted call so in let out = call_begun key one pass pass1 Refresh c.begin_refresh.ensures.noted call so in
-    let its = c.refresh-word.ensures.activation in let walked = (c.walk_all.ensures.walks (at_walk key one two pass pass1 pass2 Refresh true c.refresh-word.new.activation.life begins c.requires.inside.1 out c.refresh-word.ensures.noted c.args.head.now c.refresh-word.result (c.refresh-word.ensures.walks ([], out)) c.requires.book.2)).goes_on.0 in
-    let over = keeps_returned c.walk_all.new.key c.finish.new.self c.walk_all.new.pass c.finish.new.pass c.finish.ensures.noted in let both = keeps_twice two c.walk_all.new.key c.finish.new.self pass2 c.walk_all.new.pass c.finish.new.pass walked over in
+    let key = c.args.key.now in let pass = c.args.pass.now in let one = c.begin_refresh.new.self in let pass1 = c.begin_refresh.new.pass in let made = c.new-queue in let queue = further_in made.result in let had = g.R.Reclaim.had c.args.reclaimer.now in
+    let notes = begun_notes key one made.new.pass pass pass1 (Begin (number_of key) Refresh) made.ensures.1 c.begin_refresh.ensures.noted in let none = ap labels_of made.ensures.0.1 in
+    let call : Call = record { place = Out true; queue = [] } in let so = refresh_so key one pass pass1 notes in
+    let begins = begins_so key one pass pass1 Refresh notes call so in let out = call_begun key one pass pass1 Refresh notes call so in
+    let swap = c.refresh-word in let two = swap.new.key in let pass2 = swap.new.pass in let noted = swap.ensures.noted in let named = noted.0.0 ∙ begins.keeps.same.0 in
+    let at = at_walk key one two pass pass1 pass2 Refresh true swap.new.activation.life begins c.requires.inside.1 out noted c.args.head.now swap.result (swap.ensures.walks ([], out)) c.requires.book.2 in
+    let walk = c.walk_all in let three = walk.new.key in let pass3 = walk.new.pass in let queue3 = further_in walk.new.queue in let had3 = g.R.Reclaim.had walk.new.reclaimer in let values = c.args.batch.now.values in let all = walk.ensures.walks at in
+    let drain = c.drain in let d = stand drain.new.key drain.new.pass drain.new.batch drain.new.queue (g.R.Reclaim.had drain.new.reclaimer) in let on = drain.ensures.on in let last = c.finish in
+    let its = swap.ensures.activation in let over = keeps_returned d.key last.new.self d.pass last.new.pass last.ensures.noted in
+    let both = onward_twice two three last.new.self pass2 pass3 last.new.pass (keeps_onward two three pass2 pass3 all.goes_on.0) (onward_twice three d.key last.new.self pass3 d.pass last.new.pass on (keeps_onward d.key last.new.self d.pass last.new.pass over)) in
     (its.book ∙ sym both.its.0, its.slot ∙ sym both.its.1, sym its.its ∙ ap (λ (t : ℕ × List Entry). life t.0 t.1) (λ i. (its.slot i, its.since i)) ∙ sym both.life)
 
 pub returns-clause-begun : goal.returns-clause-begun
 returns-clause-begun g c =
-    let key = c.args.key.now in let one = c.begin_refresh.new.self in let two = c.refresh-word.new.key in let pass = c.args.pass.now in let pass1 = c.begin_refresh.new.pass in let pass2 = c.refresh-word.new.pass in
-    let call : Call = record { place = Out true; queue = [] } in let so = refresh_so key one pass pass1 c.begin_refresh.ensures.noted in
-    let begins = begins_so key one pass pass1 Refresh c.begin_refresh.ensures.noted call so in let out = call_begun key one pass pass1 Refresh c.begin_refresh.ensures.noted call so in
-    let its = c.refresh-word.ensures.activation in let walked = (c.walk_all.ensures.walks (at_walk key one two pass pass1 pass2 Refresh true c.refresh-word.new.activation.life begins c.requires.inside.1 out c.refresh-word.ensures.noted c.args.head.now c.refresh-word.result (c.refresh-word.ensures.walks ([], out)) c.requires.book.2)).goes_on.0 in
-    let over = keeps_returned c.walk_all.new.key c.finish.new.self c.walk_all.new.pass c.finish.new.pass c.finish.ensures.noted in let both = keeps_twice two c.walk_all.new.key c.finish.new.self pass2 c.walk_all.new.pass c.finish.new.pass walked over in
-    let noted = c.refresh-word.ensures.noted in let named = noted.0.0 ∙ begins.keeps.same.0 in
+    let key = c.args.key.now in let pass = c.args.pass.now in let one = c.begin_refresh.new.self in let pass1 = c.begin_refresh.new.pass in let made = c.new-queue in let queue = further_in made.result in let had = g.R.Reclaim.had c.args.reclaimer.now in
+    let notes = begun_notes key one made.new.pass pass pass1 (Begin (number_of key) Refresh) made.ensures.1 c.begin_refresh.ensures.noted in let none = ap labels_of made.ensures.0.1 in
+    let call : Call = record { place = Out true; queue = [] } in let so = refresh_so key one pass pass1 notes in
+    let begins = begins_so key one pass pass1 Refresh notes call so in let out = call_begun key one pass pass1 Refresh notes call so in
+    let swap = c.refresh-word in let two = swap.new.key in let pass2 = swap.new.pass in let noted = swap.ensures.noted in let named = noted.0.0 ∙ begins.keeps.same.0 in
+    let at = at_walk key one two pass pass1 pass2 Refresh true swap.new.activation.life begins c.requires.inside.1 out noted c.args.head.now swap.result (swap.ensures.walks ([], out)) c.requires.book.2 in
+    let walk = c.walk_all in let three = walk.new.key in let pass3 = walk.new.pass in let queue3 = further_in walk.new.queue in let had3 = g.R.Reclaim.had walk.new.reclaimer in let values = c.args.batch.now.values in let all = walk.ensures.walks at in
+    let drain = c.drain in let d = stand drain.new.key drain.new.pass drain.new.batch drain.new.queue (g.R.Reclaim.had drain.new.reclaimer) in let on = drain.ensures.on in let last = c.finish in
+    let its = swap.ensures.activation in let over = keeps_returned d.key last.new.self d.pass last.new.pass last.ensures.noted in
+    let both = onward_twice two three last.new.self pass2 pass3 last.new.pass (keeps_onward two three pass2 pass3 all.goes_on.0) (onward_twice three d.key last.new.self pass3 d.pass last.new.pass on (keeps_onward d.key last.new.self d.pass last.new.pass over)) in
     record {
       book = its.book ∙ (noted.1.0 ∙ begins.keeps.its.0 ∙ c.requires.book.0 ∙ sym named) ∙ sym both.same.0;
       active = its.active;
       its = its.its;
-      known = subst (λ (log : List Entry). IsPrefix log c.finish.new.pass.seen) (sym (its.since ∙ noted.1.2)) both.grows;
+      known = subst (λ (log : List Entry). IsPrefix log last.new.pass.seen) (sym (its.since ∙ noted.1.2)) both.grows;
     }

@@ -1,19 +1,21 @@
 use Rattle.std.proofs.Common.{ℕ, ◌-◌, is_some, lit<, sym, ap, ◌∙◌, subst}
 use Rattle.seize_book.specs.Tokens.{Name}
+use Rattle.seize_calls.specs.Furthers.{further_in}
 use Rattle.seize_calls.proofs.Handings.{IsHanding, all_had, handed_on, handed_over, is_last, is_soon, is_there, its_book, none_handed, some_left}
 use Rattle.seize_calls.proofs.handing.hand_all.Goals as goal
 
 pub loop-front-init : goal.loop-front-init
 loop-front-init g c = (
-  λ given. none_handed c.args.key.now c.args.pass.now c.args.values.now c.args.front given (g.R.Reclaim.had c.args.reclaimer.now),
+  λ given. none_handed c.args.key.now c.args.pass.now c.args.values.now c.args.front given (further_in c.args.queue.now) (g.R.Reclaim.had c.args.reclaimer.now),
   c.requires.book.0,
   c.requires.knows,
+  c.requires.serves,
 )
 
 pub next-value-requires : goal.next-value-requires
 next-value-requires g c =
     let l = c.loop-front in let given = c.requires.given in
-    some_left c.args.key.now c.args.pass.now c.args.values.now c.args.front given (g.R.Reclaim.had c.args.reclaimer.now) l.key l.pass l.values l.number (g.R.Reclaim.had l.reclaimer) (l.invariant.0 given)
+    some_left c.args.key.now c.args.pass.now c.args.values.now c.args.front given (further_in c.args.queue.now) (g.R.Reclaim.had c.args.reclaimer.now) l.key l.pass l.values (further_in l.queue) l.number (g.R.Reclaim.had l.reclaimer) (l.invariant.0 given)
 
 pub hand_one-next-requires : goal.hand_one-next-requires
 hand_one-next-requires g c =
@@ -21,12 +23,15 @@ hand_one-next-requires g c =
     let old = g.R.Reclaim.had c.args.reclaimer.now in let had = g.R.Reclaim.had l.reclaimer in let value = c.next-value.result in let rest = c.next-value.new.self in let nexts = c.next-value.ensures in (
       lit< tt,
       (
-        (its_book key pass values front given old l.key l.pass l.values l.number had r value rest nexts, l.invariant.1, c.requires.book.1 ∙ sym r.goes_on.0.same.0),
+        (its_book key pass values front given (further_in c.args.queue.now) old l.key l.pass l.values (further_in l.queue) l.number had r value rest nexts, l.invariant.1, c.requires.book.1 ∙ sym r.goes_on.0.same.0),
         (
-          l.invariant.2,
+          r.queued.0 ∙ (c.requires.queue ∙ sym r.goes_on.0.same.0),
           (
-            is_soon key pass values front given old l.key l.pass l.values l.number had r value rest nexts,
-            (is_last key pass values front given old l.key l.pass l.values l.number had r value rest nexts, is_there key pass values front given old l.key l.pass l.values l.number had r value rest nexts),
+            l.invariant.2,
+            (
+              is_soon key pass values front given (further_in c.args.queue.now) old l.key l.pass l.values (further_in l.queue) l.number had r value rest nexts,
+              (is_last key pass values front given (further_in c.args.queue.now) old l.key l.pass l.values (further_in l.queue) l.number had r value rest nexts, (is_there key pass values front given (further_in c.args.queue.now) old l.key l.pass l.values (further_in l.queue) l.number had r value rest nexts, l.invariant.3)),
+            ),
           ),
         ),
       ),
@@ -37,14 +42,14 @@ returns-then-next-eq0-clause-handed g c = λ given.
     let l = c.loop-front in let r = l.invariant.0 given in let key = c.args.key.now in let pass = c.args.pass.now in let values = c.args.values.now in let front = c.args.front in let blocks = c.args.blocks.now in
     let old = g.R.Reclaim.had c.args.reclaimer.now in let had = g.R.Reclaim.had l.reclaimer in let value = c.next-value.result in let rest = c.next-value.new.self in let nexts = c.next-value.ensures in
     let hand = c.hand_one-next in let store = ap (λ (n : Name). is_some n.store) (sym c.requires.book.1) ∙ ap is_some blocks.stands in
-    handed_over key pass values front given old l.key l.pass l.values l.number had r value rest nexts store hand.new.key hand.new.pass (g.R.Reclaim.had hand.new.reclaimer) hand.ensures.handed hand.ensures.had (sym hand.ensures.next ∙ c.if-next-eq0.true)
+    handed_over key pass values front given (further_in c.args.queue.now) old l.key l.pass l.values (further_in l.queue) l.number had r value rest nexts store hand.new.key hand.new.pass (further_in hand.new.queue) (g.R.Reclaim.had hand.new.reclaimer) hand.ensures.handed hand.ensures.had (sym hand.ensures.next ∙ c.if-next-eq0.true)
 
 pub returns-then-next-eq0-clause-had : goal.returns-then-next-eq0-clause-had
 returns-then-next-eq0-clause-had g c =
     let l = c.loop-front in let given = c.requires.given in let r = l.invariant.0 given in let key = c.args.key.now in let pass = c.args.pass.now in let values = c.args.values.now in let front = c.args.front in let blocks = c.args.blocks.now in
     let old = g.R.Reclaim.had c.args.reclaimer.now in let had = g.R.Reclaim.had l.reclaimer in let value = c.next-value.result in let rest = c.next-value.new.self in let nexts = c.next-value.ensures in
     let hand = c.hand_one-next in let store = ap (λ (n : Name). is_some n.store) (sym c.requires.book.1) ∙ ap is_some blocks.stands in
-    all_had key pass values front given old l.key l.pass l.values l.number had r value rest nexts store hand.new.key hand.new.pass (g.R.Reclaim.had hand.new.reclaimer) hand.ensures.handed hand.ensures.had (sym hand.ensures.next ∙ c.if-next-eq0.true)
+    all_had key pass values front given (further_in c.args.queue.now) old l.key l.pass l.values (further_in l.queue) l.number had r value rest nexts store hand.new.key hand.new.pass (further_in hand.new.queue) (g.R.Reclaim.had hand.new.reclaimer) hand.ensures.handed hand.ensures.had (sym hand.ensures.next ∙ c.if-next-eq0.true)
 
 pub loop-front-preserved : goal.loop-front-preserved
 loop-front-preserved g c =
@@ -52,9 +57,10 @@ loop-front-preserved g c =
     let old = g.R.Reclaim.had c.args.reclaimer.now in let had = g.R.Reclaim.had l.reclaimer in let value = c.next-value.result in let rest = c.next-value.new.self in let nexts = c.next-value.ensures in
     let hand = c.hand_one-next in let had' = g.R.Reclaim.had hand.new.reclaimer in let store = ap (λ (n : Name). is_some n.store) (sym c.requires.book.1) ∙ ap is_some blocks.stands in (
       λ given.
-          subst (λ (w : ℕ). IsHanding given old hand.new.key hand.new.pass rest (w - 1) had') (sym hand.ensures.next)
-          (handed_on key pass values front given old l.key l.pass l.values l.number had (l.invariant.0 given) value rest nexts store hand.new.key hand.new.pass had' hand.ensures.handed hand.ensures.had
+          subst (λ (w : ℕ). IsHanding given (further_in c.args.queue.now) old hand.new.key hand.new.pass rest (further_in hand.new.queue) (w - 1) had') (sym hand.ensures.next)
+          (handed_on key pass values front given (further_in c.args.queue.now) old l.key l.pass l.values (further_in l.queue) l.number had (l.invariant.0 given) value rest nexts store hand.new.key hand.new.pass (further_in hand.new.queue) had' hand.ensures.handed hand.ensures.had
           (λ none. c.if-next-eq0.false (hand.ensures.next ∙ none))),
       hand.ensures.book,
       hand.ensures.knows,
+      hand.ensures.serves,
     )

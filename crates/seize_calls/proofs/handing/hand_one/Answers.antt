@@ -1,13 +1,17 @@
-use Rattle.std.proofs.Common.{◌≡◌, [], Some, is_some, lit<, refl, sym, ap, ◌∙◌, subst}
+use Rattle.std.proofs.Common.{◌≡◌, ℕ, true, List, ◌++◌, Some, is_some, lit<, refl, sym, ap, ◌∙◌, subst}
 use Rattle.seize_machine.specs.Machine.Event.{Hand}
 use Rattle.seize_book.specs.Blocks.{block_of}
 use Rattle.seize_book.specs.Others.{value_of}
 use Rattle.seize_book.specs.Slots.{IsOf, Notes, hands_next, number_of, slot_of}
 use Rattle.seize_book.specs.Tokens.{Name}
+use Rattle.seize_book.specs.Passes.{LooksOn}
+use Rattle.seize_book.specs.Values.{values_of}
+use Rattle.seize_book.specs.declared.book.pass.Pass.{Pass}
 use Rattle.seize_book.specs.declared.book.slot_key.SlotKey.{SlotKey}
 use Rattle.seize_store.specs.Named.{name_of}
 use Rattle.seize_words.proofs.Chunked.{named_seen}
-use Rattle.seize_words.proofs.Facts.{handing_named, knows_still, looks_twice, same_key, settles_after, unchanged_last, unchanged_value}
+use Rattle.seize_words.proofs.Facts.{handing_named, knows_still, looks_twice, none_new, same_key, settles_after, unchanged_last, unchanged_value}
+use Rattle.seize_calls.specs.Furthers.{further_in}
 use Rattle.seize_calls.proofs.Handed.{hands_so, soon_lent}
 use Rattle.seize_calls.proofs.handing.hand_one.Goals as goal
 
@@ -44,21 +48,47 @@ redeem-block-requires g c =
       ),
     )
 
+pub reclaim-requires : goal.reclaim-requires
+reclaim-requires g c =
+    let looked = c.header-header in let noted = c.note-note in let redeemed = c.redeem-block in let made = c.new-further.ensures in
+    let named = redeemed.ensures.looks.same.0 ∙ looked.ensures.looks.same.0 in (
+      lit< tt,
+      (
+        c.requires.serves,
+        (made.0.0 ∙ (named ∙ sym c.requires.book.2), none_new (further_in c.new-further.result) redeemed.new.pass made.0),
+      ),
+    )
+
+pub hand-requires-clause-book : goal.hand-requires-clause-book
+hand-requires-clause-book g c =
+    let looked = c.header-header in let noted = c.note-note in let redeemed = c.redeem-block in let key = c.args.key.now in let still = sym (same_key key redeemed.new.slot redeemed.ensures.slot) in
+    let named = redeemed.ensures.looks.same.0 ∙ looked.ensures.looks.same.0 in let same = sym named ∙ sym (ap (λ (p : Pass). p.name) c.new-further.ensures.1) in
+    (ap (λ (k : SlotKey). k.keys.name) (sym still) ∙ (c.requires.book.1 ∙ same), c.reclaim.ensures.further.0 ∙ (c.requires.book.2 ∙ same))
+
+pub hand-requires-clause-next : goal.hand-requires-clause-next
+hand-requires-clause-next g c =
+    let redeemed = c.redeem-block in
+    subst (λ (k : SlotKey). is_some (hands_next (slot_of k)) ≡ true) (sym (same_key c.args.key.now redeemed.new.slot redeemed.ensures.slot)) (ap is_some c.requires.soon)
+
+pub append-requires : goal.append-requires
+append-requires g c = (lit< tt, (c.requires.queue ∙ sym c.requires.book.2, c.hand.ensures.keys.0 ∙ c.reclaim.ensures.further.0))
+
 -- the same value, of the key that was unchanged when its note was read
 pub settle-requires-clause-handed : goal.settle-requires-clause-handed
 settle-requires-clause-handed g c =
-    let looked = c.header-header in let noted = c.note-note in let redeemed = c.redeem-block in let key = c.args.key.now in let v = value_of noted.new.self in
+    let looked = c.header-header in let noted = c.note-note in let redeemed = c.redeem-block in let key = c.args.key.now in let v = value_of noted.new.self in let made = c.new-further in
     let still = sym (same_key key redeemed.new.slot redeemed.ensures.slot) in let same = unchanged_value c.args.value noted.new.self noted.ensures.same in
     let soon : hands_next (slot_of redeemed.new.slot) ≡ Some v = subst (λ (k : SlotKey). hands_next (slot_of k) ≡ Some v) still (c.requires.soon ∙ ap Some (sym same)) in
-    let book : IsOf redeemed.new.slot redeemed.new.pass =
-    subst (λ (k : SlotKey). IsOf k redeemed.new.pass) still (c.requires.book.1 ∙ sym looked.ensures.looks.same.0 ∙ sym redeemed.ensures.looks.same.0) in
-    settles_after redeemed.new.key redeemed.new.slot c.hand.new.self redeemed.new.pass c.hand.new.pass v (block_of (value_of redeemed.new.key)) []
+    let book : IsOf redeemed.new.slot made.new.pass =
+    subst (λ (k : SlotKey). IsOf k made.new.pass) still (c.requires.book.1 ∙ sym looked.ensures.looks.same.0 ∙ sym redeemed.ensures.looks.same.0 ∙ sym (ap (λ (p : Pass). p.name) made.ensures.1)) in
+    settles_after redeemed.new.key redeemed.new.slot c.hand.new.key made.new.pass c.hand.new.pass v (block_of (value_of redeemed.new.key)) (values_of (further_in c.reclaim.new.further))
     (let is = redeemed.ensures.block.0.next in (is.0, is.1, is.2, refl)) book soon c.hand.ensures.noted
 
 pub returns-clause-handed : goal.returns-clause-handed
 returns-clause-handed g c =
-    let looked = c.header-header in let noted = c.note-note in let redeemed = c.redeem-block in let key = c.args.key.now in let hand = c.hand in
-    let notes : Notes key redeemed.new.pass hand.new.self hand.new.pass (Hand (number_of key) []) =
-    subst (λ (k : SlotKey). Notes k redeemed.new.pass hand.new.self hand.new.pass (Hand (number_of k) [])) (same_key key redeemed.new.slot redeemed.ensures.slot) hand.ensures.noted in
-    hands_so key hand.new.self c.args.pass.now redeemed.new.pass hand.new.pass c.settle.new.pass (value_of c.args.value)
-    (looks_twice c.args.pass.now looked.new.pass redeemed.new.pass looked.ensures.looks redeemed.ensures.looks) notes c.settle.ensures.looks c.requires.soon
+    let looked = c.header-header in let noted = c.note-note in let redeemed = c.redeem-block in let key = c.args.key.now in let hand = c.hand in let made = c.new-further in let puts = values_of (further_in c.reclaim.new.further) in let joins = c.append.ensures in
+    let notes : Notes key made.new.pass hand.new.key hand.new.pass (Hand (number_of key) puts) =
+    subst (λ (k : SlotKey). Notes k made.new.pass hand.new.key hand.new.pass (Hand (number_of k) puts)) (same_key key redeemed.new.slot redeemed.ensures.slot) hand.ensures.noted in
+    let looks : LooksOn c.args.pass.now made.new.pass = subst (λ (p : Pass). LooksOn c.args.pass.now p) (sym made.ensures.1) (looks_twice c.args.pass.now looked.new.pass redeemed.new.pass looked.ensures.looks redeemed.ensures.looks) in
+    hands_so key hand.new.key c.args.pass.now made.new.pass hand.new.pass c.settle.new.pass (value_of c.args.value) puts looks notes c.settle.ensures.looks c.requires.soon
+    (further_in c.args.queue.now) (further_in c.append.new.self) (joins.book, joins.all ∙ ap (λ (vs : List ℕ). values_of (further_in c.args.queue.now) ++ vs) hand.ensures.keys.1)

@@ -3,6 +3,7 @@ use Rattle.seize_book.specs.Slots.{IsOf}
 use Rattle.seize_book.specs.Values.{IsEmpty}
 use Rattle.seize_words.specs.Walks.{Knows}
 use Rattle.seize_book.specs.declared.book.pass.Pass.{Pass}
+use Rattle.seize_calls.specs.Furthers.{further_in}
 use Rattle.seize_calls.specs.Walking.{WalksAll}
 use Rattle.seize_calls.proofs.Keeps.{keeps_book}
 use Rattle.seize_calls.proofs.Strolls.{given_now, handed_on, none_strolled, shorter, strolled}
@@ -11,10 +12,11 @@ use Rattle.seize_calls.proofs.walking.walk_all.Goals as goal
 pub loop-values-init : goal.loop-values-init
 loop-values-init g c =
     let pass = c.new-values.new.pass in let same = sym c.new-values.ensures.1 in (
-      λ at. none_strolled c.args.key.now c.args.word at pass (g.R.Reclaim.had c.args.reclaimer.now),
+      λ at. none_strolled c.args.key.now c.args.word at pass (further_in c.args.queue.now) (g.R.Reclaim.had c.args.reclaimer.now),
       subst (λ (p : Pass). IsOf c.args.key.now p) same c.requires.book.0,
       subst (λ (p : Pass). Knows c.args.key.now p) same c.requires.knows,
       subst (λ (p : Pass). IsEmpty c.new-values.result p) same c.new-values.ensures.0,
+      c.requires.serves,
     )
 
 pub walk-requires : goal.walk-requires
@@ -27,8 +29,8 @@ pub returns-in-Over-clause-walks : goal.returns-in-Over-clause-walks
 returns-in-Over-clause-walks g c = λ at.
     let l = c.loop-values in let pass = c.new-values.new.pass in let r = l.invariant.0 at in
     let old = g.R.Reclaim.had c.args.reclaimer.now in let had = g.R.Reclaim.had l.reclaimer in
-    subst (λ (p : Pass). WalksAll at p c.walk.new.key c.walk.new.pass old had) c.new-values.ensures.1
-    (strolled c.args.key.now c.args.word at pass l.key l.pass l.leads old had r c.walk.new.key c.walk.new.pass c.walk.new.values (c.in-Over.ensures.walks r.here))
+    subst (λ (p : Pass). WalksAll at p (further_in c.args.queue.now) old c.walk.new.key c.walk.new.pass (further_in l.queue) had) c.new-values.ensures.1
+    (strolled c.args.key.now c.args.word at pass (further_in c.args.queue.now) old l.key l.pass l.leads (further_in l.queue) had r c.walk.new.key c.walk.new.pass c.walk.new.values (c.in-Over.ensures.walks r.here))
 
 pub hand_all-requires : goal.hand_all-requires
 hand_all-requires g c =
@@ -38,9 +40,15 @@ hand_all-requires g c =
       (
         (c.walk.ensures.book, c.requires.book.1 ∙ sym (w.goes_on.0.same.0 ∙ same)),
         (
-          c.walk.ensures.knows,
-          given_now c.args.key.now c.args.word c.requires.at c.new-values.new.pass l.key l.pass l.leads (g.R.Reclaim.had c.args.reclaimer.now) (g.R.Reclaim.had l.reclaimer) r c.walk.new.key c.walk.new.pass c.walk.new.values c.in-GivesUp.front
-              c.in-GivesUp.rest w c.walk.ensures.book c.walk.ensures.knows,
+          r.queued.0 ∙ (c.requires.queue ∙ sym (w.goes_on.0.same.0 ∙ same)),
+          (
+            c.walk.ensures.knows,
+            (
+              given_now c.args.key.now c.args.word c.requires.at c.new-values.new.pass (further_in c.args.queue.now) (g.R.Reclaim.had c.args.reclaimer.now) l.key l.pass l.leads (further_in l.queue) (g.R.Reclaim.had l.reclaimer) r c.walk.new.key
+                  c.walk.new.pass c.walk.new.values c.in-GivesUp.front c.in-GivesUp.rest w c.walk.ensures.book c.walk.ensures.knows,
+              l.invariant.4,
+            ),
+          ),
         ),
       ),
     )
@@ -48,21 +56,22 @@ hand_all-requires g c =
 pub loop-values-smaller : goal.loop-values-smaller
 loop-values-smaller g c =
     let l = c.loop-values in let at = c.requires.at in let r = l.invariant.0 at in let w = c.in-GivesUp.ensures.walks r.here in let hand = c.hand_all in
-    let given_up = given_now c.args.key.now c.args.word at c.new-values.new.pass l.key l.pass l.leads (g.R.Reclaim.had c.args.reclaimer.now) (g.R.Reclaim.had l.reclaimer) r c.walk.new.key c.walk.new.pass c.walk.new.values c.in-GivesUp.front c.in-GivesUp.rest w c.walk.ensures.book c.walk.ensures.knows in
-    shorter c.args.key.now c.args.word at c.new-values.new.pass l.key l.pass l.leads (g.R.Reclaim.had c.args.reclaimer.now) (g.R.Reclaim.had l.reclaimer) r c.walk.new.key c.walk.new.pass c.walk.new.values c.in-GivesUp.front c.in-GivesUp.rest w c.walk.ensures.book c.walk.ensures.knows
-    hand.new.key hand.new.pass hand.new.values (g.R.Reclaim.had hand.new.reclaimer) (hand.ensures.handed given_up) hand.ensures.had
+    let given_up = given_now c.args.key.now c.args.word at c.new-values.new.pass (further_in c.args.queue.now) (g.R.Reclaim.had c.args.reclaimer.now) l.key l.pass l.leads (further_in l.queue) (g.R.Reclaim.had l.reclaimer) r c.walk.new.key c.walk.new.pass c.walk.new.values c.in-GivesUp.front c.in-GivesUp.rest w c.walk.ensures.book c.walk.ensures.knows in
+    shorter c.args.key.now c.args.word at c.new-values.new.pass (further_in c.args.queue.now) (g.R.Reclaim.had c.args.reclaimer.now) l.key l.pass l.leads (further_in l.queue) (g.R.Reclaim.had l.reclaimer) r c.walk.new.key c.walk.new.pass c.walk.new.values c.in-GivesUp.front c.in-GivesUp.rest w c.walk.ensures.book c.walk.ensures.knows
+    hand.new.key hand.new.pass hand.new.values (further_in hand.new.queue) (g.R.Reclaim.had hand.new.reclaimer) (hand.ensures.handed given_up) hand.ensures.had
 
 pub loop-values-preserved : goal.loop-values-preserved
 loop-values-preserved g c =
     let l = c.loop-values in let hand = c.hand_all in let first = l.invariant.0 c.requires.at in let w0 = c.in-GivesUp.ensures.walks first.here in
-    let given0 = given_now c.args.key.now c.args.word c.requires.at c.new-values.new.pass l.key l.pass l.leads (g.R.Reclaim.had c.args.reclaimer.now) (g.R.Reclaim.had l.reclaimer) first c.walk.new.key c.walk.new.pass c.walk.new.values c.in-GivesUp.front c.in-GivesUp.rest w0 c.walk.ensures.book c.walk.ensures.knows in
+    let given0 = given_now c.args.key.now c.args.word c.requires.at c.new-values.new.pass (further_in c.args.queue.now) (g.R.Reclaim.had c.args.reclaimer.now) l.key l.pass l.leads (further_in l.queue) (g.R.Reclaim.had l.reclaimer) first c.walk.new.key c.walk.new.pass c.walk.new.values c.in-GivesUp.front c.in-GivesUp.rest w0 c.walk.ensures.book c.walk.ensures.knows in
     let handed0 = hand.ensures.handed given0 in (
       λ at.
           let r = l.invariant.0 at in let w = c.in-GivesUp.ensures.walks r.here in
-          let given_up = given_now c.args.key.now c.args.word at c.new-values.new.pass l.key l.pass l.leads (g.R.Reclaim.had c.args.reclaimer.now) (g.R.Reclaim.had l.reclaimer) r c.walk.new.key c.walk.new.pass c.walk.new.values c.in-GivesUp.front c.in-GivesUp.rest w c.walk.ensures.book c.walk.ensures.knows in
-          handed_on c.args.key.now c.args.word at c.new-values.new.pass l.key l.pass l.leads (g.R.Reclaim.had c.args.reclaimer.now) (g.R.Reclaim.had l.reclaimer) r c.walk.new.key c.walk.new.pass c.walk.new.values c.in-GivesUp.front c.in-GivesUp.rest w c.walk.ensures.book c.walk.ensures.knows
-          hand.new.key hand.new.pass hand.new.values (g.R.Reclaim.had hand.new.reclaimer) (hand.ensures.handed given_up) hand.ensures.had,
+          let given_up = given_now c.args.key.now c.args.word at c.new-values.new.pass (further_in c.args.queue.now) (g.R.Reclaim.had c.args.reclaimer.now) l.key l.pass l.leads (further_in l.queue) (g.R.Reclaim.had l.reclaimer) r c.walk.new.key c.walk.new.pass c.walk.new.values c.in-GivesUp.front c.in-GivesUp.rest w c.walk.ensures.book c.walk.ensures.knows in
+          handed_on c.args.key.now c.args.word at c.new-values.new.pass (further_in c.args.queue.now) (g.R.Reclaim.had c.args.reclaimer.now) l.key l.pass l.leads (further_in l.queue) (g.R.Reclaim.had l.reclaimer) r c.walk.new.key c.walk.new.pass c.walk.new.values c.in-GivesUp.front c.in-GivesUp.rest w c.walk.ensures.book c.walk.ensures.knows
+          hand.new.key hand.new.pass hand.new.values (further_in hand.new.queue) (g.R.Reclaim.had hand.new.reclaimer) (hand.ensures.handed given_up) hand.ensures.had,
       keeps_book c.walk.new.key hand.new.key c.walk.new.pass hand.new.pass handed0.goes_on.0 c.walk.ensures.book,
       hand.ensures.knows,
       handed0.none,
+      hand.ensures.serves,
     )

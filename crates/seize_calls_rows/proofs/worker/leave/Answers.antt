@@ -1,12 +1,9 @@
 use Rattle.seize_calls_rows.proofs.Workers.{idle_out, works_out}
 use Rattle.seize_calls_rows.proofs.worker.leave.Goals as goal
 
-pub returns : goal.returns
-returns c =
-    let a = c.args in let one = c.head-head in let two = c.leave in let works = c.requires.works in let idle = c.requires.inside.0.0 in let leaves = two.ensures.leaves in
-    record {
-      may = (
-        works_out a.words.now a.slot a.size a.batch a.key a.pass works idle one.new.pass one.ensures.looks _ _ _ two.new.key two.new.pass _ _ leaves two.ensures.knows,
-        (idle_out a.words.now a.slot a.size a.batch a.key a.pass works idle one.new.pass one.ensures.looks _ _ _ two.new.key two.new.pass _ _ leaves two.ensures.knows, leaves.active),
-      );
-    }
+pub returns-clause-may : goal.returns-clause-may
+returns-clause-may g c =
+    let a = c.args in let one = c.head-head in let two = c.leave in let works = c.requires.works in let idle = c.requires.inside.0.0 in let leaves = two.ensures.leaves in (
+      works_out a.words.now a.slot a.size a.batch a.key a.pass works idle one.new.pass one.ensures.looks two.new.key two.new.pass two.new.batch leaves.rests two.ensures.knows,
+      (idle_out a.words.now a.slot a.size a.batch a.key a.pass works idle one.new.pass one.ensures.looks two.new.key two.new.pass two.new.batch leaves.rests two.ensures.knows, leaves.active),
+    )

@@ -2,13 +2,13 @@ use Rattle.seize_calls_rows.proofs.Workers.{idle_out, works_out}
 use Rattle.seize_calls_rows.proofs.worker.Active.refresh_and_leave.Goals as goal
 
 pub leave-worker-requires-clause-works : goal.leave-worker-requires-clause-works
-leave-worker-requires-clause-works c =
+leave-worker-requires-clause-works g c =
     let a = c.args.self in let one = c.head-head in let two = c.refresh in let stands = c.requires.stands in
-    works_out c.args.words.now a.slot a.size a.batch a.key a.pass stands.works stands.inside.0 one.new.pass one.ensures.looks _ _ _ two.new.key two.new.pass _ _ two.ensures.leaves two.ensures.knows
+    works_out c.args.words.now a.slot a.size a.batch a.key a.pass stands.works stands.inside.0 one.new.pass one.ensures.looks two.new.key two.new.pass two.new.batch two.ensures.leaves.rests two.ensures.knows
 
 pub leave-worker-requires-clause-inside : goal.leave-worker-requires-clause-inside
-leave-worker-requires-clause-inside c =
+leave-worker-requires-clause-inside g c =
     let a = c.args.self in let one = c.head-head in let two = c.refresh in let stands = c.requires.stands in let leaves = two.ensures.leaves in (
-      (idle_out c.args.words.now a.slot a.size a.batch a.key a.pass stands.works stands.inside.0 one.new.pass one.ensures.looks _ _ _ two.new.key two.new.pass _ _ leaves two.ensures.knows, leaves.active),
+      (idle_out c.args.words.now a.slot a.size a.batch a.key a.pass stands.works stands.inside.0 one.new.pass one.ensures.looks two.new.key two.new.pass two.new.batch leaves.rests two.ensures.knows, leaves.active),
       two.ensures.last,
     )

@@ -1,0 +1,123 @@
+-- What stays over the parts of a call.
+use Rattle.std.proofs.Common.{◌≡◌, ℕ, ◌<◌, ◌≤◌, Bool, true, false, if◌then◌else◌, nat_le, List, [], ◌∷◌, ◌++◌, Option, Some, is_some, length, max, refl, sym, ap, ◌∙◌, append-nil, inl, inr, ◌⊎◌, arith}
+use base.Growing.{prefix_trans}
+use Rattle.seize_machine.specs.Machine.State.{Append, Call, Mark, Place, Rest}
+use Rattle.seize_machine.specs.Machine.Event.{Put}
+use Rattle.seize_machine.specs.Machine.Next.{of_call}
+use Rattle.seize_machine.proofs.Facts.{after_put}
+use Rattle.seize_book.specs.Passes.{events_by}
+use Rattle.seize_book.specs.Private.{next_at, puts_next}
+use Rattle.seize_book.specs.Slots.{Notes, number_of, size_of, slot_of}
+use Rattle.seize_book.specs.Values.{values_of}
+use Rattle.seize_book.specs.declared.book.pass.Pass.{Pass}
+use Rattle.seize_book.specs.declared.book.slot_key.SlotKey.{SlotKey}
+use Rattle.seize_book.specs.declared.book.value_keys.ValueKeys.{ValueKeys}
+use Rattle.seize_words.specs.Walks.{Knows}
+use Rattle.seize_calls.specs.Batches.{IsPushed}
+use Rattle.seize_calls.specs.Inserts.{Keeps}
+use Rattle.seize_calls.specs.Settling.{Drains, HasQueue, Marking, MayPut, Onward, Puts, Round, Settles, Sits, Stand, Stays}
+use Rattle.seize_calls.proofs.Alone.{alone_none, alone_twice}
+use Rattle.seize_calls.proofs.Events.{call_put, put_st, puts_so}
+use Rattle.seize_calls.proofs.Handed.{queues_none}
+
+abbrev pub onward_none : (key : SlotKey) (pass : Pass) → Onward key pass key pass
+onward_none key pass = record { same = (refl, refl); its = (refl, refl); used = refl; active = refl; life = refl; grows = ([], append-nil pass.seen); alone = alone_none pass }
+
+pub onward_twice : (key one two : SlotKey) (pass pass1 pass2 : Pass) → Onward key pass one pass1 → Onward one pass1 two pass2 → Onward key pass two pass2
+onward_twice key one two pass pass1 pass2 first second = record {
+  same = (second.same.0 ∙ first.same.0, second.same.1 ∙ first.same.1);
+  its = (second.its.0 ∙ first.its.0, second.its.1 ∙ first.its.1);
+  used = second.used ∙ first.used;
+  active = second.active ∙ first.active;
+  life = second.life ∙ first.life;
+  grows = prefix_trans pass.seen pass1.seen pass2.seen first.grows second.grows;
+  alone = alone_twice pass pass1 pass2 first.same first.alone second.alone;
+}
+
+pub keeps_onward : (key key' : SlotKey) (pass pass' : Pass) → Keeps key pass key' pass' → Onward key pass key' pass'
+keeps_onward key key' pass pass' keeps = record { same = keeps.same; its = keeps.its; used = keeps.used; active = keeps.active; life = keeps.life; grows = keeps.grows; alone = keeps.alone }
+
+pub settles_on : (a b : Stand) (retired : Bool) → Settles a b retired → Onward a.key a.pass b.key b.pass
+settles_on a b false stays = stays.on
+settles_on a b true went = went.on
+
+pub settles_rest : (a b : Stand) (retired : Bool) → Settles a b retired → HasQueue b.key b.queue
+settles_rest a b false stays = stays.rests
+settles_rest a b true went = went.rests
+
+pub round_on : (a : Stand) (v kept : ℕ) (b : Stand) (retired : Bool) → Round a v kept b retired → Onward a.key a.pass b.key b.pass
+round_on a v kept b retired r = onward_twice a.key r.full.key b.key a.pass r.full.pass b.pass r.puts.on (settles_on r.full b retired r.settles)
+
+-- nothing was attempted
+pub only_stays : (a : Stand) → HasQueue a.key a.queue → Stays a a
+only_stays a rests = record {
+  on = onward_none a.key a.pass;
+  batch = refl;
+  rests = rests;
+  finds = [];
+  made = sym (append-nil (events_by a.pass));
+  too_few = inl refl;
+  keys = (refl, refl);
+  queued = queues_none a.queue;
+  had_none = refl;
+}
+
+-- with an empty queue there are no rounds
+pub no_rounds : (a b : Stand) → Drains a b → values_of a.queue ≡ [] → b ≡ a
+no_rounds a _ Drains.over none = refl
+no_rounds a _ (Drains.round b c queue v kept retired drains takes round) none =
+    absurd (let same = no_rounds a b drains none in let e : v ∷ values_of queue ≡ [] = sym takes.1 ∙ ap (λ (x : Stand). values_of x.queue) same ∙ none in cc)
+
+-- A value is put.
+
+pub may_put : (key : SlotKey) (v : ℕ) (queue : ValueKeys) → MayPut key v queue → is_some (puts_next (slot_of key)) ≡ true
+may_put key v queue may = go may.0 may.1 may.2 may.3
+  where
+    go : (from : Place) (before : List ℕ) → (slot_of key).call ≡ Some (record { place = from; queue = before }) → ((from ≡ Append v) × (before ≡ values_of queue)) ⊎ ((from ≡ Rest [] []) × (before ≡ v ∷ values_of queue))
+        → is_some (puts_next (slot_of key)) ≡ true
+    go from before is (inl turn) = ap (λ (o : Option Call). is_some (of_call next_at o)) (is ∙ ap (λ (p : Place). Some (record { place = p; queue = before })) turn.0)
+    go from before is (inr turn) =
+        ap (λ (o : Option Call). is_some (of_call next_at o)) (is ∙ (λ i. Some (record { place = turn.0 i; queue = turn.1 i })))
+
+module _ (key key' : SlotKey) (pass pass' : Pass) (v : ℕ) (queue : ValueKeys) (may : MayPut key v queue) (notes : Notes key pass key' pass' (Put (number_of key))) where
+  pub is_put : Puts key pass v key' pass'
+  is_put = puts_so key key' pass pass' notes v may.0 may.1 (values_of queue) may.2 may.3
+
+  abbrev batch : List ℕ
+  batch = (slot_of key).batch ++ v ∷ []
+
+  abbrev slots : ℕ
+  slots = length (put_st key key' pass pass' notes v may.0 may.1 (values_of queue) may.2 may.3).slots
+
+  stands : (slot_of key').call ≡ Some (record { place = after_put (size_of key) slots batch; queue = values_of queue })
+  stands = call_put key key' pass pass' notes v may.0 may.1 (values_of queue) may.2 may.3
+
+  many : length batch ≡ length (slot_of key').batch
+  many = ap (λ (vs : List ℕ). length vs) (sym is_put.batch)
+
+  pub put_marks : size_of key ≤ length (slot_of key').batch → 1 ≤ length (slot_of key').batch → Marking key' queue
+  put_marks full some = (
+    record {
+      note = slots;
+      queue = values_of queue;
+      marking = stands ∙ ap (λ (b : Bool). Some (record { place = if b then Mark 0 slots [] else Rest [] []; queue = values_of queue })) (reaches (size_of key) (length batch) (omega (arith, many, full)) (omega (arith, many, some)));
+    },
+    refl,
+  )
+    where
+      reaches : (size k : ℕ) → size ≤ k → 1 ≤ k → nat_le (max 1 size) k ≡ true
+      reaches size k le some = grind arith
+
+  pub put_rests : length (slot_of key').batch < size_of key → HasQueue key' queue
+  put_rests few = stands ∙ ap (λ (b : Bool). Some (record { place = if b then Mark 0 slots [] else Rest [] []; queue = values_of queue })) (short (max 1 (size_of key)) (length batch) (omega (arith, many, few)))
+    where
+      short : (a b : ℕ) → b < a → nat_le a b ≡ false
+      short a b less = grind arith
+
+pub put_sits : (a b : Stand) (v kept : ℕ) → Puts a.key a.pass v b.key b.pass → IsPushed a.batch v kept b.batch → b.queue ≡ a.queue → Sits a → Knows b.key b.pass → Sits b
+put_sits a b v kept puts pushed queue sits knows = record {
+  its = puts.on.its.0 ∙ (sits.its ∙ sym puts.on.same.0);
+  knows = knows;
+  batch = (pushed.0 ∙ (sits.batch.0 ∙ sym puts.on.same.0), pushed.1 ∙ (ap (λ (vs : List ℕ). vs ++ v ∷ []) sits.batch.1 ∙ sym puts.batch));
+  queue = ap (λ (keys : ValueKeys). keys.keys.name) queue ∙ (sits.queue ∙ sym puts.on.same.0);
+}

@@ -1,0 +1,58 @@
+//! The queue of a slot's call: when the call has nothing else to do it retires what is there, the first first, until none is left. What
+//! goes to its reclaimer meanwhile may put more. Others may add any events meanwhile.
+ghost use Rattle.std.specs.Prelude.{◌≡◌, []};
+ghost use Rattle.seize_book.specs.Slots.{size_of};
+ghost use Rattle.seize_book.specs.Values.{values_of};
+ghost use Rattle.seize_calls.specs.Furthers.{further_in};
+ghost use Rattle.seize_calls.specs.Settling.{Drains, HasQueue, Onward, Sits, stand};
+ghost use Rattle.seize_words.specs.Chunks.{book_in};
+ghost use Rattle.seize_words.specs.Reserved.{slots_book};
+
+use crate::batch::Batch;
+use crate::further::Further;
+use crate::handing::Reclaim;
+use crate::settling::put;
+use seize_words::blocks::Blocks;
+use seize_words::book::{Pass, SlotKey};
+use seize_words::slots::Slots;
+use std::sync::Wait;
+
+/// Retires the values of the queue, which the slot's call has left to do, until none is left. Each joins the slot's batch, which is
+/// attempted where it has `size` values or more: the size of the book.
+///
+/// It takes no memory, but for what the handing does, and ends where reclaimers come to put no more. An insertion is tried again as often
+/// as others change the head between a look at it and the try.
+pub fn drain<T: Drop, R: Reclaim<T>>(
+    slots: &Slots,
+    blocks: &Blocks<T>,
+    batch: &mut Batch,
+    size: usize,
+    queue: &mut Further,
+    key: &mut SlotKey,
+    reclaimer: &mut R,
+    pass: &mut Pass,
+    rt: &impl Wait,
+)
+    requires words { (slots_book slots.now ≡ pass.old.name) × (book_in blocks.now ≡ pass.old.name) }
+    requires size { size ≡ size_of key.old }
+    requires sits { Sits (stand key.old pass.old batch.old queue.old (R.had reclaimer.old)) }
+    requires rests { HasQueue key.old (further_in queue.old) }
+    requires serves { R.serves reclaimer.old (book_in blocks.now) }
+    ensures sits { Sits (stand key.new pass.new batch.new queue.new (R.had reclaimer.new)) }
+    ensures serves { R.serves reclaimer.new (book_in blocks.now) }
+    ensures on { Onward key.old pass.old key.new pass.new }
+    ensures over { HasQueue key.new (further_in queue.new) × (values_of (further_in queue.new) ≡ []) }
+    ensures drains { let from = stand key.old pass.old batch.old queue.old (R.had reclaimer.old) in
+        Drains from (stand key.new pass.new batch.new queue.new (R.had reclaimer.new)) }
+{
+    for _ in rt.forever() {
+        if queue.front == 0 {
+            return;
+        }
+        let (value, number, kept) = queue.next(blocks);
+        put(
+            slots, blocks, batch, size, number, kept, value, queue, key, reclaimer, pass, rt,
+        );
+    }
+    unreachable!()
+}

@@ -1,0 +1,118 @@
+//! Further values: those that a reclaimer puts, and the queue of a slot's call, which has them one after the other until they are retired
+//! too. They are a chain through their blocks, as a batch is one, and so they take no memory.
+ghost use Rattle.std.specs.Prelude.{◌≡◌, true};
+ghost use Rattle.seize_calls.specs.Numbered.{ends_at, word_of_first};
+ghost use Rattle.seize_book.specs.Values.{AreClosed, values_of};
+
+use crate::chain::{join, lead_on};
+use seize_words::blocks::Blocks;
+use seize_words::book::{Pass, SlotKey, ValueKey, ValueKeys};
+
+/// The keys of some values, in the order in which they were put. Of each block it is noted which one comes next, and of the last one's that
+/// none does.
+///
+/// Those that are dropped leave their blocks, and what is lent in them, where they are for good.
+#[derive(Drop)]
+pub struct Further {
+    // The block of the first one, as a link's word would show it: its number and one more, or 0 where there is none.
+    pub(crate) front: u64,
+    // The number of the last one's block, where there is one.
+    pub(crate) last: u64,
+    pub(crate) values: ValueKeys,
+    ghost its_front: { front ≡ word_of_first (values_of values) },
+    ghost back: { ends_at last (values_of values) ≡ true },
+    ghost closed: { AreClosed values },
+}
+
+impl Further {
+    ghost use Rattle.std.specs.Prelude.{◌≢◌, [], is_some};
+    ghost use Rattle.seize_machine.specs.Machine.Event.{Hand};
+    ghost use Rattle.seize_book.specs.Books.{IsNextIn};
+    ghost use Rattle.seize_book.specs.Lending.{IsLentKey};
+    ghost use Rattle.seize_book.specs.Others.{book_of, value_of};
+    ghost use Rattle.seize_book.specs.Slots.{IsOf, Notes, hands_next, number_of, slot_of};
+    ghost use Rattle.seize_book.specs.Values.{AreNew, AreOfBook, IsEmpty, Keep};
+    ghost use Rattle.seize_calls.specs.Batches.{IsPushed, keys_book};
+    ghost use Rattle.seize_calls.specs.Furthers.{IsFirstOut, Joins, further_in};
+    ghost use Rattle.seize_words.specs.Chunks.{book_in};
+
+    /// No values, of the pass's book.
+    pub fn new(pass: &mut Pass) -> Further
+        ensures { IsEmpty (further_in result) pass.old × (pass.new ≡ pass.old) }
+    {
+        Further {
+            front: 0,
+            last: 0,
+            values: ValueKeys::new(pass),
+        }
+    }
+
+    /// Puts one value more, which comes last: that of the block with this number, which is lent there. It was never named. This is kept of
+    /// it, which says for which reclaimer it is.
+    ///
+    /// It takes no memory: two look-ups, a plain read and two plain writes.
+    pub fn put<T: Drop>(&mut self, blocks: &Blocks<T>, number: u64, kept: u64, value: ValueKey)
+        requires book { (keys_book (further_in self.old) ≡ book_in blocks.now) × (book_of value ≡ book_in blocks.now) }
+        requires value { IsNextIn value number × IsLentKey value }
+        requires new { AreNew (further_in self.old) }
+        ensures puts { IsPushed (further_in self.old) (value_of value) kept (further_in self.new) }
+        ensures new { AreNew (further_in self.new) }
+    {
+        let empty = self.front == 0;
+        join(
+            blocks,
+            &mut self.values,
+            empty,
+            self.last,
+            number,
+            kept,
+            value,
+        );
+        self.front = if empty { number + 1 } else { self.front };
+        self.last = number;
+    }
+
+    /// All the others come after its own, and none are left there.
+    ///
+    /// It takes no memory, however many they are: a look-up, a plain read and a plain write.
+    pub(crate) fn append<T: Drop>(&mut self, blocks: &Blocks<T>, other: &mut Further)
+        requires book { (keys_book (further_in self.old) ≡ book_in blocks.now) × (keys_book (further_in other.old) ≡ book_in blocks.now) }
+        ensures { Joins (further_in self.old) (further_in other.old) (further_in self.new) }
+    {
+        if other.front == 0 {
+            return;
+        }
+        let empty = self.front == 0;
+        lead_on(blocks, &mut self.values, empty, self.last, other.front - 1);
+        self.values.append(&mut other.values);
+        self.front = if empty { other.front } else { self.front };
+        self.last = other.last;
+        other.front = 0;
+    }
+
+    /// The first of them, which there is, with the number of its block and what is kept of it.
+    ///
+    /// It takes no memory: a look-up and a plain read.
+    pub(crate) fn next<T: Drop>(&mut self, blocks: &Blocks<T>) -> (ValueKey, u64, u64)
+        requires book { keys_book (further_in self.old) ≡ book_in blocks.now }
+        requires some { values_of (further_in self.old) ≢ [] }
+        ensures { IsFirstOut (further_in self.old) result.0 result.1 result.2 (further_in self.new) }
+    {
+        let mut value = self.values.next();
+        let number = self.front - 1;
+        let note = value.note(blocks.cell(number, &value));
+        self.front = note.next;
+        (value, number, note.kept)
+    }
+
+    /// The event `Hand`: the value that the slot's call is about to hand goes to its reclaimer, which put these.
+    pub(crate) fn hand(&mut self, key: &mut SlotKey, pass: &mut Pass)
+        requires book { IsOf key.old pass.old × AreOfBook (further_in self.old) pass.old }
+        requires next { is_some (hands_next (slot_of key.old)) ≡ true }
+        requires new { AreNew (further_in self.old) }
+        ensures noted { Notes key.old pass.old key.new pass.new (Hand (number_of key.old) (values_of (further_in self.old))) }
+        ensures keys { Keep (further_in self.old) pass.new (further_in self.new) }
+    {
+        key.hand_with(&mut self.values, pass);
+    }
+}

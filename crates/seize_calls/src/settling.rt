@@ -1,0 +1,101 @@
+//! What a slot's call does when its slot's batch may be full: it attempts it, and hands its values where they are given up. What their
+//! reclaimers put joins the call's queue. Others may add any events meanwhile.
+ghost use Rattle.std.specs.Prelude.{◌≡◌};
+ghost use Rattle.seize_book.specs.Blocks.{block_of};
+ghost use Rattle.seize_book.specs.Others.{IsValueOf, value_of};
+ghost use Rattle.seize_book.specs.Slots.{size_of};
+ghost use Rattle.seize_calls.specs.Furthers.{further_in};
+ghost use Rattle.seize_calls.specs.Settling.{Marking, MayPut, Round, Settles, Sits, stand};
+ghost use Rattle.seize_words.specs.Chunks.{book_in};
+ghost use Rattle.seize_words.specs.Reserved.{slots_book};
+
+use crate::attempt::{Attempted, attempt};
+use crate::batch::Batch;
+use crate::further::Further;
+use crate::handing::{Reclaim, hand_all};
+use seize_words::blocks::Blocks;
+use seize_words::book::{Pass, SlotKey, ValueKey};
+use seize_words::slots::Slots;
+use std::sync::Wait;
+
+/// Attempts the slot's batch, and hands its values if they are given up. It says whether the batch was retired: if it was, it has no values
+/// any more.
+///
+/// It takes no memory, but for what the handing does. An insertion is tried again as often as others change the head between a look at it
+/// and the try.
+pub fn settle<T: Drop, R: Reclaim<T>>(
+    slots: &Slots,
+    blocks: &Blocks<T>,
+    batch: &mut Batch,
+    queue: &mut Further,
+    key: &mut SlotKey,
+    reclaimer: &mut R,
+    pass: &mut Pass,
+    rt: &impl Wait,
+) -> bool
+    requires words { (slots_book slots.now ≡ pass.old.name) × (book_in blocks.now ≡ pass.old.name) }
+    requires sits { Sits (stand key.old pass.old batch.old queue.old (R.had reclaimer.old)) }
+    requires marking { Marking key.old (further_in queue.old) }
+    requires serves { R.serves reclaimer.old (book_in blocks.now) }
+    ensures sits { Sits (stand key.new pass.new batch.new queue.new (R.had reclaimer.new)) }
+    ensures serves { R.serves reclaimer.new (book_in blocks.now) }
+    ensures settles { let from = stand key.old pass.old batch.old queue.old (R.had reclaimer.old) in
+        Settles from (stand key.new pass.new batch.new queue.new (R.had reclaimer.new)) result }
+{
+    match attempt(slots, blocks, batch, key, pass, rt) {
+        Attempted::Stays => false,
+        Attempted::Waits => true,
+        Attempted::GivenUp => {
+            let front = batch.first;
+            hand_all(
+                blocks,
+                front,
+                &mut batch.values,
+                reclaimer,
+                queue,
+                key,
+                pass,
+            );
+            batch.len = 0;
+            true
+        }
+    }
+}
+
+/// Puts the value of this key, which lies in the block of this number, to the slot's batch: it comes last. What is kept of it is noted of
+/// its block. Where the batch has `size` values or more, which is the size of the book, it is attempted. It says whether the batch was
+/// retired.
+///
+/// It takes no memory and waits as `settle` does.
+pub fn put<T: Drop, R: Reclaim<T>>(
+    slots: &Slots,
+    blocks: &Blocks<T>,
+    batch: &mut Batch,
+    size: usize,
+    number: u64,
+    kept: u64,
+    value: ValueKey,
+    queue: &mut Further,
+    key: &mut SlotKey,
+    reclaimer: &mut R,
+    pass: &mut Pass,
+    rt: &impl Wait,
+) -> bool
+    requires words { (slots_book slots.now ≡ pass.old.name) × (book_in blocks.now ≡ pass.old.name) }
+    requires size { size ≡ size_of key.old }
+    requires sits { Sits (stand key.old pass.old batch.old queue.old (R.had reclaimer.old)) }
+    requires next { MayPut key.old (value_of value) (further_in queue.old) }
+    requires value { IsValueOf value pass.old × (block_of (value_of value) ≡ number) }
+    requires serves { R.serves reclaimer.old (book_in blocks.now) }
+    ensures sits { Sits (stand key.new pass.new batch.new queue.new (R.had reclaimer.new)) }
+    ensures serves { R.serves reclaimer.new (book_in blocks.now) }
+    ensures round { let from = stand key.old pass.old batch.old queue.old (R.had reclaimer.old) in
+        Round from (value_of value) kept (stand key.new pass.new batch.new queue.new (R.had reclaimer.new)) result }
+{
+    key.put(pass);
+    batch.push(blocks, number, kept, value);
+    if batch.len < size {
+        return false;
+    }
+    settle(slots, blocks, batch, queue, key, reclaimer, pass, rt)
+}
