@@ -5,7 +5,7 @@ ghost use Rattle.seize_calls_rows.specs.Workers.{CanMake, IsOut, MayWork, Stands
 ghost use Rattle.seize_words.specs.Joined.{words_book};
 
 use crate::clock::{RUNS, Samples, Span};
-use crate::dropping::{Dropping, leave, retire};
+use crate::dropping::Dropping;
 use crate::team::Team;
 use seize_calls_rows::worker::{Active, Out, ROW, Source, Worker, open};
 use seize_words::book::Pass;
@@ -115,7 +115,7 @@ fn retire_new(
         pass,
         activation,
     };
-    Some(retire(active, words, out, dropping, rt))
+    Some(active.retire(words, out, 0, dropping, rt).0)
 }
 
 // Puts the value of a new block into the link, and retires what was there.
@@ -133,7 +133,7 @@ fn update(
 {
     let (active, swapped) = active.swap_in(words, link, value);
     match swapped? {
-        Some(out) => Some(retire(active, words, out, dropping, rt)),
+        Some(out) => Some(active.retire(words, out, 0, dropping, rt).0),
         None => Some(active),
     }
 }
@@ -153,7 +153,7 @@ fn retire_many(
     for value in 0..many {
         active = retire_new(active, words, value, dropping, rt)?;
     }
-    Some(leave(active, words, dropping))
+    Some(active.leave(words, dropping, rt))
 }
 
 // Enters, puts a value into each link, and leaves.
@@ -166,7 +166,7 @@ fn fill(worker: Worker, words: &Words<u64>, rt: &impl Wait) -> Option<Worker>
     for link in 0..ROW {
         active = update(active, words, link, link as u64, &mut dropping, rt)?;
     }
-    Some(leave(active, words, &mut dropping))
+    Some(active.leave(words, &mut dropping, rt))
 }
 
 // One turn after the other. It gives the sum of the values read too.
@@ -196,7 +196,7 @@ fn turns(worker: Worker, words: &Words<u64>, job: Job, rt: &impl Wait) -> Option
             sum = sum.wrapping_add(found.unwrap_or(0));
             active
         };
-        worker = leave(active, words, &mut dropping);
+        worker = active.leave(words, &mut dropping, rt);
     }
     Some((worker, sum))
 }

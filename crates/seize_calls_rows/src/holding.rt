@@ -117,12 +117,13 @@ impl Worker {
         words: &Words<u64>,
         signs: &Signs,
         marks: &[AtomicU64],
+        rt: &impl Wait,
     ) -> Option<(Held, u64)>
         requires may { MayWork words.now self }
     {
         let mut counting = Counting::new(marks);
         let (active, held) = self.enter(words).hold(words, 0, signs, marks);
-        active.leave(words, &mut counting);
+        active.leave(words, &mut counting, rt);
         Some((held?, ended(marks)))
     }
 

@@ -32,7 +32,7 @@ fn beside<R: Threads + Wait + Sync>(
         rt,
         move || -> Option<(Held, u64)>
             requires { MayWork words.now reader }
-        { reader.hold_beside(words, signs, marks) },
+        { reader.hold_beside(words, signs, marks, rt) },
         move || -> Option<u64>
             requires { MayWork words.now other }
         { other.retire_beside(words, RETIRED, signs, marks, rt) },
@@ -59,7 +59,7 @@ fn what_a_reader_holds_stays_until_it_leaves(rt: HostRuntime) {
     let mut counting = Counting::new(marks.as_slice());
     let (active, put) = other.enter(&words).swap_in(&words, 0, 0);
     assert!(rt; put.is_some_and(|out| out.is_none()));
-    let other = active.leave(&words, &mut counting);
+    let other = active.leave(&words, &mut counting, &rt);
     let signs = Signs {
         found: AtomicU64::new(0),
         retired: AtomicU64::new(0),
