@@ -7,4 +7,5 @@ pub mod counting;
 pub mod running;
 #[cfg(test)]
 mod tests;
+pub mod turns;
 pub mod worker;
