@@ -245,11 +245,11 @@ fn work_both<R: Threads + Wait + Sync>(
         rt,
         move || -> Option<(Worker, Tally)>
             requires { MayWork words.now a }
-            ensures { IfSome result (λ worked. MayWork words.now worked.0) }
+            ensures { IfSome result (λ worked. MayWork words.entry.now worked.0) }
         { a.work(words, 0, TURNS, marks, rt) },
         move || -> Option<(Worker, Tally)>
             requires { MayWork words.now b }
-            ensures { IfSome result (λ worked. MayWork words.now worked.0) }
+            ensures { IfSome result (λ worked. MayWork words.entry.now worked.0) }
         { b.work(words, TURNS, TURNS, marks, rt) },
     );
     Some((one?, two?))
