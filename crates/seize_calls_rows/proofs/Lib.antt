@@ -1,1 +1,3 @@
 pub mod Workers
+pub mod Links
+pub mod Shut

@@ -143,7 +143,7 @@ works_with words slot size batch batch' key key' pass pass' works goes book numb
   batch_is = (of_book, values);
 }
 
-works_on : (words : Shared) (slot size : ℕ) (batch : Batch) (key key' : SlotKey) (pass pass' : Pass) → Works words slot size batch key pass → GoesOn pass pass'
+pub works_on : (words : Shared) (slot size : ℕ) (batch : Batch) (key key' : SlotKey) (pass pass' : Pass) → Works words slot size batch key pass → GoesOn pass pass'
     → slot_book key' ≡ slot_book key → number_of key' ≡ number_of key → (slot_of key').batch ≡ (slot_of key).batch → Works words slot size batch key' pass'
 works_on words slot size batch key key' pass pass' works goes book number same =
     works_with words slot size batch batch key key' pass pass' works goes book number (works.batch_is.0 ∙ sym goes.same.0) (works.batch_is.1 ∙ sym same)
@@ -162,7 +162,7 @@ module _ (words : Shared) (w : Worker) (may : MayWork words w) (key' : SlotKey) 
   pub entered : Stands words (record { slot = w.slot; size = w.size; key = key'; batch = w.batch; pass = pass'; activation = a })
   entered =
       let works = works_on words w.slot w.size w.batch w.key key' w.pass pass' may.0 goes_in notes.1.0 notes.1.1 (ap (λ (z : Slot). z.batch) same_record) in
-      let many = ap (λ (n : Name). length n.links) (sym works.book) ∙ works.links.1 in
+      let many = ap (λ (n : Name). length n.links) (sym works.book) ∙ works.links in
       record {
         works = works;
         inside = (ap is_idle same_record ∙ may.1.0, (λ i. is_active (head_at (after (start (sym is.book i)) (sym is.since i)) (sym is.slot i))) ∙ is.active);
@@ -196,7 +196,7 @@ module _ (words : Shared) (active : Active) (stands : Stands words active) (key'
 -- It leaves, or refreshes, after a look at the list.
 module _ (words : Shared) (slot size : ℕ) (batch : Batch) (key : SlotKey) (pass : Pass) (works : Works words slot size batch key pass) (idle : is_idle (slot_of key) ≡ true)
     (mid : Pass) (looks : LooksOn pass mid) (key' : SlotKey) (pass' : Pass) (batch' : Batch) (rests : Rests key mid key' pass' (keys_in batch')) (knows : Knows key' pass') where
-  goes_out : GoesOn pass pass'
+  pub goes_out : GoesOn pass pass'
   goes_out = goes_twice pass mid pass' (goes_looked pass mid looks) (goes_known key' mid pass' rests.same rests.grows knows)
 
   pub idle_out : is_idle (slot_of key') ≡ true

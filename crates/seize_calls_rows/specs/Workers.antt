@@ -2,10 +2,11 @@
 --     GoesOn pass pass'                it is the same pass, which has seen no less
 --     IsOutside key                    no call of the slot is under way, and it is not active
 --     Shared                           words of blocks of numbers
---     HasLinks words                   many may append to their book, which has 1,024 links
+--     HasLinks words                   their book has 1,024 links
 --     made_by source, size_in source   how many slots were made, and how many values a batch has
---     CanMake source words             the next slot of the book can be made, and it has a number
---     HasOneMore source source' words  one more slot was made, and where there is one more number, so can the slot after it
+--     CanTake source words             the next slot of the book can be made, and it has a number;  CanMake   and whoever wants has a pass
+--     HasTaken source source' words    one more slot was made, and where there is one more number, so can the slot after it;  HasOneMore
+--                                      and whoever wants has a pass
 --     IsBatchOf batch key pass         these are the keys of the slot's batch, of the pass's book
 --     Works words slot size batch key pass     the slot is there, and a batch has this size; and these are the keys of the slot's batch
 --     MayWork words worker             so it is with this worker's, and it is outside
@@ -49,7 +50,7 @@ abbrev pub Shared : Type 0
 Shared = Words ℕ
 
 abbrev pub HasLinks : Shared → Type 0
-HasLinks words = ((words_book words).gate ≡ many) × (length (words_book words).links ≡ 1024)
+HasLinks words = length (words_book words).links ≡ 1024
 
 abbrev pub made_by : Source → ℕ
 made_by source = source.made
@@ -57,12 +58,19 @@ made_by source = source.made
 abbrev pub size_in : Source → ℕ
 size_in source = source.size
 
-pub record CanMake (source : Source) (words : Shared) : Type 0 where
+pub record CanTake (source : Source) (words : Shared) : Type 0 where
   pub links : HasLinks words
   pub size : size_in source ≡ (words_book words).size
   pub book : numbers_book source.numbers ≡ words_book words
   pub next : HasNext source.numbers source.next
   pub count : made_of source.numbers ≡ made_by source
+
+abbrev pub CanMake : Source → Shared → Type 0
+CanMake source words = CanTake source words × ((words_book words).gate ≡ many)
+
+abbrev pub HasTaken : Source → Source → Shared → Type 0
+HasTaken source source' words =
+    (made_by source' ≡ suc (made_by source)) × (made_by source' < all_numbers → CanTake source' words)
 
 abbrev pub HasOneMore : Source → Source → Shared → Type 0
 HasOneMore source source' words =

@@ -8,4 +8,5 @@ pub mod holding;
 pub mod running;
 #[cfg(test)]
 mod tests;
+pub mod turns;
 pub mod worker;

@@ -61,6 +61,22 @@ impl Worker {
     ) -> Option<Tally>
         requires may { MayWork words.now self }
     {
+        let (_, tally) = self.work(words, first, turns, marks, rt)?;
+        Some(tally)
+    }
+
+    /// The same, and gives the worker back.
+    pub fn work(
+        self,
+        words: &Words<u64>,
+        first: u64,
+        turns: u64,
+        marks: &[AtomicU64],
+        rt: &impl Wait,
+    ) -> Option<(Worker, Tally)>
+        requires may { MayWork words.now self }
+        ensures may { IfSome result (λ worked. MayWork words.now worked.0) }
+    {
         let mut counting = Counting::new(marks);
         let mut worker = self;
         let mut early: u64 = 0;
@@ -73,10 +89,11 @@ impl Worker {
         }
         let (active, _) = worker.enter(words).flush(words, &mut counting, rt);
         let worker = active.leave(words, &mut counting, rt);
-        Some(Tally {
+        let tally = Tally {
             count: counting.count,
             left: worker.batch.len() as u64,
             early,
-        })
+        };
+        Some((worker, tally))
     }
 }

@@ -1,10 +1,12 @@
 //! Whole calls of slots: by one thread, and by threads that each have a slot.
+ghost use Rattle.std.specs.Prelude.{IfSome};
 ghost use Rattle.seize_calls_rows.specs.Workers.{MayWork};
 
 mod holding;
 
 use crate::counting::Counting;
 use crate::running::Tally;
+use crate::turns::{open_in_turns, reclaim_all};
 use crate::worker::{LINKS, Worker, open};
 use seize_words::words::Words;
 use std::alloc::{AllocError, Global};
@@ -228,4 +230,57 @@ fn four_threads_end_each_value_at_most_once(rt: HostRuntime) {
         .wrapping_add(c.left)
         .wrapping_add(d.left);
     assert_eq!(rt; told(marks.as_slice()), (left.wrapping_add(LINKS), 0));
+}
+
+// Two threads make turns, and give their workers back.
+fn work_both<R: Threads + Wait + Sync>(
+    rt: &R,
+    words: &Words<u64>,
+    marks: &[AtomicU64],
+    a: Worker,
+    b: Worker,
+) -> Option<((Worker, Tally), (Worker, Tally))>
+    requires { MayWork words.now a × MayWork words.now b }
+    ensures { IfSome result (λ worked. MayWork words.now worked.0.0 × MayWork words.now worked.1.0) }
+{
+    let (one, two) = thread::join(
+        rt,
+        move || -> Option<(Worker, Tally)>
+            requires { MayWork words.now a }
+            ensures { IfSome result (λ worked. MayWork words.entry.now worked.0) }
+        { a.work(words, 0, TURNS, marks, rt) },
+        move || -> Option<(Worker, Tally)>
+            requires { MayWork words.now b }
+            ensures { IfSome result (λ worked. MayWork words.entry.now worked.0) }
+        { b.work(words, TURNS, TURNS, marks, rt) },
+    );
+    Some((one?, two?))
+}
+
+// Two threads work in turns, with passes that a porter gave out. Then the gate is shut to one caller, who has all values back that stand in
+// links and in batches: each value ended, and once.
+#[test]
+fn all_values_come_back_at_a_shut_gate(rt: HostRuntime) {
+    let Ok(marks) = marks(rt.alloc(), 2 * TURNS) else {
+        panic!(rt; "no memory");
+    };
+    let Some((words, mut porter, source)) = open_in_turns(rt.alloc(), 32) else {
+        panic!(rt; "no memory");
+    };
+    let Some((a, source)) = source.make_in_turns(&words, &mut porter) else {
+        panic!(rt; "no memory");
+    };
+    let Some((b, _)) = source.make_in_turns(&words, &mut porter) else {
+        panic!(rt; "no memory");
+    };
+    let Some(((a, one), (b, two))) = work_both(&rt, &words, marks.as_slice(), a, b) else {
+        panic!(rt; "no memory");
+    };
+    let left = one.left.wrapping_add(two.left);
+    assert_eq!(rt; told(marks.as_slice()), (left.wrapping_add(LINKS), 0));
+    let mut counting = Counting::new(marks.as_slice());
+    let pass = reclaim_all(&words, porter, a, b, &mut counting, &rt);
+    assert!(rt; pass.is_some());
+    assert_eq!(rt; counting.count, left.wrapping_add(LINKS));
+    assert_eq!(rt; told(marks.as_slice()), (0, 0));
 }

@@ -1,7 +1,8 @@
 //! Workers over all words of one book: each has a slot of its own and the slot's batch, and makes whole calls of the slot. Others may add
 //! any events meanwhile.
-ghost use Rattle.std.specs.Prelude.{◌≡◌, ◌<◌, IfSome};
-ghost use Rattle.seize_calls_rows.specs.Workers.{CanMake, GoesOn, HasOneMore, IsOut, MayWork, Stands, Works, made_by, size_in};
+ghost use Rattle.std.specs.Prelude.{◌≡◌, ◌<◌, IfErr, IfOk, IfSome};
+ghost use Rattle.seize_calls_rows.specs.Workers.{CanMake, CanTake, HasOneMore, HasTaken, made_by, size_in};
+ghost use Rattle.seize_calls_rows.specs.Workers.{GoesOn, IsOut, MayWork, Stands, Works};
 ghost use Rattle.seize_calls.specs.Calls.{IsInside};
 ghost use Rattle.seize_words.specs.Joined.{IsInAt, words_book};
 ghost use Rattle.seize_words.specs.Reservations.{IsLastOf};
@@ -84,15 +85,27 @@ impl Source {
         ensures may { IfSome result (λ made. MayWork words.now made.0) }
         ensures made { IfSome result (λ made. HasOneMore self made.1 words.now) }
     {
+        let pass = words.blocks.book.pass();
+        self.make_with(words, pass).ok()
+    }
+
+    /// The same with this pass, which comes back where the growth was refused.
+    pub fn make_with(self, words: &Words<u64>, pass: Pass) -> Result<(Worker, Source), Pass>
+        requires can { CanTake self words.now }
+        requires book { pass.name ≡ words_book words.now }
+        ensures may { IfOk result (λ made. MayWork words.now made.0 × (made.0.slot ≡ made_by self)) }
+        ensures made { IfOk result (λ made. HasTaken self made.1 words.now) }
+        ensures unchanged { IfErr result (λ back. back ≡ pass) }
+    {
         let Source {
             mut numbers,
             next,
             made,
             size,
         } = self;
-        let mut pass = words.blocks.book.pass();
+        let mut pass = pass;
         let Ok((key, next)) = words.make_slot(next, &mut numbers, &mut pass) else {
-            return None;
+            return Err(pass);
         };
         let batch = Batch::new(&mut pass);
         let worker = Worker {
@@ -108,7 +121,7 @@ impl Source {
             made: made + 1,
             size,
         };
-        Some((worker, source))
+        Ok((worker, source))
     }
 }
 

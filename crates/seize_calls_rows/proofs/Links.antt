@@ -1,0 +1,156 @@
+-- The links that a slot's calls leave as they were, where the pass is alone: no event of a call is one on a link.
+use Rattle.std.proofs.Common.{◌≡◌, ℕ, zero, suc, Bool, true, false, ◌&&◌, List, [], ◌∷◌, ◌++◌, map, Option, None, Some, append_assoc, append-nil, refl, sym, ap, ◌∙◌, subst}
+use Rattle.std.specs.Prelude.{slice_index_or, slice_set}
+use Rattle.std.proofs.lemmas.List.{append_cancel_left}
+use Rattle.seize_machine.proofs.Facts.{if_some, link_frame, step_of}
+use Rattle.seize_machine.specs.Machine.Event.{Event, ExchangeLink}
+use Rattle.seize_machine.specs.Machine.Frames.{changes_link}
+use Rattle.seize_machine.specs.Machine.History.{done_by, or_illegal}
+use Rattle.seize_machine.specs.Machine.Next.{Outcome, can_link, is_none_or_fresh, next, scheme, swapped}
+use Rattle.seize_machine.specs.Machine.State.{State, link_at}
+use Rattle.seize_machine.specs.declared.machine.event.Answer.{Answer}
+use Rattle.seize_machine.specs.declared.machine.event.Answer.TheVariants.{Link}
+use Rattle.seize_machine.specs.declared.machine.event.Exchange.TheVariants.{Swap}
+use Rattle.seize_book.specs.Book.{after}
+use Rattle.seize_book.specs.Entry.{Deed, Entry, Made, Used, deeds, timed}
+use Rattle.seize_book.specs.Homesteads.{state_seen}
+use Rattle.seize_book.specs.Passes.{IsSame, LooksOn, events_by}
+use Rattle.seize_book.specs.Tokens.{IsSole, Name, Noted, start}
+use Rattle.seize_book.specs.declared.book.pass.Pass.{Pass}
+use Rattle.seize_book.proofs.Lists.{deeds_append, unequal}
+use Rattle.seize_calls.proofs.Alone.{made_alone}
+use Rattle.seize_calls.specs.Alone.{AddsAlone, AllBy}
+use Rattle.seize_calls.specs.Handing.{Handings}
+use Rattle.seize_calls.specs.Inserts.{Turn, last_at, losses, turn_at, turns_at}
+use Rattle.seize_calls.specs.Marks.{readings}
+use Rattle.seize_calls.specs.Walking.{hands, steps}
+use Rattle.seize_calls_rows.specs.Turns.{KeepsLinks}
+
+-- none of these is an event that changes a link
+abbrev pub IsNone : Event → Type 0
+IsNone event = (l : ℕ) → changes_link l event ≡ false
+
+abbrev pub NoneOf : List Deed → Type 0
+NoneOf [] = Unit {0}
+NoneOf (d ∷ ds) = IsNone d.event × NoneOf ds
+
+abbrev deeds_in : List (Deed × Answer) → List Deed
+deeds_in made = map (λ a. a.0) made
+
+none_both : (a b : List (Deed × Answer)) → NoneOf (deeds_in a) → NoneOf (deeds_in b) → NoneOf (deeds_in (a ++ b))
+none_both [] b one two = two
+none_both (d ∷ a) b one two = (one.0, none_both a b one.1 two)
+
+pub none_read : (pass : Pass) (s n : ℕ) (finds : List Bool) → NoneOf (deeds_in (readings pass s n finds))
+none_read pass s n [] = tt
+none_read pass s n (found ∷ finds) = ((λ l. refl), none_read pass s (suc n) finds)
+
+none_lost : (pass : Pass) (s m lost : ℕ) → NoneOf (deeds_in (losses pass s m lost))
+none_lost pass s m zero = tt
+none_lost pass s m (suc lost) = none_both (losses pass s m lost) _ (none_lost pass s m lost) ((λ l. refl), ((λ l. refl), tt))
+
+none_last : (pass : Pass) (s m : ℕ) (won : Bool) → NoneOf (deeds_in (last_at pass s m won))
+none_last pass s m true = ((λ l. refl), ((λ l. refl), tt))
+none_last pass s m false = ((λ l. refl), tt)
+
+pub none_turns : (pass : Pass) (s : ℕ) (ms : List ℕ) (turns : List Turn) → NoneOf (deeds_in (turns_at pass s ms turns))
+none_turns pass s [] turns = tt
+none_turns pass s (m ∷ ms) [] = tt
+none_turns pass s (m ∷ ms) (turn ∷ turns) =
+    none_both (turn_at pass s m turn) (turns_at pass s ms turns) (none_both (losses pass s m turn.lost) _ (none_lost pass s m turn.lost) (none_last pass s m turn.won)) (none_turns pass s ms turns)
+
+pub none_handed : (pass : Pass) (s : ℕ) (handed : Handings) → NoneOf (deeds_in (hands pass s handed))
+none_handed pass s [] = tt
+none_handed pass s (one ∷ handed) = ((λ l. refl), none_handed pass s handed)
+
+pub none_walked : (pass : Pass) (s : ℕ) (walked : List (_ × Handings)) → NoneOf (deeds_in (steps pass s walked))
+none_walked pass s [] = tt
+none_walked pass s (step ∷ walked) = ((λ l. refl), none_both (hands pass s step.1) (steps pass s walked) (none_handed pass s step.1) (none_walked pass s walked))
+
+-- What was made since, with none of these among it.
+
+abbrev pub Since : List (Deed × Answer) → List (Deed × Answer) → Type 0
+Since was now = (made : List (Deed × Answer)) × (now ≡ was ++ made) × NoneOf (deeds_in made)
+
+pub at_first : (was : List (Deed × Answer)) → Since was was
+at_first was = ([], sym (append-nil was), tt)
+
+pub more_since : (was now more : List (Deed × Answer)) → Since was now → NoneOf (deeds_in more) → Since was (now ++ more)
+more_since was now more since none =
+    (since.0 ++ more, ap (λ (x : List (Deed × Answer)). x ++ more) since.1 ∙ append_assoc was since.0 more, none_both since.0 more since.2 none)
+
+-- The links after such events.
+
+one_kept : (st : State) (d : Deed) (l : ℕ) → changes_link l d.event ≡ false → link_at (done_by next st (timed d)).0 l ≡ link_at st l
+one_kept st d l none = go (next d.size st d.event) refl
+  where
+    go : (o : Outcome) → next d.size st d.event ≡ o → link_at (or_illegal st o).0 l ≡ link_at st l
+    go None is = refl
+    go (Some done) is = link_frame l d.size st d.event done (step_of d.size st d.event done is) none
+
+links_kept : (st : State) (log : List Entry) (l : ℕ) → NoneOf (deeds log) → link_at (after st log) l ≡ link_at st l
+links_kept st [] l none = refl
+links_kept st (Made d ∷ log) l none = links_kept (done_by next st (timed d)).0 log l none.1 ∙ one_kept st d l (none.0 l)
+links_kept st (Used u ∷ log) l none = links_kept st log l none
+
+after_both : (st : State) (a b : List Entry) → after st (a ++ b) ≡ after (after st a) b
+after_both st [] b = refl
+after_both st (Made d ∷ a) b = after_both (done_by next st (timed d)).0 a b
+after_both st (Used u ∷ a) b = after_both st a b
+
+pub none_changed : (pass pass' : Pass) → IsSame pass pass' → AddsAlone pass pass' → IsSole pass.name.gate pass.id → Since (events_by pass) (events_by pass') → KeepsLinks pass pass'
+none_changed pass pass' same adds sole since l =
+    ap (λ (n : Name). link_at (after (start n) pass'.seen) l) same.0
+    ∙ ap (λ (log : List Entry). link_at (after st log) l) more.1
+    ∙ ap (λ (s : State). link_at s l) (after_both st pass.seen more.0)
+    ∙ links_kept (after st pass.seen) more.0 l (subst NoneOf its since.2)
+  where
+    st : State
+    st = start pass.name
+
+    more : (added : List Entry) × (pass'.seen ≡ pass.seen ++ added) × AllBy pass.id added
+    more = adds sole
+
+    its : deeds_in since.0 ≡ deeds more.0
+    its = append_cancel_left (deeds pass.seen) (deeds_in since.0) (deeds more.0) (sym (made_alone pass pass' since.0 same adds sole since.1) ∙ ap deeds more.1 ∙ deeds_append pass.seen more.0)
+
+pub kept_twice : (a b c : Pass) → KeepsLinks a b → KeepsLinks b c → KeepsLinks a c
+kept_twice a b c one two l = two l ∙ one l
+
+-- a pass that is alone stays so
+pub sole_still : (pass pass' : Pass) → IsSame pass pass' → IsSole pass.name.gate pass.id → IsSole pass'.name.gate pass'.id
+sole_still pass pass' same sole = subst (λ (t : Name × ℕ). IsSole t.0.gate t.1) (λ j. (sym same.0 j, sym same.1 j)) sole
+
+-- a look leaves all
+pub look_keeps : (pass pass' : Pass) → LooksOn pass pass' → IsSole pass.name.gate pass.id → state_seen pass' ≡ state_seen pass
+look_keeps pass pass' looks sole = ap (λ (n : Name). after (start n) pass'.seen) looks.same.0 ∙ ap (after (start pass.name)) (looks.alone sole)
+
+-- and so does one event that is none of these
+pub one_changed : (pass pass' : Pass) (d : Deed) → IsSame pass pass' → Noted pass.name pass.id pass.seen pass'.seen (Made d) → IsSole pass.name.gate pass.id → IsNone d.event → KeepsLinks pass pass'
+one_changed pass pass' d same noted sole none l =
+    ap (λ (n : Name). link_at (after (start n) pass'.seen) l) same.0
+    ∙ ap (λ (s : State). link_at s l) noted.leads
+    ∙ link_frame l d.size (after (start pass.name) noted.before) d.event (noted.later, noted.answer) (step_of d.size _ d.event _ noted.does) (none l)
+    ∙ ap (λ (log : List Entry). link_at (after (start pass.name) log) l) (noted.alone sole)
+
+-- An exchange with nothing empties its link, and leaves the others.
+
+none_there : (xs : List (Option ℕ)) (n : ℕ) → slice_index_or (slice_set xs n None) n None ≡ None
+none_there [] n = refl
+none_there (x ∷ xs) zero = refl
+none_there (x ∷ xs) (suc n) = none_there xs n
+
+emptied : (size : ℕ) (st : State) (s n : ℕ) (d : State × Answer) → next size st (ExchangeLink s n (Swap None)) ≡ Some d → link_at d.0 n ≡ None
+emptied size st s n d is =
+    let w = if_some (can_link st s n && is_none_or_fresh st None) (swapped scheme st n None, Link (link_at st n)) d is in
+    ap (λ (t : State × Answer). link_at t.0 n) (sym w.1) ∙ none_there st.links n
+
+pub takes_out : (pass pass' : Pass) (d : Deed) (s n : ℕ) → d.event ≡ ExchangeLink s n (Swap None) → IsSame pass pass' → Noted pass.name pass.id pass.seen pass'.seen (Made d) → IsSole pass.name.gate pass.id
+    → (link_at (state_seen pass') n ≡ None) × ((l : ℕ) → ¬ (l ≡ n) → link_at (state_seen pass') l ≡ link_at (state_seen pass) l)
+takes_out pass pass' d s n is same noted sole = (
+  ap (λ (m : Name). link_at (after (start m) pass'.seen) n) same.0 ∙ ap (λ (st : State). link_at st n) noted.leads
+      ∙ emptied d.size (after (start pass.name) noted.before) s n (noted.later, noted.answer) (ap (next d.size (after (start pass.name) noted.before)) (sym is) ∙ noted.does),
+  λ l other. ap (λ (m : Name). link_at (after (start m) pass'.seen) l) same.0 ∙ ap (λ (st : State). link_at st l) noted.leads
+      ∙ link_frame l d.size (after (start pass.name) noted.before) d.event (noted.later, noted.answer) (step_of d.size _ d.event _ noted.does) (ap (changes_link l) is ∙ unequal n l (λ e. other (sym e)))
+      ∙ ap (λ (log : List Entry). link_at (after (start pass.name) log) l) (noted.alone sole),
+)

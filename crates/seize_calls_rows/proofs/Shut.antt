@@ -1,0 +1,204 @@
+-- Calls with a pass that is alone: what the links hold then, and what is left at the end.
+use Rattle.std.proofs.Common.{◌≡◌, ℕ, zero, suc, ◌+◌, ◌-◌, ◌^◌, ◌<◌, min, Bool, true, false, List, [], ◌∷◌, length, None, is_some, not, ◌&&◌, inl, inr, ⊎_elim, refl, sym, ap, ◌∙◌, subst, arith}
+use Rattle.std.specs.Prelude.{slice_index_or}
+use Rattle.std.specs.List.{list_all}
+use native.Mathlib.Decide.{ℕ_discrete}
+use base.Growing.{prefix_refl}
+use mathlib.Core.List.{IsPrefix}
+use Rattle.seize_machine.proofs.Facts.{and_true, heads_length, law_quiet}
+use Rattle.seize_machine.specs.Machine.History.{Reclaimed, Retired, answers_of}
+use Rattle.seize_machine.specs.Machine.Laws.{is_quiet}
+use Rattle.seize_machine.specs.Machine.State.{Head, Inactive, Slot, State, are_distinct, head_at, is_active, is_idle, link_at, linked, no_slot, slot_at}
+use Rattle.seize_machine.specs.declared.machine.event.Answer.{Answer}
+use Rattle.seize_machine.specs.declared.machine.event.Job.{Job}
+use Rattle.seize_book.specs.Book.{IsLegalList, after, moments}
+use Rattle.seize_book.specs.Entry.{Deed, Entry, events_of}
+use Rattle.seize_book.specs.Homesteads.{state_seen}
+use Rattle.seize_book.specs.Passes.{IsSame, Longer, events_by}
+use Rattle.seize_book.specs.Slots.{Looks, active_of, number_of, slot_of}
+use Rattle.seize_book.specs.Tokens.{IsSole, Name, start}
+use Rattle.seize_book.specs.Turns.{HasTurn}
+use Rattle.seize_book.specs.declared.book.pass.Pass.{Pass}
+use Rattle.seize_book.specs.declared.book.slot_key.SlotKey.{SlotKey}
+use Rattle.seize_book.specs.declared.book.value_keys.ValueKeys.{ValueKeys}
+use Rattle.seize_book.proofs.Lists.{as_legal, reached_after}
+use Rattle.seize_book.proofs.Turns.{turn_alone}
+use Rattle.seize_calls.specs.Calls.{BeginsSo, Flushes, Leaves, RetiresOne, Returns}
+use Rattle.seize_calls.specs.Settling.{Drains, Round, Settles, Stand}
+use Rattle.seize_calls.specs.Handing.{Had}
+use Rattle.seize_calls.specs.Marks.{actives}
+use Rattle.seize_calls_rows.specs.Turns.{AllBack, EmptyBelow, Holds, IsPartOf, KeepsLinks}
+use Rattle.seize_calls_rows.specs.Workers.{GoesOn, MayWork, Shared, Works}
+use Rattle.seize_calls_rows.specs.declared.turns.Holder.{Holder}
+use Rattle.seize_calls_rows.specs.declared.worker.Worker.{Worker}
+use Rattle.seize_calls.specs.declared.batch.Batch.{Batch}
+use Rattle.seize_words.proofs.Facts.{more_slots}
+use Rattle.seize_calls_rows.proofs.Links.{IsNone, Since, at_first, more_since, none_changed, none_handed, none_read, none_turns, none_walked}
+use Rattle.seize_calls_rows.proofs.Workers.{goes_known, works_on}
+use Rattle.seize_words.specs.Walks.{Knows}
+
+pub has_turn : (pass : Pass) → HasTurn pass → IsSole pass.name.gate pass.id
+has_turn pass turn = subst (IsSole pass.name.gate) (sym turn.1) (turn_alone pass.name.gate turn.0)
+
+pub turn_still : (pass pass' : Pass) → IsSame pass pass' → HasTurn pass → HasTurn pass'
+turn_still pass pass' same turn = subst (λ (t : Name × ℕ). Rattle.seize_book.specs.Tokens.IsTurns t.0.gate × (t.1 ≡ 0)) (λ j. (sym same.0 j, sym same.1 j)) turn
+
+-- Where a call was made, each link holds what it held: none of its events changes one.
+
+since_settled : (e : List (Deed × Answer)) (a b : Stand) (r : Bool) → Settles a b r → Since e (events_by a.pass) → Since e (events_by b.pass)
+since_settled e a b false s so = subst (Since e) (sym s.made) (more_since e _ _ so (none_read a.pass (number_of a.key) 0 s.finds))
+since_settled e a b true s so =
+    let k = number_of a.key in
+    let read = more_since e _ _ so (none_read a.pass k 0 s.finds) in
+    let turns = more_since e _ _ (more_since e _ _ read ((λ l. refl), tt)) (none_turns a.pass k (actives 0 s.finds) s.turns) in
+    subst (Since e) (sym s.made) (more_since e _ _ (more_since e _ _ turns ((λ l. refl), tt)) (none_handed a.pass k s.handed))
+
+since_round : (e : List (Deed × Answer)) (a : Stand) (v kept : ℕ) (b : Stand) (r : Bool) → Round a v kept b r → Since e (events_by a.pass) → Since e (events_by b.pass)
+since_round e a v kept b r round so = since_settled e round.full b r round.settles (subst (Since e) (sym round.puts.made) (more_since e _ _ so ((λ l. refl), tt)))
+
+since_drained : (e : List (Deed × Answer)) (a b : Stand) → Drains a b → Since e (events_by a.pass) → Since e (events_by b.pass)
+since_drained e a _ Drains.over so = so
+since_drained e a _ (Drains.round b c queue v kept r before first one) so =
+    since_round e (record { key = b.key; pass = b.pass; batch = b.batch; queue = queue; had = b.had }) v kept c r one (since_drained e a b before so)
+
+since_returned : (e : List (Deed × Answer)) (a : Stand) (key' : SlotKey) (pass' : Pass) (values : ValueKeys) (had : Had) → Returns a key' pass' values had → Since e (events_by a.pass) → Since e (events_by pass')
+since_returned e a key' pass' values had returns so = subst (Since e) (sym returns.made) (more_since e _ _ so ((λ l. refl), tt))
+
+module _ (key : SlotKey) (pass : Pass) (values : ValueKeys) (had : Had) (key' : SlotKey) (pass' : Pass) (values' : ValueKeys) (had' : Had) (b : Bool) (knows : Knows key' pass') where
+  begun : (job : Job) (a : Stand) → BeginsSo key pass job values had a → Since (events_by pass) (events_by a.pass)
+  begun job a begins = subst (Since (events_by pass)) (sym begins.begins.made) (more_since (events_by pass) _ _ (at_first (events_by pass)) ((λ l. refl), tt))
+
+  pub retired_goes : (v kept : ℕ) → RetiresOne key pass v kept values had key' pass' values' had' b → GoesOn pass pass'
+  retired_goes v kept r = goes_known key' pass pass' r.rests.same r.rests.grows knows
+
+  pub retired_keeps : (v kept : ℕ) → RetiresOne key pass v kept values had key' pass' values' had' b → IsSole pass.name.gate pass.id → KeepsLinks pass pass'
+  retired_keeps v kept r sole =
+      let e = events_by pass in
+      none_changed pass pass' r.rests.same r.rests.alone sole
+      (since_returned e r.drained key' pass' values' had' r.returns (since_drained e r.settled r.drained r.drains (since_round e r.begun v kept r.settled b r.round (begun _ r.begun r.begins))))
+
+  pub flushed_goes : Flushes key pass values had key' pass' values' had' b → GoesOn pass pass'
+  flushed_goes f = goes_known key' pass pass' f.rests.same f.rests.grows knows
+
+  pub flushed_keeps : Flushes key pass values had key' pass' values' had' b → IsSole pass.name.gate pass.id → KeepsLinks pass pass'
+  flushed_keeps f sole =
+      let e = events_by pass in
+      none_changed pass pass' f.rests.same f.rests.alone sole
+      (since_returned e f.drained key' pass' values' had' f.returns (since_drained e f.settled f.drained f.drains (since_settled e f.begun f.settled b f.settles (begun _ f.begun f.begins))))
+
+pub left_keeps : (job : Job) (stays : Bool) (swap : Deed) (key : SlotKey) (pass : Pass) (values : ValueKeys) (had : Had) (key' : SlotKey) (pass' : Pass) (values' : ValueKeys) (had' : Had)
+    → Leaves job stays swap key pass values had key' pass' values' had' → IsNone swap.event → IsSole pass.name.gate pass.id → KeepsLinks pass pass'
+left_keeps job stays swap key pass values had key' pass' values' had' leaves none sole =
+    let e = events_by pass in let k = number_of key in
+    let out = more_since e _ _ (more_since e e _ (at_first e) ((λ l. refl), tt)) (none, tt) in
+    let behind = subst (Since e) (sym leaves.made) (more_since e _ _ out (none_walked pass k leaves.walked)) in
+    none_changed pass pass' leaves.rests.same leaves.rests.alone sole
+    (since_returned e leaves.drained key' pass' values' had' leaves.returns (since_drained e leaves.behind leaves.drained leaves.drains behind))
+
+-- One link more is empty.
+pub one_emptier : (n : ℕ) (pass pass' : Pass) → EmptyBelow n pass → (link_at (state_seen pass') n ≡ None) × ((l : ℕ) → ¬ (l ≡ n) → link_at (state_seen pass') l ≡ link_at (state_seen pass) l) → EmptyBelow (n + 1) pass'
+one_emptier n pass pass' empty out l less = go (ℕ_discrete l n)
+  where
+    go : Dec (l ≡ n) → link_at (state_seen pass') l ≡ None
+    go (yes e) = ap (link_at (state_seen pass')) e ∙ out.0
+    go (no other) = out.1 l other ∙ empty l (let differ : l ≡ n → ⊥ = other in omega (arith, differ, less))
+
+-- A pass of the same book that has seen more serves as well.
+pub works_by : (words : Shared) (slot size : ℕ) (batch : Batch) (key : SlotKey) (pass pass' : Pass) → Works words slot size batch key pass → pass'.name ≡ pass.name → IsPrefix pass.seen pass'.seen → IsLegalList (start pass'.name) pass'.seen
+    → Works words slot size batch key pass'
+works_by words slot size batch key pass pass' works same grows legal =
+    let more = more_slots pass.name pass.seen pass'.seen grows (subst (λ (n : Name). IsLegalList (start n) pass'.seen) same legal) in let there = works.holder.2 in
+    let less : slot < length (after (start pass.name) pass'.seen).slots = omega (arith, more, there) in
+    record {
+      links = works.links;
+      book = works.book ∙ sym same;
+      size_is = works.size_is ∙ ap (λ (n : Name). n.size) (sym same);
+      holder = (works.holder.0 ∙ sym same, works.holder.1, subst (λ (n : Name). slot < length (after (start n) pass'.seen).slots) (sym same) less);
+      batch_is = (works.batch_is.0 ∙ sym same, works.batch_is.1);
+    }
+
+pub part_holds : (words : Shared) (holder : Holder) (worker : Worker) (pass' : Pass) → IsPartOf holder worker → MayWork words worker → pass'.name ≡ worker.pass.name → IsPrefix worker.pass.seen pass'.seen → IsLegalList (start pass'.name) pass'.seen
+    → Holds words holder pass'
+part_holds words holder worker pass' part may same grows legal =
+    subst (λ (h : Holder). Holds words h pass') (λ j. record { slot = sym part.0 j; size = sym part.1 j; key = sym part.2 j; batch = sym part.3 j })
+    (works_by words worker.slot worker.size worker.batch worker.key worker.pass pass' may.0 same grows legal, may.1)
+
+pub holds_on : (words : Shared) (holder : Holder) (pass pass' : Pass) → Holds words holder pass → GoesOn pass pass' → Holds words holder pass'
+holds_on words holder pass pass' holds goes =
+    (works_on words holder.slot holder.size holder.batch holder.key holder.key pass pass' holds.0 goes refl refl refl, holds.1)
+
+-- what the porter has seen that took passes back
+pub longer_left : (a b c : List Entry) → Longer a b c → IsPrefix a c
+longer_left a b c (inl t) = subst (IsPrefix a) (sym t.1) t.0
+longer_left a b c (inr t) = subst (IsPrefix a) (sym t.1) (prefix_refl a)
+
+pub longer_right : (a b c : List Entry) → Longer a b c → IsPrefix b c
+longer_right a b c (inl t) = subst (IsPrefix b) (sym t.1) (prefix_refl b)
+longer_right a b c (inr t) = subst (IsPrefix b) (sym t.1) t.0
+
+-- What two slots leave behind.
+
+pub record LeavesNothing (st : State) (s : ℕ) : Type 0 where
+  pub call : is_some (slot_at st s).call ≡ false
+  pub off : is_active (head_at st s) ≡ false
+  pub batch : (slot_at st s).batch ≡ []
+
+not_so : (b : Bool) → not b ≡ true → b ≡ false
+not_so true h = absurd (let e : false ≡ true = h in cc)
+not_so false h = refl
+
+pub left_by : (key key' : SlotKey) (pass pass' : Pass) (s : ℕ) → Looks key pass key' pass' → key.keys.name ≡ pass.name → number_of key ≡ s → is_idle (slot_of key) ≡ true → active_of key ≡ false → (slot_of key).batch ≡ []
+    → LeavesNothing (state_seen pass') s
+left_by key key' pass pass' s looks book is idle off none =
+    let name : pass'.name ≡ key.keys.name = looks.on.same.0 ∙ sym book in
+    let slot : slot_at (state_seen pass') s ≡ slot_of key = (λ j. slot_at (after (start (name j)) pass'.seen) (sym is j)) ∙ looks.slot in
+    let head : is_active (head_at (state_seen pass') s) ≡ active_of key = (λ j. is_active (head_at (after (start (name j)) pass'.seen) (sym is j))) ∙ looks.active in
+    record {
+      call = ap (λ (z : Slot). is_some z.call) slot ∙ not_so _ (and_true _ _ idle).1;
+      off = head ∙ off;
+      batch = ap (λ (z : Slot). z.batch) slot ∙ none;
+    }
+
+both_left : (slots : List Slot) (heads : List Head) → length slots ≡ 2 → length heads ≡ 2
+    → is_some (slice_index_or slots 0 no_slot).call ≡ false → is_some (slice_index_or slots 1 no_slot).call ≡ false
+    → is_active (slice_index_or heads 0 Inactive) ≡ false → is_active (slice_index_or heads 1 Inactive) ≡ false
+    → (list_all (λ slot. not (is_some slot.call)) slots && list_all (λ head. not (is_active head)) heads) ≡ true
+both_left (a ∷ b ∷ []) (x ∷ y ∷ []) two too c d e f = λ i. (not (c i) && (not (d i) && true)) && (not (e i) && (not (f i) && true))
+both_left [] heads two too c d e f = absurd (omega (arith, two))
+both_left (a ∷ []) heads two too c d e f = absurd (omega (arith, two))
+both_left (a ∷ b ∷ z ∷ slots) heads two too c d e f = absurd (omega (arith, two))
+both_left (a ∷ b ∷ []) [] two too c d e f = absurd (omega (arith, too))
+both_left (a ∷ b ∷ []) (x ∷ []) two too c d e f = absurd (omega (arith, too))
+both_left (a ∷ b ∷ []) (x ∷ y ∷ z ∷ heads) two too c d e f = absurd (omega (arith, too))
+
+no_batch : (slots : List Slot) → length slots ≡ 2 → (slice_index_or slots 0 no_slot).batch ≡ [] → (slice_index_or slots 1 no_slot).batch ≡ [] → (s : ℕ) → (slice_index_or slots s no_slot).batch ≡ []
+no_batch (a ∷ b ∷ []) two one more zero = one
+no_batch (a ∷ b ∷ []) two one more (suc zero) = more
+no_batch (a ∷ b ∷ []) two one more (suc (suc s)) = refl
+no_batch [] two one more s = absurd (omega (arith, two))
+no_batch (a ∷ []) two one more s = absurd (omega (arith, two))
+no_batch (a ∷ b ∷ z ∷ slots) two one more s = absurd (omega (arith, two))
+
+pub all_back : (pass : Pass) → IsSole pass.name.gate pass.id → EmptyBelow 1024 pass → IsLegalList (start pass.name) pass.seen → are_distinct (linked pass.name.links) ≡ true → length (state_seen pass).slots ≡ 2
+    → LeavesNothing (state_seen pass) 0 → LeavesNothing (state_seen pass) 1 → AllBack pass
+all_back pass sole links legal distinct two first second = record { alone = sole; links = links; quiet = quiet; batches = none; reclaimed = gone }
+  where
+    st : State
+    st = state_seen pass
+
+    quiet : is_quiet st ≡ true
+    quiet = both_left st.slots st.heads two (heads_length st (reached_after pass.name pass.seen distinct legal) ∙ two) first.call second.call first.off second.off
+
+    none : (s : ℕ) → (slot_at st s).batch ≡ []
+    none = no_batch st.slots two first.batch second.batch
+
+    gone : (v q : ℕ) → Retired (moments (start pass.name) pass.seen) v q → (c : ℕ) × Reclaimed (moments (start pass.name) pass.seen) v c
+    gone v q retired =
+        let n = pass.name in
+        ⊎_elim (λ back. back) (λ batched. absurd (let less : batched.1.0 < length {A = ℕ} [] = subst (λ (vs : List ℕ). batched.1.0 < length vs) (none batched.0) batched.1.1 in omega (arith, less)))
+        (law_quiet n.slots n.links (events_of pass.seen) (answers_of (moments (start n) pass.seen)) (after (start n) pass.seen) distinct (as_legal (start n) pass.seen legal) quiet v q retired)
+
+-- a batch of no values
+pub no_values : (xs : List ℕ) (k : ℕ) → k ≡ min (length xs) (2 ^ 64 - 1) → k ≡ 0 → xs ≡ []
+no_values [] k is none = refl
+no_values (x ∷ xs) k is none = absurd (omega (arith, is, none))

@@ -1,0 +1,57 @@
+use Rattle.std.proofs.Common.{◌≡◌, [], length, true, sym, ap, subst, ◌∙◌}
+use base.Growing.{prefix_trans}
+use Rattle.seize_machine.specs.Machine.State.{State, are_distinct, link_at, linked}
+use Rattle.seize_book.specs.Book.{IsLegalList}
+use Rattle.seize_book.specs.Tokens.{Name, start}
+use Rattle.seize_book.specs.Homesteads.{state_seen}
+use Rattle.seize_book.specs.Slots.{slot_of}
+use Rattle.seize_book.specs.Values.{values_of}
+use Rattle.seize_calls.specs.Batches.{keys_in}
+use Rattle.seize_calls_rows.proofs.Links.{look_keeps, sole_still}
+use Rattle.seize_calls_rows.proofs.Shut.{LeavesNothing, all_back, has_turn, holds_on, left_by, longer_left, longer_right, no_values, part_holds, turn_still}
+use Rattle.seize_calls_rows.proofs.turns.reclaim_all.Goals as goal
+
+pub clear-second-requires-clause-holds : goal.clear-second-requires-clause-holds
+clear-second-requires-clause-holds g c =
+    let words = c.args.words.now in let second = c.args.second in let one = c.part-first in let two = c.part-second in let pass = c.shut-pass.result in let shut = c.shut-pass.ensures in
+    let porter = two.new.porter in
+    part_holds words two.result second pass two.ensures.part c.requires.workers.1
+    (shut.book ∙ two.ensures.back.0 ∙ one.ensures.back.0 ∙ c.requires.porter.0 ∙ c.requires.workers.1.0.book)
+    (prefix_trans second.pass.seen porter.seen pass.seen (longer_right one.new.porter.seen second.pass.seen porter.seen two.ensures.back.2) shut.grows)
+    shut.legal
+
+pub empty-first-requires-clause-holds : goal.empty-first-requires-clause-holds
+empty-first-requires-clause-holds g c =
+    let words = c.args.words.now in let first = c.args.first in let one = c.part-first in let two = c.part-second in let pass = c.shut-pass.result in let shut = c.shut-pass.ensures in
+    let porter = two.new.porter in
+    holds_on words one.result pass c.clear-second.new.pass
+    (part_holds words one.result first pass one.ensures.part c.requires.workers.0
+    (shut.book ∙ two.ensures.back.0 ∙ one.ensures.back.0 ∙ c.requires.porter.0 ∙ c.requires.workers.0.0.book)
+    (prefix_trans first.pass.seen one.new.porter.seen pass.seen (longer_right c.args.porter.seen first.pass.seen one.new.porter.seen one.ensures.back.2)
+    (prefix_trans one.new.porter.seen porter.seen pass.seen (longer_left one.new.porter.seen c.args.second.pass.seen porter.seen two.ensures.back.2) shut.grows))
+    shut.legal)
+    c.clear-second.ensures.goes_on
+
+pub returns : goal.returns
+returns g c =
+    let p0 = c.shut-pass.result in let p1 = c.clear-second.new.pass in let p2 = c.empty-first.new.pass in let p3 = c.look.new.pass in let p4 = c.look-2.new.pass in let p5 = c.load-many.new.pass in
+    let load = c.load-many.ensures in let mid = load.count.0 in
+    let turn2 = turn_still p1 p2 c.empty-first.ensures.goes_on.same (turn_still p0 p1 c.clear-second.ensures.goes_on.same c.shut-pass.ensures.turn) in
+    let sole2 = has_turn p2 turn2 in let first = c.look.ensures.looked in let second = c.look-2.ensures.looked in
+    let sole3 = sole_still p2 p3 first.on.same sole2 in let sole4 = sole_still p3 p4 second.on.same sole3 in
+    let e3 : state_seen p3 ≡ state_seen p2 = look_keeps p2 p3 first.on sole2 in let e4 : state_seen p4 ≡ state_seen p3 = look_keeps p3 p4 second.on sole3 in
+    let e5 : state_seen p5 ≡ state_seen p4 = look_keeps p4 p5 load.looks sole4 in let em : state_seen mid ≡ state_seen p4 = look_keeps p4 mid load.count.1 sole4 in
+    let a = c.empty-first.result in let b = c.clear-second.result in let ha = c.empty-first.ensures.holds in let hb = c.clear-second.ensures.holds in
+    let na : (slot_of a.key).batch ≡ [] = sym ha.0.0.batch_is.1 ∙ no_values (values_of (keys_in a.batch)) c.len.result c.len.ensures c.if-len-ne0.false in
+    let nb : (slot_of b.key).batch ≡ [] = sym hb.0.0.batch_is.1 ∙ no_values (values_of (keys_in b.batch)) c.len-else-len-ne0.result c.len-else-len-ne0.ensures c.if-len-ne0-2.false in
+    let one : LeavesNothing (state_seen p3) 0 = left_by a.key c.look.new.self p2 p3 0 first ha.0.0.holder.0 (ha.0.0.holder.1 ∙ c.if-first_slot-ne0.false) ha.0.1.0 ha.0.1.1 na in
+    let two : LeavesNothing (state_seen p4) 1 =
+    left_by b.key c.look-2.new.self p3 p4 1 second (hb.0.0.holder.0 ∙ sym (first.on.same.0 ∙ c.empty-first.ensures.goes_on.same.0)) (hb.0.0.holder.1 ∙ c.if-second_slot-ne1.false) hb.0.1.0 hb.0.1.1 nb in
+    record {
+      back = all_back p5 (sole_still p4 p5 load.looks.same sole4)
+          (λ l less. ap (λ (st : State). link_at st l) (e5 ∙ e4 ∙ e3) ∙ c.empty-first.ensures.links l less)
+          (subst (λ (n : Name). IsLegalList (start n) p5.seen) (sym load.looks.same.0) load.looks.legal) (subst (λ (n : Name). are_distinct (linked n.links) ≡ true) (sym load.looks.same.0) load.looks.distinct)
+          (ap (λ (st : State). length st.slots) (e5 ∙ sym em) ∙ sym load.count.3 ∙ c.if-many-ne2.false)
+          (subst (λ (st : State). LeavesNothing st 0) (sym (e5 ∙ e4)) one)
+          (subst (λ (st : State). LeavesNothing st 1) (sym e5) two);
+    }

@@ -1,0 +1,66 @@
+-- What is known while holders of slots work in turns, and when the gate is shut.
+--     CanMakeIn source words porter    the next slot can be made, and its holder has a pass of the porter's
+--     IsSlotAfter source worker source' words     the worker has the slot that came next, and so may the slot after it be made
+--     IsOneMoreOut porter porter'      one more pass is out
+--     IsPartOf holder worker           it is what the worker has beside its pass
+--     StandsAs words slot size batch key activation pass     as `Stands`, of each by itself;  Holds words holder pass   as `MayWork`
+--     KeepsLinks pass pass'            each link holds what it held
+--     TakesOut l pass pass'            but link l, which holds nothing
+--     EmptyBelow n pass                the links below this number hold nothing
+--     AllBack pass                     the pass has seen the whole list, and nobody else can add to it. In it no link holds anything, no
+--                                      call is under way, no slot is active and none has a batch. So each value that was ever retired went
+--                                      to its reclaimer
+use Rattle.std.specs.Prelude.{◌≡◌, ℕ, ◌+◌, ◌<◌, true, [], None}
+use Rattle.seize_machine.specs.Machine.History.{Reclaimed, Retired}
+use Rattle.seize_machine.specs.Machine.Laws.{is_quiet}
+use Rattle.seize_machine.specs.Machine.State.{link_at, slot_at}
+use Rattle.seize_book.specs.Book.{moments}
+use Rattle.seize_book.specs.Homesteads.{state_seen}
+use Rattle.seize_book.specs.Tokens.{IsSole, start}
+use Rattle.seize_book.specs.declared.book.pass.Pass.{Pass}
+use Rattle.seize_book.specs.declared.book.porter.Porter.{Porter}
+use Rattle.seize_book.specs.declared.book.slot_key.SlotKey.{SlotKey}
+use Rattle.seize_calls.specs.declared.batch.Batch.{Batch}
+use Rattle.seize_words.specs.Joined.{words_book}
+use Rattle.seize_words.specs.declared.activation.Activation.{Activation}
+use Rattle.seize_calls_rows.specs.Workers.{CanTake, HasTaken, IsOutside, Shared, Stands, Works, made_by}
+use Rattle.seize_calls_rows.specs.declared.turns.Holder.{Holder}
+use Rattle.seize_calls_rows.specs.declared.worker.Source.{Source}
+use Rattle.seize_calls_rows.specs.declared.worker.Worker.{Worker}
+
+abbrev pub CanMakeIn : Source → Shared → Porter → Type 0
+CanMakeIn source words porter = CanTake source words × (porter.name ≡ words_book words)
+
+abbrev pub IsSlotAfter : Source → Worker → Source → Shared → Type 0
+IsSlotAfter source worker source' words = (worker.slot ≡ made_by source) × HasTaken source source' words
+
+abbrev pub IsOneMoreOut : Porter → Porter → Type 0
+IsOneMoreOut porter porter' = (porter'.name ≡ porter.name) × (porter'.out ≡ porter.out + 1)
+
+abbrev pub IsPartOf : Holder → Worker → Type 0
+IsPartOf holder worker =
+    (holder.slot ≡ worker.slot) × (holder.size ≡ worker.size) × (holder.key ≡ worker.key) × (holder.batch ≡ worker.batch)
+
+abbrev pub StandsAs : Shared → ℕ → ℕ → Batch → SlotKey → Activation → Pass → Type 0
+StandsAs words slot size batch key activation pass =
+    Stands words (record { slot = slot; size = size; key = key; batch = batch; pass = pass; activation = activation })
+
+abbrev pub Holds : Shared → Holder → Pass → Type 0
+Holds words holder pass = Works words holder.slot holder.size holder.batch holder.key pass × IsOutside holder.key
+
+abbrev pub KeepsLinks : Pass → Pass → Type 0
+KeepsLinks pass pass' = (l : ℕ) → link_at (state_seen pass') l ≡ link_at (state_seen pass) l
+
+abbrev pub TakesOut : ℕ → Pass → Pass → Type 0
+TakesOut n pass pass' =
+    (link_at (state_seen pass') n ≡ None) × ((l : ℕ) → ¬ (l ≡ n) → link_at (state_seen pass') l ≡ link_at (state_seen pass) l)
+
+abbrev pub EmptyBelow : ℕ → Pass → Type 0
+EmptyBelow n pass = (l : ℕ) → l < n → link_at (state_seen pass) l ≡ None
+
+pub record AllBack (pass : Pass) : Type 0 where
+  pub alone : IsSole pass.name.gate pass.id
+  pub links : EmptyBelow 1024 pass
+  pub quiet : is_quiet (state_seen pass) ≡ true
+  pub batches : (s : ℕ) → (slot_at (state_seen pass) s).batch ≡ []
+  pub reclaimed : (v q : ℕ) → let ms = moments (start pass.name) pass.seen in Retired ms v q → (c : ℕ) × Reclaimed ms v c
