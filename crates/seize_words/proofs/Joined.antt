@@ -49,7 +49,7 @@ module _ (key key' : SlotKey) (pass mid pass' : Pass) (looks : LooksOn pass mid)
       made =
           ap (λ (t : Name × ℕ). mine (start t.0) t.1 pass'.seen) (λ j. (sym looks.same.0 j, sym looks.same.1 j))
           ∙ (x.made ∙ ap (λ (made : List (Entry × _)). made ++ (Made d, x.answer) ∷ []) looks.none_made);
-      alone = λ s. x.alone (subst (λ (n : Name). IsSole n.gate) (sym looks.same.0) s) ∙ looks.alone s;
+      alone = λ s. x.alone (subst (λ (t : Name × ℕ). IsSole t.0.gate t.1) (λ j. (sym looks.same.0 j, sym looks.same.1 j)) s) ∙ looks.alone s;
       lent = subst (λ (n : Name). AllLentIn n (x.later).named) looks.same.0 x.lent;
       distinct = looks.distinct;
     }

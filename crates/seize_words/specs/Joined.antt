@@ -3,6 +3,7 @@
 --     OpensWords words numbers next links size     a new book with no slot yet, to which many may append, with so many links, which are
 --                                    empty; and what its slots are made with
 --     OpensWordsAlone words pass numbers next links size     the same of a book to which this pass alone may append
+--     OpensWordsInTurns words porter numbers next links size     the same of a book whose passes come from this porter
 --     IsHolder key pass slot         the key is that of this slot, which is there, as the pass has seen
 --     MayReadAt key pass slot        the slot's call reads this slot's head next, and that is there, as the pass has seen
 --     IsInAt activation pass link    the activation has begun, as the pass has seen, and the link is one of the book's: see IsIn
@@ -34,10 +35,12 @@ use Rattle.seize_words.specs.Reserved.{HasNext}
 use Rattle.seize_book.specs.Slots.{IsOf, number_of, own_list, slot_of, start_of}
 use Rattle.seize_book.specs.Tokens.{Name}
 use Rattle.seize_book.specs.Values.{AreClosed, values_of}
+use Rattle.seize_book.specs.Turns.{IsFullPorter}
 use Rattle.seize_words.specs.Totals.{made_of, slots_seen}
 use Rattle.seize_words.specs.declared.activation.Activation.{Activation}
 use Rattle.seize_book.specs.declared.book.numbers_key.NumbersKey.{NumbersKey}
 use Rattle.seize_book.specs.declared.book.pass.Pass.{Pass}
+use Rattle.seize_book.specs.declared.book.porter.Porter.{Porter}
 use Rattle.seize_book.specs.declared.book.slot_key.SlotKey.{SlotKey}
 use Rattle.seize_book.specs.declared.book.token.Book.{Book}
 use Rattle.seize_book.specs.declared.book.value_keys.ValueKeys.{ValueKeys}
@@ -62,6 +65,10 @@ OpensWords words numbers next many size = IsMany words.blocks.book × HasBegun w
 abbrev pub OpensWordsAlone : {T : Type 0} → Words T → Pass → NumbersKey → NextSlot → ℕ → ℕ → Type 0
 OpensWordsAlone words pass numbers next many size =
     IsAlone words.blocks.book pass × HasBegun words.blocks.book numbers next many size
+
+abbrev pub OpensWordsInTurns : {T : Type 0} → Words T → Porter → NumbersKey → NextSlot → ℕ → ℕ → Type 0
+OpensWordsInTurns words porter numbers next many size =
+    IsFullPorter words.blocks.book porter × HasBegun words.blocks.book numbers next many size
 
 abbrev pub IsHolder : SlotKey → Pass → ℕ → Type 0
 IsHolder key pass s = IsOf key pass × (number_of key ≡ s) × (s < slots_seen pass)

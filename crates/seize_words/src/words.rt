@@ -11,7 +11,9 @@ use crate::chunk::{Header, Part};
 use crate::glimpse::Glimpse;
 use crate::link::{Links, MaybeKey};
 use crate::slots::{NextSlot, Reservation, Slots};
-use seize_book::book::{Book, BookKeys, Keeps, NumbersKey, Pass, SlotKey, Unopened, ValueKeys};
+use seize_book::book::{
+    Book, BookKeys, Keeps, NumbersKey, Pass, Porter, SlotKey, Unopened, ValueKeys,
+};
 use seize_store::Store;
 use seize_table::Refusal;
 use seize_table::thread_id::MAX_INDEX;
@@ -42,7 +44,8 @@ impl<T: Drop> Words<T> {
     ghost use Rattle.seize_book.specs.Books.{HasKeys, Opens, OpensAlone};
     ghost use Rattle.seize_words.specs.Counts.{Counts, GivesUp, Leaves, Takes};
     ghost use Rattle.seize_words.specs.Heads.{found_end};
-    ghost use Rattle.seize_words.specs.Joined.{AddsWithAt, IsAddingAt, IsCountingAt, IsHolder, IsInAt, IsNewTo, IsStoreOf, MayReadAt, OnHead, OnLink, OpensWords, OpensWordsAlone, TriesAtSlot, words_book};
+    ghost use Rattle.seize_words.specs.Joined.{AddsWithAt, IsAddingAt, IsCountingAt, IsHolder, IsInAt, IsNewTo, IsStoreOf, MayReadAt, OnHead, OnLink, OpensWords, OpensWordsAlone, TriesAtSlot, words_book, OpensWordsInTurns};
+    ghost use Rattle.seize_book.specs.Turns.{OpensInTurns};
     ghost use Rattle.seize_words.specs.Chunks.{IsFoundAs};
     ghost use Rattle.seize_words.specs.LinkWords.{CompareExchanges, Finds, Sees, Swaps, held_before};
     ghost use Rattle.seize_words.specs.Reservations.{FoundBefore, IsActivationOf, IsLastOf, IsOut, Shows, WalksOn, beginning};
@@ -99,6 +102,36 @@ impl<T: Drop> Words<T> {
         Ok((words, pass, numbers, next))
     }
 
+    /// The same of a book whose passes come from the porter, and go back to it.
+    ///
+    /// # Errors
+    ///
+    /// As `new`.
+    pub fn new_in_turns(
+        alloc: Global,
+        capacity: usize,
+        links: usize,
+        size: usize,
+    ) -> Result<(Words<T>, Porter, NumbersKey, NextSlot), Refusal>
+        ensures made { IfOk result (λ opened. OpensWordsInTurns opened.0 opened.1 opened.2 opened.3 links size) }
+        ensures refused { IfErr result (λ e. (e ≡ NoNumbers) ⊎ (e ≡ NoMemory)) }
+        ensures no_numbers { (result ≡ Err NoNumbers) ↔ (MAX_INDEX < capacity) }
+    {
+        let table = ThreadLocal::with_capacity(alloc, capacity)?;
+        let (unopened, family) = Unopened::new();
+        let store = Store::new(alloc, &family);
+        let (book, porter, keys) = Words::open_in_turns::<Brand>(
+            &store, &table, unopened, links, size,
+        );
+        match Words::of(alloc, store, table, book, keys, links) {
+            Ok((words, numbers, next)) => Ok((words, porter, numbers, next)),
+            Err(refusal) => {
+                porter.shut();
+                Err(refusal)
+            }
+        }
+    }
+
     // A book whose blocks lie in this store, and whose heads lie in this table.
     fn open<K: Keeps>(
         _store: &Store<Header, Part, T>,
@@ -127,6 +160,21 @@ impl<T: Drop> Words<T> {
         ensures family { result.0.name.family ≡ unopened.family }
     {
         unopened.open_alone::<K>(links, size)
+    }
+
+    // The same, with its porter.
+    fn open_in_turns<K: Keeps>(
+        _store: &Store<Header, Part, T>,
+        _table: &ThreadLocal<Reservation>,
+        unopened: Unopened,
+        links: usize,
+        size: usize,
+    ) -> (Book, Porter, BookKeys)
+        requires { (K.store ≡ Some (store_name _store.now)) × (K.table ≡ Some (name_of _table.now)) }
+        ensures book { OpensInTurns result.0 result.1 result.2 links size (Some (store_name _store.now)) (Some (name_of _table.now)) }
+        ensures family { result.0.name.family ≡ unopened.family }
+    {
+        unopened.open_in_turns::<K>(links, size)
     }
 
     // The words of a book that has just begun, whose blocks lie in this store, and whose heads lie in this table; and what its slots are
@@ -182,6 +230,8 @@ impl<T: Drop> Words<T> {
     }
 
     /// The slot becomes active: the event `Enter`, which begins the activation. See `Head::enter`.
+    ///
+    /// It takes no memory and waits for nobody: the look-up of the head, as `Slots::head`, and one atomic swap.
     pub fn enter_head(&self, slot: usize, key: &mut SlotKey, pass: &mut Pass) -> Activation
         requires book { words_book self.now ≡ pass.old.name }
         requires holder { IsHolder key.old pass.old slot }
@@ -193,6 +243,8 @@ impl<T: Drop> Words<T> {
     }
 
     /// Reads a slot's head: the event `ReadHead`. See `Head::read`.
+    ///
+    /// It takes no memory and waits for nobody: the look-up of the head, as `Slots::head`, and one atomic load.
     pub fn read_head(&self, slot: usize, key: &mut SlotKey, pass: &mut Pass) -> u64
         requires book { words_book self.now ≡ pass.old.name }
         requires reads { MayReadAt key.old pass.old slot }
@@ -204,6 +256,8 @@ impl<T: Drop> Words<T> {
 
     /// Inserts the slot's batch at a slot's head, with this block, if the head's word is still what was seen: the event `Insert`. It gives
     /// the word that it found. See `Head::insert`.
+    ///
+    /// It takes no memory and waits for nobody: the look-up of the head, as `Slots::head`, and one atomic compare and exchange.
     pub fn insert(
         &self,
         slot: usize,
@@ -222,6 +276,8 @@ impl<T: Drop> Words<T> {
 
     /// The slot leaves: the event `SwapOut` of a leave, which ends the activation. It gives the word of the head that comes out. See
     /// `Head::leave`.
+    ///
+    /// It takes no memory and waits for nobody: the look-up of the head, as `Slots::head`, and one atomic swap.
     pub fn swap_out(
         &self,
         slot: usize,
@@ -241,6 +297,8 @@ impl<T: Drop> Words<T> {
 
     /// The slot refreshes: the event `SwapOut` of a refresh, which ends the activation and begins another one. It gives the word of the
     /// head that comes out. See `Head::refresh`.
+    ///
+    /// It takes no memory and waits for nobody: the look-up of the head, as `Slots::head`, and one atomic swap.
     pub fn refresh_head(
         &self,
         slot: usize,
@@ -307,6 +365,8 @@ impl<T: Drop> Words<T> {
     }
 
     /// Reads a link: the event `ReadLink`. It gives the link's word and a glimpse of what the link holds. See `Link::see`.
+    ///
+    /// It takes no memory and waits for nobody: one load to find the link, and one atomic load.
     pub fn read_link<'g>(
         &self,
         link: usize,
@@ -345,6 +405,8 @@ impl<T: Drop> Words<T> {
     }
 
     /// Exchanges what a link holds for a value that was never named, or for none, in any case: the event `ExchangeLink`. See `Link::swap`.
+    ///
+    /// It takes no memory and waits for nobody: one load to find the link, and one atomic swap.
     pub fn swap_link(
         &self,
         link: usize,
@@ -363,6 +425,8 @@ impl<T: Drop> Words<T> {
     }
 
     /// The same, but only if the link's word is what was seen. See `Link::compare_exchange`.
+    ///
+    /// It takes no memory and waits for nobody: one load to find the link, and one atomic compare and exchange.
     pub fn exchange_link<'g>(
         &self,
         link: usize,

@@ -1,5 +1,5 @@
 -- The steps of the worked run by numbers.
-use Rattle.std.proofs.Common.{◌≡◌, ℕ, ◌+◌, ◌<◌, ◌^◌, true, List, [], ◌∷◌, Option, Some, length, unwrap_or, refl, sym, ap, ◌∙◌, subst, arith}
+use Rattle.std.proofs.Common.{◌≡◌, ℕ, ◌+◌, ◌<◌, ◌^◌, true, List, [], Some, length, unwrap_or, refl, sym, ap, ◌∙◌, subst}
 use Rattle.std.specs.Prelude.{slice_index_or}
 use mathlib.Core.List.{IsPrefix}
 use base.Growing.{prefix_refl}
@@ -11,12 +11,12 @@ use Rattle.seize_book.specs.Book.{IsLegalList, after}
 use Rattle.seize_book.specs.Chains.{served}
 use Rattle.seize_book.specs.Entry.{Entry}
 use Rattle.seize_book.specs.Homes.{home_of}
-use Rattle.seize_book.specs.Slots.{IsOf, Looks, hands_next, number_of, own_list, slot_of, written_of}
+use Rattle.seize_book.specs.Slots.{IsOf, Looks, hands_next, written_of}
 use Rattle.seize_book.specs.Tokens.{Name, start}
 use Rattle.seize_book.specs.declared.book.pass.Pass.{Pass}
 use Rattle.seize_book.specs.declared.book.slot_key.SlotKey.{SlotKey}
 use Rattle.seize_words.specs.Heads.{reads}
-use Rattle.seize_words.specs.Headers.{IsFrontBlock, Stores}
+use Rattle.seize_words.specs.Headers.{Stores}
 use Rattle.seize_words.specs.Joined.{IsAddingAt, IsCountingAt, IsHolder, MayReadAt, TriesAtSlot}
 use Rattle.seize_words.specs.Totals.{slots_seen}
 use Rattle.seize_words.specs.Walks as walks

@@ -17,6 +17,8 @@ use std::marker::Brand;
 /// The right to the events of one slot, but for those on links, which whoever has a guard of the slot may make, and to its uses of fields.
 /// It knows the slot's record, whether the slot is active, and what was last stored in the fields of the block that its call is about to
 /// insert, whatever others add.
+///
+/// Where it is dropped, its slot stays as it is for good: active if it is active, and with its batch.
 #[derive(Drop)]
 pub struct SlotKey {
     /// The right by itself, for crates with words.

@@ -1,4 +1,4 @@
-use Rattle.std.proofs.Common.{ℕ, pos, [], ◌∷◌, ap, arith, refl, sym, subst, ◌∙◌}
+use Rattle.std.proofs.Common.{ℕ, pos, [], ◌∷◌, ap, arith, sym, subst, ◌∙◌}
 use Rattle.seize_machine.specs.Machine.State.{Slot}
 use Rattle.seize_machine.specs.Machine.Event.{AddCount}
 use Rattle.seize_machine.specs.declared.machine.event.Answer.TheVariants.{Count}

@@ -1,10 +1,8 @@
-use Rattle.std.proofs.Common.{[], arith, sym}
+use Rattle.std.proofs.Common.{arith, sym}
 use Rattle.seize_machine.specs.Machine.Event.{Return}
 use Rattle.seize_machine.specs.declared.machine.event.Answer.TheVariants.{Done, Handed}
-use Rattle.seize_book.specs.Slots.{hands_next}
 use Rattle.seize_words.specs.Joined.{words_book}
 use Rattle.seize_words_rows.specs.NumberedRuns.{value_in}
-use Rattle.seize_words_rows.specs.Reclaiming.{IsNextAt}
 use Rattle.seize_words_rows.specs.Runs.{counted_up, handed, over}
 use Rattle.seize_words_rows.proofs.BlockRuns.{same_lent}
 use Rattle.seize_words_rows.proofs.NumberedRuns.{next_here}

@@ -1,4 +1,4 @@
-use Rattle.std.proofs.Common.{ℕ, [], arith, refl, sym, subst, ap, ◌∙◌}
+use Rattle.std.proofs.Common.{ℕ, [], arith, sym, subst, ap, ◌∙◌}
 use Rattle.seize_machine.specs.Machine.Event.{Insert}
 use Rattle.seize_machine.specs.declared.machine.event.Answer.TheVariants.{Done}
 use Rattle.seize_book.specs.Chains.{first_field, next_field}

@@ -4,7 +4,7 @@ use Rattle.seize_book.specs.Book.{after}
 use Rattle.seize_book.specs.Private.{key_of, own_of}
 use Rattle.seize_book.specs.Tokens.{Name, start}
 use Rattle.seize_book.proofs.Gives.{may_give}
-use Rattle.seize_book.proofs.Turns.{gives_used}
+use Rattle.seize_book.proofs.Numbers.{gives_used}
 use Rattle.seize_book.proofs.book.slot_key.SlotKey.give.Goals as goal
 
 pub note_with-requires-clause-may : goal.note_with-requires-clause-may

@@ -4,7 +4,7 @@ use Rattle.seize_book.specs.Others.{IsLeast}
 use Rattle.seize_book.specs.Private.{key_of, own_of}
 use Rattle.seize_book.specs.Tokens.{Name, start}
 use Rattle.seize_book.proofs.Gives.{may_take, takes_old}
-use Rattle.seize_book.proofs.Turns.{takes_used}
+use Rattle.seize_book.proofs.Numbers.{takes_used}
 use Rattle.seize_book.proofs.book.slot_key.SlotKey.take_again.Goals as goal
 
 pub note_with-requires-clause-may : goal.note_with-requires-clause-may
