@@ -6,6 +6,7 @@
 --     OpensAloneIn blocks pass keys links size     the same of a book to which this pass alone may append
 --     LiesIn key block                  the key is that of the values of this block;  LayIn key hollow     of the block whose value was
 --                                       taken out of this chunk
+--     IsPartOf key part                 it has the label of the chunk of the key's block
 --     IsBlockAs Is blocks value key block     it is one of these blocks and has the value, and the key is for a value in it of which this
 --                                       is so, by the block's number, and for the content of its chunk; nothing is lent with it
 --     IsBlockIn blocks value key block  and the key's is the next value of the block;  IsBlockAfter last blocks value key block   it is so
@@ -13,6 +14,7 @@
 --     IsHollowAs Is blocks key hollow   it is of one of these blocks, whose value was taken out, and the key is for a value in it of which
 --                                       this is so, by its number, and for the content of its chunk; nothing is lent with it
 --     IsHollowIn blocks key hollow, IsHollowAfter last blocks key hollow     the same as IsBlockIn and IsBlockAfter, without the value
+--     AreSpotsIn blocks spots           the list is of spots of the store of these blocks
 --     IsLentAs v g                      a value of code g is lent with v
 --     LendsIn blocks key number g       the key is for a value that was never named, by this number, and a value of code g is lent with it
 --     IsFoundAt o number pass           it is a value, which was named, as the pass has seen, by this number, and something is lent with it
@@ -20,12 +22,14 @@
 --     StandsAt v number pass            v was named and not reclaimed, as the pass has seen, and this is its number
 --     IsHeaderOf header number pass     it is of the pass's book, and each value with this number that was ever named lies in its block,
 --                                       with its cell
-use Rattle.std.specs.Prelude.{◌≡◌, ℕ, ◌+◌, ◌<◌, ◌^◌, Option, Some, None, false, true}
+use Rattle.std.specs.Prelude.{◌≡◌, ℕ, ◌+◌, ◌<◌, ◌^◌, List, Option, Some, None, false, true}
 use base.Stored.{Gv}
 use Rattle.seize_machine.specs.Machine.State.{has}
-use Rattle.seize_store.specs.Named.{bare_content, bare_label, bare_number, bare_store, bare_value, hollow_content, hollow_label, hollow_number, hollow_store}
+use Rattle.seize_store.specs.Named.{AreOf, bare_content, bare_label, bare_number, bare_store, bare_value, hollow_content, hollow_label, hollow_number, hollow_store}
 use Rattle.seize_store.specs.declared.bare.Bare.{Bare}
 use Rattle.seize_store.specs.declared.hollow.Hollow.{Hollow}
+use Rattle.seize_store.specs.declared.spot.Spots.{Spots}
+use Rattle.seize_book.specs.Bare.{bare_cell, bare_home}
 use Rattle.seize_book.specs.Blocks.{block_of}
 use Rattle.seize_book.specs.Books.{IsNextAfter, IsNextIn, Opens, OpensAlone}
 use Rattle.seize_words.specs.Counts.{home}
@@ -68,6 +72,11 @@ LiesIn key block = chunk_label (book_of key) (home_of (value_of key)) (cell_in k
 abbrev pub LayIn : {H P T : Type 0} → ValueKey → Hollow H P T → Type 0
 LayIn key hollow = chunk_label (book_of key) (home_of (value_of key)) (cell_in key) ≡ hollow_label hollow
 
+abbrev pub IsPartOf : ValueKey → Part → Type 0
+IsPartOf key part =
+    chunk_label part.book.name (bare_home part.key) (bare_cell part.key)
+    ≡ chunk_label (book_of key) (home_of (value_of key)) (cell_in key)
+
 pub record IsBlockAs {T : Type 0} (Is : ValueKey → ℕ → Type 0) (blocks : Blocks T) (value : T) (key : ValueKey)
     (block : Bare Header Part T) : Type 0 where
   pub holds : bare_value block ≡ value
@@ -103,6 +112,9 @@ IsHollowIn blocks key hollow = IsHollowAs IsNextIn blocks key hollow
 
 abbrev pub IsHollowAfter : {T : Type 0} → ℕ → Blocks T → ValueKey → Hollow Header Part T → Type 0
 IsHollowAfter last blocks key hollow = IsHollowAs (λ k number. IsNextAfter k last number) blocks key hollow
+
+abbrev pub AreSpotsIn : {T : Type 0} → Blocks T → Spots Header Part T → Type 0
+AreSpotsIn blocks spots = (store : List ℕ) × ((book_in blocks).store ≡ Some store) × AreOf spots store
 
 -- a value of the code g is lent with v
 abbrev pub IsLentAs : ℕ → Gv → Type 0

@@ -1,5 +1,5 @@
 //! Blocks in a store: from the number that a word shows to the words of its block. It stands on chunks and on the store.
-ghost use Rattle.std.specs.Prelude.{◌≡◌, ◌+◌, ◌<◌, ◌^◌, IfErr, IfOk, Some, ℕ, ◌↔◌, true};
+ghost use Rattle.std.specs.Prelude.{◌≡◌, ◌+◌, ◌<◌, ◌^◌, ◌⊎◌, ◌↔◌, [], ◌∷◌, ◌++◌, ℕ, IfErr, IfOk, Some, true};
 ghost use Rattle.seize_store.specs.Known.{family_in};
 ghost use Rattle.seize_store.specs.Named.{name_of};
 
@@ -8,9 +8,9 @@ use crate::glimpse::Glimpse;
 use crate::note::Note;
 use seize_book::book::{Book, BookKeys, Keeps, Pass, SlotKey, Unopened, ValueKey, ValueKeys};
 use seize_content::TokenCell;
-use seize_store::{Bare, Hollow, Store};
+use seize_store::{Bare, Hollow, Owned, Spots, Store};
 use seize_table::Refusal;
-use std::alloc::Global;
+use std::alloc::{AllocError, Global};
 use std::marker::Brand;
 
 /// A book, with the store where its blocks lie. Threads share it by `&`.
@@ -25,9 +25,9 @@ pub struct Blocks<T> {
 
 impl<T: Drop> Blocks<T> {
     ghost use Rattle.seize_book.specs.Books.{IsNextIn, Opens, OpensAlone};
-    ghost use Rattle.seize_store.specs.Named.{bare_number, bare_value};
+    ghost use Rattle.seize_store.specs.Named.{bare_number, bare_title, bare_value, hollow_store, hollow_title, is_empty_list, store_of, title_of, titles_of, titles_with, value_of as owned_value};
     ghost use Rattle.seize_table.specs.declared.refusal.Refusal.TheVariants.{NoMemory};
-    ghost use Rattle.seize_words.specs.Chunks.{IsBlockAfter, IsBlockIn, IsFoundAs, IsFoundAt, IsHeaderOf, IsLentAs, LayIn, LendsIn, LiesIn, OpensAloneIn, OpensIn, StandsAt, book_in};
+    ghost use Rattle.seize_words.specs.Chunks.{AreSpotsIn, IsBlockAfter, IsBlockIn, IsFoundAs, IsFoundAt, IsHeaderOf, IsLentAs, IsPartOf, LayIn, LendsIn, LiesIn, OpensAloneIn, OpensIn, StandsAt, book_in};
     ghost use Rattle.seize_book.specs.Others.{IsLast, IsVacated, IsValueOf, book_of, value_of};
     ghost use Rattle.seize_book.specs.Blocks.{block_of};
     ghost use Rattle.seize_book.specs.Notes.{HasNoted, IsUnchanged, cell_in};
@@ -113,12 +113,63 @@ impl<T: Drop> Blocks<T> {
         ensures made { IfOk result (λ made. IsBlockIn self.now value made.0 made.1) }
         ensures refused { IfErr result (λ refused. (refused.0 ≡ NoMemory) × (refused.1 ≡ value)) }
     {
-        let (part, block) = self.store.add(value, &self.book)?.split();
+        let block = self.store.add(value, &self.book)?;
+        Ok(self.take_key(block, pass))
+    }
+
+    /// The same with the last spot of the list, where it has one: then it takes no atomic step and no memory.
+    ///
+    /// # Errors
+    ///
+    /// As `add`, where the list is empty.
+    pub fn add_from(
+        &self,
+        spots: &mut Spots<Header, Part, T>,
+        value: T,
+        pass: &mut Pass,
+    ) -> Result<(ValueKey, Bare<Header, Part, T>), (Refusal, T)>
+        requires book { book_in self.now ≡ pass.old.name }
+        requires spots { AreSpotsIn self.now spots.old }
+        ensures pass { pass.new ≡ pass.old }
+        ensures made { IfOk result (λ made. IsBlockIn self.now value made.0 made.1) }
+        ensures refused { IfErr result (λ refused. (refused.0 ≡ NoMemory) × (refused.1 ≡ value) × is_empty_list spots.old) }
+        ensures spots { AreSpotsIn self.now spots.new }
+        ensures last { IfOk result (λ made. is_empty_list spots.old ⊎ (titles_of spots.old ≡ titles_of spots.new ++ bare_title made.1 ∷ [])) }
+    {
+        let block = self.store.add_from(spots, value, &self.book)?;
+        Ok(self.take_key(block, pass))
+    }
+
+    /// An empty list of spots for its blocks, with room for `SPOTS`, which is all the memory that it ever takes. Whoever makes and ends
+    /// many blocks keeps one. Its spots go back into the store when it ends.
+    ///
+    /// # Errors
+    ///
+    /// Where that memory is refused.
+    pub fn spots(&self, alloc: Global) -> Result<Spots<Header, Part, T>, AllocError>
+        ensures { IfOk result (λ spots. AreSpotsIn self.now spots × is_empty_list spots) }
+    {
+        Spots::new(alloc)
+    }
+
+    // The key for the value of this block comes out of it.
+    fn take_key(
+        &self,
+        block: Owned<Header, Part, T>,
+        pass: &mut Pass,
+    ) -> (ValueKey, Bare<Header, Part, T>)
+        requires book { book_in self.now ≡ pass.old.name }
+        requires store { (book_in self.now).store ≡ Some (store_of block) }
+        ensures pass { pass.new ≡ pass.old }
+        ensures made { IsBlockIn self.now (owned_value block) result.0 result.1 }
+        ensures title { bare_title result.1 ≡ title_of block }
+    {
+        let (part, block) = block.split();
         let Part { key, book } = part;
         let known = block.known();
         pass.agree(&book);
         let key = key.place(block.number() as u64, known);
-        Ok((key, block))
+        (key, block)
     }
 
     /// The block is lent: who finds its value in a link sees what lies there, by its number (`see`), and it comes back by its number when
@@ -230,11 +281,37 @@ impl<T: Drop> Blocks<T> {
         requires vacant { IsVacated key }
         requires lay { LayIn key hollow }
     {
-        let part = Part {
+        hollow.give_back(self.part(key));
+    }
+
+    /// The same, but that the chunk stays claimed, with the block's key, and its spot goes to the list; where that is full, half of it goes
+    /// back into the store first. It takes no memory, and no atomic step else.
+    pub fn lay_into(
+        &self,
+        key: ValueKey,
+        hollow: Hollow<Header, Part, T>,
+        spots: &mut Spots<Header, Part, T>,
+    )
+        requires book { book_of key ≡ book_in self.now }
+        requires vacant { IsVacated key }
+        requires lay { LayIn key hollow × ((book_in self.now).store ≡ Some (hollow_store hollow)) }
+        requires spots { AreSpotsIn self.now spots.old }
+        ensures spots { AreSpotsIn self.now spots.new }
+        ensures last { titles_of spots.new ≡ titles_with (titles_of spots.old) (hollow_title hollow) }
+    {
+        hollow.put_into(self.part(key), spots);
+    }
+
+    // What goes with a chunk whose values were all reclaimed.
+    fn part(&self, key: ValueKey) -> Part
+        requires book { book_of key ≡ book_in self.now }
+        requires vacant { IsVacated key }
+        ensures { IsPartOf key result }
+    {
+        Part {
             key: key.bare(),
             book: self.book.again(),
-        };
-        hollow.give_back(part);
+        }
     }
 
     /// The header of the block with this number, which is that of a value that was named, as the pass has seen. The pass looks at the list.

@@ -10,9 +10,10 @@ use crate::making::open;
 use crate::reads::read_with_each;
 use crate::row::{open_row, read_row, visit_many};
 use crate::walking::block_at;
-use crate::{block_run, flushing, further, linked, noted_run, second_value, worked_run};
+use crate::{block_run, flushing, further, linked, noted_run, second_value, spotted, worked_run};
 use seize_words::activation::Activation;
 use seize_words::batch::Count;
+use seize_words::blocks::Blocks;
 use seize_words::book::{
     BareKey, BlockKeys, Book, BookKeys, ChunkKeys, CountKey, FieldKey, HeadKey, LinkKeys,
     NumbersKey, Pass, SlotKey, SlotKeys, TotalKey, Unopened, ValueKey, ValueKeys,
@@ -391,6 +392,24 @@ fn each_thread_sees_what_the_other_put_in(rt: HostRuntime) {
     );
     assert!(rt; saw_1 && saw_2);
     drop((links, maker));
+}
+
+// The block of a value gone stays with the holder of a list of spots: its next value lies there, and goes back into the store with it.
+#[test]
+fn a_spot_of_a_value_gone_is_used_again(rt: HostRuntime) {
+    let (blocks, mut pass, keys) = Blocks::<u64>::new_alone(rt.alloc(), 0, 1);
+    let Ok(mut spots) = blocks.spots(rt.alloc()) else {
+        panic!(rt; "no memory");
+    };
+    for value in 0..200 {
+        let Some((one, other, out)) = spotted::make_again(&blocks, &mut spots, value, 7, &mut pass)
+        else {
+            panic!(rt; "no memory");
+        };
+        assert_eq!(rt; (one, out), (other, value));
+        assert_eq!(rt; spots.len(), 0);
+    }
+    drop(keys);
 }
 
 // One slot reads while another retires a value: the batch goes into the reader's list, which leads to its block and ends there, is counted
