@@ -1,5 +1,5 @@
 -- A book begins: its list is empty, and each key is in hand. Assumes `Logic`.
-use Rattle.std.proofs.Common.{◌≡◌, ℕ, zero, suc, ◌+◌, ◌≤◌, true, false, ◌==◌, if◌then◌else◌, List, [], ◌∷◌, replicate, slice_get, Option, Some, None, refl, sym, ◌∙◌, ap, subst, ⊎_elim, arith}
+use Rattle.std.proofs.Common.{◌≡◌, ℕ, zero, suc, ◌+◌, ◌≤◌, Bool, true, false, ◌==◌, if◌then◌else◌, List, [], ◌∷◌, replicate, slice_get, Option, Some, None, refl, sym, ◌∙◌, ap, subst, ⊎_elim, arith}
 use Rattle.std.proofs.lemmas.List.{length-replicate}
 use mathlib.Core.List.{IsPrefix}
 use seplogic.Ra.Ura.{Ura}
@@ -21,13 +21,14 @@ use Rattle.seize_book.specs.Ledger.{Held, logs, halved, roster, rosters, rights,
 use Rattle.seize_book.specs.Entry.{Entry, entry_coded}
 use Rattle.seize_book.specs.Book.{Kept, Sized, mine, kind_of, rules, passes, numbers, slots, heads, links, totals, kinds}
 use Rattle.seize_book.specs.Homes.{IsSound}
-use Rattle.seize_book.specs.Tokens.{AllLentIn, Name, Gate, many, sole, IsSole, rows, start, inside, beside, called, uncalled, name_coded, gate_keeps, gate_gives, all_lead, all_lie, rights_own, keys_own, pass_at, pass_holds}
+use Rattle.seize_book.specs.Tokens.{AllLentIn, Name, Gate, many, sole, turns, all_but, turned, IsSole, IsTurns, rows, start, inside, beside, called, uncalled, name_coded, gate_keeps, gate_gives, all_lead, all_lie, rights_own, keys_own, pass_at, pass_holds}
 use Rattle.seize_book.specs.Begin.{BeganWith, unused, first_links, first_keys, book_owns}
 use Rattle.seize_book.proofs.Append.{grown, borns, has_grown, shut, sizes, grown_sizes}
 use Rattle.seize_book.specs.Chains.{told}
 use Rattle.seize_book.proofs.Chains.{chained_opening}
 use Rattle.seize_book.proofs.Goes.{kept_now}
 use Rattle.seize_book.proofs.Tables.{none_lie}
+use Rattle.seize_book.proofs.Tickets.{all_back}
 use Rattle.seize_book.proofs.Ways.{NeedNone, free_own}
 
 -- the keys of the beginning, by kind and number: of the first pass, of the numbers, of the total, of the first slot and its head, and of
@@ -123,7 +124,7 @@ module _ {M : Type 1} {𝓤 : Ura M} (𝓛 : Logic 𝓤) where
   no_links m l (suc n) = (refl, no_links m (suc l) n)
 
   abbrev pub Opened : (Gate → Type 0) → Gate → Pr
-  Opened Picked g = guard 𝓤 (Picked g) (⟦ gate_keeps g [] ⟧ ∗ ⟦ gate_gives g [] ⟧)
+  Opened Picked g = guard 𝓤 (Picked g) (⟦ gate_keeps g [] ⟧ ∗ ⟦ gate_gives g 0 [] ⟧)
 
   -- the keys of one kind, under a new name
   abbrev fresh_row : types.Kit.Item 𝓤
@@ -149,7 +150,7 @@ module _ {M : Type 1} {𝓤 : Ura M} (𝓛 : Logic 𝓤) where
         use1 𝓛 (‵ (latest (logs entry_coded) full_share η []) ⊛ ‵ (reached entry_coded η [])) (latest_shows (logs entry_coded) 𝓛 full_share η [] [] ([], refl)) $ split ! $
         move ! (1 ∷ []) $ use1 𝓛 (‵ (reached entry_coded η []) ⊛ ‵ (reached entry_coded η [])) (at_least_dup (logs entry_coded) 𝓛 η []) $ split ! $
         -- [nothing was reached, twice; the list; the rosters]
-        use0 𝓛 (later (some (λ (g : Gate). given (Picked g) (‵ (gate_keeps g []) ⊛ ‵ (gate_gives g []))))) (via 𝓤 _ opened (basic 𝓛 _)) $ await ! tt $ pick ! (λ g. learn ! (λ picked. split ! $
+        use0 𝓛 (later (some (λ (g : Gate). given (Picked g) (‵ (gate_keeps g []) ⊛ ‵ (gate_gives g 0 []))))) (via 𝓤 _ opened (basic 𝓛 _)) $ await ! tt $ pick ! (λ g. learn ! (λ picked. split ! $
         let n₀ : Name = record {
           number = 0;
           log = η;
@@ -200,9 +201,19 @@ module _ {M : Type 1} {𝓤 : Ura M} (𝓛 : Logic 𝓤) where
   many_opens = let Z : Pr = ex 𝓤 (Opened (λ g. g ≡ many)) in
       qed 𝓛 [] ∵ suffices ! _ (upd_i 𝓤 Z) $ show ! (Opened (λ g. g ≡ many)) many $ check ! refl $ nothing ! $ nothing ! $ done !
 
-  pub sole_opens : emp 𝓤 ⊢ upd 𝓤 (ex 𝓤 (Opened IsSole))
-  sole_opens = let Z : Pr = ex 𝓤 (Opened IsSole) in
+  pub sole_opens : emp 𝓤 ⊢ upd 𝓤 (ex 𝓤 (Opened (λ g. IsSole g 0)))
+  sole_opens = let Z : Pr = ex 𝓤 (Opened (λ g. IsSole g 0)) in
       qed 𝓛 [] ∵ use0 𝓛 (raw (upd 𝓤 (ex 𝓤 (λ (η : ℕ). ⟦ latest (logs entry_coded) full_share η [] ⟧)))) (latest_new (logs entry_coded) 𝓛 []) $
       settle 𝓛 Z (some (λ (η : ℕ). ‵ (latest (logs entry_coded) full_share η []))) $ pick ! (λ η. suffices ! _ (upd_i 𝓤 Z) $
-      use1 𝓛 (‵ (gate_keeps (sole η) []) ⊛ ‵ (gate_gives (sole η) [])) (latest_cut (logs entry_coded) 𝓛 full_share quarter three_quarters η [] quarters) $
-      show ! (Opened IsSole) (sole η) $ check ! tt $ done !)
+      use1 𝓛 (‵ (gate_keeps (sole η) []) ⊛ ‵ (gate_gives (sole η) 0 [])) (latest_cut (logs entry_coded) 𝓛 full_share quarter three_quarters η [] quarters) $
+      show ! (Opened (λ g. IsSole g 0)) (sole η) $ check ! tt $ done !)
+
+  -- where passes come from a porter, which has all tickets; the gate is shut
+  pub turns_open : emp 𝓤 ⊢ upd 𝓤 (ex 𝓤 (Opened IsTurns))
+  turns_open = let Z : Pr = ex 𝓤 (Opened IsTurns) in
+      qed 𝓛 [] ∵ use0 𝓛 (raw (upd 𝓤 (ex 𝓤 (λ (η : ℕ). ⟦ latest (logs entry_coded) full_share η [] ⟧)))) (latest_new (logs entry_coded) 𝓛 []) $
+      settle 𝓛 Z (some (λ (η : ℕ). ‵ (latest (logs entry_coded) full_share η []))) $ pick ! (λ η.
+      use0 𝓛 (raw (upd 𝓤 (ex 𝓤 (λ (κ : ℕ). ⟦ all_but κ 0 ⟧)))) (all_back 𝓛) $ settle 𝓛 Z (some (λ (κ : ℕ). ‵ (all_but κ 0))) $ pick ! (λ κ. suffices ! _ (upd_i 𝓤 Z) $ move ! (1 ∷ []) $
+      use1 𝓛 (‵ (latest (logs entry_coded) quarter η []) ⊛ ‵ (latest (logs entry_coded) three_quarters η [])) (latest_cut (logs entry_coded) 𝓛 full_share quarter three_quarters η [] quarters) $ split ! $
+      -- [the book's share; the pass's; the tickets]
+      move ! (0 ∷ 2 ∷ []) $ fjoin ! $ fpack ! Bool (turned η κ []) true $ show ! (Opened IsTurns) (turns η κ) $ check ! tt $ done !))

@@ -86,7 +86,7 @@ module _ {M : Type 1} {𝓤 : Ura M} (𝓛 : Logic 𝓤) (n : Name) where
   pub learns : (p : ℕ) (old seen : List Entry) → ⟦ book_owns n old ⟧ ∗ ⟦ pass_owns n p seen ⟧ ⊢ ⟦ book_owns n seen ⟧ ∗ ⟦ pass_owns n p seen ⟧
   learns p old seen = qed 𝓛 (‵ (book_owns n old) ∷ (‵ (knows n) ⊛ ‵ (pass_holds n p seen)) ∷ []) ∵ fsplit ! $ move ! (2 ∷ []) $ split ! $ move ! (1 ∷ []) $
       -- [the pass; its book; the book; what it had seen]
-      use1 𝓛 (some (λ (own : List Entry). given (Idle 𝓛 n p own seen) (‵ (rights_own n (pass_key p own ∷ [])) ⊛ ‵ (had seen) ⊛ ‵ (gate_gives n.gate seen)))) (apart 𝓛 n p seen) $ pick ! (λ own. learn ! (λ past. split3 ! $ move ! (1 ∷ []) $
+      use1 𝓛 (some (λ (own : List Entry). given (Idle 𝓛 n p own seen) (‵ (rights_own n (pass_key p own ∷ [])) ⊛ ‵ (had seen) ⊛ ‵ (gate_gives n.gate p seen)))) (apart 𝓛 n p seen) $ pick ! (λ own. learn ! (λ past. split3 ! $ move ! (1 ∷ []) $
       use1 𝓛 (‵ (had seen) ⊛ ‵ (had seen)) (at_least_dup (logs entry_coded) 𝓛 n.log seen) $ split ! $
       -- [what the pass has seen, twice; its key; its copy; its book; the book; what it had seen]
       move ! (2 ∷ 0 ∷ 3 ∷ []) $ use3 𝓛 (‵ (pass_holds n p seen)) (together 𝓛 n p seen own past) $ move ! (2 ∷ 0 ∷ []) $ fjoin ! $

@@ -10,6 +10,8 @@ use denote.Laws.{Is, Tells}
 use mir.Val.{of_list}
 use Rattle.core.specs.contracts.marker.PhantomData as marker
 use Rattle.seize_book.specs.contracts.book.opened.Opened as opened
+use Rattle.seize_book.specs.contracts.book.pass.Pass as pass
+use Rattle.seize_book.specs.contracts.book.porter.Porter as porter
 use Rattle.seize_book.specs.contracts.book.unopened.Unopened as unopened
 
 abbrev pub token : Val
@@ -29,6 +31,12 @@ unopened_tells d vs is = is.0.1.0 ∙ (λ i. vstruct (of_list (is.0.1.1.0.1.0 i 
 
 pub opened_tells : Tells opened.the_row (Is opened.the_row) no_bytes
 opened_tells d vs is = is.0.1.0 ∙ (λ i. vstruct (of_list (is.0.1.1.0.1.0 i ++ [])) ∷ [])
+
+pub pass_tells : Tells pass.the_row (Is pass.the_row) no_bytes
+pass_tells d vs is = is.0.1.0 ∙ (λ i. vstruct (of_list (is.0.1.1.0.1.0 i ++ [])) ∷ [])
+
+pub porter_tells : Tells porter.the_row (Is porter.the_row) no_bytes
+porter_tells d vs is = is.0.1.0 ∙ (λ i. vstruct (of_list (is.0.1.1.0.1.0 i ++ [])) ∷ [])
 
 pub ends : {M : Type 1} {𝓤 : Ura M} (𝓛 : Logic 𝓤) (T : Ended) (hs : Stays T.signature.params T.kept) (c : Clauses 𝓤 T) (y : (walk_of 𝓛 T hs c).Ghost) (v : Val) (r : Res T.signature y.0.0) (ws : Lasts T y.0.0 y.0.3)
     → Fit T hs y.0.0 y.0.3 ws → ent 𝓤 (emp 𝓤) ((c y.0.0 y.0.3).ensures y.1 r (at_exit T y.0.0 y.0.3 ws))

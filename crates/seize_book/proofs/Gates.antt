@@ -1,18 +1,22 @@
--- Where one pass is alone, its copy of the list and the book's. Assumes `Logic`.
-use Rattle.std.proofs.Common.{◌≡◌, List, [], ◌∷◌, refl, sym}
+-- Where one pass is alone, its copy of the list and the book's; and how the gate `turns` is shut and opened again. Assumes `Logic`.
+use Rattle.std.proofs.Common.{◌≡◌, ℕ, zero, suc, ◌-◌, ◌≤◌, Bool, true, false, List, [], ◌∷◌, refl, sym}
 use mathlib.Core.List.{IsPrefix}
+use mathlib.Core.Option as Maybe
 use seplogic.Ra.Ura.{Ura}
 use base.Fraction.{full_share}
+use base.FractionLaws.{not-OpDef-full_share}
 use base.Share.{quarter, three_quarters, quarters}
-use base.Growing.{latest}
+use base.Growing.{growing, latest}
 use base.Logic.{SProp, ent, sep, guard, upd, upd_i}
-use base.Fml.{Fml, ftrue}
+use base.Fml.{Fml, Share, ftrue}
 use types.Logic.{Logic, sem}
 use types.Growing.{latest_agrees, latest_glue, latest_grows, latest_cut}
-use types.Kit.{‵, raw, ◌⊛◌, given, ◌$◌, ◌∵◌, !, qed, by, move, learn, check, suffices, settle, done, use1, use2, rewrite}
-use Rattle.seize_book.specs.Ledger.{logs}
+use types.Owned.{own_sum}
+use types.Kit.{‵, raw, ◌⊛◌, given, ◌$◌, ◌∵◌, !, qed, by, move, split, fsplit, fjoin, fpick, fpack, learn, check, suffices, settle, done, use1, use2, rewrite}
+use Rattle.seize_book.specs.Ledger.{fact, logs}
 use Rattle.seize_book.specs.Entry.{Entry, entry_coded}
-use Rattle.seize_book.specs.Tokens.{Gate, many, sole, IsSole, gate_keeps, gate_gives}
+use Rattle.seize_book.specs.Tokens.{Gate, many, sole, turns, IsSole, IsTurns, all_but, gate_keeps, gate_gives, gate_leaves, one_out, turned}
+use Rattle.seize_book.proofs.Tickets.{all_once, comes_back, goes_out, none_back}
 
 module _ {M : Type 1} {𝓤 : Ura M} (𝓛 : Logic 𝓤) where
   abbrev Pr : Type 2
@@ -29,30 +33,103 @@ module _ {M : Type 1} {𝓤 : Ura M} (𝓛 : Logic 𝓤) where
 
   infix 26 ◌⊢◌
   infixr 35 ◌∗◌
+  abbrev copy : Share → ℕ → List Entry → Fml
+  copy q η log = latest (logs entry_coded) q η log
+
+  -- a share beside the whole is more than the whole
+  more_than_all : (Z : Pr) (q : Share) (η : ℕ) (a b : List Entry) → ⟦ copy full_share η a ⟧ ∗ ⟦ copy q η b ⟧ ⊢ Z
+  unfolding latest
+  more_than_all Z q η a b = let l = logs entry_coded in own_sum 𝓛 (growing l) η (Maybe.some full_share, a) (Maybe.some q, b) Z (λ c m. absurd (not-OpDef-full_share q m.0.1.0.0))
+
   -- they are the same
-  pub agrees : (g : Gate) (log seen : List Entry) → ⟦ gate_keeps g log ⟧ ∗ ⟦ gate_gives g seen ⟧ ⊢ guard 𝓤 (IsSole g → log ≡ seen) (⟦ gate_keeps g log ⟧ ∗ ⟦ gate_gives g seen ⟧)
-  agrees many log seen = qed 𝓛 (‵ (gate_keeps many log) ∷ ‵ (gate_gives many seen) ∷ []) ∵ check ! (λ x. absurd x) $ done !
-  agrees (sole η) log seen = qed 𝓛 (‵ (gate_keeps (sole η) log) ∷ ‵ (gate_gives (sole η) seen) ∷ []) ∵
-      use2 𝓛 (given (log ≡ seen) (‵ (gate_keeps (sole η) log) ⊛ ‵ (gate_gives (sole η) seen))) (latest_agrees (logs entry_coded) 𝓛 quarter three_quarters η log seen) $
+  in_turn : (η κ : ℕ) (log seen : List Entry) (b : Bool) → ⟦ turned η κ log b ⟧ ∗ ⟦ copy three_quarters η seen ⟧ ⊢ guard 𝓤 (log ≡ seen) (⟦ turned η κ log b ⟧ ∗ ⟦ copy three_quarters η seen ⟧)
+  in_turn η κ log seen true = qed 𝓛 (‵ (turned η κ log true) ∷ ‵ (copy three_quarters η seen) ∷ []) ∵ fsplit ! $ move ! (0 ∷ 2 ∷ []) $
+      use2 𝓛 (given (log ≡ seen) (‵ (copy quarter η log) ⊛ ‵ (copy three_quarters η seen))) (latest_agrees (logs entry_coded) 𝓛 quarter three_quarters η log seen) $ learn ! (λ e. check ! e $ split ! $
+      -- [the book's share; the pass's; the tickets]
+      move ! (0 ∷ 2 ∷ []) $ fjoin ! $ done !)
+  in_turn η κ log seen false = more_than_all (guard 𝓤 (log ≡ seen) (⟦ turned η κ log false ⟧ ∗ ⟦ copy three_quarters η seen ⟧)) three_quarters η log seen
+
+  pub agrees : (g : Gate) (p : ℕ) (log seen : List Entry) → ⟦ gate_keeps g log ⟧ ∗ ⟦ gate_gives g p seen ⟧ ⊢ guard 𝓤 (IsSole g p → log ≡ seen) (⟦ gate_keeps g log ⟧ ∗ ⟦ gate_gives g p seen ⟧)
+  agrees many p log seen = qed 𝓛 (‵ (gate_keeps many log) ∷ ‵ (gate_gives many p seen) ∷ []) ∵ check ! (λ x. absurd x) $ done !
+  agrees (sole η) p log seen = qed 𝓛 (‵ (gate_keeps (sole η) log) ∷ ‵ (gate_gives (sole η) p seen) ∷ []) ∵
+      use2 𝓛 (given (log ≡ seen) (‵ (gate_keeps (sole η) log) ⊛ ‵ (gate_gives (sole η) p seen))) (latest_agrees (logs entry_coded) 𝓛 quarter three_quarters η log seen) $
       learn ! (λ e. check ! (λ _. e) $ done !)
+  agrees (turns η κ) zero log seen = qed 𝓛 (‵ (gate_keeps (turns η κ) log) ∷ ‵ (gate_gives (turns η κ) zero seen) ∷ []) ∵ fpick ! (λ b.
+      use2 𝓛 (given (log ≡ seen) (‵ (turned η κ log b) ⊛ ‵ (copy three_quarters η seen))) (in_turn η κ log seen b) $ learn ! (λ e. check ! (λ _. e) $ split ! $
+      fpack ! Bool (turned η κ log) b $ done !))
+  agrees (turns η κ) (suc p) log seen = qed 𝓛 (‵ (gate_keeps (turns η κ) log) ∷ ‵ (gate_gives (turns η κ) (suc p) seen) ∷ []) ∵ check ! (λ x. absurd x) $ done !
 
   -- they grow with the list
-  pub follows : (g : Gate) (log seen log' : List Entry) → IsPrefix log log' → (IsSole g → log ≡ seen) → ⟦ gate_keeps g log ⟧ ∗ ⟦ gate_gives g seen ⟧ ⊢ upd 𝓤 (⟦ gate_keeps g log' ⟧ ∗ ⟦ gate_gives g log' ⟧)
-  follows many log seen log' p e = upd_i 𝓤 (⟦ ftrue ⟧ ∗ ⟦ ftrue ⟧)
-  follows (sole η) log seen log' p e =
-      let g : Gate = sole η in let l = logs entry_coded in let Z : Pr = ⟦ gate_keeps g log' ⟧ ∗ ⟦ gate_gives g log' ⟧ in
-      qed 𝓛 (‵ (gate_keeps g log) ∷ ‵ (gate_gives g seen) ∷ []) ∵ move ! (1 ∷ 0 ∷ []) $ rewrite ! 0 (λ (x : List Entry). ‵ (gate_gives g x)) (sym (e tt)) refl $ move ! (1 ∷ 0 ∷ []) $
+  both_grow : (η : ℕ) (log seen log' : List Entry) → IsPrefix log log' → log ≡ seen → ⟦ copy quarter η log ⟧ ∗ ⟦ copy three_quarters η seen ⟧ ⊢ upd 𝓤 (⟦ copy quarter η log' ⟧ ∗ ⟦ copy three_quarters η log' ⟧)
+  both_grow η log seen log' p e = let l = logs entry_coded in let Z : Pr = ⟦ copy quarter η log' ⟧ ∗ ⟦ copy three_quarters η log' ⟧ in
+      qed 𝓛 (‵ (copy quarter η log) ∷ ‵ (copy three_quarters η seen) ∷ []) ∵ move ! (1 ∷ 0 ∷ []) $ rewrite ! 0 (λ (x : List Entry). ‵ (copy three_quarters η x)) (sym e) refl $ move ! (1 ∷ 0 ∷ []) $
       use2 𝓛 (‵ (latest l full_share η log)) (latest_glue l 𝓛 full_share quarter three_quarters η log quarters) $
       use1 𝓛 (raw (upd 𝓤 ⟦ latest l full_share η log' ⟧)) (latest_grows l 𝓛 η log log' p) $ settle 𝓛 Z (‵ (latest l full_share η log')) $ suffices ! _ (upd_i 𝓤 Z) $
       by ! (latest_cut l 𝓛 full_share quarter three_quarters η log' quarters)
 
-  -- of two passes that are alone, which can't be
-  pub gives_both : (g : Gate) (a b : List Entry) → ⟦ gate_gives g a ⟧ ∗ ⟦ gate_gives g b ⟧ ⊢ guard 𝓤 (IsSole g → a ≡ b) (⟦ gate_gives g a ⟧ ∗ ⟦ gate_gives g b ⟧)
-  gives_both many a b = qed 𝓛 (‵ (gate_gives many a) ∷ ‵ (gate_gives many b) ∷ []) ∵ check ! (λ x. absurd x) $ done !
-  gives_both (sole η) a b = qed 𝓛 (‵ (gate_gives (sole η) a) ∷ ‵ (gate_gives (sole η) b) ∷ []) ∵
-      use2 𝓛 (given (a ≡ b) (‵ (gate_gives (sole η) a) ⊛ ‵ (gate_gives (sole η) b))) (latest_agrees (logs entry_coded) 𝓛 three_quarters three_quarters η a b) $
-      learn ! (λ e. check ! (λ _. e) $ done !)
+  abbrev Follows : Gate → ℕ → List Entry → Pr
+  Follows g p log' = ⟦ gate_keeps g log' ⟧ ∗ ⟦ gate_gives g p log' ⟧
 
-  pub gives_as : (g : Gate) (a b : List Entry) → (IsSole g → a ≡ b) → ⟦ gate_gives g a ⟧ ⊢ ⟦ gate_gives g b ⟧
-  gives_as many a b e = qed 𝓛 (‵ (gate_gives many a) ∷ []) ∵ done !
-  gives_as (sole η) a b e = qed 𝓛 (‵ (gate_gives (sole η) a) ∷ []) ∵ rewrite ! 0 (λ (x : List Entry). ‵ (gate_gives (sole η) x)) (e tt) refl $ done !
+  first_follows : (η κ : ℕ) (log seen log' : List Entry) (b : Bool) → IsPrefix log log' → log ≡ seen → ⟦ turned η κ log b ⟧ ∗ ⟦ copy three_quarters η seen ⟧ ⊢ upd 𝓤 (Follows (turns η κ) 0 log')
+  first_follows η κ log seen log' true p e = let Z : Pr = Follows (turns η κ) 0 log' in qed 𝓛 (‵ (turned η κ log true) ∷ ‵ (copy three_quarters η seen) ∷ []) ∵ fsplit ! $ move ! (0 ∷ 2 ∷ []) $
+      use2 𝓛 (raw (upd 𝓤 (⟦ copy quarter η log' ⟧ ∗ ⟦ copy three_quarters η log' ⟧))) (both_grow η log seen log' p e) $ settle 𝓛 Z (‵ (copy quarter η log') ⊛ ‵ (copy three_quarters η log')) $ split ! $ suffices ! _ (upd_i 𝓤 Z) $
+      -- [the book's share; the pass's; the tickets]
+      move ! (0 ∷ 2 ∷ []) $ fjoin ! $ fpack ! Bool (turned η κ log') true $ done !
+  first_follows η κ log seen log' false p e = more_than_all (upd 𝓤 (Follows (turns η κ) 0 log')) three_quarters η log seen
+
+  one_follows : (η κ q : ℕ) (log seen log' : List Entry) (b : Bool) → IsPrefix log log' → ⟦ turned η κ log b ⟧ ∗ ⟦ one_out κ ⟧ ⊢ upd 𝓤 (Follows (turns η κ) (suc q) log')
+  one_follows η κ q log seen log' true p = let Z : Pr = upd 𝓤 (Follows (turns η κ) (suc q) log') in qed 𝓛 (‵ (turned η κ log true) ∷ ‵ (one_out κ) ∷ []) ∵ fsplit ! $ move ! (1 ∷ 2 ∷ []) $
+      use2 𝓛 (given ⊥ (‵ ftrue)) (none_back 𝓛 κ (guard 𝓤 ⊥ ⟦ ftrue ⟧)) $ learn ! (λ x. absurd x)
+  one_follows η κ q log seen log' false p = let Z : Pr = Follows (turns η κ) (suc q) log' in qed 𝓛 (‵ (turned η κ log false) ∷ ‵ (one_out κ) ∷ []) ∵
+      use1 𝓛 (raw (upd 𝓤 ⟦ copy full_share η log' ⟧)) (latest_grows (logs entry_coded) 𝓛 η log log' p) $ settle 𝓛 Z (‵ (copy full_share η log')) $ suffices ! _ (upd_i 𝓤 Z) $
+      fpack ! Bool (turned η κ log') false $ done !
+
+  pub follows : (g : Gate) (p : ℕ) (log seen log' : List Entry) → IsPrefix log log' → (IsSole g p → log ≡ seen) → ⟦ gate_keeps g log ⟧ ∗ ⟦ gate_gives g p seen ⟧ ⊢ upd 𝓤 (Follows g p log')
+  follows many p log seen log' more e = upd_i 𝓤 (⟦ ftrue ⟧ ∗ ⟦ ftrue ⟧)
+  follows (sole η) p log seen log' more e = both_grow η log seen log' more (e tt)
+  follows (turns η κ) zero log seen log' more e = qed 𝓛 (‵ (gate_keeps (turns η κ) log) ∷ ‵ (gate_gives (turns η κ) zero seen) ∷ []) ∵ fpick ! (λ b. by ! (first_follows η κ log seen log' b more (e tt)))
+  follows (turns η κ) (suc q) log seen log' more e = qed 𝓛 (‵ (gate_keeps (turns η κ) log) ∷ ‵ (gate_gives (turns η κ) (suc q) seen) ∷ []) ∵ fpick ! (λ b. by ! (one_follows η κ q log seen log' b more))
+
+  pub gives_as : (g : Gate) (p : ℕ) (a b : List Entry) → (IsSole g p → a ≡ b) → ⟦ gate_gives g p a ⟧ ⊢ ⟦ gate_gives g p b ⟧
+  gives_as many p a b e = qed 𝓛 (‵ (gate_gives many p a) ∷ []) ∵ done !
+  gives_as (sole η) p a b e = qed 𝓛 (‵ (gate_gives (sole η) p a) ∷ []) ∵ rewrite ! 0 (λ (x : List Entry). ‵ (gate_gives (sole η) p x)) (e tt) refl $ done !
+  gives_as (turns η κ) zero a b e = qed 𝓛 (‵ (gate_gives (turns η κ) zero a) ∷ []) ∵ rewrite ! 0 (λ (x : List Entry). ‵ (gate_gives (turns η κ) zero x)) (e tt) refl $ done !
+  gives_as (turns η κ) (suc p) a b e = qed 𝓛 (‵ (gate_gives (turns η κ) (suc p) a) ∷ []) ∵ done !
+
+  -- In turns: the gate is shut, and opened again.
+
+  shut_once : (η κ : ℕ) (log : List Entry) (b : Bool) → ⟦ turned η κ log b ⟧ ∗ ⟦ all_but κ 0 ⟧ ⊢ ⟦ gate_keeps (turns η κ) log ⟧ ∗ ⟦ copy three_quarters η log ⟧
+  shut_once η κ log true = qed 𝓛 (‵ (turned η κ log true) ∷ ‵ (all_but κ 0) ∷ []) ∵ fsplit ! $ move ! (1 ∷ 2 ∷ []) $ use2 𝓛 (given ⊥ (‵ ftrue)) (all_once 𝓛 κ (guard 𝓤 ⊥ ⟦ ftrue ⟧) 0 0) $ learn ! (λ x. absurd x)
+  shut_once η κ log false = qed 𝓛 (‵ (turned η κ log false) ∷ ‵ (all_but κ 0) ∷ []) ∵
+      use1 𝓛 (‵ (copy quarter η log) ⊛ ‵ (copy three_quarters η log)) (latest_cut (logs entry_coded) 𝓛 full_share quarter three_quarters η log quarters) $ split ! $
+      move ! (0 ∷ 2 ∷ []) $ fjoin ! $ fpack ! Bool (turned η κ log) true $ done !
+
+  pub shuts : (g : Gate) (log : List Entry) → IsTurns g → ⟦ gate_keeps g log ⟧ ∗ ⟦ gate_leaves g 0 ⟧ ⊢ ⟦ gate_keeps g log ⟧ ∗ ⟦ gate_gives g 0 log ⟧
+  shuts many log is = absurd is
+  shuts (sole η) log is = absurd is
+  shuts (turns η κ) log is = qed 𝓛 (‵ (gate_keeps (turns η κ) log) ∷ ‵ (gate_leaves (turns η κ) 0) ∷ []) ∵ fpick ! (λ b. by ! (shut_once η κ log b))
+
+  open_once : (η κ : ℕ) (log seen : List Entry) (b : Bool) → ⟦ turned η κ log b ⟧ ∗ ⟦ copy three_quarters η seen ⟧ ⊢ ⟦ gate_keeps (turns η κ) log ⟧ ∗ ⟦ all_but κ 0 ⟧
+  open_once η κ log seen true = let l = logs entry_coded in qed 𝓛 (‵ (turned η κ log true) ∷ ‵ (copy three_quarters η seen) ∷ []) ∵ fsplit ! $ move ! (0 ∷ 2 ∷ []) $
+      use2 𝓛 (given (log ≡ seen) (‵ (copy quarter η log) ⊛ ‵ (copy three_quarters η seen))) (latest_agrees l 𝓛 quarter three_quarters η log seen) $ learn ! (λ e. split ! $
+      move ! (1 ∷ 0 ∷ []) $ rewrite ! 0 (λ (x : List Entry). ‵ (copy three_quarters η x)) (sym e) refl $ move ! (1 ∷ 0 ∷ []) $
+      use2 𝓛 (‵ (turned η κ log false)) (latest_glue l 𝓛 full_share quarter three_quarters η log quarters) $ fpack ! Bool (turned η κ log) false $ done !)
+  open_once η κ log seen false = more_than_all (⟦ gate_keeps (turns η κ) log ⟧ ∗ ⟦ all_but κ 0 ⟧) three_quarters η log seen
+
+  pub opens_again : (g : Gate) (log seen : List Entry) → IsTurns g → ⟦ gate_keeps g log ⟧ ∗ ⟦ gate_gives g 0 seen ⟧ ⊢ ⟦ gate_keeps g log ⟧ ∗ ⟦ gate_leaves g 0 ⟧
+  opens_again many log seen is = absurd is
+  opens_again (sole η) log seen is = absurd is
+  opens_again (turns η κ) log seen is = qed 𝓛 (‵ (gate_keeps (turns η κ) log) ∷ ‵ (gate_gives (turns η κ) 0 seen) ∷ []) ∵ fpick ! (λ b. by ! (open_once η κ log seen b))
+
+  -- a pass goes out that is not the first, and one comes back
+  pub gives_one : (g : Gate) (out p : ℕ) (seen : List Entry) → (p ≡ 0 → ⊥) → ⟦ gate_leaves g out ⟧ ⊢ ⟦ gate_leaves g (suc out) ⟧ ∗ ⟦ gate_gives g p seen ⟧
+  gives_one many out p seen other = qed 𝓛 (‵ (fact ⊥) ∷ []) ∵ fpick ! (λ x. absurd x)
+  gives_one (sole η) out p seen other = qed 𝓛 (‵ (fact ⊥) ∷ []) ∵ fpick ! (λ x. absurd x)
+  gives_one (turns η κ) out zero seen other = absurd (other refl)
+  gives_one (turns η κ) out (suc p) seen other = goes_out 𝓛 κ out
+
+  pub takes_one : (g : Gate) (out p : ℕ) (seen : List Entry) → (p ≡ 0 → ⊥) → ⟦ gate_leaves g out ⟧ ∗ ⟦ gate_gives g p seen ⟧ ⊢ guard 𝓤 (1 ≤ out) ⟦ gate_leaves g (out - 1) ⟧
+  takes_one many out p seen other = qed 𝓛 (‵ (fact ⊥) ∷ ‵ ftrue ∷ []) ∵ fpick ! (λ x. absurd x)
+  takes_one (sole η) out p seen other = qed 𝓛 (‵ (fact ⊥) ∷ ‵ (gate_gives (sole η) p seen) ∷ []) ∵ fpick ! (λ x. absurd x)
+  takes_one (turns η κ) out zero seen other = absurd (other refl)
+  takes_one (turns η κ) out (suc p) seen other = comes_back 𝓛 κ out

@@ -4,13 +4,12 @@ use base.Stored.{Gv}
 use Rattle.seize_book.specs.Blocks.{block_of}
 use Rattle.seize_book.specs.Book.{blocks}
 use Rattle.seize_book.specs.Entry.{Entry}
-use Rattle.seize_book.specs.Ledger.{Held, renewed}
+use Rattle.seize_book.specs.Ledger.{Held}
 use Rattle.seize_book.specs.Linked.{are_joined, are_linked, joined, leads_first, next_in}
-use Rattle.seize_book.specs.Notes.{HasNoted, IsStored, noted_in, with_note}
-use Rattle.seize_book.specs.Others.{FollowsValue, value_of}
+use Rattle.seize_book.specs.Notes.{HasNoted, IsStored, noted_in}
+use Rattle.seize_book.specs.Others.{value_of}
 use Rattle.seize_book.specs.Private.{is_one, label_of, labels_of, note_of}
-use Rattle.seize_book.specs.Values.{AreClosed, IsKeyOfOne, LeadsOn, LeadsTo, Nexts, Pushes, book_in, values_of}
-use Rattle.seize_book.specs.declared.book.pass.Pass.{Pass}
+use Rattle.seize_book.specs.Values.{AreClosed, IsKeyOfOne, LeadsTo, Nexts, Pushes, book_in, values_of}
 use Rattle.seize_book.specs.declared.book.value_key.ValueKey.{ValueKey}
 use Rattle.seize_book.specs.declared.book.value_keys.ValueKeys.{ValueKeys}
 use Rattle.seize_book.proofs.Firsts.{noted_one}

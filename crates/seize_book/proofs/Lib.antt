@@ -10,6 +10,7 @@ pub mod Deposits
 pub mod Goes
 pub mod Handed
 pub mod Lives
+pub mod Tickets
 pub mod Gates
 pub mod Tables
 pub mod Ways
@@ -28,6 +29,7 @@ pub mod Hands
 pub mod Renames
 pub mod Retires
 pub mod Gives
+pub mod Numbers
 pub mod Detaches
 pub mod Plans
 pub mod Fronts
@@ -42,6 +44,7 @@ pub mod Values
 pub mod Apart
 pub mod Further
 pub mod Meets
+pub mod Turns
 pub mod Sent
 pub mod Loans
 pub mod Lending

@@ -70,7 +70,7 @@ module _ {M : Type 1} {𝓤 : Ura M} (𝓛 : Logic 𝓤) (n : Name) (p : ℕ) wh
   had log = reached entry_coded n.log log
 
   abbrev gives : List Entry → Fml
-  gives log = gate_gives n.gate log
+  gives log = gate_gives n.gate p log
 
   abbrev keys : List (Held Entry) → Fml
   keys held = keys_own n held
@@ -98,7 +98,7 @@ module _ {M : Type 1} {𝓤 : Ura M} (𝓛 : Logic 𝓤) (n : Name) (p : ℕ) wh
 
   module _ (seen : List Entry) (held : List (Held Entry)) where
     abbrev alone : List Entry → Type 0
-    alone log = IsSole n.gate → log ≡ seen
+    alone log = IsSole n.gate p → log ≡ seen
 
     -- the gate tells a pass that is alone that it has seen all; and with each value that was named something is lent where it has to be
     abbrev Now : List Entry → Type 0
@@ -106,7 +106,7 @@ module _ {M : Type 1} {𝓤 : Ura M} (𝓛 : Logic 𝓤) (n : Name) (p : ℕ) wh
 
     tells : (own log : List Entry) → Known (rules st) (pass_key p own ∷ held) seen log → ⟦ beside n log ⟧ ∗ ⟦ gives seen ⟧ ⊢ guard 𝓤 (Now log) (⟦ beside n log ⟧ ∗ ⟦ gives seen ⟧)
     tells own log known = qed 𝓛 (‵ (beside n log) ∷ ‵ (gives seen) ∷ []) ∵ fsplit ! $ move ! (1 ∷ []) $ fsplit ! $ move ! (0 ∷ 3 ∷ []) $
-        use2 𝓛 (given (alone log) (‵ (gate_keeps n.gate log) ⊛ ‵ (gives seen))) (agrees 𝓛 n.gate log seen) $ learn ! (λ same. split ! $
+        use2 𝓛 (given (alone log) (‵ (gate_keeps n.gate log) ⊛ ‵ (gives seen))) (agrees 𝓛 n.gate p log seen) $ learn ! (λ same. split ! $
         -- [the book's copy; the pass's; where all is found; what has ended]
         move ! (2 ∷ []) $ use1 𝓛 (given (AllLentIn n (after st log).named) (‵ (found n (after st log)))) (found_lent 𝓛 n (after st log)) $ learn ! (λ lent. check ! (same, lent) $
         move ! (1 ∷ 0 ∷ []) $ fjoin ! $ move ! (2 ∷ 0 ∷ []) $ fjoin ! $ done !))
@@ -127,7 +127,7 @@ module _ {M : Type 1} {𝓤 : Ura M} (𝓛 : Logic 𝓤) (n : Name) (p : ℕ) wh
         (looks_beside entry_coded (rules st) (beside n) n.log (rows n) 𝓛 (pass_key p own ∷ held) seen Now ⟦ gives seen ⟧ (λ _. ⟦ gives seen ⟧) (omega arith, within) (tells own)) $
         pick ! (λ log. learn ! (λ known. let b = before own log past.1 known.0 known.1 in split ! $ move ! (1 ∷ []) $ split3 ! $
         -- [the rights; what was reached; its copy; J; the ways]
-        move ! (2 ∷ []) $ use1 𝓛 (‵ (gives log)) (gives_as 𝓛 n.gate seen log (λ s. sym (known.1.0 s))) $ move ! (1 ∷ []) $ fsplit ! $
+        move ! (2 ∷ []) $ use1 𝓛 (‵ (gives log)) (gives_as 𝓛 n.gate p seen log (λ s. sym (known.1.0 s))) $ move ! (1 ∷ []) $ fsplit ! $
         -- [its key; the rights; its copy; what was reached; J; the ways]
         move ! (1 ∷ 5 ∷ []) $ use2 𝓛 (‵ (keys held)) (keys_whole 𝓛 n held) $
         nothing ! $ move ! (2 ∷ 0 ∷ []) $ fjoin ! $ move ! (0 ∷ 3 ∷ 2 ∷ []) $ use3 𝓛 (‵ (pass_holds n p log)) (together log own (known.0.2.0.0, known.0.2.0.1)) $
@@ -148,7 +148,7 @@ module _ {M : Type 1} {𝓤 : Ura M} (𝓛 : Logic 𝓤) (n : Name) (p : ℕ) wh
           move ! (3 ∷ 1 ∷ []) $ use2 𝓛 (given (Told log) (‵ (all log) ⊛ raw (Y log))) (asks log known.1 known.0.0) $ learn ! (λ told. split ! $
           -- [where all is found; Y; the pass's copy; the book's; what has ended]
           use1 𝓛 (given (AllLentIn n (after st log).named) (‵ (all log))) (found_lent 𝓛 n (after st log)) $ learn ! (λ lent.
-          move ! (3 ∷ 2 ∷ []) $ use2 𝓛 (given (alone log) (‵ (gate_keeps n.gate log) ⊛ ‵ (gives seen))) (agrees 𝓛 n.gate log seen) $ learn ! (λ same. check ! ((same, lent), told) $ split ! $
+          move ! (3 ∷ 2 ∷ []) $ use2 𝓛 (given (alone log) (‵ (gate_keeps n.gate log) ⊛ ‵ (gives seen))) (agrees 𝓛 n.gate p log seen) $ learn ! (λ same. check ! ((same, lent), told) $ split ! $
           -- [the book's copy; the pass's; where all is found; Y; what has ended]
           move ! (0 ∷ 2 ∷ []) $ fjoin ! $ move ! (3 ∷ 0 ∷ []) $ fjoin ! $ move ! (1 ∷ 2 ∷ []) $ join ! $ move ! (1 ∷ 0 ∷ []) $ done !)))
 
@@ -179,7 +179,7 @@ module _ {M : Type 1} {𝓤 : Ura M} (𝓛 : Logic 𝓤) (n : Name) (p : ℕ) wh
           settle 𝓛 (⟦ J ⟧ ∗ Z) (some (λ (log : List Entry). given (Known (rules st) (pass_key p own ∷ held) seen log × (Now log × Told log)) (‵ J ⊛ ‵ (rights (renewed (pass_key p own ∷ held) log)) ⊛ ‵ (had log) ⊛ (‵ (gives seen) ⊛ raw (Y log))))) $
           suffices ! _ (upd_i 𝓤 (⟦ J ⟧ ∗ Z)) $ pick ! (λ log. learn ! (λ known. let b = before own log past.1 known.0 known.1.0 in split ! $ frame ! $ split3 ! $
           -- [the rights; what was reached; its copy and Y; the book; the ways]
-          move ! (2 ∷ []) $ split ! $ use1 𝓛 (‵ (gives log)) (gives_as 𝓛 n.gate seen log (λ s. sym (known.1.0.0 s))) $ move ! (2 ∷ []) $ fsplit ! $
+          move ! (2 ∷ []) $ split ! $ use1 𝓛 (‵ (gives log)) (gives_as 𝓛 n.gate p seen log (λ s. sym (known.1.0.0 s))) $ move ! (2 ∷ []) $ fsplit ! $
           -- [its key; the rights; its copy; Y; what was reached; the book; the ways]
           move ! (6 ∷ []) $ rewrite ! 0 (λ (F : Fml). ‵ F) (sym (ways_renewed 𝓛 n held log)) refl $ move ! (2 ∷ 0 ∷ []) $ use2 𝓛 (‵ (keys (renewed held log))) (keys_whole 𝓛 n (renewed held log)) $
           -- [the keys; its key; its copy; Y; what was reached; the book]

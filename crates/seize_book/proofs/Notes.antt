@@ -117,5 +117,5 @@ module _ {M : Type 1} {𝓤 : Ura M} (𝓛 : Logic 𝓤) (n : Name) where
       move ! (0 ∷ 2 ∷ []) $ use2 𝓛 (minted seen births) (new_keys seen births (λ sizes. (omega arith, (λ log j h p le. h p (omega (arith, le))), omega arith, tt))) $ await ! tt $ pick ! (λ t. learn ! (λ so. let p : ℕ = t.0 passes in split ! $ fsplit ! $ move ! (0 ∷ 2 ∷ 3 ∷ []) $
       -- [its key; what was reached; the book]
       now ! $ show ! (Another seen) (p, t.1) $ check ! (so.0, so.1 passes p (omega arith)) $ nothing ! $ fpack ! (IsPrefix t.1 t.1 × (mine st p t.1 ≡ mine st p t.1)) (λ _. ftrue) (([], append-nil t.1), refl) $
-      nothing ! $ types.Kit.rewrite ! 0 (λ (g : Gate). ‵ (gate_gives g t.1)) (sym free) refl $ move ! (0 ∷ 1 ∷ []) $ fjoin ! $ move ! (2 ∷ 0 ∷ []) $ fjoin ! $ move ! (1 ∷ 0 ∷ []) $ fjoin ! $
+      nothing ! $ types.Kit.rewrite ! 0 (λ (g : Gate). ‵ (gate_gives g p t.1)) (sym free) refl $ move ! (0 ∷ 1 ∷ []) $ fjoin ! $ move ! (2 ∷ 0 ∷ []) $ fjoin ! $ move ! (1 ∷ 0 ∷ []) $ fjoin ! $
       fpack ! (List Entry) (pass_at n p t.1) t.1 $ move ! (1 ∷ 0 ∷ []) $ fjoin ! $ keep ! (0 ∷ []) $ done !))

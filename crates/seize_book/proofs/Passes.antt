@@ -107,7 +107,7 @@ module _ {M : Type 1} {𝓤 : Ura M} (𝓛 : Logic 𝓤) (n : Name) where
       all = pass_key p own ∷ held
 
       abbrev Now : List Entry → Type 0
-      Now log = (IsSole n.gate → log ≡ seen) × AllLentIn n (after st log).named
+      Now log = (IsSole n.gate p → log ≡ seen) × AllLentIn n (after st log).named
 
       abbrev ToldAll : List Entry → Type 0
       ToldAll log = Now log × Told log
@@ -116,7 +116,7 @@ module _ {M : Type 1} {𝓤 : Ura M} (𝓛 : Logic 𝓤) (n : Name) where
       keeps log = gate_keeps n.gate log
 
       abbrev gives : List Entry → Fml
-      gives log = gate_gives n.gate log
+      gives log = gate_gives n.gate p log
 
       abbrev now : List Entry → List Entry
       now log = log ++ ev log ∷ []
@@ -134,7 +134,7 @@ module _ {M : Type 1} {𝓤 : Ura M} (𝓛 : Logic 𝓤) (n : Name) where
       tells_all : Tells p seen held Told X → (log : List Entry) → Known (rules st) all seen log → ⟦ beside n log ⟧ ∗ (⟦ gives seen ⟧ ∗ ⟦ its_ways ⟧ ∗ X) ⊢ guard 𝓤 (ToldAll log) (⟦ beside n log ⟧ ∗ (⟦ gives seen ⟧ ∗ ⟦ its_ways ⟧ ∗ X))
       tells_all tells log known = qed 𝓛 (‵ (beside n log) ∷ (‵ (gives seen) ⊛ ‵ its_ways ⊛ raw X) ∷ []) ∵ fsplit ! $ move ! (1 ∷ []) $ fsplit ! $ move ! (3 ∷ []) $ split3 ! $
           -- [the pass's copy; the ways; X; the book's copy; where all is found; what has ended]
-          move ! (3 ∷ 0 ∷ []) $ use2 𝓛 (given (IsSole n.gate → log ≡ seen) (‵ (keeps log) ⊛ ‵ (gives seen))) (agrees 𝓛 n.gate log seen) $ learn ! (λ alone. split ! $
+          move ! (3 ∷ 0 ∷ []) $ use2 𝓛 (given (IsSole n.gate p → log ≡ seen) (‵ (keeps log) ⊛ ‵ (gives seen))) (agrees 𝓛 n.gate p log seen) $ learn ! (λ alone. split ! $
           -- [the book's copy; the pass's; the ways; X; where all is found; what has ended]
           move ! (4 ∷ []) $ use1 𝓛 (given (AllLentIn n (after st log).named) (‵ (found n (after st log)))) (found_lent 𝓛 n (after st log)) $ learn ! (λ lent.
           move ! (5 ∷ 4 ∷ []) $ use2 𝓛 (given (Told log) (‵ (over (ended log)) ⊛ raw X)) (tells log (before log known (alone, lent))) $ learn ! (λ told. split ! $
@@ -153,7 +153,7 @@ module _ {M : Type 1} {𝓤 : Ura M} (𝓛 : Logic 𝓤) (n : Name) where
           move ! (1 ∷ []) $ use1 𝓛 (‵ (paths 𝓛 n held) ⊛ ‵ its_ways) (ways_tell 𝓛 n held) $ split ! $
           move ! (5 ∷ 0 ∷ []) $ let new = names log (before log known told.0) told.1 in use2 𝓛 (‵ (found n (after st (now log)))) (found_more 𝓛 n (after st log) (after st (now log)) held new.0 new.1) $
           -- [where all is found then; the ways; the pass's copy; X; the book's copy; what has ended]
-          move ! (4 ∷ 2 ∷ []) $ use2 𝓛 (raw (upd 𝓤 (⟦ keeps (now log) ⟧ ∗ ⟦ gives (now log) ⟧))) (follows 𝓛 n.gate log seen (now log) (ev log ∷ [], refl) told.0.0) $ settle 𝓛 Z (‵ (keeps (now log)) ⊛ ‵ (gives (now log))) $ split ! $
+          move ! (4 ∷ 2 ∷ []) $ use2 𝓛 (raw (upd 𝓤 (⟦ keeps (now log) ⟧ ∗ ⟦ gives (now log) ⟧))) (follows 𝓛 n.gate p log seen (now log) (ev log ∷ [], refl) told.0.0) $ settle 𝓛 Z (‵ (keeps (now log)) ⊛ ‵ (gives (now log))) $ split ! $
           -- [the book's copy; the pass's; where all is found then; the ways; X; what has ended]
           move ! (5 ∷ 4 ∷ []) $ use2 𝓛 (raw (upd 𝓤 (⟦ over (ended (now log)) ⟧ ∗ Y log))) (trades log (before log known told.0) told.1) $ settle 𝓛 Z (‵ (over (ended (now log))) ⊛ raw (Y log)) $ split ! $
           -- [what has ended then; Y; the book's copy; the pass's; where all is found then; the ways]

@@ -4,7 +4,7 @@ use base.Growing.{latest, at_least}
 use base.Stored.{Gv}
 use base.Fml.{Lft}
 use base.Shift.{Keyless}
-use types.Keyed.{entry_keyless, entries_keyless}
+use types.Keyed.{entry_keyless, entries_keyless, token}
 use Rattle.seize_table.specs.Filled.{all_from}
 use Rattle.seize_book.specs.Ledger.{Held, halved, roster, rosters, first, rest}
 use Rattle.seize_book.specs.Entry.{Entry, entry_coded}
@@ -15,7 +15,7 @@ use Rattle.seize_machine.specs.Machine.State.{State}
 use Rattle.seize_book.specs.Laws.{ended}
 use Rattle.seize_book.specs.Loans.{cell_of, loan_if, loan_of, readers}
 use Rattle.seize_book.specs.Peeks.{keys_show, show_if, sight_if}
-use Rattle.seize_book.specs.Tokens.{Name, rows, start, inside, over, Gate, many, sole, gate_keeps, gate_gives, leads_in, all_lead, lies_in, all_lie_in, lies_if, is_placed, slot_labels, note_if, note_in, notes_own, way_if, rights_own, keys_own, pass_owns}
+use Rattle.seize_book.specs.Tokens.{Name, rows, start, inside, over, Gate, many, sole, turns, all_but, turned, tickets, gate_keeps, gate_gives, gate_leaves, porter_owns, leads_in, all_lead, lies_in, all_lie_in, lies_if, is_placed, slot_labels, note_if, note_in, notes_own, way_if, rights_own, keys_own, pass_owns}
 use Rattle.seize_book.specs.Begin.{book_owns}
 
 roster_keyless : (δ k : ℕ) (owns : List (List Entry)) → Keyless (roster entry_coded δ k owns)
@@ -30,15 +30,35 @@ pub over_keyless : (lives : List ℕ) → Keyless (over lives)
 over_keyless [] = tt
 over_keyless (a ∷ lives) = (tt, over_keyless lives)
 
+tickets_keyless : (κ : ℕ) (ks : List ℕ) → Keyless (tickets κ ks)
+tickets_keyless κ [] = tt
+tickets_keyless κ (k ∷ ks) = (entry_keyless token κ k tt, tickets_keyless κ ks)
+
+all_but_keyless : (κ out : ℕ) → Keyless (all_but κ out)
+all_but_keyless κ out = λ t. (tickets_keyless κ t.1, (entries_keyless token κ t.0 _, λ _. tt))
+
+turned_keyless : (η κ : ℕ) (log : List Entry) (b : Bool) → Keyless (turned η κ log b)
+unfolding latest
+turned_keyless η κ log true = (tt, all_but_keyless κ 0)
+turned_keyless η κ log false = tt
+
 keeps_keyless : (g : Gate) (log : List Entry) → Keyless (gate_keeps g log)
 unfolding latest
 keeps_keyless many log = tt
 keeps_keyless (sole η) log = tt
+keeps_keyless (turns η κ) log = turned_keyless η κ log
 
-gives_keyless : (g : Gate) (seen : List Entry) → Keyless (gate_gives g seen)
+gives_keyless : (g : Gate) (p : ℕ) (seen : List Entry) → Keyless (gate_gives g p seen)
 unfolding latest
-gives_keyless many seen = tt
-gives_keyless (sole η) seen = tt
+gives_keyless many p seen = tt
+gives_keyless (sole η) p seen = tt
+gives_keyless (turns η κ) zero seen = tt
+gives_keyless (turns η κ) (suc p) seen = λ k. entry_keyless token κ k tt
+
+leaves_keyless : (g : Gate) (out : ℕ) → Keyless (gate_leaves g out)
+leaves_keyless many out = λ _. tt
+leaves_keyless (sole η) out = λ _. tt
+leaves_keyless (turns η κ) out = all_but_keyless κ out
 
 lead_keyless : (store : Option (List ℕ)) (b : ℕ) (t : ℕ × ℕ) → Keyless (leads_in store b t)
 lead_keyless None b t = tt
@@ -87,7 +107,11 @@ book_keyless n seen = ((inside_keyless n, (tt, λ _. tt)), tt)
 
 pub pass_keyless : (n : Name) (p : ℕ) (seen : List Entry) → Keyless (pass_owns n p seen)
 unfolding at_least
-pass_keyless n p seen = ((inside_keyless n, (tt, λ _. tt)), λ own. (entry_keyless (halved entry_coded) _ p _, (tt, (gives_keyless n.gate seen, λ _. tt))))
+pass_keyless n p seen = ((inside_keyless n, (tt, λ _. tt)), λ own. (entry_keyless (halved entry_coded) _ p _, (tt, (gives_keyless n.gate p seen, λ _. tt))))
+
+pub porter_keyless : (n : Name) (out : ℕ) (seen : List Entry) → Keyless (porter_owns n out seen)
+unfolding at_least
+porter_keyless n out seen = ((inside_keyless n, (tt, λ _. tt)), λ own. (entry_keyless (halved entry_coded) _ 0 _, (tt, (leaves_keyless n.gate out, λ _. tt))))
 
 note_in_keyless : (store : Option (List ℕ)) (c : ℕ) (g : Gv) → Keyless (note_in store c g)
 note_in_keyless None c g = tt

@@ -49,7 +49,7 @@ abbrev pub IsMany : Book → Type 0
 IsMany book = book.name.gate ≡ many
 
 abbrev pub IsAlone : Book → Pass → Type 0
-IsAlone book pass = IsSole book.name.gate × (pass.name ≡ book.name) × (pass.seen ≡ [])
+IsAlone book pass = IsSole book.name.gate pass.id × (pass.name ≡ book.name) × (pass.seen ≡ [])
 
 -- with so many links, those that a book begins with
 abbrev pub AreFirst : Keys → Type 0

@@ -32,7 +32,7 @@ pub record Before (n : Name) (p : ℕ) (seen : List Entry) (held : List (Held En
   pub grows : IsPrefix seen log
   pub none_made : mine (start n) p log ≡ mine (start n) p seen
   pub kept : AllKept (rules (start n)) held log
-  pub alone : IsSole n.gate → log ≡ seen
+  pub alone : IsSole n.gate p → log ≡ seen
   pub lent : AllLentIn n (after (start n) log).named
 
 abbrev pub Covers : State → List (Held Entry) → List Entry → Entry → Type 0

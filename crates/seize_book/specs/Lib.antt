@@ -24,6 +24,7 @@ pub mod Deposits
 pub mod Bare
 pub mod Batches
 pub mod Books
+pub mod Turns
 pub mod Blocks
 pub mod Values
 pub mod Tables

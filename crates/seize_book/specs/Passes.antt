@@ -40,7 +40,7 @@ pub record LooksOn (pass pass' : Pass) : Type 0 where
   pub same : IsSame pass pass'
   pub none_made : MadeNone pass pass'
   pub grows : IsPrefix pass.seen pass'.seen
-  pub alone : IsSole pass.name.gate → pass'.seen ≡ pass.seen
+  pub alone : IsSole pass.name.gate pass.id → pass'.seen ≡ pass.seen
   pub legal : IsLegalList (start pass.name) pass'.seen
   pub sound : IsSound (after (start pass.name) pass'.seen)
   pub lent : AllLentIn pass.name (after (start pass.name) pass'.seen).named

@@ -5,7 +5,9 @@
 --     label_at n k  the label of what is of the book and has the number k
 --     chunk_label n k c   that of a chunk of the book's store with the home k and the cell c
 --     inside        what stands in its invariant;  knows   that there is this invariant, for good
---     pass_owns     a pass: its key, a beginning of the list that it has seen, and at a closed gate the list itself
+--     pass_owns     a pass: its key, a beginning of the list that it has seen, and where it alone may append the list itself
+--     porter_owns   a porter: the key of the first pass, a beginning of the list that it has seen, and how many passes are out
+--     IsSole g p    at this gate pass p alone may append, whenever someone has it;  IsTurns g   passes come from a porter there
 --     leads n v     the value's number leads to the label of its home and cell, in the store where the book's blocks lie; and nothing where
 --                   they lie in none
 --     noted n v g   the token of the cell where the holder of the value's key makes notes, in which g is noted; and nothing where the
@@ -21,15 +23,17 @@
 --                   what is lent with the value, and what is noted; and with that of a slot whose head lies in the table, that it does
 --     opened_own    a key of a block without what is noted
 --     Noted         one entry was appended with a pass
-use Rattle.std.specs.Prelude.{◌≡◌, ℕ, Bool, true, false, ◌&&◌, ◌==◌, ◌⊎◌, List, [], ◌∷◌, ◌++◌, length, map, Option, None, slice_index_or}
+use Rattle.std.specs.Prelude.{◌≡◌, ℕ, zero, suc, ◌+◌, Bool, true, false, ◌&&◌, ◌==◌, ◌⊎◌, List, [], ◌∷◌, ◌++◌, length, map, Option, None, slice_index_or}
 use Rattle.std.specs.List.{range_with_len}
 use Rattle.std.specs.Coded.{Coded, code_by, coded_ℕ, coded×, coded_list, coded_option}
 use mathlib.Core.Path.{refl}
 use mathlib.Core.List.{IsPrefix}
+use base.Fraction.{full_share}
 use base.Share.{quarter, three_quarters}
 use base.Growing.{latest}
 use base.Stored.{Gv, gnil, gcons}
 use base.Fml.{Fml, ffalse, ftrue, fsep, fex, fdead, fnamed, fobs, fauth, fres}
+use types.Keyed.{ticket, tickets_from}
 use denote.Struct.Codes.{itself}
 use Rattle.seize_content.specs.Cells.{cell_token}
 use Rattle.seize_machine.specs.Machine.State.{State, opening, linked, are_distinct, has}
@@ -46,29 +50,42 @@ use Rattle.seize_book.specs.Homes.{IsSound, home_of}
 use Rattle.seize_book.specs.Laws.{ended}
 use Rattle.seize_book.specs.Loans.{CarriesNone, cell_of, loan, place_of}
 
--- Who may append: whoever has a pass; or one pass alone, whose copy of the list has this name.
+-- Who may append: whoever has a pass; or one pass alone, whose copy of the list has this name; or, in turns, whoever has a pass that a
+-- porter gave out, and the first pass alone while none is out. Then the copy of the list has the first name, and the tickets that are
+-- counted have the second.
 pub data Gate : Type 0 where
   many : Gate
   sole : ℕ → Gate
+  turns : ℕ → ℕ → Gate
 
-abbrev pub IsSole : Gate → Type 0
-IsSole many = ⊥
-IsSole (sole η) = Unit {0}
+abbrev pub IsSole : Gate → ℕ → Type 0
+IsSole many p = ⊥
+IsSole (sole η) p = Unit {0}
+IsSole (turns η κ) zero = Unit {0}
+IsSole (turns η κ) (suc p) = ⊥
 
-abbrev pub gate_code : Gate → Option ℕ
+abbrev pub IsTurns : Gate → Type 0
+IsTurns many = ⊥
+IsTurns (sole η) = ⊥
+IsTurns (turns η κ) = Unit {0}
+
+abbrev pub gate_code : Gate → Option (ℕ × Option ℕ)
 gate_code many = Option.None
-gate_code (sole η) = Option.Some η
+gate_code (sole η) = Option.Some (η, Option.None)
+gate_code (turns η κ) = Option.Some (η, Option.Some κ)
 
-abbrev pub gate_of : Option ℕ → Gate
+abbrev pub gate_of : Option (ℕ × Option ℕ) → Gate
 gate_of Option.None = many
-gate_of (Option.Some η) = sole η
+gate_of (Option.Some (η, Option.None)) = sole η
+gate_of (Option.Some (η, Option.Some κ)) = turns η κ
 
 pub gate_back : (g : Gate) → gate_of (gate_code g) ≡ g
 gate_back many = refl
 gate_back (sole η) = refl
+gate_back (turns η κ) = refl
 
 abbrev pub gate_coded : Coded Gate
-gate_coded = code_by (Option ℕ) (coded_option coded_ℕ) gate_code gate_of gate_back
+gate_coded = code_by (Option (ℕ × Option ℕ)) (coded_option (coded× coded_ℕ (coded_option coded_ℕ))) gate_code gate_of gate_back
 
 pub record Name : Type 0 where
   pub number : ℕ
@@ -152,14 +169,43 @@ abbrev pub over : List ℕ → Fml
 over [] = ftrue
 over (a ∷ lives) = fsep (fdead (a ∷ [])) (over lives)
 
+-- what is given out at the gate `turns` has a ticket each, which it can't be without
+abbrev pub tickets : ℕ → List ℕ → Fml
+tickets κ [] = ftrue
+tickets κ (k ∷ ks) = fsep (ticket κ k) (tickets κ ks)
+
+abbrev pub one_out : ℕ → Fml
+one_out κ = fex ℕ (ticket κ)
+
+-- all tickets but those of so many that are out: those that were never given, and those that came back
+abbrev pub left_of_all : ℕ → ℕ → ℕ × List ℕ → Fml
+left_of_all κ out t = fsep (tickets κ t.1) (fsep (tickets_from κ t.0) (fact (length t.1 + out ≡ t.0)))
+
+abbrev pub all_but : ℕ → ℕ → Fml
+all_but κ out = fex (ℕ × List ℕ) (left_of_all κ out)
+
+-- in turns: the book's share of the copy of the list, and all tickets, while none is out and the gate is shut; or the whole copy
+abbrev pub turned : ℕ → ℕ → List Entry → Bool → Fml
+turned η κ log true = fsep (latest (logs entry_coded) quarter η log) (all_but κ 0)
+turned η κ log false = latest (logs entry_coded) full_share η log
+
 -- where one pass is alone: the book's share of its copy of the list, and the pass's
 abbrev pub gate_keeps : Gate → List Entry → Fml
 gate_keeps many log = ftrue
 gate_keeps (sole η) log = latest (logs entry_coded) quarter η log
+gate_keeps (turns η κ) log = fex Bool (turned η κ log)
 
-abbrev pub gate_gives : Gate → List Entry → Fml
-gate_gives many seen = ftrue
-gate_gives (sole η) seen = latest (logs entry_coded) three_quarters η seen
+abbrev pub gate_gives : Gate → ℕ → List Entry → Fml
+gate_gives many p seen = ftrue
+gate_gives (sole η) p seen = latest (logs entry_coded) three_quarters η seen
+gate_gives (turns η κ) zero seen = latest (logs entry_coded) three_quarters η seen
+gate_gives (turns η κ) (suc p) seen = one_out κ
+
+-- what a porter has while so many passes are out
+abbrev pub gate_leaves : Gate → ℕ → Fml
+gate_leaves many out = fact ⊥
+gate_leaves (sole η) out = fact ⊥
+gate_leaves (turns η κ) out = all_but κ out
 
 -- a number leads to one label and one content for good, since a chunk of a store keeps its header and its content
 abbrev pub leads_in : Option (List ℕ) → ℕ → ℕ × ℕ → Fml
@@ -226,13 +272,23 @@ abbrev pub pass_at : Name → ℕ → List Entry → List Entry → Fml
 pass_at n p seen own =
     fsep (key n passes p own)
     (fsep (reached entry_coded n.log seen)
-    (fsep (gate_gives n.gate seen) (fact (IsPrefix own seen × (mine (start n) p own ≡ mine (start n) p seen)))))
+    (fsep (gate_gives n.gate p seen) (fact (IsPrefix own seen × (mine (start n) p own ≡ mine (start n) p seen)))))
 
 abbrev pub pass_holds : Name → ℕ → List Entry → Fml
 pass_holds n p seen = fex (List Entry) (pass_at n p seen)
 
 abbrev pub pass_owns : Name → ℕ → List Entry → Fml
 pass_owns n p seen = fsep (knows n) (pass_holds n p seen)
+
+-- it keeps the key of the first pass, which nobody has meanwhile
+abbrev pub porter_at : Name → ℕ → List Entry → List Entry → Fml
+porter_at n out seen own =
+    fsep (key n passes 0 own)
+    (fsep (reached entry_coded n.log seen)
+    (fsep (gate_leaves n.gate out) (fact (IsPrefix own seen × (mine (start n) 0 own ≡ mine (start n) 0 seen)))))
+
+abbrev pub porter_owns : Name → ℕ → List Entry → Fml
+porter_owns n out seen = fsep (knows n) (fex (List Entry) (porter_at n out seen))
 
 abbrev pub rights_own : Name → List (Held Entry) → Fml
 rights_own n held = rights entry_coded (rows n) held
@@ -307,6 +363,6 @@ pub record Noted (n : Name) (p : ℕ) (seen seen' : List Entry) (e : Entry) : Ty
   pub does : Does (start n) before e (later, answer)
   pub leads : after (start n) seen' ≡ later
   pub made : mine (start n) p seen' ≡ mine (start n) p seen ++ (e, answer) ∷ []
-  pub alone : IsSole n.gate → before ≡ seen
+  pub alone : IsSole n.gate p → before ≡ seen
   pub lent : AllLentIn n later.named
   pub distinct : are_distinct (linked n.links) ≡ true

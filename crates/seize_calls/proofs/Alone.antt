@@ -30,7 +30,7 @@ all_append p (e ∷ a) b one two = (one.0, all_append p a b one.1 two)
 
 pub alone_twice : (one two three : Pass) → IsSame one two → AddsAlone one two → AddsAlone two three → AddsAlone one three
 alone_twice one two three same first second = λ sole.
-    let a = first sole in let b = second (subst (λ (n : Name). IsSole n.gate) (sym same.0) sole) in (
+    let a = first sole in let b = second (subst (λ (t : Name × ℕ). IsSole t.0.gate t.1) (λ j. (sym same.0 j, sym same.1 j)) sole) in (
       a.0 ++ b.0,
       b.1 ∙ ap (λ (log : List Entry). log ++ b.0) a.1 ∙ append_assoc one.seen a.0 b.0,
       all_append one.id a.0 b.0 a.2 (subst (λ (p : ℕ). AllBy p b.0) same.1 b.2),
@@ -66,7 +66,7 @@ their_deeds st [] = refl
 their_deeds st (Made d ∷ log) = ap (λ (ds : List Deed). d ∷ ds) (their_deeds (done_by next st (timed d)).0 log)
 their_deeds st (Used u ∷ log) = their_deeds st log
 
-pub made_alone : (pass pass' : Pass) (made : List (Deed × Answer)) → IsSame pass pass' → AddsAlone pass pass' → IsSole pass.name.gate → events_by pass' ≡ events_by pass ++ made
+pub made_alone : (pass pass' : Pass) (made : List (Deed × Answer)) → IsSame pass pass' → AddsAlone pass pass' → IsSole pass.name.gate pass.id → events_by pass' ≡ events_by pass ++ made
     → deeds pass'.seen ≡ deeds pass.seen ++ map (λ a. a.0) made
 made_alone pass pass' made same adds sole events = ap deeds more.1 ∙ deeds_append pass.seen more.0 ∙ ap (λ (ds : List Deed). deeds pass.seen ++ ds) (sym (their_deeds st more.0) ∙ ap (λ (log : List (Deed × Answer)). map (λ a. a.0) log) all)
   where

@@ -40,7 +40,7 @@ same_readings pass pass' same s n (found ∷ finds) = λ i. (same_private pass p
 
 -- A value was put to a batch that stays. Heads were read where the batch was full.
 module _ (key : SlotKey) (pass : Pass) (v kept : ℕ) (values : ValueKeys) (had : Had) (key' : SlotKey) (pass' : Pass) (values' : ValueKeys) (had' : Had)
-    (r : RetiresOne key pass v kept values had key' pass' values' had' false) (sole : IsSole pass.name.gate) where
+    (r : RetiresOne key pass v kept values had key' pass' values' had' false) (sole : IsSole pass.name.gate pass.id) where
   abbrev s : ℕ
   s = number_of key
 

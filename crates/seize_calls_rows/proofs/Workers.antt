@@ -1,5 +1,5 @@
 -- What a worker knows after each call of its slot.
-use Rattle.std.proofs.Common.{◌≡◌, ◌≢◌, ℕ, ◌+◌, ◌-◌, ◌<◌, ◌≤◌, Bool, true, false, ◌&&◌, not, List, [], ◌∷◌, ◌++◌, length, Option, None, Some, is_some, append-nil, refl, sym, ap, ◌∙◌, subst, arith}
+use Rattle.std.proofs.Common.{◌≡◌, ◌≢◌, ℕ, ◌+◌, ◌<◌, ◌≤◌, Bool, true, false, ◌&&◌, not, List, [], ◌∷◌, ◌++◌, length, Option, None, Some, is_some, append-nil, refl, sym, ap, ◌∙◌, subst, arith}
 use base.Growing.{prefix_trans}
 use mathlib.Core.List.{IsPrefix}
 use Rattle.seize_machine.proofs.Facts.{Step, and_true, next_of, some_is}
@@ -28,17 +28,16 @@ use Rattle.seize_calls.specs.Calls.{Flushes, Leaves, Rests, RetiresOne, Settles}
 use Rattle.seize_calls.specs.Handing.{Had}
 use Rattle.seize_calls.specs.declared.batch.Batch.{Batch}
 use Rattle.seize_calls.proofs.Batches.{remarked_labels}
-use Rattle.seize_words.specs.Chunks.{IsFoundAt}
-use Rattle.seize_words.specs.Joined.{IsHolder, IsInAt, OnLink, words_book}
+use Rattle.seize_words.specs.Joined.{IsHolder, IsInAt}
 use Rattle.seize_words.specs.Links.{IsWithin, value_in}
-use Rattle.seize_words.specs.LinkWords.{Sees}
+use Rattle.seize_words.specs.LinkWords.{Finds}
 use Rattle.seize_words.specs.Named.{slot_book}
 use Rattle.seize_words.specs.Reservations.{IsActivationOf, IsLastOf, beginning}
 use Rattle.seize_words.specs.Totals.{slots_seen}
 use Rattle.seize_words.specs.Walks.{Knows}
 use Rattle.seize_words.specs.declared.activation.Activation.{Activation}
-use Rattle.seize_words.specs.declared.glimpse.Glimpse.{Glimpse}
-use Rattle.seize_words.proofs.Facts.{glimpse_found, more_seen, more_slots, moved, seen_grows}
+use Rattle.seize_words.specs.declared.link.Link.{Link}
+use Rattle.seize_words.proofs.Facts.{more_seen, more_slots, moved, seen_grows}
 use Rattle.seize_calls_rows.specs.Workers.{GoesOn, MayWork, Shared, Stands, Works}
 use Rattle.seize_calls_rows.specs.declared.worker.Active.{Active}
 use Rattle.seize_calls_rows.specs.declared.worker.Worker.{Worker}
@@ -69,22 +68,10 @@ goes_twice one two three first last =
 pub goes_same : (one two three : Pass) → two ≡ one → GoesOn two three → GoesOn one three
 goes_same one two three same goes = subst (λ (p : Pass). GoesOn p three) same goes
 
--- what was found in a link can be seen
-pub found_there : (words : Shared) (l : ℕ) (a : Activation) (pass mid : Pass) (v : ℕ) (glimpse : Glimpse) → words_book words ≡ pass.name
-    → OnLink (words_book words) l (λ link. Sees link a pass mid v glimpse) → v ≢ 0 → (words_book words ≡ mid.name) × IsFoundAt glimpse.value (v - 1) mid
-found_there words l a pass mid v glimpse book sees some =
-    let store : is_some pass.name.store ≡ true = ap (λ (n : Name). is_some n.store) (sym book) ∙ ap is_some words.blocks.stands in
-    (book ∙ sym sees.2.0.same.0, glimpse_found sees.0 a pass mid v glimpse sees.2 store some)
-
--- a link was read, and the pass may have looked since
-pub goes_read : (words : Shared) (l : ℕ) (a : Activation) (pass mid : Pass) (v : ℕ) (glimpse : Glimpse)
-    → OnLink (words_book words) l (λ link. Sees link a pass mid v glimpse) → GoesOn pass mid
-goes_read words l a pass mid v glimpse sees = goes_noted pass mid _ sees.2.0.same sees.2.0.noted
-
-pub goes_seen : (words : Shared) (l : ℕ) (a : Activation) (pass mid pass' : Pass) (v : ℕ) (glimpse : Glimpse)
-    → OnLink (words_book words) l (λ link. Sees link a pass mid v glimpse) → LooksOn mid pass' → GoesOn pass pass'
-goes_seen words l a pass mid pass' v glimpse sees looks =
-    goes_twice pass mid pass' (goes_read words l a pass mid v glimpse sees) (goes_looked mid pass' looks)
+-- what a link holds was found
+pub goes_found : (link : Link) (a : Activation) (pass pass' : Pass) (v : ℕ) → Finds link a pass pass' v → GoesOn pass pass'
+goes_found link a pass pass' v found =
+    goes_twice pass found.mid pass' (goes_noted pass found.mid _ found.reads.same found.reads.noted) (goes_looked found.mid pass' found.looks)
 
 -- with a pass that has seen no less, an activation that has begun may step on the link
 in_still : (a : Activation) (pass pass' : Pass) (l : ℕ) → GoesOn pass pass' → IsInAt a pass l → IsInAt a pass' l

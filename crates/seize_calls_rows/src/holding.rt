@@ -1,12 +1,9 @@
 //! A reader that holds what it has found, while another thread retires that value and many more: each waits for the other by a sign.
-ghost use Rattle.std.specs.Prelude.{◌≡◌, ◌<◌};
-ghost use Rattle.seize_calls_rows.specs.Workers.{GoesOn, MayWork, Stands};
-ghost use Rattle.seize_words.specs.Joined.{IsInAt, words_book};
+ghost use Rattle.std.specs.Prelude.{◌<◌};
+ghost use Rattle.seize_calls_rows.specs.Workers.{MayWork, Stands};
 
 use crate::counting::Counting;
 use crate::worker::{Active, Worker};
-use seize_words::activation::Activation;
-use seize_words::book::Pass;
 use seize_words::words::Words;
 use std::sync::Wait;
 use std::sync::atomic::{AtomicU64, Ordering};
@@ -60,24 +57,9 @@ pub fn ended(marks: &[AtomicU64]) -> u64 {
     many
 }
 
-// Finds what the link holds, gives the sign, waits for the other's, and reads what it has found once more. Nothing comes where the link
-// holds nothing, or the other's sign never came.
-fn hold(
-    words: &Words<u64>,
-    link: usize,
-    activation: &Activation,
-    signs: &Signs,
-    marks: &[AtomicU64],
-    pass: &mut Pass,
-) -> Option<Held>
-    requires within { (words_book words.now ≡ pass.old.name) × IsInAt activation.now pass.old link }
-    ensures goes_on { GoesOn pass.old pass.new }
-{
-    let (word, glimpse) = words.read_link(link, activation, pass);
-    if word == 0 {
-        return None;
-    }
-    let value = words.blocks.see(word - 1, glimpse, pass);
+// Gives the sign that the value is found, waits for the other's, and reads the value once more. Nothing comes where the other's sign never
+// came.
+fn hold(value: &u64, signs: &Signs, marks: &[AtomicU64]) -> Option<Held> {
     let first = *value;
     set(&signs.found);
     if !wait_for(&signs.retired) {
@@ -91,7 +73,7 @@ fn hold(
 }
 
 impl Active {
-    /// Holds what the link has, until the other thread has retired all that it was to.
+    /// Finds what the link holds, and holds it until the other thread has retired all that it was to.
     pub fn hold(
         self,
         words: &Words<u64>,
@@ -111,7 +93,10 @@ impl Active {
             mut pass,
             activation,
         } = self;
-        let held = hold(words, link, &activation, signs, marks, &mut pass);
+        let held = match words.find(link, &activation, &mut pass).1 {
+            Some(value) => hold(value, signs, marks),
+            None => None,
+        };
         let active = Active {
             slot,
             size,

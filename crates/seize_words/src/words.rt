@@ -11,7 +11,9 @@ use crate::chunk::{Header, Part};
 use crate::glimpse::Glimpse;
 use crate::link::{Links, MaybeKey};
 use crate::slots::{NextSlot, Reservation, Slots};
-use seize_book::book::{Book, BookKeys, Keeps, NumbersKey, Pass, SlotKey, Unopened};
+use seize_book::book::{
+    Book, BookKeys, Keeps, NumbersKey, Pass, Porter, SlotKey, Unopened, ValueKeys,
+};
 use seize_store::Store;
 use seize_table::Refusal;
 use seize_table::thread_id::MAX_INDEX;
@@ -33,21 +35,25 @@ pub struct Words<T> {
 }
 
 impl<T: Drop> Words<T> {
-    ghost use Rattle.std.specs.Prelude.{ℕ, ◌<◌, ◌⊎◌, ◌↔◌, Err, IfErr, IfOk, IfSome, Some, false, is_some, true};
-    ghost use Rattle.seize_machine.specs.Machine.Event.{Enter, Insert, ReadHead, SwapOut};
+    ghost use Rattle.std.specs.Prelude.{ℕ, [], ◌<◌, ◌⊎◌, ◌↔◌, Err, IfErr, IfOk, IfSome, Some, false, is_some, true};
+    ghost use Rattle.seize_machine.specs.Machine.Event.{AddCount, Enter, Insert, ReadHead, SubCount, SwapOut};
     ghost use Rattle.seize_machine.specs.Machine.State.{is_idle};
     ghost use Rattle.seize_store.specs.Named.{name_of as store_name};
     ghost use Rattle.seize_table.specs.Named.{name_of};
     ghost use Rattle.seize_table.specs.declared.refusal.Refusal.TheVariants.{NoMemory, NoNumbers};
     ghost use Rattle.seize_book.specs.Books.{HasKeys, Opens, OpensAlone};
+    ghost use Rattle.seize_words.specs.Counts.{Counts, GivesUp, Leaves, Takes};
     ghost use Rattle.seize_words.specs.Heads.{found_end};
-    ghost use Rattle.seize_words.specs.Joined.{IsHolder, IsInAt, IsNewTo, IsStoreOf, MayReadAt, OnHead, OnLink, OpensWords, OpensWordsAlone, TriesAtSlot, words_book};
+    ghost use Rattle.seize_words.specs.Joined.{AddsWithAt, IsAddingAt, IsCountingAt, IsHolder, IsInAt, IsNewTo, IsStoreOf, MayReadAt, OnHead, OnLink, OpensWords, OpensWordsAlone, TriesAtSlot, words_book, OpensWordsInTurns};
+    ghost use Rattle.seize_book.specs.Turns.{OpensInTurns};
     ghost use Rattle.seize_words.specs.Chunks.{IsFoundAs};
     ghost use Rattle.seize_words.specs.LinkWords.{CompareExchanges, Finds, Sees, Swaps, held_before};
     ghost use Rattle.seize_words.specs.Reservations.{FoundBefore, IsActivationOf, IsLastOf, IsOut, Shows, WalksOn, beginning};
     ghost use Rattle.seize_words.specs.Reserved.{HasNext, IsSame, MakesNext};
     ghost use Rattle.seize_book.specs.Slots.{IsOf, Notes, NotesAs, active_of, number_of, slot_of};
     ghost use Rattle.seize_words.specs.Totals.{NumbersOf, slots_seen};
+    ghost use Rattle.seize_words.specs.Walks.{Knows};
+    ghost use Rattle.seize_book.specs.Values.{AreOfBook, IsEmpty};
 
     /// The words of a new book, to which many may append, with so many links, which are empty, and no slot; and what its slots are made
     /// with. A slot attempts its batch when that has `size` values, at least one. The table of heads has the buckets of the numbers from 0
@@ -96,6 +102,36 @@ impl<T: Drop> Words<T> {
         Ok((words, pass, numbers, next))
     }
 
+    /// The same of a book whose passes come from the porter, and go back to it.
+    ///
+    /// # Errors
+    ///
+    /// As `new`.
+    pub fn new_in_turns(
+        alloc: Global,
+        capacity: usize,
+        links: usize,
+        size: usize,
+    ) -> Result<(Words<T>, Porter, NumbersKey, NextSlot), Refusal>
+        ensures made { IfOk result (λ opened. OpensWordsInTurns opened.0 opened.1 opened.2 opened.3 links size) }
+        ensures refused { IfErr result (λ e. (e ≡ NoNumbers) ⊎ (e ≡ NoMemory)) }
+        ensures no_numbers { (result ≡ Err NoNumbers) ↔ (MAX_INDEX < capacity) }
+    {
+        let table = ThreadLocal::with_capacity(alloc, capacity)?;
+        let (unopened, family) = Unopened::new();
+        let store = Store::new(alloc, &family);
+        let (book, porter, keys) = Words::open_in_turns::<Brand>(
+            &store, &table, unopened, links, size,
+        );
+        match Words::of(alloc, store, table, book, keys, links) {
+            Ok((words, numbers, next)) => Ok((words, porter, numbers, next)),
+            Err(refusal) => {
+                porter.shut();
+                Err(refusal)
+            }
+        }
+    }
+
     // A book whose blocks lie in this store, and whose heads lie in this table.
     fn open<K: Keeps>(
         _store: &Store<Header, Part, T>,
@@ -124,6 +160,21 @@ impl<T: Drop> Words<T> {
         ensures family { result.0.name.family ≡ unopened.family }
     {
         unopened.open_alone::<K>(links, size)
+    }
+
+    // The same, with its porter.
+    fn open_in_turns<K: Keeps>(
+        _store: &Store<Header, Part, T>,
+        _table: &ThreadLocal<Reservation>,
+        unopened: Unopened,
+        links: usize,
+        size: usize,
+    ) -> (Book, Porter, BookKeys)
+        requires { (K.store ≡ Some (store_name _store.now)) × (K.table ≡ Some (name_of _table.now)) }
+        ensures book { OpensInTurns result.0 result.1 result.2 links size (Some (store_name _store.now)) (Some (name_of _table.now)) }
+        ensures family { result.0.name.family ≡ unopened.family }
+    {
+        unopened.open_in_turns::<K>(links, size)
     }
 
     // The words of a book that has just begun, whose blocks lie in this store, and whose heads lie in this table; and what its slots are
@@ -264,6 +315,53 @@ impl<T: Drop> Words<T> {
         ensures walks { (out : IsOut key.old true) → OnHead (words_book self.now) slot (λ head. WalksOn head key.new result out.0) }
     {
         self.slots.head(slot, pass).refresh(activation, key, pass)
+    }
+
+    /// Adds the insertions won to the count of the slot's batch, whose first value lies in the block with this number: the event `AddCount`.
+    /// It says whether the count is 0 then. See `Count::add`.
+    ///
+    /// It takes no memory and waits for nobody: a look-up, as `Blocks::header`, and one atomic addition.
+    pub fn add(
+        &self,
+        block: u64,
+        won: u64,
+        key: &mut SlotKey,
+        values: &mut ValueKeys,
+        pass: &mut Pass,
+    ) -> bool
+        requires book { IsOf key.old pass.old × (words_book self.now ≡ pass.old.name) × AreOfBook values.old pass.old }
+        requires knows { Knows key.old pass.old }
+        requires adds { AddsWithAt key.old block won values.old }
+        ensures counts { Counts key.old pass.old key.new pass.new (AddCount (number_of key.old)) result }
+        ensures gives { (adds : IsAddingAt key.old block won) → GivesUp key.old key.new adds.batch [] adds.queue result }
+        ensures keys { Leaves values.old pass.new values.new result }
+        ensures knows { Knows key.new pass.new }
+    {
+        let header = self.blocks.header(block, pass);
+        header.count.add(won, key, values, pass)
+    }
+
+    /// Counts down the batch that the slot's walk comes to, whose first value lies in the block with this number: the event `SubCount`. It
+    /// says whether the count is 0 then. See `Count::subtract`; `Blocks::count_down` finds the number too.
+    ///
+    /// It takes no memory and waits for nobody: a look-up, as `Blocks::header`, and one atomic subtraction.
+    pub fn subtract(
+        &self,
+        block: u64,
+        key: &mut SlotKey,
+        values: &mut ValueKeys,
+        pass: &mut Pass,
+    ) -> bool
+        requires book { IsOf key.old pass.old × (words_book self.now ≡ pass.old.name) × IsEmpty values.old pass.old }
+        requires knows { Knows key.old pass.old }
+        requires counts { IsCountingAt key.old block }
+        ensures counts { Counts key.old pass.old key.new pass.new (SubCount (number_of key.old)) result }
+        ensures gives { (at : IsCountingAt key.old block) → GivesUp key.old key.new at.batch at.walk at.queue result }
+        ensures keys { (at : IsCountingAt key.old block) → Takes key.old at.batch pass.new values.new result }
+        ensures knows { Knows key.new pass.new }
+    {
+        let header = self.blocks.header(block, pass);
+        header.count.subtract(key, values, pass)
     }
 
     /// Reads a link: the event `ReadLink`. It gives the link's word and a glimpse of what the link holds. See `Link::see`.

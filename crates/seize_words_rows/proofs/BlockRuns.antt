@@ -60,7 +60,7 @@ pub fresh_now : (n : Name) (key key' : SlotKey) (pass pass' : Pass) (v : ℕ) (s
 fresh_now n key key' pass pass' v stage notes sees none =
     let noted = notes.2.0 in let event = Begin (number_of key) (Retire v) in
     let now : after (start pass.name) noted.before ≡ stage.state =
-    ap (after (start pass.name)) (noted.alone (subst (λ (m : Name). IsSole m.gate) (sym sees.book) sees.alone)) ∙ (ap (λ (m : Name). after (start m) pass.seen) sees.book ∙ sees.leads.state) in
+    ap (after (start pass.name)) (noted.alone (subst (λ (m : Name). IsSole m.gate pass.id) (sym sees.book) sees.alone)) ∙ (ap (λ (m : Name). after (start m) pass.seen) sees.book ∙ sees.leads.state) in
     let does : next pass.name.size stage.state event ≡ Some (noted.later, noted.answer) = ap (λ (st : State). next pass.name.size st event) (sym now) ∙ noted.does in
     fresh_by pass.name.size stage.state (number_of key) v (noted.later, noted.answer) (step_of pass.name.size stage.state event (noted.later, noted.answer) does) (ap (has v) none)
 
@@ -276,9 +276,9 @@ word_rest (Some x) (p ∷ q ∷ ps) more are = absurd are.1
 -- a look of the slot's holder
 pub looked_leads : (n : Name) (key key' : SlotKey) (pass pass' : Pass) (s : ℕ) (stage known : Stage) → Looks key pass key' pass' → Sees n pass stage → Knows n key s known → Leads n pass' key' s stage
 looked_leads n key key' pass pass' s stage known looks sees knows =
-    let seen : pass'.seen ≡ pass.seen = looks.on.alone (subst (λ (m : Name). IsSole m.gate) (sym sees.book) sees.alone) in
+    let seen : pass'.seen ≡ pass.seen = looks.on.alone (subst (λ (m : Name). IsSole m.gate pass.id) (sym sees.book) sees.alone) in
     let now : IsAt n pass'.seen stage = subst (λ (log : List Entry). IsAt n log stage) (sym seen) sees.leads in (
-      record { book = looks.on.same.0 ∙ sees.book; alone = sees.alone; leads = now },
+      record { book = looks.on.same.0 ∙ sees.book; alone = subst (IsSole n.gate) (sym looks.on.same.1) sees.alone; leads = now },
       record { book = looks.seen_by.0 ∙ knows.book; number = looks.seen_by.1 ∙ knows.number; leads = subst (λ (log : List Entry). IsAt n log stage) (sym looks.seen_by.2) now },
     )
 

@@ -68,7 +68,7 @@ module _ (n : Name) (link : Link) (a : Activation) (pass pass' : Pass) (event : 
   -- what the link held
   pub held_at : held_before t ≡ link_at from.state k
   held_at =
-      let before = sym t.is_before ∙ t.noted.alone (subst (λ (m : Name). IsSole m.gate) (sym sees.book) sees.alone) in
+      let before = sym t.is_before ∙ t.noted.alone (subst (λ (m : Name). IsSole m.gate pass.id) (sym sees.book) sees.alone) in
       ap (λ log. link_at (after (start pass.name) log) (number link)) before
       ∙ (ap (λ (m : Name). link_at (after (start m) pass.seen) (number link)) sees.book
       ∙ (ap (λ (j : ℕ). link_at (after (start n) pass.seen) j) is ∙ ap (λ (st : State). link_at st k) sees.leads.state))

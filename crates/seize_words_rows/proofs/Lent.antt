@@ -43,7 +43,7 @@ module _ (n : Name) (link : Link) (a : Activation) (pass pass' : Pass) (event : 
   -- what the link held
   pub held_is : (stage : Stage) → Sees n pass stage → held_before t ≡ link_at stage.state 0
   held_is stage sees =
-      let before = sym t.is_before ∙ t.noted.alone (subst (λ (m : Name). IsSole m.gate) (sym sees.book) sees.alone) in
+      let before = sym t.is_before ∙ t.noted.alone (subst (λ (m : Name). IsSole m.gate pass.id) (sym sees.book) sees.alone) in
       ap (λ log. link_at (after (start pass.name) log) (number link)) before
       ∙ (ap (λ (m : Name). link_at (after (start m) pass.seen) (number link)) sees.book
       ∙ (ap (λ (k : ℕ). link_at (after (start n) pass.seen) k) first ∙ ap (λ (st : State). link_at st 0) sees.leads.state))

@@ -60,7 +60,7 @@ goes_on pass pass' e from to answer same noted size sees goes =
     ∙ goes.planned in
     record {
       book = same.0;
-      alone = sees.alone;
+      alone = subst (IsSole n.gate) (sym same.1) sees.alone;
       leads = record { size = sees.leads.size ∙ goes.size; state = noted.leads ∙ ap (λ (d : State × Answer). d.0) same_end; planned = planned };
     }
 
@@ -95,7 +95,7 @@ uses_field n key key' pass pass' s f v now known uses sees knows =
       state = ap (after (start n)) appended ∙ after_used (start n) pass.seen u ∙ sees.leads.state;
       planned = ap (plans (start n)) appended ∙ plans_used (start n) pass.seen u ∙ sees.leads.planned;
     } in (
-      record { book = uses.same.0 ∙ sees.book; alone = sees.alone; leads = leads },
+      record { book = uses.same.0 ∙ sees.book; alone = subst (IsSole n.gate) (sym uses.same.1) sees.alone; leads = leads },
       record {
         book = uses.seen_by.0 ∙ knows.book;
         number = uses.seen_by.1 ∙ knows.number;
@@ -112,8 +112,8 @@ uses_both n key key' pass pass' s f g v w now known uses sees knows =
 -- A look leaves all that is known.
 pub looks_on : (n : Name) (key key' : SlotKey) (pass pass' : Pass) (s : ℕ) (now : Stage) → LooksOn pass pass' → IsStill key key' → Sees n pass now → Knows n key s now → Leads n pass' key' s now
 looks_on n key key' pass pass' s now looks still sees knows =
-    let same : pass'.seen ≡ pass.seen = looks.alone (subst (λ (m : Name). IsSole m.gate) (sym sees.book) sees.alone) in (
-      record { book = looks.same.0 ∙ sees.book; alone = sees.alone; leads = subst (λ (log : List Entry). IsAt n log now) (sym same) sees.leads },
+    let same : pass'.seen ≡ pass.seen = looks.alone (subst (λ (m : Name). IsSole m.gate pass.id) (sym sees.book) sees.alone) in (
+      record { book = looks.same.0 ∙ sees.book; alone = subst (IsSole n.gate) (sym looks.same.1) sees.alone; leads = subst (λ (log : List Entry). IsAt n log now) (sym same) sees.leads },
       record {
         book = ap (λ (k : Keys). k.name) still ∙ knows.book;
         number = ap (λ (k : Keys). key_of k.held) still ∙ knows.number;
@@ -124,8 +124,8 @@ looks_on n key key' pass pass' s now looks still sees knows =
 -- and a pass alone
 pub sees_on : (n : Name) (pass pass' : Pass) (stage : Stage) → LooksOn pass pass' → Sees n pass stage → Sees n pass' stage
 sees_on n pass pass' stage looks sees =
-    let seen : pass'.seen ≡ pass.seen = looks.alone (subst (λ (m : Name). IsSole m.gate) (sym sees.book) sees.alone) in
-    record { book = looks.same.0 ∙ sees.book; alone = sees.alone; leads = subst (λ (log : List Entry). IsAt n log stage) (sym seen) sees.leads }
+    let seen : pass'.seen ≡ pass.seen = looks.alone (subst (λ (m : Name). IsSole m.gate pass.id) (sym sees.book) sees.alone) in
+    record { book = looks.same.0 ∙ sees.book; alone = subst (IsSole n.gate) (sym looks.same.1) sees.alone; leads = subst (λ (log : List Entry). IsAt n log stage) (sym seen) sees.leads }
 
 -- The slot's record, as its key knows it.
 

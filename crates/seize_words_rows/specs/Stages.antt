@@ -32,7 +32,7 @@ pub record IsAt (n : Name) (log : List Entry) (stage : Stage) : Type 0 where
 
 pub record Sees (n : Name) (pass : Pass) (stage : Stage) : Type 0 where
   pub book : pass.name ≡ n
-  pub alone : IsSole n.gate
+  pub alone : IsSole n.gate pass.id
   pub leads : IsAt n pass.seen stage
 
 pub record Knows (n : Name) (key : SlotKey) (s : ℕ) (stage : Stage) : Type 0 where

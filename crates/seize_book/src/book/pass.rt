@@ -1,10 +1,11 @@
-//! Passes. It uses nothing of the other modules; the keys beside it add entries with a pass.
+//! Passes. The keys beside it add entries with a pass; `porter` gives passes out and takes them back.
 ghost use Rattle.std.specs.Prelude.{◌≡◌, ℕ, List, Some, is_some, true};
 ghost use base.Stored.{coded_list};
 ghost use Rattle.seize_book.specs.Entry.{Entry, entry_coded};
 ghost use Rattle.seize_store.specs.Named.{IsRowOf};
 ghost use Rattle.seize_book.specs.Tokens.{Name, name_coded, pass_owns};
 
+use crate::book::porter::Porter;
 use crate::book::token::Book;
 use seize_store::Known;
 use seize_table::tls::AllFilled;
@@ -29,6 +30,7 @@ impl Pass {
     ghost use Rattle.seize_book.specs.Homesteads.{AreAt, HasNumber, state_seen};
     ghost use Rattle.seize_book.specs.Passes.{LooksOn, Meets};
     ghost use Rattle.seize_book.specs.Tables.{AreSlotsOf};
+    ghost use Rattle.seize_book.specs.Turns.{HasTurn, OpensAgain, TakesBack};
 
     /// Two passes of one book tell each other what they have seen: afterwards both have seen the longer of their two beginnings. No event
     /// is made with either.
@@ -85,6 +87,25 @@ impl Pass {
         requires { self.old.name.store ≡ Some known.now.store }
         ensures { LooksOn self.old self.new × AreAt self.new.name known.now (state_seen self.new) }
     {}
+
+    // It is laid back to the porter that gave it out.
+    pub(super) fn lay_back(self, porter: &mut Porter)
+        requires { self.name ≡ porter.old.name }
+        ensures { TakesBack porter.old self porter.new }
+    {
+        let Self { marker: _ } = self;
+    }
+
+    // The gate is opened again, to which it was alone.
+    pub(super) fn open_again(self) -> Porter
+        requires { HasTurn self }
+        ensures { OpensAgain self result }
+    {
+        let Self { marker: _ } = self;
+        Porter {
+            marker: PhantomData,
+        }
+    }
 }
 
 impl Drop for Pass {

@@ -14,6 +14,7 @@ use crate::book::count_key::CountKey;
 use crate::book::field_key::FieldKey;
 use crate::book::keys::Keys;
 use crate::book::pass::Pass;
+use crate::book::porter::Porter;
 use crate::book::rights::Rights;
 use crate::book::unopened::Unopened;
 use seize_content::{CellToken, TokenCell};
@@ -56,6 +57,7 @@ impl Book {
     ghost use Rattle.seize_book.specs.Homes.{home_of};
     ghost use Rattle.seize_book.specs.Lending.{IsFreeKey};
     ghost use Rattle.seize_book.specs.Others.{value_of};
+    ghost use Rattle.seize_book.specs.Turns.{IsFirstTurn, OpensInTurns};
 
     /// A new book, of which any number of passes may be made, and its keys. It has no slot yet, and its links are empty. A slot attempts
     /// its batch when that has `size` values, at least one. `K` says which store keeps the blocks, and which table the heads: for `Brand`,
@@ -73,6 +75,14 @@ impl Book {
     {
         let (unopened, _) = Unopened::new();
         unopened.open_alone::<K>(links, size)
+    }
+
+    /// A new book as `open` makes one, but that its passes come from the porter, and go back to it.
+    pub fn open_in_turns<K: Keeps>(links: usize, size: usize) -> (Book, Porter, BookKeys)
+        ensures { OpensInTurns result.0 result.1 result.2 links size K.store K.table }
+    {
+        let (unopened, _) = Unopened::new();
+        unopened.open_in_turns::<K>(links, size)
     }
 
     // A new book with all its keys, in the order of `first_keys`.
@@ -95,6 +105,27 @@ impl Book {
         size: usize,
     ) -> (Book, Pass, Keys)
         ensures { IsAlone result.0 result.1 × Begins result.0 result.2 links size K.store K.table
+            × (result.0.name.family ≡ unopened.family) }
+    {
+        let Unopened { marker: _ } = unopened;
+        let book = Book {
+            marker: PhantomData,
+        };
+        let pass = Pass {
+            marker: PhantomData,
+        };
+        let keys = Keys {
+            marker: PhantomData,
+        };
+        (book, pass, keys)
+    }
+
+    pub(crate) fn open_shut<K: Keeps>(
+        unopened: Unopened,
+        links: usize,
+        size: usize,
+    ) -> (Book, Pass, Keys)
+        ensures { IsFirstTurn result.0 result.1 × Begins result.0 result.2 links size K.store K.table
             × (result.0.name.family ≡ unopened.family) }
     {
         let Unopened { marker: _ } = unopened;

@@ -4,6 +4,7 @@ ghost use Rattle.seize_book.specs.Tokens.{uncalled};
 
 use crate::book::book_keys::BookKeys;
 use crate::book::pass::Pass;
+use crate::book::porter::Porter;
 use crate::book::token::{Book, Keeps};
 use seize_store::Family;
 use std::marker::{Model, PhantomData};
@@ -23,6 +24,7 @@ impl Model for Unopened {
 
 impl Unopened {
     ghost use Rattle.seize_book.specs.Books.{Opens, OpensAlone};
+    ghost use Rattle.seize_book.specs.Turns.{OpensInTurns};
 
     /// One of a new family, and that family.
     pub fn new() -> (Unopened, Family)
@@ -51,6 +53,14 @@ impl Unopened {
     {
         let (book, pass, keys) = Book::open_sole::<K>(self, links, size);
         (book, pass, BookKeys::apart(keys))
+    }
+
+    /// The book begins, as one of `Book::open_in_turns`.
+    pub fn open_in_turns<K: Keeps>(self, links: usize, size: usize) -> (Book, Porter, BookKeys)
+        ensures { OpensInTurns result.0 result.1 result.2 links size K.store K.table × (result.0.name.family ≡ self.family) }
+    {
+        let (book, pass, keys) = Book::open_shut::<K>(self, links, size);
+        (book, Porter::again(pass), BookKeys::apart(keys))
     }
 }
 

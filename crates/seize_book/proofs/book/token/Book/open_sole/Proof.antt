@@ -6,7 +6,7 @@ use mir.MapTy.{inst_fn}
 use denote.Param.{bounded}
 use denote.Builtin.{usize}
 use denote.Struct.Tuple.{Tuple}
-use Rattle.seize_book.specs.Tokens.{Name, IsSole, keys_own, pass_holds}
+use Rattle.seize_book.specs.Tokens.{Name, Gate, IsSole, keys_own, pass_holds}
 use Rattle.seize_book.specs.Begin.{BeganWith, book_owns, first_keys}
 use Rattle.seize_book.specs.contracts.book.keys.Keys as Keys
 use Rattle.seize_book.specs.contracts.book.pass.Pass as Pass
@@ -35,8 +35,8 @@ open_sole_spec 𝓤 𝓛 𝓜 𝓡 wired P LP g d _ =
     -- [its marker; what it owns; the numbers; the tokens; what was asked]
     keep ! (1 ∷ 3 ∷ []) $
     enter ! 𝓣.C 𝓣.Λ fn (token ∷ vint w64 links ∷ vint w64 size ∷ []) Post $ alloc_all ! (λ l. pass_all ! refl ((tt, (tt, tt)), ((tt, record { fits = are.1.0.1 }), ((tt, record { fits = are.1.1.0.1 }), tt))) $
-    use1 𝓛 (later (some (λ (m : Name). given (IsSole m.gate × (m.family ≡ family) × BeganWith m links size store table) (‵ (book_owns m []) ⊛ ‵ (pass_holds m 0 []) ⊛ ‵ (keys_own m (first_keys links))))))
-    (begins 𝓛 links size store table IsSole (sole_opens 𝓛) family) $ await ! tt $ pick ! (λ m. learn ! (λ so. split3 ! $
+    use1 𝓛 (later (some (λ (m : Name). given (IsSole m.gate 0 × (m.family ≡ family) × BeganWith m links size store table) (‵ (book_owns m []) ⊛ ‵ (pass_holds m 0 []) ⊛ ‵ (keys_own m (first_keys links))))))
+    (begins 𝓛 links size store table (λ (g : Gate). IsSole g 0) (sole_opens 𝓛) family) $ await ! tt $ pick ! (λ m. learn ! (λ so. split3 ! $
     -- [what the book owns; the pass; what the keys own]
     let b : Book.the_row.Denot = record { marker = record {}; name = m; seen = [] } in let k : Keys.the_row.Denot = record { marker = record {}; name = m; held = first_keys links } in
     let p : Pass.the_row.Denot = record { marker = record {}; name = m; id = 0; seen = [] } in

@@ -1,0 +1,66 @@
+//! Porters: who has a book's porter gives passes out, takes them back, and is alone when all are back. It uses passes beside it.
+ghost use Rattle.std.specs.Prelude.{◌≡◌, ℕ, List};
+ghost use base.Stored.{coded_list};
+ghost use Rattle.seize_book.specs.Entry.{Entry, entry_coded};
+ghost use Rattle.seize_book.specs.Tokens.{Name, name_coded, porter_owns};
+
+use crate::book::pass::Pass;
+use std::marker::{Model, PhantomData};
+
+/// What passes of a book come from whose gate is `turns`. There is one, and it can't be forgotten: it is spent by [`Porter::shut`].
+pub struct Porter {
+    pub(super) marker: PhantomData<()>,
+    /// The book.
+    pub ghost name: { Name } by { name_coded },
+    /// The beginning of the list that it has seen.
+    pub ghost seen: { List Entry } by { coded_list entry_coded },
+    /// How many passes are out.
+    pub ghost out: { ℕ },
+}
+
+impl Model for Porter {
+    ghost also_owns = { λ p. porter_owns p.name p.out p.seen };
+}
+
+impl Porter {
+    ghost use Rattle.seize_book.specs.Turns.{GivesOut, HasTurn, OpensAgain, Shuts, TakesBack};
+
+    /// A new pass, which has seen what the porter has. It is out until it is laid back.
+    pub fn pass(&mut self) -> Pass
+        ensures { GivesOut self.old self.new result }
+    {
+        Pass {
+            marker: PhantomData,
+        }
+    }
+
+    /// Takes a pass back that this porter gave out, and learns what it has seen.
+    pub fn lay(&mut self, pass: Pass)
+        requires { pass.name ≡ self.old.name }
+        ensures { TakesBack self.old pass self.new }
+    {
+        pass.lay_back(self);
+    }
+
+    /// Shuts the gate, where no pass is out: nobody else can add to the list until it is opened again. The first pass of the book has seen
+    /// the whole list then, and what is added with it is all that is added.
+    pub fn shut(self) -> Pass
+        requires { self.out ≡ 0 }
+        ensures { Shuts self result }
+    {
+        let Self { marker: _ } = self;
+        Pass {
+            marker: PhantomData,
+        }
+    }
+
+    /// Opens the gate again, to which the first pass was alone.
+    pub fn again(pass: Pass) -> Porter
+        requires { HasTurn pass }
+        ensures { OpensAgain pass result }
+    {
+        pass.open_again()
+    }
+}
+
+unsafe impl Send for Porter {}
