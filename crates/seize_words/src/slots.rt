@@ -199,6 +199,8 @@ impl Slots {
     }
 
     /// How many slots there are, as the word says, and what shows where their heads lie. The pass looks at the list.
+    ///
+    /// It takes no memory and waits for nobody: one atomic load.
     pub fn load(&self, pass: &mut Pass) -> (usize, AllFilled)
         requires book { slots_book self.now ≡ pass.old.name }
         ensures looks { LooksOn pass.old pass.new }

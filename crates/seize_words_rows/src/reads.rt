@@ -1,4 +1,5 @@
 //! A link is read with two passes, as a thread may that has both. Each read is an event that is made with its own pass.
+ghost use Rattle.std.specs.Prelude.{◌≡◌};
 ghost use Rattle.seize_machine.specs.Machine.Event.{ReadLink};
 ghost use Rattle.seize_words.specs.LinkWords.{IsIn, Reads, number};
 ghost use Rattle.seize_words_rows.specs.Calls.{HasMadeOne};
@@ -23,4 +24,14 @@ pub fn read_with_each(
     let first = link.read(activation, one);
     let second = link.read(activation, two);
     (first, second)
+}
+
+/// The passes meet, and then the link is read with the second one, which need not have seen that the activation began.
+pub fn meet_and_read(link: &Link, activation: &Activation, one: &mut Pass, two: &mut Pass) -> u64
+    requires within { IsIn link.now activation.now one.old }
+    requires book { two.old.name ≡ one.old.name }
+    ensures made { HasMadeOne two.old two.new (ReadLink activation.now.slot (number link.now)) }
+{
+    two.meet(one);
+    link.read(activation, two)
 }

@@ -1,13 +1,14 @@
 //! Books, passes and keys in hand, the worked run, and threads that step on words.
-ghost use Rattle.seize_words_rows.specs.Exchanges.{MayShare, MaySwap};
+ghost use Rattle.seize_words_rows.specs.Exchanges.{IsLinkOf, MayShare, MaySwap};
 ghost use Rattle.seize_words_rows.specs.Flushers.{MayFlush, MayGrow, grown};
+ghost use Rattle.seize_words_rows.specs.Making.{CanMake, TakesPart};
 ghost use Rattle.seize_words_rows.specs.Visits.{MayVisit};
 ghost use Rattle.std.specs.Prelude.{◌≡◌};
 
 use crate::exchanges::{EACH, Swapper, TURNS, read_many, share_many};
 use crate::leaving::{Visitor, leave_head};
-use crate::making::open;
-use crate::reads::read_with_each;
+use crate::making::{Maker, open};
+use crate::reads::{meet_and_read, read_with_each};
 use crate::row::{open_row, read_row, visit_many};
 use crate::walking::block_at;
 use crate::{block_run, flushing, further, linked, noted_run, second_value, spotted, worked_run};
@@ -35,17 +36,26 @@ mod joined;
 // How many slots a thread makes: the last of them lie in the table's third bucket.
 const MADE: u64 = 100;
 
-// Two passes meet, go to threads, come back and meet again.
+// Two passes go to threads. On one of these a slot is made and enters, of which the other pass has seen nothing. They come back and meet,
+// and then the link is read with the other pass in that slot's activation.
 #[test]
 fn passes_go_to_threads_and_meet(rt: HostRuntime) {
-    let (book, maker, links) = open(2);
-    let copy = book.again();
-    let (mut one, mut two) = (book.pass(), copy.pass());
-    one.meet(&mut two);
-    let (one, two) = thread::join(&rt, move || one, move || two);
+    let (book, maker, mut links) = open(1);
+    let link = Link::next(&mut links);
+    let other = book.again().pass();
+    let (shared, words) = (&book, &link);
+    let ((one, maker), two) = thread::join(
+        &rt,
+        move || -> (Swapper, Maker)
+            requires { TakesPart shared.now maker × IsLinkOf words.now shared.now × CanMake maker }
+            ensures { MaySwap words.entry.now result.0 }
+        { Swapper::enter(shared, maker, words) },
+        move || other,
+    );
     let (mut one, mut two) = (one, two);
-    two.meet(&mut one);
-    drop((maker, links, one, two));
+    let word = meet_and_read(&link, &one.activation, &mut one.pass, &mut two);
+    assert_eq!(rt; word, 0);
+    drop((links, maker, one, two));
 }
 
 #[test]
@@ -85,9 +95,9 @@ fn words_have_eight_bytes(rt: HostRuntime) {
     assert_eq!(rt; size_of::<Reservation>(), 64 + 8 + 64);
 }
 
-// A chunk's header is its block's three words.
+// A chunk's header is its block's three words, and what is noted of the block, as long as these.
 #[test]
-fn a_header_has_three_words(rt: HostRuntime) {
+fn a_header_has_three_words_and_a_note(rt: HostRuntime) {
     assert_eq!(rt; size_of::<Header>(), 48);
 }
 
