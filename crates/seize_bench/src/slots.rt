@@ -301,7 +301,8 @@ fn four<R: Clock + CpuClock + Threads + Wait + Sync>(
     job: Job,
 ) -> io::Result<(Span, (Worker, Worker), (Worker, Worker), u64)>
     requires may { MayWork words.now first.0 × MayWork words.now first.1 × MayWork words.now last.0 × MayWork words.now last.1 }
-    ensures may { IfOk result (λ done. MayWork words.now done.1.0 × MayWork words.now done.1.1 × MayWork words.now done.2.0 × MayWork words.now done.2.1) }
+    ensures may { IfOk result (λ done. MayWork words.now done.1.0 × MayWork words.now done.1.1
+        × MayWork words.now done.2.0 × MayWork words.now done.2.1) }
 {
     let (a, b) = first;
     let (c, d) = last;

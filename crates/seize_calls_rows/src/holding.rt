@@ -127,8 +127,8 @@ impl Worker {
         Some((held?, ended(marks)))
     }
 
-    /// Waits for the reader's sign, then makes so many turns on link 0, with the values from 1 on, and gives its own sign. It gives how many
-    /// values its reclaimer had. Nothing comes where memory was refused, or the reader's sign never came.
+    /// Waits for the reader's sign, then makes so many turns on link 0, with the values from 1 on, and gives its own sign. It gives how
+    /// many values its reclaimer had. Nothing comes where memory was refused, or the reader's sign never came.
     pub fn retire_beside(
         self,
         words: &Words<u64>,

@@ -35,8 +35,8 @@ impl Count {
         }
     }
 
-    /// What the word shows in the list that the pass has seen then: modulo 2^64, the count of the batch whose first value lies in the block.
-    /// It is no event, and nothing is added to the list.
+    /// What the word shows in the list that the pass has seen then: modulo 2^64, the count of the batch whose first value lies in the
+    /// block. It is no event, and nothing is added to the list.
     ///
     /// It takes no memory and waits for nobody: one atomic load.
     pub fn load(&self, pass: &mut Pass) -> u64

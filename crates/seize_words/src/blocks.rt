@@ -134,7 +134,8 @@ impl<T: Drop> Blocks<T> {
         ensures made { IfOk result (λ made. IsBlockIn self.now value made.0 made.1) }
         ensures refused { IfErr result (λ refused. (refused.0 ≡ NoMemory) × (refused.1 ≡ value) × is_empty_list spots.old) }
         ensures spots { AreSpotsIn self.now spots.new }
-        ensures last { IfOk result (λ made. is_empty_list spots.old ⊎ (titles_of spots.old ≡ titles_of spots.new ++ bare_title made.1 ∷ [])) }
+        ensures last { IfOk result (λ made.
+            is_empty_list spots.old ⊎ (titles_of spots.old ≡ titles_of spots.new ++ bare_title made.1 ∷ [])) }
     {
         let block = self.store.add_from(spots, value, &self.book)?;
         Ok(self.take_key(block, pass))

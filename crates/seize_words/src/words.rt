@@ -317,8 +317,8 @@ impl<T: Drop> Words<T> {
         self.slots.head(slot, pass).refresh(activation, key, pass)
     }
 
-    /// Adds the insertions won to the count of the slot's batch, whose first value lies in the block with this number: the event `AddCount`.
-    /// It says whether the count is 0 then. See `Count::add`.
+    /// Adds the insertions won to the count of the slot's batch, whose first value lies in the block with this number: the event
+    /// `AddCount`. It says whether the count is 0 then. See `Count::add`.
     ///
     /// It takes no memory and waits for nobody: a look-up, as `Blocks::header`, and one atomic addition.
     pub fn add(

@@ -75,8 +75,8 @@ pub fn enter(words: &Words<u64>, reader: &mut SlotKey, pass: &mut Pass) -> Activ
     words.enter_head(0, reader, pass)
 }
 
-/// The other slot retires the value from a block of the store, which is lent. Its batch is full with that, so its call is to read the heads.
-/// Nothing comes where a growth of the store was refused.
+/// The other slot retires the value from a block of the store, which is lent. Its batch is full with that, so its call is to read the
+/// heads. Nothing comes where a growth of the store was refused.
 pub fn retire(
     words: &Words<u64>,
     value: u64,
@@ -129,8 +129,8 @@ pub fn detach(words: &Words<u64>, retired: &Retired, retirer: &mut SlotKey, pass
     words.read_head(0, retirer, pass)
 }
 
-/// It stores in the block's fields the word that it saw, and the block's number, and inserts the batch with the block. It gives the word that
-/// it found, which is the one that it saw.
+/// It stores in the block's fields the word that it saw, and the block's number, and inserts the batch with the block. It gives the word
+/// that it found, which is the one that it saw.
 pub fn insert(words: &Words<u64>, retired: &Retired, retirer: &mut SlotKey, pass: &mut Pass) -> u64
     requires stands { StandsAt words.now retired.now pass.old looked retirer.old 1 looked }
     ensures found { result ≡ 1 }
@@ -165,16 +165,18 @@ pub fn count_down(
     retired: &Retired,
     reader: &mut SlotKey,
     pass: &mut Pass,
-) -> bool
+) -> (bool, u64)
     requires stands { StandsAt words.now retired.now pass.old left reader.old 0 left }
-    ensures zero { result ≡ false }
+    ensures zero { result.0 ≡ false }
     ensures stands { StandsAt words.now retired.now pass.new reader_over reader.new 0 reader_over }
 {
     reader.look(pass);
     let mut values = ValueKeys::new(pass);
     let zero = words.subtract(retired.lent.number, reader, &mut values, pass);
+    let header = words.blocks.header(retired.lent.number, pass);
+    let word = header.count.load(pass);
     reader.finish(pass);
-    zero
+    (zero, word)
 }
 
 /// The other slot adds its one insertion. The count is 0 with that, and the batch is given up, with the key of its value.

@@ -65,7 +65,8 @@ fn a_batch_is_counted_by_the_number_of_its_block(rt: HostRuntime) {
     assert_eq!(rt; (seen, found), (1, 1));
     let list = numbered_run::leave(&words, &retired, &mut reader, activation, &mut pass);
     assert_eq!(rt; list, retired.lent.number + 2);
-    assert!(rt; !numbered_run::count_down(&words, &retired, &mut reader, &mut pass));
+    let counted = numbered_run::count_down(&words, &retired, &mut reader, &mut pass);
+    assert_eq!(rt; counted, (false, u64::MAX));
     assert!(rt; numbered_run::count_up(&words, &mut retired, &mut retirer, &mut pass));
     let value = numbered_run::hand(&words, retired, &mut retirer, &mut pass);
     assert_eq!(rt; value, 70);
