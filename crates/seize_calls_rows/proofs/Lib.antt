@@ -1,1 +1,2 @@
+pub mod Readied
 pub mod Workers
