@@ -1,3 +1,4 @@
+pub mod Readied
 pub mod Workers
 pub mod Links
 pub mod Shut

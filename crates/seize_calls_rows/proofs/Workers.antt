@@ -193,6 +193,14 @@ module _ (words : Shared) (active : Active) (stands : Stands words active) (key'
         begun = λ l less. in_still active.activation active.pass pass' l goes (stands.begun l less);
       }
 
+-- A call has returned, of a slot that is not active.
+module _ (words : Shared) (w : Worker) (may : MayWork words w) (key' : SlotKey) (pass' : Pass) (batch' : Batch) (knows : Knows key' pass') (rests : Rests w.key w.pass key' pass' (keys_in batch')) (off : active_of key' ≡ active_of w.key) where
+  pub works_after : MayWork words (record { slot = w.slot; size = w.size; key = key'; batch = batch'; pass = pass' })
+  works_after = (
+    works_with words w.slot w.size w.batch batch' w.key key' w.pass pass' may.0 (goes_known key' w.pass pass' rests.same rests.grows knows) rests.its.0 rests.its.1 rests.batch.0 rests.batch.1,
+    (idle_of (slot_of key') (rests.used ∙ used_of (slot_of w.key) may.1.0) rests.call, off ∙ may.1.1),
+  )
+
 -- It leaves, or refreshes, after a look at the list.
 module _ (words : Shared) (slot size : ℕ) (batch : Batch) (key : SlotKey) (pass : Pass) (works : Works words slot size batch key pass) (idle : is_idle (slot_of key) ≡ true)
     (mid : Pass) (looks : LooksOn pass mid) (key' : SlotKey) (pass' : Pass) (batch' : Batch) (rests : Rests key mid key' pass' (keys_in batch')) (knows : Knows key' pass') where

@@ -1,2 +1,3 @@
+pub mod Putting
 pub mod Workers
 pub mod Turns

@@ -5,6 +5,7 @@
 
 pub mod counting;
 pub mod holding;
+pub mod putting;
 pub mod running;
 #[cfg(test)]
 mod tests;

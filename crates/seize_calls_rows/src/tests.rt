@@ -5,6 +5,7 @@ ghost use Rattle.seize_calls_rows.specs.Workers.{MayWork};
 mod holding;
 
 use crate::counting::Counting;
+use crate::putting::{Putting, make};
 use crate::running::Tally;
 use crate::turns::{open_in_turns, reclaim_all};
 use crate::worker::{LINKS, Worker, open};
@@ -119,6 +120,102 @@ fn a_short_batch_stays_while_more_slots_are_active(rt: HostRuntime) {
     assert_eq!(rt; (count, counting.count), (1, 1));
     assert_eq!(rt; (counting.last, counting.kept), (5, 70));
     drop((worker, other));
+}
+
+// How many values stand in a chain.
+const CHAIN: u64 = 10_000;
+
+// Each value of a chain is put by the reclaimer of the one before. A batch has one value, and no slot is active: all go in one call.
+#[test]
+fn a_chain_of_values_ends_in_one_call(rt: HostRuntime) {
+    let Ok(marks) = marks(rt.alloc(), CHAIN) else {
+        panic!(rt; "no memory");
+    };
+    let Some((words, source)) = open(rt.alloc(), 1) else {
+        panic!(rt; "no memory");
+    };
+    let Some((worker, _)) = source.make(&words) else {
+        panic!(rt; "no memory");
+    };
+    let mut putting = Putting::new(rt.alloc(), marks.as_slice(), false);
+    assert!(rt; putting.fill(&words, CHAIN - 1));
+    let Some(first) = make(&words, CHAIN - 1) else {
+        panic!(rt; "no memory");
+    };
+    let (worker, retired) = worker.retire(&words, first, 7, &mut putting, &rt);
+    assert!(rt; retired);
+    assert_eq!(rt; (worker.batch.len(), putting.ready.len()), (0, 0));
+    let counting = &putting.counting;
+    assert_eq!(rt;
+        (counting.count, counting.last, counting.kept),
+        (CHAIN, 0, 7 * CHAIN)
+    );
+    assert_eq!(rt; told(marks.as_slice()), (0, 0));
+}
+
+// Each reclaimer puts two values, as long as there are some, and a batch has three: all go in the call that fills the first batch, since no
+// slot is active.
+#[test]
+fn two_values_are_put_at_once(rt: HostRuntime) {
+    let Ok(marks) = marks(rt.alloc(), 21) else {
+        panic!(rt; "no memory");
+    };
+    let Some((words, source)) = open(rt.alloc(), 3) else {
+        panic!(rt; "no memory");
+    };
+    let Some((worker, _)) = source.make(&words) else {
+        panic!(rt; "no memory");
+    };
+    let mut putting = Putting::new(rt.alloc(), marks.as_slice(), true);
+    assert!(rt; putting.fill(&words, 18));
+    let (Some(a), Some(b), Some(c)) = (make(&words, 18), make(&words, 19), make(&words, 20)) else {
+        panic!(rt; "no memory");
+    };
+    let (worker, _) = worker.retire(&words, a, 5, &mut putting, &rt);
+    let (worker, retired) = worker.retire(&words, b, 5, &mut putting, &rt);
+    assert!(rt; !retired);
+    assert_eq!(rt; (worker.batch.len(), putting.counting.count), (2, 0));
+    let (worker, retired) = worker.retire(&words, c, 5, &mut putting, &rt);
+    assert!(rt; retired);
+    assert_eq!(rt; (worker.batch.len(), putting.ready.len()), (0, 0));
+    assert_eq!(rt;
+        (
+            putting.counting.count,
+            putting.counting.kept,
+            putting.counting.last
+        ),
+        (21, 105, 0)
+    );
+    assert_eq!(rt; told(marks.as_slice()), (0, 0));
+}
+
+// What waits for an active slot is handed when it leaves, and what the reclaimers put then joins the slot's batch: a value that fills it
+// goes at once, since the slot has left.
+#[test]
+fn what_is_put_in_a_leave_goes_in_it(rt: HostRuntime) {
+    let Ok(marks) = marks(rt.alloc(), 10) else {
+        panic!(rt; "no memory");
+    };
+    let Some((words, source)) = open(rt.alloc(), 1) else {
+        panic!(rt; "no memory");
+    };
+    let Some((worker, _)) = source.make(&words) else {
+        panic!(rt; "no memory");
+    };
+    let mut putting = Putting::new(rt.alloc(), marks.as_slice(), true);
+    assert!(rt; putting.fill(&words, 9));
+    let Some(first) = make(&words, 9) else {
+        panic!(rt; "no memory");
+    };
+    let (active, retired) = worker
+        .enter(&words)
+        .retire(&words, first, 1, &mut putting, &rt);
+    assert!(rt; retired);
+    assert_eq!(rt; putting.counting.count, 0);
+    let worker = active.leave(&words, &mut putting, &rt);
+    assert_eq!(rt; (worker.batch.len(), putting.ready.len()), (0, 0));
+    assert_eq!(rt; (putting.counting.count, putting.counting.sum), (10, 45));
+    assert_eq!(rt; told(marks.as_slice()), (0, 0));
 }
 
 // Two threads make turns.

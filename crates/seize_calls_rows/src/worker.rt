@@ -150,6 +150,46 @@ impl Worker {
     }
 }
 
+impl Worker {
+    /// Retires a value while the slot is not active. It says whether the batch was retired with it.
+    pub fn retire<R: Reclaim<u64>>(
+        self,
+        words: &Words<u64>,
+        out: Out,
+        kept: u64,
+        reclaimer: &mut R,
+        rt: &impl Wait,
+    ) -> (Worker, bool)
+        requires may { MayWork words.now self }
+        requires out { IsOut words.now out }
+        requires serves { R.serves reclaimer.old (words_book words.now) }
+        ensures may { MayWork words.now result.0 }
+        ensures serves { R.serves reclaimer.new (words_book words.now) }
+    {
+        let Worker {
+            slot,
+            size,
+            mut key,
+            mut batch,
+            mut pass,
+        } = self;
+        let Out { number, value } = out;
+        let (slots, blocks) = (&words.slots, &words.blocks);
+        let retired = calls::retire(
+            slots, blocks, &mut batch, size, number, kept, value, &mut key, reclaimer, &mut pass,
+            rt,
+        );
+        let worker = Worker {
+            slot,
+            size,
+            key,
+            batch,
+            pass,
+        };
+        (worker, retired)
+    }
+}
+
 impl Active {
     /// What the link holds, if it holds something.
     pub fn find(self, words: &Words<u64>, link: usize) -> (Active, Option<u64>)
