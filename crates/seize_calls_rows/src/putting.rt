@@ -47,9 +47,14 @@ impl<'a> Putting<'a> {
     ghost use Rattle.seize_calls.specs.Handing.{IsServed};
     ghost use Rattle.seize_words.specs.Chunks.{book_in};
 
-    /// It had none, and nothing is ready.
-    pub fn new(alloc: Global, marks: &'a [AtomicU64], twice: bool) -> Putting<'a>
-        ensures { (n : Name) → AreReady n (ready_in result) }
+    /// It had none, and has nothing of these words' book ready.
+    pub fn new(
+        alloc: Global,
+        _words: &Words<u64>,
+        marks: &'a [AtomicU64],
+        twice: bool,
+    ) -> Putting<'a>
+        ensures { AreReady (words_book _words.now) (ready_in result) }
     {
         Putting {
             counting: Counting::new(marks),

@@ -137,7 +137,7 @@ fn a_chain_of_values_ends_in_one_call(rt: HostRuntime) {
     let Some((worker, _)) = source.make(&words) else {
         panic!(rt; "no memory");
     };
-    let mut putting = Putting::new(rt.alloc(), marks.as_slice(), false);
+    let mut putting = Putting::new(rt.alloc(), &words, marks.as_slice(), false);
     assert!(rt; putting.fill(&words, CHAIN - 1));
     let Some(first) = make(&words, CHAIN - 1) else {
         panic!(rt; "no memory");
@@ -166,7 +166,7 @@ fn two_values_are_put_at_once(rt: HostRuntime) {
     let Some((worker, _)) = source.make(&words) else {
         panic!(rt; "no memory");
     };
-    let mut putting = Putting::new(rt.alloc(), marks.as_slice(), true);
+    let mut putting = Putting::new(rt.alloc(), &words, marks.as_slice(), true);
     assert!(rt; putting.fill(&words, 18));
     let (Some(a), Some(b), Some(c)) = (make(&words, 18), make(&words, 19), make(&words, 20)) else {
         panic!(rt; "no memory");
@@ -202,7 +202,7 @@ fn what_is_put_in_a_leave_goes_in_it(rt: HostRuntime) {
     let Some((worker, _)) = source.make(&words) else {
         panic!(rt; "no memory");
     };
-    let mut putting = Putting::new(rt.alloc(), marks.as_slice(), true);
+    let mut putting = Putting::new(rt.alloc(), &words, marks.as_slice(), true);
     assert!(rt; putting.fill(&words, 9));
     let Some(first) = make(&words, 9) else {
         panic!(rt; "no memory");
