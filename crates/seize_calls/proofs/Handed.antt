@@ -42,21 +42,21 @@ module _ (key key' : SlotKey) (pass looked handed pass' : Pass) (v : ℕ) (puts 
   abbrev event : Event
   event = Hand (number_of key) puts
 
-  so : ((slot_at (outcome key key' looked handed event notes).0 (number_of key)).batch ≡ (slot_at (state_before key key' looked handed event notes) (number_of key)).batch)
+  pub so : ((slot_at (outcome key key' looked handed event notes).0 (number_of key)).batch ≡ (slot_at (state_before key key' looked handed event notes) (number_of key)).batch)
       × ((slot_at (outcome key key' looked handed event notes).0 (number_of key)).used ≡ (slot_at (state_before key key' looked handed event notes) (number_of key)).used)
       × ((outcome key key' looked handed event notes).0.heads ≡ (state_before key key' looked handed event notes).heads) × ((outcome key key' looked handed event notes).1 ≡ Handed v)
   so =
       after_hand (size_of key) (state_before key key' looked handed event notes) (number_of key) v puts (outcome key key' looked handed event notes) (step_noted key key' looked handed event notes)
       (ap hands_next notes.2.1.was ∙ soon)
 
-  goes_on : GoesOn key pass key' pass'
+  pub goes_on : GoesOn key pass key' pass'
   goes_on = (
     keeps_twice key key key' pass looked pass' (keeps_looked key pass looked before)
         (keeps_twice key key' key' looked handed pass' (keeps_from key key' looked handed event notes so.0 so.1 (ap (λ (hs : List Head). is_active (get_or hs (number_of key) Inactive)) so.2) refl) (keeps_looked key' handed pass' behind)),
     own_grows key key' looked handed event notes,
   )
 
-  pub hands_so : (queue queue' : ValueKeys) → Queues queue puts queue' → HandsOne key pass v queue key' pass' queue'
+  abbrev pub hands_so : (queue queue' : ValueKeys) → Queues queue puts queue' → HandsOne key pass v queue key' pass' queue'
   hands_so queue queue' queued = record {
     goes_on = goes_on;
     puts = puts;
@@ -81,18 +81,18 @@ soon_lent value key pass pass' store its book knows looks soon =
 
 -- What was had of some values, and of more.
 
-theirs_append : (a b k l : List ℕ) (x y : Had) → AreTheirs a k x → AreTheirs b l y → AreTheirs (a ++ b) (k ++ l) (x ++ y)
+theirs_append : (a b : Handings) (k l : List ℕ) (x y : Had) → AreTheirs a k x → AreTheirs b l y → AreTheirs (a ++ b) (k ++ l) (x ++ y)
 theirs_append [] b [] l [] y one two = two
 theirs_append [] b [] l (first ∷ x) y one two = absurd one
 theirs_append [] b (kept ∷ k) l x y one two = absurd one
-theirs_append (v ∷ a) b [] l x y one two = absurd one
-theirs_append (v ∷ a) b (kept ∷ k) l [] y one two = absurd one
-theirs_append (v ∷ a) b (kept ∷ k) l (first ∷ x) y one two = (one.0, theirs_append a b k l x y one.1 two)
+theirs_append (h ∷ a) b [] l x y one two = absurd one
+theirs_append (h ∷ a) b (kept ∷ k) l [] y one two = absurd one
+theirs_append (h ∷ a) b (kept ∷ k) l (first ∷ x) y one two = (one.0, theirs_append a b k l x y one.1 two)
 
 abbrev pub had_none : (had : Had) → HasHad [] [] had had
 had_none had = record { more = []; theirs = tt; after = sym (append-nil had) }
 
-pub had_more : (a b k l : List ℕ) (had had1 had2 : Had) → HasHad a k had had1 → HasHad b l had1 had2 → HasHad (a ++ b) (k ++ l) had had2
+pub had_more : (a b : Handings) (k l : List ℕ) (had had1 had2 : Had) → HasHad a k had had1 → HasHad b l had1 had2 → HasHad (a ++ b) (k ++ l) had had2
 had_more a b k l had had1 had2 one two = record {
   more = one.more ++ two.more;
   theirs = theirs_append a b k l one.more two.more one.theirs two.theirs;

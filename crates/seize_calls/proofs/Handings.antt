@@ -78,7 +78,7 @@ pub record IsHanding {key : SlotKey} {pass : Pass} {values : ValueKeys} {front :
   pub first : ℕ
   pub is_first : first_of (values_of values') ≡ Some first
   pub its_block : number ≡ block_of first
-  pub theirs : HasHad (labels_of done) (kepts done) had had'
+  pub theirs : HasHad handed (kepts done) had had'
 
 abbrev pub none_handed : (key : SlotKey) (pass : Pass) (values : ValueKeys) (front : ℕ) (given : IsGiven key pass values front) (queue : ValueKeys) (had : Had) → IsHanding given queue had key pass values queue front had
 none_handed key pass values front given queue had = record {
@@ -132,7 +132,7 @@ module _ (key0 : SlotKey) (pass0 : Pass) (values0 : ValueKeys) (front : ℕ) (gi
     pub is_there : block_of (value_of value) ≡ number
     is_there = ap block_of (some_is _ _ (sym (ap first_of nexts.2) ∙ r.is_first)) ∙ sym r.its_block
 
-    module _ (store : is_some pass0.name.store ≡ true) (key' : SlotKey) (pass' : Pass) (queue' : ValueKeys) (had' : Had) (hand : HandsOne key pass (value_of value) queue key' pass' queue') (more : HasHad (value_of value ∷ []) (kept_noted (noted_in value) ∷ []) had had') where
+    module _ (store : is_some pass0.name.store ≡ true) (key' : SlotKey) (pass' : Pass) (queue' : ValueKeys) (had' : Had) (hand : HandsOne key pass (value_of value) queue key' pass' queue') (more : HasHad ((value_of value, hand.puts) ∷ []) (kept_noted (noted_in value) ∷ []) had had') where
       leads : leads_first (noted_in value) rest.keys.held ≡ true
       leads =
           leads_on (book_in values).store value.keys.held rest.keys.held (ap (λ (n : Name). is_some n.store) r.book ∙ store) value.one
@@ -163,14 +163,11 @@ module _ (key0 : SlotKey) (pass0 : Pass) (values0 : ValueKeys) (front : ℕ) (gi
       queued_more : Queues queue0 (values_put (r.handed ++ one)) queue'
       queued_more = queues_more queue0 queue queue' r.handed one r.queued (hand.queued.0, hand.queued.1 ∙ ap (λ (vs : List ℕ). values_of queue ++ vs) (sym (append-nil hand.puts)))
 
-      theirs_more : HasHad (labels_of (r.done ++ value.keys.held)) (kepts (r.done ++ value.keys.held)) had0 had'
+      theirs_more : HasHad (r.handed ++ one) (kepts (r.done ++ value.keys.held)) had0 had'
       theirs_more =
-          subst (λ (t : List ℕ × List ℕ). HasHad t.0 t.1 had0 had')
-          (λ i. (
-            (ap (λ (vs : List ℕ). labels_of r.done ++ vs) (sym (one_label value.keys.held value.one)) ∙ sym (labels_append r.done value.keys.held)) i,
-            (ap (λ (ks : List ℕ). kepts r.done ++ ks) (sym (kept_one value.keys.held (kept_noted (noted_in value)) value.one refl)) ∙ sym (kepts_append r.done value.keys.held)) i,
-          ))
-          (had_more (labels_of r.done) (value_of value ∷ []) (kepts r.done) (kept_noted (noted_in value) ∷ []) had0 had had' r.theirs more)
+          subst (λ (ks : List ℕ). HasHad (r.handed ++ one) ks had0 had')
+          (ap (λ (ks : List ℕ). kepts r.done ++ ks) (sym (kept_one value.keys.held (kept_noted (noted_in value)) value.one refl)) ∙ sym (kepts_append r.done value.keys.held))
+          (had_more r.handed one (kepts r.done) (kept_noted (noted_in value) ∷ []) had0 had had' r.theirs more)
 
       stands_more : (slot_of key').call ≡ Some (record { place = Rest (values_of rest) given.walk; queue = given.queue ++ values_put (r.handed ++ one) })
       stands_more =
@@ -222,5 +219,6 @@ module _ (key0 : SlotKey) (pass0 : Pass) (values0 : ValueKeys) (front : ℕ) (gi
           queued = queued_more;
         }
 
-        pub all_had : HasHad (values_of values0) (kepts_of values0) had0 had'
-        all_had = subst (λ (held : Keys). HasHad (labels_of held) (kepts held) had0 had') (sym all_done) theirs_more
+        pub all_had : HasHad handed_over.handed (kepts_of values0) had0 had'
+        unfolding handed_over
+        all_had = subst (λ (held : Keys). HasHad (r.handed ++ one) (kepts held) had0 had') (sym all_done) theirs_more

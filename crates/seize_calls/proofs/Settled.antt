@@ -120,7 +120,7 @@ module _ (a : Stand) (m : Marking a.key a.queue) where
             closed = r.keys.3;
           }
 
-      pub has_handed : (key2 : SlotKey) (pass2 : Pass) (values2 queue2 : ValueKeys) (had2 : Had) → HandsAll given_now a.queue key2 pass2 values2 queue2 → HasHad (values_of values1) (kepts_of values1) a.had had2
+      pub has_handed : (key2 : SlotKey) (pass2 : Pass) (values2 queue2 : ValueKeys) (had2 : Had) → (all_of : HandsAll given_now a.queue key2 pass2 values2 queue2) → HasHad all_of.handed (kepts_of values1) a.had had2
           → Goes a (record { key = key2; pass = pass2; batch = values2; queue = queue2; had = had2 })
       has_handed key2 pass2 values2 queue2 had2 handed theirs =
           let keeps = handed.goes_on.0 in let all = sym r.is_count ∙ on in
@@ -146,8 +146,7 @@ module _ (a : Stand) (m : Marking a.key a.queue) where
                 ∙ ap (λ (log : List (Deed × Answer)). before ++ log) (same_hands a.pass pass1 same (number_of key1) handed.handed ∙ ap (λ (k : ℕ). hands a.pass k handed.handed) its.1);
             none = handed.none;
             queued = handed.queued;
-            has_had = subst (λ (t : List ℕ × List ℕ). HasHad t.0 t.1 a.had had2)
-                (λ i. (sym handed.which i, (same_kepts ∙ ap (λ (z : Bool). if z then kepts_of a.batch else []) (sym all)) i)) theirs;
+            has_had = subst (λ (ks : List ℕ). HasHad handed.handed ks a.had had2) (same_kepts ∙ ap (λ (z : Bool). if z then kepts_of a.batch else []) (sym all)) theirs;
           }
 
 -- What the call's holder has then is as it was.

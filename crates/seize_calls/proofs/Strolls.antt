@@ -11,18 +11,17 @@ use Rattle.seize_machine.specs.declared.machine.event.Answer.TheVariants.{Count 
 use Rattle.seize_book.specs.Entry.{Deed}
 use Rattle.seize_book.specs.Passes.{IsSame, events_by}
 use Rattle.seize_book.specs.Slots.{IsOf, number_of, own_list, slot_of}
-use Rattle.seize_book.specs.Values.{values_of}
 use Rattle.seize_words.specs.Walks.{Knows}
 use Rattle.seize_book.specs.declared.book.pass.Pass.{Pass}
 use Rattle.seize_book.specs.declared.book.slot_key.SlotKey.{SlotKey}
 use Rattle.seize_book.specs.declared.book.value_keys.ValueKeys.{ValueKeys}
 use Rattle.seize_words.proofs.Facts.{word_stays}
 use Rattle.seize_calls.proofs.Alone.{alone_none}
-use Rattle.seize_calls.specs.Handing.{Had, Handings, HasHad, Queues, values_handed, values_put}
+use Rattle.seize_calls.specs.Handing.{Had, Handings, HasHad, Queues, values_put}
 use Rattle.seize_calls.specs.Batches.{kepts_of}
 use Rattle.seize_calls.specs.Walking.{Ends, GoesOn, HandsAll, IsAtWalk, IsGiven, Stops, WalksAll, WalksTo, counting, countings, handed_in, hands, steps}
 use Rattle.seize_calls.specs.declared.walking.Walked.TheVariants.{GivesUp, Over}
-use Rattle.seize_calls.proofs.Handed.{had_more, had_none, handed_append, put_append, queues_more, queues_none}
+use Rattle.seize_calls.proofs.Handed.{had_more, had_none, put_append, queues_more, queues_none}
 use Rattle.seize_calls.proofs.Keeps.{keeps_twice, same_private}
 
 pub goes_twice : (key one two : SlotKey) (pass pass1 pass2 : Pass) → GoesOn key pass one pass1 → GoesOn one pass1 two pass2 → GoesOn key pass two pass2
@@ -95,7 +94,7 @@ pub record IsStrolling {key : SlotKey} {word : ℕ} (at : IsAtWalk key word) (pa
   pub goes_on : GoesOn key pass key' pass'
   pub walked : List (ℤ × Handings)
   pub kepts : List ℕ
-  pub has_had : HasHad (values_handed (handed_in walked)) kepts had had'
+  pub has_had : HasHad (handed_in walked) kepts had had'
   pub made : events_by pass' ≡ events_by pass ++ steps pass (number_of key) walked
   pub here : IsAtWalk key' leads'
   pub each : length walked + length here.walk ≡ length at.walk
@@ -133,7 +132,7 @@ module _ (key0 : SlotKey) (word : ℕ) (at : IsAtWalk key0 word) (pass0 : Pass) 
         goes_on = goes_twice key0 key key1 pass0 pass pass1 r.goes_on w.goes_on;
         walked = r.walked ++ plain w.held;
         kepts = r.kepts;
-        has_had = subst (λ (vs : Handings). HasHad (values_handed vs) r.kepts had0 had) (handed_plain r.walked w.held) r.has_had;
+        has_had = subst (λ (vs : Handings). HasHad vs r.kepts had0 had) (handed_plain r.walked w.held) r.has_had;
         each = length-append r.walked (plain w.held) ∙ ap (λ (n : ℕ). length r.walked + n) (plain_many w.held ∙ ends.each) ∙ r.each;
         made = ends.made ∙ ap (λ (log : List (Deed × Answer)). log ++ countings pass (number_of key) w.held) r.made
             ∙ append_assoc (events_by pass0) behind (countings pass (number_of key) w.held)
@@ -151,7 +150,7 @@ module _ (key0 : SlotKey) (word : ℕ) (at : IsAtWalk key0 word) (pass0 : Pass) 
     abbrev pub given_now : IsGiven key1 pass1 values front
     given_now = stop.gives
 
-    module _ (key2 : SlotKey) (pass2 : Pass) (values2 queue2 : ValueKeys) (had2 : Had) (handed : HandsAll given_now queue key2 pass2 values2 queue2) (more : HasHad (values_of values) (kepts_of values) had had2) where
+    module _ (key2 : SlotKey) (pass2 : Pass) (values2 queue2 : ValueKeys) (had2 : Had) (handed : HandsAll given_now queue key2 pass2 values2 queue2) (more : HasHad handed.handed (kepts_of values) had had2) where
       pub handed_on : IsStrolling at pass0 queue0 had0 key2 pass2 rest queue2 had2
       handed_on =
           let one = goes_twice key0 key key1 pass0 pass pass1 r.goes_on w.goes_on in let vs = handed.handed in
@@ -159,9 +158,8 @@ module _ (key0 : SlotKey) (word : ℕ) (at : IsAtWalk key0 word) (pass0 : Pass) 
             goes_on = goes_twice key0 key1 key2 pass0 pass1 pass2 one handed.goes_on;
             walked = r.walked ++ (plain w.held ++ (stop.zero, vs) ∷ []);
             kepts = r.kepts ++ kepts_of values;
-            has_had = subst (λ (us : List ℕ). HasHad us (r.kepts ++ kepts_of values) had0 had2)
-                (ap (λ (us : List ℕ). values_handed (handed_in r.walked) ++ us) (sym handed.which) ∙ (sym (handed_append (handed_in r.walked) vs) ∙ ap values_handed (handed_last r.walked w.held stop.zero vs)))
-                (had_more (values_handed (handed_in r.walked)) (values_of values) r.kepts (kepts_of values) had0 had had2 r.has_had more);
+            has_had = subst (λ (us : Handings). HasHad us (r.kepts ++ kepts_of values) had0 had2) (handed_last r.walked w.held stop.zero vs)
+                (had_more (handed_in r.walked) vs r.kepts (kepts_of values) had0 had had2 r.has_had more);
             queued = subst (λ (us : Handings). Queues queue0 (values_put us) queue2) (handed_last r.walked w.held stop.zero vs) (queues_more queue0 queue queue2 (handed_in r.walked) vs r.queued handed.queued);
             made = handed.made
                 ∙ ap (λ (log : List (Deed × Answer)). log ++ hands pass1 (number_of key1) vs) (stop.made ∙ ap (λ (log : List (Deed × Answer)). log ++ countings pass (number_of key) (w.held ++ stop.zero ∷ [])) r.made

@@ -34,7 +34,7 @@ use Rattle.seize_words.specs.declared.activation.Activation.{Activation}
 use Rattle.seize_book.specs.declared.book.slot_key.SlotKey.{SlotKey}
 use Rattle.seize_book.specs.declared.book.value_keys.ValueKeys.{ValueKeys}
 use Rattle.seize_calls.specs.Alone.{AddsAlone}
-use Rattle.seize_calls.specs.Handing.{Had, Handings, HasHad, values_handed, values_put}
+use Rattle.seize_calls.specs.Handing.{Had, Handings, HasHad, values_put}
 use Rattle.seize_calls.specs.Inserts.{Keeps}
 use Rattle.seize_calls.specs.Settling.{Drains, Round, Settles, Stand, done}
 use Rattle.seize_calls.specs.Walking.{handed_in, steps}
@@ -107,7 +107,7 @@ pub record Leaves (job : Job) (stays : Bool) (swap : Deed) (key : SlotKey) (pass
   pub behind : Stand
   pub made : let s = number_of key in
       events_by behind.pass ≡ ((events_by pass ++ done pass (Begin s job)) ++ (swap, Done) ∷ []) ++ steps pass s walked
-  pub has_had : HasHad (values_handed (handed_in walked)) kepts had behind.had
+  pub has_had : HasHad (handed_in walked) kepts had behind.had
   pub queued : values_of behind.queue ≡ values_put (handed_in walked)
   pub batch : behind.batch ≡ values
   pub drained : Stand

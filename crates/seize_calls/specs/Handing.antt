@@ -1,8 +1,9 @@
 -- What reclaimers had of the values that slots' calls handed to them, and what they put.
---     Had                       what was had: of each value the word that was kept of it, and its code, the oldest first
---     HasHad values kepts had had'     these values were had, in order, beside what was had before: each with the word that was kept of it,
---                               and with a code that is lent with it
+--     Had                       what was had: of each value the word that was kept of it, its code, and what its reclaimer put, the oldest
+--                               first
 --     Handings                  values that were handed, each with those that its reclaimer put
+--     HasHad handed kepts had had'     these values were had, in order, beside what was had before: each with the word that was kept of it,
+--                               and with a code that is lent with it; and with each these were put
 --     values_handed handed, values_put handed     those that were handed, in order;  all that were put, in order
 --     Queues queue puts queue'  these came to the queue, last
 --     TakesFirst queue v kept queue'     v was the first of the queue, of which this is kept, and the others are left
@@ -16,20 +17,21 @@ use Rattle.seize_words.specs.Chunks.{IsLentAs}
 use Rattle.seize_calls.specs.Batches.{kepts_of}
 
 abbrev pub Had : Type 0
-Had = List (ℕ × Gv)
-
-abbrev pub AreTheirs : List ℕ → List ℕ → Had → Type 0
-AreTheirs [] [] [] = Unit {0}
-AreTheirs (v ∷ values) (kept ∷ kepts) (one ∷ had) = ((one.0 ≡ kept) × IsLentAs v one.1) × AreTheirs values kepts had
-AreTheirs _ _ _ = ⊥
-
-pub record HasHad (values kepts : List ℕ) (had had' : Had) : Type 0 where
-  pub more : Had
-  pub theirs : AreTheirs values kepts more
-  pub after : had' ≡ had ++ more
+Had = List (ℕ × Gv × List ℕ)
 
 abbrev pub Handings : Type 0
 Handings = List (ℕ × List ℕ)
+
+abbrev pub AreTheirs : Handings → List ℕ → Had → Type 0
+AreTheirs [] [] [] = Unit {0}
+AreTheirs (h ∷ handed) (kept ∷ kepts) (one ∷ had) =
+    ((one.0 ≡ kept) × IsLentAs h.0 one.1 × (one.2 ≡ h.1)) × AreTheirs handed kepts had
+AreTheirs _ _ _ = ⊥
+
+pub record HasHad (handed : Handings) (kepts : List ℕ) (had had' : Had) : Type 0 where
+  pub more : Had
+  pub theirs : AreTheirs handed kepts more
+  pub after : had' ≡ had ++ more
 
 abbrev pub values_handed : Handings → List ℕ
 values_handed [] = []

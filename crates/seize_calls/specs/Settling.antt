@@ -109,7 +109,7 @@ pub record Goes (a b : Stand) : Type 0 where
       ++ (private a.pass (AddCount s), Count count) ∷ []) ++ hands a.pass s handed
   pub none : IsEmpty b.batch b.pass
   pub queued : Queues a.queue (values_put handed) b.queue
-  pub has_had : HasHad (values_handed handed) (if is_zero count then kepts_of a.batch else []) a.had b.had
+  pub has_had : HasHad handed (if is_zero count then kepts_of a.batch else []) a.had b.had
 
 -- a batch that is not attempted stays as well, and then no head was read
 abbrev pub Settles : Stand → Stand → Bool → Type 0

@@ -145,7 +145,7 @@ pub record WalksAll {key : SlotKey} {word : ℕ} (at : IsAtWalk key word) (pass 
   pub goes_on : GoesOn key pass key' pass'
   pub walked : List (ℤ × Handings)
   pub kepts : List ℕ
-  pub has_had : HasHad (values_handed (handed_in walked)) kepts had had'
+  pub has_had : HasHad (handed_in walked) kepts had had'
   pub each : length walked ≡ length at.walk
   pub made : events_by pass' ≡ events_by pass ++ steps pass (number_of key) walked
   pub over : (slot_of key').call ≡ Some (record { place = Rest [] []; queue = at.queue ++ values_put (handed_in walked) })

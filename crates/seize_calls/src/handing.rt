@@ -22,8 +22,8 @@ use seize_words::book::{Pass, SlotKey, ValueKey, ValueKeys};
 
 /// What becomes of values that nobody can see any more.
 pub trait Reclaim<T> {
-    /// What it had so far: of each value the word that was kept of it, and the value's code, the oldest first.
-    ghost had: { Self → List (ℕ × Gv) };
+    /// What it had so far: of each value the word that was kept of it, the value's code, and what it put with it, the oldest first.
+    ghost had: { Self → List (ℕ × Gv × List ℕ) };
 
     /// It may be called for this book: what it holds to put is of that.
     ghost serves: { Self → Name → Type 0 };
@@ -32,8 +32,8 @@ pub trait Reclaim<T> {
     /// retires when it has nothing else to do, in the order in which it was put; the blocks are those of the book.
     fn reclaim(&mut self, kept: u64, value: T, further: &mut Further, blocks: &Blocks<T>)
         requires serves { serves self.old (book_in blocks.now) }
-        requires further { IsServed (further_in further.old) (book_in blocks.now) }
-        ensures had { had self.new ≡ had self.old ++ (kept, T.row.coded.code value) ∷ [] }
+        requires further { IsServed (further_in further.old) (book_in blocks.now) × (values_of (further_in further.old) ≡ []) }
+        ensures had { had self.new ≡ had self.old ++ (kept, T.row.coded.code value, values_of (further_in further.new)) ∷ [] }
         ensures serves { serves self.new (book_in blocks.now) }
         ensures further { IsServed (further_in further.new) (book_in blocks.now) };
 }
@@ -61,8 +61,8 @@ pub fn hand_one<T: Drop, R: Reclaim<T>>(
     requires serves { R.serves reclaimer.old (book_in blocks.now) }
     ensures book { IsOf key.new pass.new }
     ensures knows { Knows key.new pass.new }
-    ensures handed { HandsOne key.old pass.old (value_of value) (further_in queue.old) key.new pass.new (further_in queue.new) }
-    ensures had { HasHad (value_of value ∷ []) (kept_noted (noted_in value) ∷ []) (R.had reclaimer.old) (R.had reclaimer.new) }
+    ensures handed { (one : HandsOne key.old pass.old (value_of value) (further_in queue.old) key.new pass.new (further_in queue.new))
+        × HasHad ((value_of value, one.puts) ∷ []) (kept_noted (noted_in value) ∷ []) (R.had reclaimer.old) (R.had reclaimer.new) }
     ensures serves { R.serves reclaimer.new (book_in blocks.now) }
     ensures next { result ≡ next_in (noted_in value) }
 {
@@ -101,8 +101,8 @@ pub fn hand_all<T: Drop, R: Reclaim<T>>(
     requires serves { R.serves reclaimer.old (book_in blocks.now) }
     ensures knows { Knows key.new pass.new }
     ensures handed { (given : IsGiven key.old pass.old values.old front)
-        → HandsAll given (further_in queue.old) key.new pass.new values.new (further_in queue.new) }
-    ensures had { HasHad (values_of values.old) (kepts_of values.old) (R.had reclaimer.old) (R.had reclaimer.new) }
+        → (all : HandsAll given (further_in queue.old) key.new pass.new values.new (further_in queue.new))
+        × HasHad all.handed (kepts_of values.old) (R.had reclaimer.old) (R.had reclaimer.new) }
     ensures serves { R.serves reclaimer.new (book_in blocks.now) }
 {
     let mut number = front;

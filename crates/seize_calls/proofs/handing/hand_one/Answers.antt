@@ -1,7 +1,8 @@
-use Rattle.std.proofs.Common.{◌≡◌, ℕ, true, List, ◌++◌, Some, is_some, lit<, refl, sym, ap, ◌∙◌, subst}
+use Rattle.std.proofs.Common.{◌≡◌, ℕ, true, List, [], ◌∷◌, ◌++◌, Some, is_some, lit<, refl, sym, ap, ◌∙◌, subst}
 use Rattle.seize_machine.specs.Machine.Event.{Hand}
 use Rattle.seize_book.specs.Blocks.{block_of}
 use Rattle.seize_book.specs.Others.{value_of}
+use Rattle.seize_book.specs.Private.{labels_of}
 use Rattle.seize_book.specs.Slots.{IsOf, Notes, hands_next, number_of, slot_of}
 use Rattle.seize_book.specs.Tokens.{Name}
 use Rattle.seize_book.specs.Passes.{LooksOn}
@@ -11,6 +12,8 @@ use Rattle.seize_book.specs.declared.book.slot_key.SlotKey.{SlotKey}
 use Rattle.seize_store.specs.Named.{name_of}
 use Rattle.seize_words.proofs.Chunked.{named_seen}
 use Rattle.seize_words.proofs.Facts.{handing_named, knows_still, looks_twice, none_new, same_key, settles_after, unchanged_last, unchanged_value}
+use Rattle.seize_words.specs.Chunks.{IsLentAs}
+use Rattle.seize_calls.specs.Batches.{kept_noted}
 use Rattle.seize_calls.specs.Furthers.{further_in}
 use Rattle.seize_calls.proofs.Handed.{hands_so, soon_lent}
 use Rattle.seize_calls.proofs.handing.hand_one.Goals as goal
@@ -55,7 +58,7 @@ reclaim-requires g c =
       lit< tt,
       (
         c.requires.serves,
-        (made.0.0 ∙ (named ∙ sym c.requires.book.2), none_new (further_in c.new-further.result) redeemed.new.pass made.0),
+        ((made.0.0 ∙ (named ∙ sym c.requires.book.2), none_new (further_in c.new-further.result) redeemed.new.pass made.0), ap labels_of made.0.1),
       ),
     )
 
@@ -90,5 +93,10 @@ returns-clause-handed g c =
     let notes : Notes key made.new.pass hand.new.key hand.new.pass (Hand (number_of key) puts) =
     subst (λ (k : SlotKey). Notes k made.new.pass hand.new.key hand.new.pass (Hand (number_of k) puts)) (same_key key redeemed.new.slot redeemed.ensures.slot) hand.ensures.noted in
     let looks : LooksOn c.args.pass.now made.new.pass = subst (λ (p : Pass). LooksOn c.args.pass.now p) (sym made.ensures.1) (looks_twice c.args.pass.now looked.new.pass redeemed.new.pass looked.ensures.looks redeemed.ensures.looks) in
-    hands_so key hand.new.key c.args.pass.now made.new.pass hand.new.pass c.settle.new.pass (value_of c.args.value) puts looks notes c.settle.ensures.looks c.requires.soon
-    (further_in c.args.queue.now) (further_in c.append.new.self) (joins.book, joins.all ∙ ap (λ (vs : List ℕ). values_of (further_in c.args.queue.now) ++ vs) hand.ensures.keys.1)
+    let same : value_of noted.new.self ≡ value_of c.args.value = unchanged_value c.args.value noted.new.self noted.ensures.same in
+    let lent : IsLentAs (value_of c.args.value) (g.row.T.coded.code c.take-content.result.0) = subst (λ (v : ℕ). IsLentAs v (g.row.T.coded.code c.take-content.result.0)) same
+    (subst (λ x. IsLentAs (value_of noted.new.self) (g.row.T.coded.code x)) (sym c.take-content.ensures.value) redeemed.ensures.code) in (
+      hands_so key hand.new.key c.args.pass.now made.new.pass hand.new.pass c.settle.new.pass (value_of c.args.value) puts looks notes c.settle.ensures.looks c.requires.soon
+          (further_in c.args.queue.now) (further_in c.append.new.self) (joins.book, joins.all ∙ ap (λ (vs : List ℕ). values_of (further_in c.args.queue.now) ++ vs) hand.ensures.keys.1),
+      record { more = (c.note-note.result.kept, g.row.T.coded.code c.take-content.result.0, puts) ∷ []; theirs = ((ap kept_noted c.note-note.ensures.note, lent, refl), tt); after = c.reclaim.ensures.had },
+    )

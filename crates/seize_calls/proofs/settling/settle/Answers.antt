@@ -21,7 +21,7 @@ invariant_of-batch g c =
     let e = c.in-GivenUp.ensures in let a = stand c.args.key.now c.args.pass.now c.args.batch.now c.args.queue.now (g.R.Reclaim.had c.args.reclaimer.now) in let sits = c.requires.sits in let m = c.requires.marking in
     let given = given_now a m c.attempt.new.key c.attempt.new.pass c.attempt.new.batch.values _ e.book.1 (e.book.0 ∙ e.book.1.0 ∙ sym sits.its, e.book.2) (e.ends m.0) refl c.attempt.new.batch.first c.attempt.new.batch.front
     (has_values a m sits.its sits.knows) sits.batch.1 in
-    let empty = (c.hand_all.ensures.handed given).none.1 in let none : labels_of c.hand_all.new.values.keys.held ≡ [] = ap labels_of empty in
+    let empty = (c.hand_all.ensures.handed given).0.none.1 in let none : labels_of c.hand_all.new.values.keys.held ≡ [] = ap labels_of empty in
     record {
       many = subst (λ (vs : List ℕ). counted 0 vs ≡ true) (sym none) refl;
       front = subst (λ (vs : List ℕ). starts_at c.attempt.new.batch.first vs ≡ true) (sym none) refl;
@@ -57,7 +57,7 @@ returns-in-GivenUp-clause-settles g c =
     let same = e.book.1 in let full = has_values a m sits.its sits.knows in let hand = c.hand_all in
     let given = given_now a m c.attempt.new.key c.attempt.new.pass c.attempt.new.batch.values _ same (e.book.0 ∙ same.0 ∙ sym sits.its, e.book.2) (e.ends m.0) refl c.attempt.new.batch.first c.attempt.new.batch.front full sits.batch.1 in
     has_handed a m c.attempt.new.key c.attempt.new.pass c.attempt.new.batch.values _ same (e.book.0 ∙ same.0 ∙ sym sits.its, e.book.2) (e.ends m.0) refl c.attempt.new.batch.first c.attempt.new.batch.front full sits.batch.1
-    hand.new.key hand.new.pass hand.new.values (further_in hand.new.queue) (g.R.Reclaim.had hand.new.reclaimer) (hand.ensures.handed given) hand.ensures.had
+    hand.new.key hand.new.pass hand.new.values (further_in hand.new.queue) (g.R.Reclaim.had hand.new.reclaimer) (hand.ensures.handed given).0 (hand.ensures.handed given).1
 
 pub returns-in-GivenUp-clause-sits : goal.returns-in-GivenUp-clause-sits
 returns-in-GivenUp-clause-sits g c =
@@ -66,4 +66,4 @@ returns-in-GivenUp-clause-sits g c =
     let given = given_now a m c.attempt.new.key c.attempt.new.pass c.attempt.new.batch.values _ same (e.book.0 ∙ same.0 ∙ sym sits.its, e.book.2) (e.ends m.0) refl c.attempt.new.batch.first c.attempt.new.batch.front full sits.batch.1 in
     goes_sits a (record { key = hand.new.key; pass = hand.new.pass; batch = hand.new.values; queue = further_in hand.new.queue; had = g.R.Reclaim.had hand.new.reclaimer })
     (has_handed a m c.attempt.new.key c.attempt.new.pass c.attempt.new.batch.values _ same (e.book.0 ∙ same.0 ∙ sym sits.its, e.book.2) (e.ends m.0) refl c.attempt.new.batch.first c.attempt.new.batch.front full sits.batch.1
-    hand.new.key hand.new.pass hand.new.values (further_in hand.new.queue) (g.R.Reclaim.had hand.new.reclaimer) (hand.ensures.handed given) hand.ensures.had) sits hand.ensures.knows
+    hand.new.key hand.new.pass hand.new.values (further_in hand.new.queue) (g.R.Reclaim.had hand.new.reclaimer) (hand.ensures.handed given).0 (hand.ensures.handed given).1) sits hand.ensures.knows

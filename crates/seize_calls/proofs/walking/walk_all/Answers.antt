@@ -58,18 +58,18 @@ loop-values-smaller g c =
     let l = c.loop-values in let at = c.requires.at in let r = l.invariant.0 at in let w = c.in-GivesUp.ensures.walks r.here in let hand = c.hand_all in
     let given_up = given_now c.args.key.now c.args.word at c.new-values.new.pass (further_in c.args.queue.now) (g.R.Reclaim.had c.args.reclaimer.now) l.key l.pass l.leads (further_in l.queue) (g.R.Reclaim.had l.reclaimer) r c.walk.new.key c.walk.new.pass c.walk.new.values c.in-GivesUp.front c.in-GivesUp.rest w c.walk.ensures.book c.walk.ensures.knows in
     shorter c.args.key.now c.args.word at c.new-values.new.pass (further_in c.args.queue.now) (g.R.Reclaim.had c.args.reclaimer.now) l.key l.pass l.leads (further_in l.queue) (g.R.Reclaim.had l.reclaimer) r c.walk.new.key c.walk.new.pass c.walk.new.values c.in-GivesUp.front c.in-GivesUp.rest w c.walk.ensures.book c.walk.ensures.knows
-    hand.new.key hand.new.pass hand.new.values (further_in hand.new.queue) (g.R.Reclaim.had hand.new.reclaimer) (hand.ensures.handed given_up) hand.ensures.had
+    hand.new.key hand.new.pass hand.new.values (further_in hand.new.queue) (g.R.Reclaim.had hand.new.reclaimer) (hand.ensures.handed given_up).0 (hand.ensures.handed given_up).1
 
 pub loop-values-preserved : goal.loop-values-preserved
 loop-values-preserved g c =
     let l = c.loop-values in let hand = c.hand_all in let first = l.invariant.0 c.requires.at in let w0 = c.in-GivesUp.ensures.walks first.here in
     let given0 = given_now c.args.key.now c.args.word c.requires.at c.new-values.new.pass (further_in c.args.queue.now) (g.R.Reclaim.had c.args.reclaimer.now) l.key l.pass l.leads (further_in l.queue) (g.R.Reclaim.had l.reclaimer) first c.walk.new.key c.walk.new.pass c.walk.new.values c.in-GivesUp.front c.in-GivesUp.rest w0 c.walk.ensures.book c.walk.ensures.knows in
-    let handed0 = hand.ensures.handed given0 in (
+    let handed0 = (hand.ensures.handed given0).0 in (
       λ at.
           let r = l.invariant.0 at in let w = c.in-GivesUp.ensures.walks r.here in
           let given_up = given_now c.args.key.now c.args.word at c.new-values.new.pass (further_in c.args.queue.now) (g.R.Reclaim.had c.args.reclaimer.now) l.key l.pass l.leads (further_in l.queue) (g.R.Reclaim.had l.reclaimer) r c.walk.new.key c.walk.new.pass c.walk.new.values c.in-GivesUp.front c.in-GivesUp.rest w c.walk.ensures.book c.walk.ensures.knows in
           handed_on c.args.key.now c.args.word at c.new-values.new.pass (further_in c.args.queue.now) (g.R.Reclaim.had c.args.reclaimer.now) l.key l.pass l.leads (further_in l.queue) (g.R.Reclaim.had l.reclaimer) r c.walk.new.key c.walk.new.pass c.walk.new.values c.in-GivesUp.front c.in-GivesUp.rest w c.walk.ensures.book c.walk.ensures.knows
-          hand.new.key hand.new.pass hand.new.values (further_in hand.new.queue) (g.R.Reclaim.had hand.new.reclaimer) (hand.ensures.handed given_up) hand.ensures.had,
+          hand.new.key hand.new.pass hand.new.values (further_in hand.new.queue) (g.R.Reclaim.had hand.new.reclaimer) (hand.ensures.handed given_up).0 (hand.ensures.handed given_up).1,
       keeps_book c.walk.new.key hand.new.key c.walk.new.pass hand.new.pass handed0.goes_on.0 c.walk.ensures.book,
       hand.ensures.knows,
       handed0.none,
