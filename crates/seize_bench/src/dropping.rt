@@ -23,7 +23,7 @@ impl Reclaim<u64> for Dropping {
 
     ghost serves = { λ _ _. Unit {0} };
 
-    fn reclaim(&mut self, kept: u64, value: u64, _further: &mut Further, _blocks: &Blocks<u64>) {
-        self.told.note(kept, value);
+    fn reclaim(&mut self, kept: u64, value: u64, further: &mut Further, _blocks: &Blocks<u64>) {
+        self.told.note(kept, value, further);
     }
 }

@@ -1,6 +1,6 @@
 -- What reclaimers had of the values that slots' calls handed to them, and what they put.
 --     Had                       what was had: of each value the word that was kept of it, its code, and what its reclaimer put, the oldest
---                               first
+--                               first;  had_coded   its code
 --     Handings                  values that were handed, each with those that its reclaimer put
 --     HasHad handed kepts had had'     these values were had, in order, beside what was had before: each with the word that was kept of it,
 --                               and with a code that is lent with it; and with each these were put
@@ -10,6 +10,9 @@
 --     IsServed keys name        the keys are of this book, and each of their values may be put by a reclaimer (AreNew)
 use Rattle.std.specs.Prelude.{◌≡◌, ℕ, List, [], ◌∷◌, ◌++◌}
 use base.Stored.{Gv}
+use denote.Struct.Codes.{itself}
+use mathlib.Core.Path.{refl}
+use Rattle.std.specs.Coded.{Coded, code_by, coded_list, coded×, coded_ℕ}
 use Rattle.seize_book.specs.Tokens.{Name}
 use Rattle.seize_book.specs.Values.{AreNew, book_in, values_of}
 use Rattle.seize_book.specs.declared.book.value_keys.ValueKeys.{ValueKeys}
@@ -18,6 +21,12 @@ use Rattle.seize_calls.specs.Batches.{kepts_of}
 
 abbrev pub Had : Type 0
 Had = List (ℕ × Gv × List ℕ)
+
+-- by which it may stand in a type that owns memory
+abbrev pub had_coded : Coded Had
+had_coded =
+    coded_list (code_by (ℕ × (Gv × List ℕ)) (coded× coded_ℕ (coded× itself (coded_list coded_ℕ))) (λ one. (one.0, (one.1, one.2)))
+    (λ t. (t.0, t.1.0, t.1.1)) (λ _. refl))
 
 abbrev pub Handings : Type 0
 Handings = List (ℕ × List ℕ)

@@ -1,9 +1,7 @@
 //! A reclaimer that counts: of the values that it had it keeps how many there were, and the sums of them and of what was kept of them. It
 //! takes no memory. A row of marks, which reclaimers may share, says how often each value ended.
-ghost use Rattle.std.specs.Coded.{coded_list, coded×, coded_ℕ};
-ghost use Rattle.seize_calls.specs.Handing.{Had};
+ghost use Rattle.seize_calls.specs.Handing.{Had, had_coded};
 ghost use base.Fml.{ftrue};
-ghost use denote.Struct.Codes.{itself};
 
 use seize_calls::further::Further;
 use seize_calls::handing::Reclaim;
@@ -14,8 +12,8 @@ use std::sync::atomic::{AtomicU64, Ordering};
 /// What was had, for clauses alone. It has no bytes.
 pub struct Record {
     marker: PhantomData<()>,
-    /// Of each value the word that was kept of it, and its code, the oldest first.
-    pub ghost had: { Had } by { coded_list (coded× coded_ℕ itself) },
+    /// Of each value the word that was kept of it, its code, and what was put with it, the oldest first.
+    pub ghost had: { Had } by { had_coded },
 }
 
 impl Model for Record {
@@ -30,6 +28,8 @@ impl Drop for Record {
 
 impl Record {
     ghost use Rattle.std.specs.Prelude.{◌≡◌, [], ◌∷◌, ◌++◌};
+    ghost use Rattle.seize_book.specs.Values.{values_of};
+    ghost use Rattle.seize_calls.specs.Furthers.{further_in};
     ghost use base.Stored.{gnum};
 
     /// Nothing was had.
@@ -41,9 +41,9 @@ impl Record {
         }
     }
 
-    /// The value was had then, of which this was kept. It does nothing when the program runs.
-    pub fn note(&mut self, kept: u64, value: u64)
-        ensures { self.new.had ≡ self.old.had ++ (kept, gnum value) ∷ [] }
+    /// The value was had then, of which this was kept, and these were put with it. It does nothing when the program runs.
+    pub fn note(&mut self, kept: u64, value: u64, further: &Further)
+        ensures { self.new.had ≡ self.old.had ++ (kept, gnum value, values_of (further_in further.now)) ∷ [] }
     {}
 }
 
@@ -58,6 +58,8 @@ pub struct Counting<'a> {
     pub last: u64,
     /// The sum of what was kept of them, or `u64::MAX` where it is more.
     pub kept: u64,
+    /// The sum of each one times what was kept of it, modulo 2^64: so it tells which word came with which value.
+    pub weighed: u64,
     /// How often each value ended.
     pub marks: &'a [AtomicU64],
     /// What it had, for clauses.
@@ -72,6 +74,7 @@ impl<'a> Counting<'a> {
             sum: 0,
             last: 0,
             kept: 0,
+            weighed: 0,
             marks,
             told: Record::new(),
         }
@@ -88,20 +91,23 @@ impl<'a> Counting<'a> {
 
 impl Counting<'_> {
     ghost use Rattle.std.specs.Prelude.{◌≡◌, [], ◌∷◌, ◌++◌};
+    ghost use Rattle.seize_book.specs.Values.{values_of};
+    ghost use Rattle.seize_calls.specs.Furthers.{further_in};
     ghost use base.Stored.{gnum};
 
-    /// It has this value, of which this was kept.
-    pub fn count(&mut self, kept: u64, value: u64)
-        ensures { self.new.told.had ≡ self.old.told.had ++ (kept, gnum value) ∷ [] }
+    /// It has this value, of which this was kept, and these are put with it.
+    pub fn count(&mut self, kept: u64, value: u64, further: &Further)
+        ensures { self.new.told.had ≡ self.old.told.had ++ (kept, gnum value, values_of (further_in further.now)) ∷ [] }
     {
         self.count = self.count.saturating_add(1);
         self.sum = self.sum.wrapping_add(value);
         self.last = value;
         self.kept = self.kept.saturating_add(kept);
+        self.weighed = self.weighed.wrapping_add(value.wrapping_mul(kept));
         if let Some(mark) = self.marks.get(value as usize) {
             mark.fetch_add(1, Ordering::SeqCst);
         }
-        self.told.note(kept, value);
+        self.told.note(kept, value, further);
     }
 }
 
@@ -111,7 +117,7 @@ impl Reclaim<u64> for Counting<'_> {
 
     ghost serves = { λ _ _. Unit {0} };
 
-    fn reclaim(&mut self, kept: u64, value: u64, _further: &mut Further, _blocks: &Blocks<u64>) {
-        self.count(kept, value);
+    fn reclaim(&mut self, kept: u64, value: u64, further: &mut Further, _blocks: &Blocks<u64>) {
+        self.count(kept, value, further);
     }
 }

@@ -115,10 +115,10 @@ impl Reclaim<u64> for Putting<'_> {
     ghost serves = { λ putting n. AreReady n (ready_in putting) };
 
     fn reclaim(&mut self, kept: u64, value: u64, further: &mut Further, blocks: &Blocks<u64>) {
-        self.counting.count(kept, value);
         self.put_next(kept, further, blocks);
         if self.twice {
             self.put_next(kept, further, blocks);
         }
+        self.counting.count(kept, value, further);
     }
 }

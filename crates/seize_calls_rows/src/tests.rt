@@ -77,6 +77,7 @@ fn a_full_batch_waits_for_its_own_slot(rt: HostRuntime) {
         (counting.count, counting.sum, counting.last, counting.kept),
         (2, 11, 6, 77)
     );
+    assert_eq!(rt; counting.weighed, 5 * 70 + 6 * 7);
     assert_eq!(rt; told(marks.as_slice()), (8, 0));
     drop(worker);
 }
