@@ -32,8 +32,8 @@ use std::sync::Wait;
 /// Attempts the slot's batch at any length, which is this one. It says whether the batch was retired with the values that it had.
 ///
 /// What reclaimers put meanwhile is retired then, one after the other: the batch may have some of these values afterwards. `size` is the
-/// size of the book, as with `retire`. It takes no memory, but for what the handing does. An insertion is tried again as often as others
-/// change the head between a look at it and the try.
+/// size of the book, as with `retire`. It takes no memory, but for what the reclaimer does, and ends where reclaimers come to put no more.
+/// An insertion is tried again as often as others change the head between a look at it and the try.
 pub fn flush<T: Drop, R: Reclaim<T>>(
     slots: &Slots,
     blocks: &Blocks<T>,
@@ -73,7 +73,9 @@ pub fn flush<T: Drop, R: Reclaim<T>>(
 /// attempted. It says whether the batch was retired, with the values that it had then.
 ///
 /// What reclaimers put meanwhile is retired then, one after the other: the batch may have some of these values afterwards. It takes no
-/// memory, but for what the handing does. An insertion is tried again as often as others change the head between a look at it and the try.
+/// memory, but for what the reclaimer does, and ends where reclaimers come to put no more. An insertion is tried again as often as others
+/// change the head between a look at it and the try.
+#[inline]
 pub fn retire<T: Drop, R: Reclaim<T>>(
     slots: &Slots,
     blocks: &Blocks<T>,
@@ -114,8 +116,8 @@ pub fn retire<T: Drop, R: Reclaim<T>>(
 /// The slot leaves, by its own head. It counts down what waited for it, and hands what is given up. What reclaimers put meanwhile joins the
 /// slot's batch then, which is this one, as with `retire`.
 ///
-/// It takes no memory, but for what the handing does. An insertion is tried again as often as others change the head between a look at it
-/// and the try.
+/// It takes no memory, but for what the reclaimer does, and ends where reclaimers come to put no more. An insertion is tried again as often
+/// as others change the head between a look at it and the try.
 pub fn leave<T: Drop, R: Reclaim<T>>(
     slots: &Slots,
     head: &Head,
@@ -154,8 +156,8 @@ pub fn leave<T: Drop, R: Reclaim<T>>(
 /// The slot refreshes, by its own head, and stays active. It counts down what waited for it, and hands what is given up. What reclaimers
 /// put meanwhile joins the slot's batch then, which is this one, as with `retire`.
 ///
-/// It takes no memory, but for what the handing does. An insertion is tried again as often as others change the head between a look at it
-/// and the try.
+/// It takes no memory, but for what the reclaimer does, and ends where reclaimers come to put no more. An insertion is tried again as often
+/// as others change the head between a look at it and the try.
 pub fn refresh<T: Drop, R: Reclaim<T>>(
     slots: &Slots,
     head: &Head,

@@ -20,7 +20,7 @@ use std::sync::Wait;
 /// Retires the values of the queue, which the slot's call has left to do, until none is left. Each joins the slot's batch, which is
 /// attempted where it has `size` values or more: the size of the book.
 ///
-/// It takes no memory, but for what the handing does, and ends where reclaimers come to put no more. An insertion is tried again as often
+/// It takes no memory, but for what the reclaimer does, and ends where reclaimers come to put no more. An insertion is tried again as often
 /// as others change the head between a look at it and the try.
 pub fn drain<T: Drop, R: Reclaim<T>>(
     slots: &Slots,

@@ -29,7 +29,9 @@ pub trait Reclaim<T> {
     ghost serves: { Self → Name → Type 0 };
 
     /// Ends the value, or hands it on. The word is what was kept of it by whoever retired it. What it puts (`Further::put`) the call
-    /// retires when it has nothing else to do, in the order in which it was put; the blocks are those of the book.
+    /// retires when it has nothing else to do, in the order in which it was put; the blocks are those of the book. Nothing was put when it
+    /// is called, before the value's hand is made and its block goes back. It is given no pass: what it puts it has to have, with its key,
+    /// or to make with a pass of its own.
     fn reclaim(&mut self, kept: u64, value: T, further: &mut Further, blocks: &Blocks<T>)
         requires serves { serves self.old (book_in blocks.now) }
         requires further { IsServed (further_in further.old) (book_in blocks.now) × (values_of (further_in further.old) ≡ []) }

@@ -21,8 +21,9 @@ use std::sync::Wait;
 /// Attempts the slot's batch, and hands its values if they are given up. It says whether the batch was retired: if it was, it has no values
 /// any more.
 ///
-/// It takes no memory, but for what the handing does. An insertion is tried again as often as others change the head between a look at it
+/// It takes no memory, but for what the reclaimer does. An insertion is tried again as often as others change the head between a look at it
 /// and the try.
+#[inline(never)]
 pub fn settle<T: Drop, R: Reclaim<T>>(
     slots: &Slots,
     blocks: &Blocks<T>,
@@ -67,6 +68,7 @@ pub fn settle<T: Drop, R: Reclaim<T>>(
 /// retired.
 ///
 /// It takes no memory and waits as `settle` does.
+#[inline]
 pub fn put<T: Drop, R: Reclaim<T>>(
     slots: &Slots,
     blocks: &Blocks<T>,

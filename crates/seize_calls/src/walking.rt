@@ -54,7 +54,8 @@ pub fn walk<T: Drop>(
 /// Counts down all the batches to which this word leads. What one of them gives up is handed before the walk goes on, and what the
 /// reclaimer puts joins the call's queue.
 ///
-/// It takes no memory and waits for nobody, but for what the handing does.
+/// It takes no memory and waits for nobody, but for what the reclaimer does.
+#[inline(never)]
 pub fn walk_all<T: Drop, R: Reclaim<T>>(
     blocks: &Blocks<T>,
     word: u64,
