@@ -1,6 +1,5 @@
 -- The keys of a slot and of the numbers are enough for events that turn the slot's number over: to give it back, and to take it again.
 use Rattle.std.proofs.Common.{◌≡◌, ℕ, zero, suc, ◌+◌, ◌<◌, ◌==◌, true, false, List, [], ◌∷◌, ◌++◌, length, map, Bool, refl, sym, ◌∙◌, ap, subst, arith, not, nat_lt, ◌&&◌, if◌then◌else◌, Some, None}
-use Rattle.std.specs.List.{position_or_len}
 use Rattle.std.proofs.lemmas.List.{length-map}
 use Rattle.seize_machine.specs.Machine.State.{State, Slot, slot_at, head_at, is_idle, is_active}
 use Rattle.seize_machine.specs.Machine.Event.{Event, Give, Take}
@@ -17,7 +16,7 @@ use Rattle.seize_book.specs.Entry.{Entry, Made, Deed}
 use Rattle.seize_book.specs.Book.{after, births, makes_slot, Does, slots, numbers, of_next_slot}
 use Rattle.seize_book.specs.Fair.{Before, Covers, Fair, MayAdd, EndsNone, StartsNone, pass_key}
 use Rattle.seize_book.specs.Homes.{changes_count, changes_home}
-use Rattle.seize_book.specs.Others.{IsLeast}
+use Rattle.seize_book.specs.Others.{IsLeast, least_unused}
 use Rattle.seize_book.specs.Private.{Tag, is_one, key_of, tag_of, own_of}
 use Rattle.seize_book.specs.Tokens.{Name, start}
 use Rattle.seize_book.proofs.Chains.{unled}
@@ -81,11 +80,7 @@ may_give n p size seen a b one one' zero_is idle off =
         (d, next_of size st (Give s) d (Step.gave s (ap is_idle (sym slot.1) ∙ idle) (sym slot.2 ∙ off)), refl)
 
 -- which number is the least that is not in use, by which are in use
-pub free_of : List Bool → ℕ
-free_of us = position_or_len (λ u. not u) us
-
-pub free_by : (slots : List Slot) → first_free slots ≡ free_of (map (λ slot. slot.used) slots)
-unfolding free_of
+pub free_by : (slots : List Slot) → first_free slots ≡ least_unused (map (λ slot. slot.used) slots)
 free_by [] = refl
 free_by (x ∷ xs) = ap (λ (m : ℕ). if not (not x.used) then 1 + m else 0) (free_by xs)
 
@@ -101,7 +96,7 @@ module _ (n : Name) (a b : List (Held Entry)) where
   still : (log : List Entry) → used old ≡ used (after (start n) log) → Least → (key_of a ≡ first_free (after (start n) log).slots) × (key_of a < length (after (start n) log).slots)
   still log same least =
       let st : State = after (start n) log in
-      (least.0 ∙ free_by old.slots ∙ ap free_of same ∙ sym (free_by st.slots), subst (λ (z : ℕ). key_of a < z) (sym (length-map old.slots (λ slot. slot.used)) ∙ ap (λ (us : List Bool). length us) same ∙ length-map st.slots (λ slot. slot.used)) least.1)
+      (least.0 ∙ free_by old.slots ∙ ap least_unused same ∙ sym (free_by st.slots), subst (λ (z : ℕ). key_of a < z) (sym (length-map old.slots (λ slot. slot.used)) ∙ ap (λ (us : List Bool). length us) same ∙ length-map st.slots (λ slot. slot.used)) least.1)
 
   unequal : (x y : ℕ) → x < y → (x == y) ≡ false
   unequal x y l = grind arith

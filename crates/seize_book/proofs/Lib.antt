@@ -29,6 +29,7 @@ pub mod Hands
 pub mod Renames
 pub mod Retires
 pub mod Gives
+pub mod Numbers
 pub mod Detaches
 pub mod Plans
 pub mod Fronts

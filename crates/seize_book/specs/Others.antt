@@ -7,6 +7,7 @@
 --     IsSpent v st                      it was named, and it is not loose;  CannotRetire value   so it is, as its key knows
 --     IsLeast s st                      slot s is there, and its number is the least that is not in use and one of a table;
 --     MayTake numbers key               so it is for this slot, as the key of the numbers knows
+--     in_use numbers                    which numbers are in use, as this key knows;  least_unused us     the least that is not
 --     IsOfBook keys pass                they are of one book;  IsValueOf value pass, AreNumbersOf numbers pass     so is this key
 --     state_of keys, value_of value     where the keys' list leads, and which value it is
 --     MakesNone n p seen held event     wherever the list is by then, the event makes no keys
@@ -22,12 +23,14 @@
 --     Follows keys pass' keys'          they are the same keys, and know all that the pass has seen;  FollowsValue value pass' value',
 --                                       FollowsNumbers numbers pass' numbers'     so it is with this key
 --     IsVacated value                   all values that ever lay in its block were reclaimed, as its key knows
-use Rattle.std.specs.Prelude.{◌≡◌, ◌≢◌, ℕ, ◌<◌, Bool, true, false, List, [], ◌∷◌, ◌++◌, length, ◌⊎◌}
+use Rattle.std.specs.Prelude.{◌≡◌, ◌≢◌, ℕ, ◌<◌, Bool, true, false, not, List, [], ◌∷◌, ◌++◌, length, ◌⊎◌}
+use Rattle.std.specs.List.{position_or_len}
 use Rattle.seize_machine.specs.Machine.State.{State, has}
 use Rattle.seize_book.specs.Blocks.{block_of}
 use Rattle.seize_book.specs.Book.{after, births}
 use Rattle.seize_book.specs.Private.{is_one, key_of, label_of, own_of}
 use Rattle.seize_machine.specs.Machine.Event.{Event}
+use Rattle.seize_machine.specs.Machine.Frames.{used}
 use Rattle.seize_machine.specs.Machine.Next.{first_free}
 use Rattle.seize_table.specs.Place.{all_numbers}
 use Rattle.seize_book.specs.Homes.{IsVacant, home_of}
@@ -85,6 +88,13 @@ IsLeast s st = (s ≡ first_free st.slots) × (s < length st.slots) × (s < all_
 
 abbrev pub MayTake : NumbersKey → SlotKey → Type 0
 MayTake numbers key = IsLeast (key_of key.keys.held) (state_of numbers.keys)
+
+-- which numbers are in use, as the key of the numbers knows, and which is the least that is not
+abbrev pub in_use : NumbersKey → List Bool
+in_use numbers = used (state_of numbers.keys)
+
+abbrev pub least_unused : List Bool → ℕ
+least_unused us = position_or_len (λ u. not u) us
 
 -- wherever the list is by then, the event makes no keys
 abbrev pub MakesNone : Name → ℕ → List Entry → List (Held Entry) → Event → Type 0

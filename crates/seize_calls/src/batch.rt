@@ -28,12 +28,12 @@ pub struct Batch {
 
 impl Batch {
     ghost use Rattle.std.specs.Prelude.{length, min, ◌+◌, ◌-◌, ◌<◌, ◌^◌};
-    ghost use Rattle.seize_book.specs.Others.{IsValueOf, value_of};
-    ghost use Rattle.seize_book.specs.Passes.{LooksOn};
-    ghost use Rattle.seize_book.specs.Values.{AreOfBook, IsEmpty};
-    ghost use Rattle.seize_calls.specs.Batches.{AreNamed, IsPushed, LeadsFrom, keys_in};
+    ghost use Rattle.seize_book.specs.Blocks.{block_of};
+    ghost use Rattle.seize_book.specs.Others.{book_of, value_of};
+    ghost use Rattle.seize_book.specs.Values.{IsEmpty};
+    ghost use Rattle.seize_book.specs.Values.{book_in as keys_book};
+    ghost use Rattle.seize_calls.specs.Batches.{IsPushed, LeadsFrom, keys_in};
     ghost use Rattle.seize_words.specs.Chunks.{book_in};
-    ghost use Rattle.seize_words.specs.Noted.{IsSeenAt};
 
     /// A batch of no values, of the pass's book.
     pub fn new(pass: &mut Pass) -> Batch
@@ -54,7 +54,7 @@ impl Batch {
         self.len
     }
 
-    /// One value more comes last, of which this is its block's number and what is kept.
+    /// One value more comes last, of which this is its block's number and what is kept. It makes no event, and no list is looked at.
     ///
     /// It takes no memory: two look-ups, a plain read and two plain writes.
     pub(crate) fn push<T: Drop>(
@@ -63,12 +63,9 @@ impl Batch {
         number: u64,
         kept: u64,
         value: ValueKey,
-        pass: &mut Pass,
     )
-        requires book { AreOfBook (keys_in self.old) pass.old × IsValueOf value pass.old × (book_in blocks.now ≡ pass.old.name) }
-        requires number { IsSeenAt value number pass.old }
-        requires named { AreNamed (values_of (keys_in self.old)) pass.old }
-        ensures looks { LooksOn pass.old pass.new }
+        requires book { (book_of value ≡ book_in blocks.now) × (keys_book (keys_in self.old) ≡ book_in blocks.now) }
+        requires number { block_of (value_of value) ≡ number }
         ensures pushes { IsPushed (keys_in self.old) (value_of value) kept (keys_in self.new) }
     {
         let mut value = value;
@@ -77,10 +74,9 @@ impl Batch {
             slot: 0,
             kept,
         };
-        blocks.set_note(number, note, &mut value, pass);
-        // So it is known that the number is one of a row, and that its word fits. Nothing runs here.
-        let _known = pass.seek(number);
-        Batch::lead_on(blocks, self.len, self.last, number, &mut self.values, pass);
+        let cell = blocks.cell(number, &value);
+        value.set_note(cell, note);
+        Batch::lead_on(blocks, self.len, self.last, number, &mut self.values);
         let first = if self.len == 0 { number } else { self.first };
         self.values.push(value);
         self.first = first;
@@ -95,27 +91,24 @@ impl Batch {
         last: u64,
         number: u64,
         values: &mut ValueKeys,
-        pass: &mut Pass,
     )
-        requires book { AreOfBook values.old pass.old × (book_in blocks.now ≡ pass.old.name) }
+        requires book { keys_book values.old ≡ book_in blocks.now }
         requires len { counted len (values_of values.old) ≡ true }
         requires last { ends_at last (values_of values.old) ≡ true }
-        requires named { AreNamed (values_of values.old) pass.old }
         requires fits { number + 1 < 2 ^ 64 }
-        ensures looks { (before : Pass) → LooksOn before pass.old → LooksOn before pass.new }
         ensures leads { LeadsFrom values.old number values.new }
     {
         if len == 0 {
             return;
         }
         let mut value = values.pop();
-        let header = blocks.header(last, pass);
-        let note = value.note(&header.note);
+        let cell = blocks.cell(last, &value);
+        let note = value.note(cell);
         let note = Note {
             next: number + 1,
             ..note
         };
-        value.set_note(&header.note, note);
+        value.set_note(cell, note);
         values.push(value);
     }
 }

@@ -123,7 +123,7 @@ pub fn retire<T: Drop, R: Reclaim<T>>(
     let mut value = value;
     key.begin_retire(&mut value, pass);
     key.put(pass);
-    batch.push(blocks, number, kept, value, pass);
+    batch.push(blocks, number, kept, value);
     if batch.len < size {
         key.finish(pass);
         return false;

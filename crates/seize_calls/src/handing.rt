@@ -51,7 +51,8 @@ pub fn hand_one<T: Drop, R: Reclaim<T>>(
     ensures next { result ≡ next_in (noted_in value) }
 {
     let mut value = value;
-    let note = blocks.note(number, &mut value, pass);
+    let header = blocks.header(number, pass);
+    let note = value.note(&header.note);
     let block = blocks.redeem(number, &mut value, key, pass);
     let (content, hollow) = block.take();
     reclaimer.reclaim(note.kept, content);

@@ -30,11 +30,13 @@ use Rattle.seize_calls.specs.declared.batch.Batch.{Batch}
 use Rattle.seize_calls.proofs.Batches.{remarked_labels}
 use Rattle.seize_words.specs.Joined.{IsHolder, IsInAt}
 use Rattle.seize_words.specs.Links.{IsWithin, value_in}
+use Rattle.seize_words.specs.LinkWords.{Finds}
 use Rattle.seize_words.specs.Named.{slot_book}
 use Rattle.seize_words.specs.Reservations.{IsActivationOf, IsLastOf, beginning}
 use Rattle.seize_words.specs.Totals.{slots_seen}
 use Rattle.seize_words.specs.Walks.{Knows}
 use Rattle.seize_words.specs.declared.activation.Activation.{Activation}
+use Rattle.seize_words.specs.declared.link.Link.{Link}
 use Rattle.seize_words.proofs.Facts.{more_seen, more_slots, moved, seen_grows}
 use Rattle.seize_calls_rows.specs.Workers.{GoesOn, MayWork, Shared, Stands, Works}
 use Rattle.seize_calls_rows.specs.declared.worker.Active.{Active}
@@ -65,6 +67,11 @@ goes_twice one two three first last =
 
 pub goes_same : (one two three : Pass) → two ≡ one → GoesOn two three → GoesOn one three
 goes_same one two three same goes = subst (λ (p : Pass). GoesOn p three) same goes
+
+-- what a link holds was found
+pub goes_found : (link : Link) (a : Activation) (pass pass' : Pass) (v : ℕ) → Finds link a pass pass' v → GoesOn pass pass'
+goes_found link a pass pass' v found =
+    goes_twice pass found.mid pass' (goes_noted pass found.mid _ found.reads.same found.reads.noted) (goes_looked found.mid pass' found.looks)
 
 -- with a pass that has seen no less, an activation that has begun may step on the link
 in_still : (a : Activation) (pass pass' : Pass) (l : ℕ) → GoesOn pass pass' → IsInAt a pass l → IsInAt a pass' l

@@ -4,6 +4,7 @@
 #![tactic(auto)]
 
 pub mod counting;
+pub mod holding;
 pub mod running;
 #[cfg(test)]
 mod tests;

@@ -2,6 +2,8 @@
 ghost use Rattle.std.specs.Prelude.{IfSome};
 ghost use Rattle.seize_calls_rows.specs.Workers.{MayWork};
 
+mod holding;
+
 use crate::counting::Counting;
 use crate::running::Tally;
 use crate::turns::{open_in_turns, reclaim_all};

@@ -161,7 +161,7 @@ impl Active {
             mut pass,
             activation,
         } = self;
-        let found = read(words, link, &activation, &mut pass);
+        let found = words.find(link, &activation, &mut pass).1.copied();
         let active = Active {
             slot,
             size,
@@ -350,18 +350,6 @@ fn leave(
         batch,
         pass,
     }
-}
-
-// Reads the link, and sees what is lent with the value there, if there is one.
-fn read(words: &Words<u64>, link: usize, activation: &Activation, pass: &mut Pass) -> Option<u64>
-    requires within { (words_book words.now ≡ pass.old.name) × IsInAt activation.now pass.old link }
-    ensures goes_on { GoesOn pass.old pass.new }
-{
-    let (word, glimpse) = words.read_link(link, activation, pass);
-    if word == 0 {
-        return None;
-    }
-    Some(*words.blocks.see(word - 1, glimpse, pass))
 }
 
 // Swaps the value of a new block into the link, as `Active::swap_in`.

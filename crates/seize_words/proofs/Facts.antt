@@ -33,6 +33,9 @@ pub use Rattle.seize_book.proofs.Lists.{after_used}
 -- the keys of values that were never named, put together, and what the key of one knows that was put
 pub use Rattle.seize_book.proofs.Further.{none_new, first_new, pushed_new, next_known}
 pub use Rattle.seize_book.proofs.Written.{plans_used}
+-- a number may be taken again, or the next one, by which are in use
+pub use Rattle.seize_book.proofs.Numbers.{may_take_by}
+pub use Rattle.seize_words.proofs.Makes.{is_full_by}
 -- what a call knows that has still to insert its batch
 pub use Rattle.seize_words.proofs.Inserts.{detached_named, knows_used, looked_named, own_reached}
 -- what a sight shows by a value's name is what was lent with the value

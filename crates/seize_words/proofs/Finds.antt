@@ -35,7 +35,7 @@ IsLiving v st = (has v st.named ≡ true) × (has v st.gone ≡ false)
 abbrev pub values_of : State → List Entry → ℕ → List ℕ
 values_of st log b = (slice_index_or (plans st log) b no_plan).values
 
-first_contained : (values : List ℕ) (v : ℕ) → first_of values ≡ Some v → Contains values v
+pub first_contained : (values : List ℕ) (v : ℕ) → first_of values ≡ Some v → Contains values v
 first_contained [] v e = absurd (cc)
 first_contained (x ∷ values) v e = (zero, omega arith, ap (λ (o : Option ℕ). unwrap_or o 0) e)
 

@@ -10,7 +10,7 @@ pub some_left : (first rest many : ℕ) → first + rest ≡ many → first < ma
 some_left first zero many whole less = absurd (omega arith)
 some_left first (suc rest) many whole less = (rest, refl)
 
-is_equal : (x y : ℕ) → (x == y) ≡ true → x ≡ y
+pub is_equal : (x y : ℕ) → (x == y) ≡ true → x ≡ y
 is_equal x y e = grind arith
 
 is_other : (x y : ℕ) → (x == y) ≡ false → x ≢ y

@@ -17,13 +17,20 @@ use Rattle.seize_book.specs.Ledger.{Held, AllKept, renewed, born}
 use Rattle.seize_book.specs.Entry.{Entry, Made, Deed}
 use Rattle.seize_book.specs.Book.{IsLegalList, after, births, slots, heads, numbers, totals, of_next_slot, of_slot, rules}
 use Rattle.seize_book.specs.Fair.{Covers, pass_key}
+use Rattle.seize_book.specs.Others.{in_use, least_unused, state_of}
+use Rattle.seize_words.specs.Totals.{IsFull, made_of}
+use Rattle.seize_book.specs.declared.book.numbers_key.NumbersKey.{NumbersKey}
 use Rattle.seize_book.specs.Private.{Tag, is_one, key_of, label_of, note_of, tag_of, own_of}
 use Rattle.seize_words.specs.Stepping.{FoundAs, IsStepWith, MayStepWith, in_step}
 use Rattle.seize_book.specs.Tokens.{Name, start}
 use Rattle.seize_words.specs.Words.{Site}
 use Rattle.seize_book.proofs.Lists.{after_push, equal}
-use Rattle.seize_book.proofs.Gives.{free_by, free_of, the_only}
+use Rattle.seize_book.proofs.Gives.{free_by, the_only}
 use Rattle.seize_book.proofs.Private.{only, only_is, differ}
+
+-- all numbers are in use, as the key of the numbers knows
+pub is_full_by : (its : NumbersKey) → least_unused (in_use its) ≡ length (in_use its) → made_of its < all_numbers → IsFull its
+is_full_by its full few = let st : State = state_of its.keys in (free_by st.slots ∙ full ∙ length-map st.slots (λ slot. slot.used), few)
 
 abbrev pub at_total : Name → Site
 at_total n = record { name = n; kind = totals; number = 0 }
@@ -56,7 +63,7 @@ as_many : (a b : State) → used a ≡ used b → length a.slots ≡ length b.sl
 as_many a b same = sym (length-map a.slots (λ slot. slot.used)) ∙ ap (λ (us : List Bool). length us) same ∙ length-map b.slots (λ slot. slot.used)
 
 as_free : (a b : State) → used a ≡ used b → first_free a.slots ≡ first_free b.slots
-as_free a b same = free_by a.slots ∙ ap free_of same ∙ sym (free_by b.slots)
+as_free a b same = free_by a.slots ∙ ap least_unused same ∙ sym (free_by b.slots)
 
 made_by : State → ℕ → State × Answer
 made_by st s = (record st { slots = st.slots ++ record { used = true; batch = []; call = None } ∷ []; heads = st.heads ++ Inactive ∷ [] }, Done)

@@ -15,7 +15,7 @@ use Rattle.seize_machine.specs.declared.machine.event.Answer.{Answer}
 use Rattle.seize_machine.specs.declared.machine.event.Answer.TheVariants.{Handed}
 use Rattle.seize_machine.proofs.Facts.{Stands, Step, next_of, some_is, step_of}
 use Rattle.seize_book.specs.Adding.{private}
-use Rattle.seize_machine.specs.Machine.Laws.{Walks, walk_of}
+use Rattle.seize_machine.specs.Machine.Laws.{IsHeld, Walks, walk_of}
 use Rattle.seize_book.specs.Blocks.{Plan, block_for, block_of, front_of, no_plan, plans}
 use Rattle.seize_book.specs.Book.{IsLegalList, after, slots}
 use Rattle.seize_book.specs.Private.{is_one}
@@ -35,7 +35,7 @@ use Rattle.seize_book.specs.declared.book.pass.Pass.{Pass}
 use Rattle.seize_book.specs.declared.book.slot_key.SlotKey.{SlotKey}
 use Rattle.seize_words.specs.declared.chunk.Header.{Header}
 use Rattle.seize_words.proofs.Chunked.{named_seen}
-use Rattle.seize_words.proofs.Finds.{IsLiving, front_living, walked_living}
+use Rattle.seize_words.proofs.Finds.{IsLiving, first_contained, front_living, held_living, values_of, walked_living}
 use Rattle.seize_book.proofs.Hands.{soon_named}
 use Rattle.seize_book.proofs.Plans.{block_stays, legal_prefix}
 use Rattle.seize_book.proofs.Serves.{marked_after, slots_in, walks_marked}
@@ -104,6 +104,10 @@ module _ (key : SlotKey) (pass : Pass) (book : IsOf key pass) (knows : Knows key
   handing_named v soon =
       subst (λ (n : Name). has v (after (start n) pass.seen).named ≡ true) book
       (named_later st own pass.seen v knows.seen legal (soon_named key.keys.name own (number_of key) v distinct its_own soon))
+
+  -- so was the first value of a batch that is held
+  pub first_named : (b v : ℕ) → IsHeld (after st own) b → front_of st own b ≡ Some v → has v (state_seen pass).named ≡ true
+  first_named b v held front = living_named v (held_living key.keys.name own distinct its_own b v held (first_contained (values_of st own b) v front))
 
   -- a batch that the slot's call walks
   module _ (b : ℕ) (walks : Walks (after st own) (number_of key) b) where

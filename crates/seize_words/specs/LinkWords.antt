@@ -10,8 +10,7 @@
 --     Takes                       the event was made with the pass, during the activation;  IsDuring activation name list
 --     Reads, Swaps, CompareExchanges     what the event is, in which state it was made, and what is had afterwards
 --     Sees                        it is a read, and the glimpse is of what the link held
---     Finds                       it is a read, and nothing was made with the pass since, which may have seen more
-use mathlib.Core.List.{IsPrefix}
+--     Finds                       it is a read, and the pass looked at the list since
 use Rattle.std.specs.Prelude.{◌≡◌, ◌≢◌, ℕ, suc, List, [], Option, Some, None, true, is_some, drop}
 use Rattle.seize_machine.specs.Machine.State.{head_at, is_active, link_at, has}
 use Rattle.seize_machine.specs.Machine.Event.{Event, ReadLink, ExchangeLink}
@@ -25,7 +24,7 @@ use Rattle.seize_book.specs.Laws.{life}
 use Rattle.seize_book.specs.Ledger.{renewed}
 use Rattle.seize_words.specs.Links.{IsNewIn, IsWithin, compared, value_in}
 use Rattle.seize_book.specs.Others.{state_of}
-use Rattle.seize_book.specs.Passes.{IsSame, MadeNone}
+use Rattle.seize_book.specs.Passes.{IsSame, LooksOn}
 use Rattle.seize_book.specs.Private.{key_of}
 use Rattle.seize_book.specs.Tokens.{Name, Noted, start}
 use Rattle.seize_words.specs.declared.activation.Activation.{Activation}
@@ -88,9 +87,7 @@ Sees link activation pass pass' v glimpse = (t : Reads link activation pass pass
 pub record Finds (link : Link) (a : Activation) (pass pass' : Pass) (v : ℕ) : Type 0 where
   pub mid : Pass
   pub reads : Reads link a pass mid v
-  pub same : IsSame mid pass'
-  pub none_made : MadeNone mid pass'
-  pub grows : IsPrefix mid.seen pass'.seen
+  pub looks : LooksOn mid pass'
 
 -- the key knows all that the pass has seen
 abbrev pub KnowsAll : MaybeKey → Pass → Type 0

@@ -13,6 +13,8 @@ use seize_book::book::Keys;
 use std::marker::{Model, PhantomData};
 
 /// One activation of a slot, in the hands of who made it. While it is borrowed, the slot neither leaves nor refreshes.
+///
+/// Where it is dropped, its slot can't leave any more: it stays active for good, and what waits for it is never reclaimed.
 pub struct Activation {
     marker: PhantomData<()>,
     /// The book.

@@ -37,6 +37,8 @@ impl Count {
     /// Adds the insertions won to the batch's count: the event `AddCount` of the slot that detached the batch. It says whether the count
     /// is 0 then. If it is, nobody holds the batch, its values are given up to the slot's call, and their keys stay with the caller. If it
     /// isn't, the keys go to whoever gives the batch up.
+    ///
+    /// It takes no memory and waits for nobody: one atomic addition.
     pub fn add(&self, won: u64, key: &mut SlotKey, values: &mut ValueKeys, pass: &mut Pass) -> bool
         requires book { IsOf key.old pass.old × IsOfBook self.now pass.old × AreOfBook values.old pass.old }
         requires adds { AddsWith key.old self.now won values.old }
@@ -53,6 +55,8 @@ impl Count {
 
     /// Counts the batch down that the slot's walk comes to: the event `SubCount`. It says whether the count is 0 then. If it is, nobody
     /// else holds the batch, and its values are given up to the slot's call, with their keys.
+    ///
+    /// It takes no memory and waits for nobody: one atomic subtraction.
     pub fn subtract(&self, key: &mut SlotKey, values: &mut ValueKeys, pass: &mut Pass) -> bool
         requires book { IsOf key.old pass.old × IsOfBook self.now pass.old × IsEmpty values.old pass.old }
         requires walks { Walks key.old self.now }

@@ -1,5 +1,5 @@
 //! Blocks in a store: from the number that a word shows to the words of its block. It stands on chunks and on the store.
-ghost use Rattle.std.specs.Prelude.{◌≡◌, IfErr, IfOk, Some};
+ghost use Rattle.std.specs.Prelude.{◌≡◌, ◌+◌, ◌<◌, ◌^◌, IfErr, IfOk, Some, ℕ, ◌↔◌, true};
 ghost use Rattle.seize_store.specs.Known.{family_in};
 ghost use Rattle.seize_store.specs.Named.{name_of};
 
@@ -7,6 +7,7 @@ use crate::chunk::{Header, Part};
 use crate::glimpse::Glimpse;
 use crate::note::Note;
 use seize_book::book::{Book, BookKeys, Keeps, Pass, SlotKey, Unopened, ValueKey, ValueKeys};
+use seize_content::TokenCell;
 use seize_store::{Bare, Hollow, Store};
 use seize_table::Refusal;
 use std::alloc::Global;
@@ -26,11 +27,11 @@ impl<T: Drop> Blocks<T> {
     ghost use Rattle.seize_book.specs.Books.{IsNextIn, Opens, OpensAlone};
     ghost use Rattle.seize_store.specs.Named.{bare_number, bare_value};
     ghost use Rattle.seize_table.specs.declared.refusal.Refusal.TheVariants.{NoMemory};
-    ghost use Rattle.seize_words.specs.Chunks.{IsBlockAfter, IsBlockIn, IsFoundAs, IsFoundAt, IsHeaderOf, IsLentAs, LayIn, LendsIn, LiesIn, OpensAloneIn, OpensIn, book_in};
+    ghost use Rattle.seize_words.specs.Chunks.{IsBlockAfter, IsBlockIn, IsFoundAs, IsFoundAt, IsHeaderOf, IsLentAs, LayIn, LendsIn, LiesIn, OpensAloneIn, OpensIn, StandsAt, book_in};
     ghost use Rattle.seize_book.specs.Others.{IsLast, IsVacated, IsValueOf, book_of, value_of};
     ghost use Rattle.seize_book.specs.Blocks.{block_of};
-    ghost use Rattle.seize_book.specs.Notes.{HasNoted, IsUnchanged};
-    ghost use Rattle.seize_words.specs.Noted.{IsNoted, IsSeenAt, note_code};
+    ghost use Rattle.seize_book.specs.Notes.{HasNoted, IsUnchanged, cell_in};
+    ghost use Rattle.seize_words.specs.Noted.{IsNoted, note_code};
     ghost use Rattle.seize_book.specs.Lending.{IsInBlockOf, IsLentKey};
     ghost use Rattle.seize_book.specs.Homesteads.{HasNumber, state_seen};
     ghost use Rattle.seize_words.specs.Headers.{IsFrontBlock};
@@ -252,33 +253,57 @@ impl<T: Drop> Blocks<T> {
         header
     }
 
-    /// What is noted of the block with this number, whose value this key is for. The value was named, as the pass has seen. The pass looks
-    /// at the list.
+    /// Whether these are the numbers of one block. So two values that stand, as the pass has seen then, are the same just where their
+    /// numbers are; that of a value which was reclaimed may be another one's too. The pass looks at the list. It only compares.
+    pub fn same(&self, one: u64, other: u64, pass: &mut Pass) -> bool
+        requires book { book_in self.now ≡ pass.old.name }
+        requires named { HasNumber one (state_seen pass.old) }
+        ensures looks { LooksOn pass.old pass.new }
+        ensures same { (v w : ℕ) → StandsAt v one pass.new → StandsAt w other pass.new → (result ≡ true) ↔ (v ≡ w) }
+    {
+        pass.seek(one);
+        one == other
+    }
+
+    /// The cell where whoever has this key notes what it keeps of the block with this number, in which the key's value lies, whether that
+    /// was ever named or not. No event is made, and the list is not looked at.
+    ///
+    /// It takes no memory: two loads, each of which waits for the one before.
+    pub fn cell(&self, number: u64, key: &ValueKey) -> &TokenCell<Note>
+        requires book { book_of key.now ≡ book_in self.now }
+        requires number { block_of (value_of key.now) ≡ number }
+        ensures cell { result.now.name ≡ cell_in key.now }
+        ensures fits { number + 2 < 2 ^ 64 }
+    {
+        let row = key.row();
+        let place = self.store.place(number as usize, &row);
+        let header = place.header();
+        &header.note
+    }
+
+    /// What is noted of the block with this number, whose value this key is for, whether one was ever named or not. No event is made, and
+    /// the list is not looked at.
     ///
     /// It takes no memory: a look-up, as `header`, and a plain read.
-    pub fn note(&self, number: u64, key: &mut ValueKey, pass: &mut Pass) -> Note
-        requires book { IsValueOf key.old pass.old × (book_in self.now ≡ pass.old.name) }
-        requires number { IsSeenAt key.old number pass.old }
-        ensures looks { LooksOn pass.old pass.new }
+    pub fn note(&self, number: u64, key: &mut ValueKey) -> Note
+        requires book { book_of key.old ≡ book_in self.now }
+        requires number { block_of (value_of key.old) ≡ number }
         ensures same { IsUnchanged key.old key.new }
         ensures note { IsNoted result key.old }
     {
-        let header = self.header(number, pass);
-        key.note(&header.note)
+        key.note(self.cell(number, key))
     }
 
     /// Notes this of the block with this number, in the place of what was noted before. Whoever may see the block's value meanwhile sees
-    /// nothing of it. The pass looks at the list.
+    /// nothing of it. No event is made, and the list is not looked at.
     ///
     /// It takes no memory: a look-up, as `header`, and a plain write.
-    pub fn set_note(&self, number: u64, note: Note, key: &mut ValueKey, pass: &mut Pass)
-        requires book { IsValueOf key.old pass.old × (book_in self.now ≡ pass.old.name) }
-        requires number { IsSeenAt key.old number pass.old }
-        ensures looks { LooksOn pass.old pass.new }
+    pub fn set_note(&self, number: u64, note: Note, key: &mut ValueKey)
+        requires book { book_of key.old ≡ book_in self.now }
+        requires number { block_of (value_of key.old) ≡ number }
         ensures noted { HasNoted (note_code note) key.old key.new }
     {
-        let header = self.header(number, pass);
-        key.set_note(&header.note, note);
+        key.set_note(self.cell(number, key), note);
     }
 
     /// Counts down the next batch of a walk, to which this word leads: that of the slot's head as it came out, or what the step before

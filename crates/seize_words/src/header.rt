@@ -37,6 +37,8 @@ impl Field {
 
     /// Stores the value, by a slot whose call is about to try to insert its batch with this block: in the next field the word of the head
     /// that the call saw, and in the first field the number of the batch's first block. It is no event of the machine.
+    ///
+    /// It takes no memory and waits for nobody: one atomic swap.
     pub fn store(&self, value: u64, key: &mut SlotKey, pass: &mut Pass)
         requires book { IsOf key.old pass.old × IsOfBook self.now pass.old }
         requires stored { MayStore self.now key.old }
@@ -48,6 +50,8 @@ impl Field {
 
     /// Loads the field, by a slot whose call is about to count down the batch that was inserted with this block: what was last stored
     /// there, in the list that the pass has seen then. It is no event of the machine, and nothing is added to the list.
+    ///
+    /// It takes no memory and waits for nobody: one atomic load.
     pub fn load(&self, key: &mut SlotKey, pass: &mut Pass) -> u64
         requires book { IsOf key.old pass.old × IsOfBook self.now pass.old }
         requires passed { MayLoad self.now key.old }

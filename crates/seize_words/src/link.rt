@@ -77,6 +77,8 @@ impl Link {
 
     /// Reads the link: the event `ReadLink` of the activation's slot. It gives the link's word, and a glimpse of what the link holds, which
     /// lasts as long as the activation is borrowed: what is lent with the value there can be seen for that long.
+    ///
+    /// It takes no memory and waits for nobody: one atomic load.
     pub fn see<'g>(&self, activation: &'g Activation, pass: &mut Pass) -> (u64, Glimpse<'g>)
         requires within { IsIn self.now activation.now pass.old }
         ensures sees { Sees self.now activation.now pass.old pass.new result.0 result.1 }
@@ -96,6 +98,8 @@ impl Link {
     /// Puts a value that was never named into the link, or none: the event `ExchangeLink` of the activation's slot. All values that lay in
     /// its block before were reclaimed, and something is lent with it, if the blocks of its book lie in a store. It gives the word of what
     /// the link held, and the key of that, in place of the value's.
+    ///
+    /// It takes no memory and waits for nobody: one atomic swap.
     pub fn swap(
         &self,
         new: u64,
@@ -113,6 +117,8 @@ impl Link {
 
     /// The same, but only if the link's word is what was seen. It gives the word of what the link held. If that was something else, the
     /// value's key comes back, and the glimpse is of what the link holds, for as long as the activation is borrowed; else it is of nothing.
+    ///
+    /// It takes no memory and waits for nobody: one atomic compare and exchange.
     pub fn compare_exchange<'g>(
         &self,
         seen: u64,
@@ -125,7 +131,7 @@ impl Link {
         requires new { IsNewFor self.now value.old new }
         ensures exchanges { CompareExchanges self.now activation.now value.old pass.old seen value.new pass.new result.0 result.1 }
     {
-        self.word
-            .exchange_in::<Brand>(seen, new, &mut value.keys, activation, pass)
+        let word = &self.word;
+        word.exchange_in::<Brand>(seen, new, &mut value.keys, activation, pass)
     }
 }

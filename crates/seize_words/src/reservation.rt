@@ -36,6 +36,8 @@ impl Head {
     }
 
     /// Reads the head: the event `ReadHead` of a slot whose call marks, or is about to insert its batch here.
+    ///
+    /// It takes no memory and waits for nobody: one atomic load.
     pub fn read(&self, key: &mut SlotKey, pass: &mut Pass) -> u64
         requires book { IsOf key.old pass.old × IsOfBook self.now pass.old }
         requires reads { MayRead key.old self.now pass.old }
@@ -48,6 +50,8 @@ impl Head {
     /// Inserts the slot's batch with this block if the head's word is still what was seen: the event `Insert`. It gives the word that it
     /// found; the insertion is won if that is what was seen. Before each try, also after a loss, the call has stored what it saw in the
     /// block's next field, and the number of its batch's first block in its first field.
+    ///
+    /// It takes no memory and waits for nobody: one atomic compare and exchange.
     pub fn insert(&self, seen: u64, block: u64, key: &mut SlotKey, pass: &mut Pass) -> u64
         requires book { IsOf key.old pass.old × IsOfBook self.now pass.old }
         requires tries { TriesAt key.old self.now seen block }
@@ -59,6 +63,8 @@ impl Head {
     }
 
     /// The slot becomes active: the event `Enter`, which begins the activation.
+    ///
+    /// It takes no memory and waits for nobody: one atomic swap.
     pub fn enter(&self, key: &mut SlotKey, pass: &mut Pass) -> Activation
         requires book { IsOf key.old pass.old × IsOfBook self.now pass.old × IsOwn self.now key.old }
         requires outside { (is_idle (slot_of key.old) ≡ true) × (active_of key.old ≡ false) }
@@ -73,6 +79,8 @@ impl Head {
     }
 
     /// The slot leaves: the event `SwapOut` of a leave, which ends the activation. It gives the word of the head that comes out.
+    ///
+    /// It takes no memory and waits for nobody: one atomic swap.
     pub fn leave(&self, activation: Activation, key: &mut SlotKey, pass: &mut Pass) -> u64
         requires book { IsOf key.old pass.old × IsOfBook self.now pass.old × IsOwn self.now key.old }
         requires leaving { IsOut key.old false }
@@ -88,6 +96,8 @@ impl Head {
 
     /// The slot refreshes: the event `SwapOut` of a refresh, which ends the activation and begins another one. It gives the word of the
     /// head that comes out.
+    ///
+    /// It takes no memory and waits for nobody: one atomic swap.
     pub fn refresh(&self, activation: &mut Activation, key: &mut SlotKey, pass: &mut Pass) -> u64
         requires book { IsOf key.old pass.old × IsOfBook self.now pass.old × IsOwn self.now key.old }
         requires refreshing { IsOut key.old true }

@@ -32,6 +32,8 @@ impl Total {
     }
 
     /// How many slots there are in the list that the pass has seen then. It is no event, and nothing is added to the list.
+    ///
+    /// It takes no memory and waits for nobody: one atomic load.
     pub fn load(&self, pass: &mut Pass) -> u64
         requires { IsOfBook self.now pass.old }
         ensures looks { LooksOn pass.old pass.new }
@@ -44,6 +46,8 @@ impl Total {
     /// Makes the slot that comes next: the event `Take` of a number that was never in use, where all numbers below it are in use. From
     /// then on whoever loads the total knows that the slot is there, so its head has to be in its place before, as the slot's key says. It
     /// gives the keys of the slot that comes after it.
+    ///
+    /// It takes no memory and waits for nobody: one atomic addition.
     pub fn add(&self, key: &mut SlotKey, numbers: &mut NumbersKey, pass: &mut Pass) -> SlotKeys
         requires book { IsOf key.old pass.old × NumbersOf numbers.old pass.old × IsOfBook self.now pass.old }
         requires next { MayMake numbers.old key.old }

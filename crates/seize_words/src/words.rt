@@ -11,7 +11,9 @@ use crate::chunk::{Header, Part};
 use crate::glimpse::Glimpse;
 use crate::link::{Links, MaybeKey};
 use crate::slots::{NextSlot, Reservation, Slots};
-use seize_book::book::{Book, BookKeys, Keeps, NumbersKey, Pass, Porter, SlotKey, Unopened};
+use seize_book::book::{
+    Book, BookKeys, Keeps, NumbersKey, Pass, Porter, SlotKey, Unopened, ValueKeys,
+};
 use seize_store::Store;
 use seize_table::Refusal;
 use seize_table::thread_id::MAX_INDEX;
@@ -33,22 +35,25 @@ pub struct Words<T> {
 }
 
 impl<T: Drop> Words<T> {
-    ghost use Rattle.std.specs.Prelude.{ℕ, ◌<◌, ◌⊎◌, ◌↔◌, Err, IfErr, IfOk, IfSome, Some, false, is_some, true};
-    ghost use Rattle.seize_machine.specs.Machine.Event.{Enter, Insert, ReadHead, SwapOut};
+    ghost use Rattle.std.specs.Prelude.{ℕ, [], ◌<◌, ◌⊎◌, ◌↔◌, Err, IfErr, IfOk, IfSome, Some, false, is_some, true};
+    ghost use Rattle.seize_machine.specs.Machine.Event.{AddCount, Enter, Insert, ReadHead, SubCount, SwapOut};
     ghost use Rattle.seize_machine.specs.Machine.State.{is_idle};
     ghost use Rattle.seize_store.specs.Named.{name_of as store_name};
     ghost use Rattle.seize_table.specs.Named.{name_of};
     ghost use Rattle.seize_table.specs.declared.refusal.Refusal.TheVariants.{NoMemory, NoNumbers};
     ghost use Rattle.seize_book.specs.Books.{HasKeys, Opens, OpensAlone};
-    ghost use Rattle.seize_book.specs.Turns.{OpensInTurns};
+    ghost use Rattle.seize_words.specs.Counts.{Counts, GivesUp, Leaves, Takes};
     ghost use Rattle.seize_words.specs.Heads.{found_end};
-    ghost use Rattle.seize_words.specs.Joined.{IsHolder, IsInAt, IsNewTo, IsStoreOf, MayReadAt, OnHead, OnLink, OpensWords, OpensWordsAlone, OpensWordsInTurns, TriesAtSlot, words_book};
+    ghost use Rattle.seize_words.specs.Joined.{AddsWithAt, IsAddingAt, IsCountingAt, IsHolder, IsInAt, IsNewTo, IsStoreOf, MayReadAt, OnHead, OnLink, OpensWords, OpensWordsAlone, TriesAtSlot, words_book, OpensWordsInTurns};
+    ghost use Rattle.seize_book.specs.Turns.{OpensInTurns};
     ghost use Rattle.seize_words.specs.Chunks.{IsFoundAs};
     ghost use Rattle.seize_words.specs.LinkWords.{CompareExchanges, Finds, Sees, Swaps, held_before};
     ghost use Rattle.seize_words.specs.Reservations.{FoundBefore, IsActivationOf, IsLastOf, IsOut, Shows, WalksOn, beginning};
     ghost use Rattle.seize_words.specs.Reserved.{HasNext, IsSame, MakesNext};
     ghost use Rattle.seize_book.specs.Slots.{IsOf, Notes, NotesAs, active_of, number_of, slot_of};
     ghost use Rattle.seize_words.specs.Totals.{NumbersOf, slots_seen};
+    ghost use Rattle.seize_words.specs.Walks.{Knows};
+    ghost use Rattle.seize_book.specs.Values.{AreOfBook, IsEmpty};
 
     /// The words of a new book, to which many may append, with so many links, which are empty, and no slot; and what its slots are made
     /// with. A slot attempts its batch when that has `size` values, at least one. The table of heads has the buckets of the numbers from 0
@@ -225,6 +230,8 @@ impl<T: Drop> Words<T> {
     }
 
     /// The slot becomes active: the event `Enter`, which begins the activation. See `Head::enter`.
+    ///
+    /// It takes no memory and waits for nobody: the look-up of the head, as `Slots::head`, and one atomic swap.
     pub fn enter_head(&self, slot: usize, key: &mut SlotKey, pass: &mut Pass) -> Activation
         requires book { words_book self.now ≡ pass.old.name }
         requires holder { IsHolder key.old pass.old slot }
@@ -236,6 +243,8 @@ impl<T: Drop> Words<T> {
     }
 
     /// Reads a slot's head: the event `ReadHead`. See `Head::read`.
+    ///
+    /// It takes no memory and waits for nobody: the look-up of the head, as `Slots::head`, and one atomic load.
     pub fn read_head(&self, slot: usize, key: &mut SlotKey, pass: &mut Pass) -> u64
         requires book { words_book self.now ≡ pass.old.name }
         requires reads { MayReadAt key.old pass.old slot }
@@ -247,6 +256,8 @@ impl<T: Drop> Words<T> {
 
     /// Inserts the slot's batch at a slot's head, with this block, if the head's word is still what was seen: the event `Insert`. It gives
     /// the word that it found. See `Head::insert`.
+    ///
+    /// It takes no memory and waits for nobody: the look-up of the head, as `Slots::head`, and one atomic compare and exchange.
     pub fn insert(
         &self,
         slot: usize,
@@ -265,6 +276,8 @@ impl<T: Drop> Words<T> {
 
     /// The slot leaves: the event `SwapOut` of a leave, which ends the activation. It gives the word of the head that comes out. See
     /// `Head::leave`.
+    ///
+    /// It takes no memory and waits for nobody: the look-up of the head, as `Slots::head`, and one atomic swap.
     pub fn swap_out(
         &self,
         slot: usize,
@@ -284,6 +297,8 @@ impl<T: Drop> Words<T> {
 
     /// The slot refreshes: the event `SwapOut` of a refresh, which ends the activation and begins another one. It gives the word of the
     /// head that comes out. See `Head::refresh`.
+    ///
+    /// It takes no memory and waits for nobody: the look-up of the head, as `Slots::head`, and one atomic swap.
     pub fn refresh_head(
         &self,
         slot: usize,
@@ -302,7 +317,56 @@ impl<T: Drop> Words<T> {
         self.slots.head(slot, pass).refresh(activation, key, pass)
     }
 
+    /// Adds the insertions won to the count of the slot's batch, whose first value lies in the block with this number: the event `AddCount`.
+    /// It says whether the count is 0 then. See `Count::add`.
+    ///
+    /// It takes no memory and waits for nobody: a look-up, as `Blocks::header`, and one atomic addition.
+    pub fn add(
+        &self,
+        block: u64,
+        won: u64,
+        key: &mut SlotKey,
+        values: &mut ValueKeys,
+        pass: &mut Pass,
+    ) -> bool
+        requires book { IsOf key.old pass.old × (words_book self.now ≡ pass.old.name) × AreOfBook values.old pass.old }
+        requires knows { Knows key.old pass.old }
+        requires adds { AddsWithAt key.old block won values.old }
+        ensures counts { Counts key.old pass.old key.new pass.new (AddCount (number_of key.old)) result }
+        ensures gives { (adds : IsAddingAt key.old block won) → GivesUp key.old key.new adds.batch [] adds.queue result }
+        ensures keys { Leaves values.old pass.new values.new result }
+        ensures knows { Knows key.new pass.new }
+    {
+        let header = self.blocks.header(block, pass);
+        header.count.add(won, key, values, pass)
+    }
+
+    /// Counts down the batch that the slot's walk comes to, whose first value lies in the block with this number: the event `SubCount`. It
+    /// says whether the count is 0 then. See `Count::subtract`; `Blocks::count_down` finds the number too.
+    ///
+    /// It takes no memory and waits for nobody: a look-up, as `Blocks::header`, and one atomic subtraction.
+    pub fn subtract(
+        &self,
+        block: u64,
+        key: &mut SlotKey,
+        values: &mut ValueKeys,
+        pass: &mut Pass,
+    ) -> bool
+        requires book { IsOf key.old pass.old × (words_book self.now ≡ pass.old.name) × IsEmpty values.old pass.old }
+        requires knows { Knows key.old pass.old }
+        requires counts { IsCountingAt key.old block }
+        ensures counts { Counts key.old pass.old key.new pass.new (SubCount (number_of key.old)) result }
+        ensures gives { (at : IsCountingAt key.old block) → GivesUp key.old key.new at.batch at.walk at.queue result }
+        ensures keys { (at : IsCountingAt key.old block) → Takes key.old at.batch pass.new values.new result }
+        ensures knows { Knows key.new pass.new }
+    {
+        let header = self.blocks.header(block, pass);
+        header.count.subtract(key, values, pass)
+    }
+
     /// Reads a link: the event `ReadLink`. It gives the link's word and a glimpse of what the link holds. See `Link::see`.
+    ///
+    /// It takes no memory and waits for nobody: one load to find the link, and one atomic load.
     pub fn read_link<'g>(
         &self,
         link: usize,
@@ -341,6 +405,8 @@ impl<T: Drop> Words<T> {
     }
 
     /// Exchanges what a link holds for a value that was never named, or for none, in any case: the event `ExchangeLink`. See `Link::swap`.
+    ///
+    /// It takes no memory and waits for nobody: one load to find the link, and one atomic swap.
     pub fn swap_link(
         &self,
         link: usize,
@@ -359,6 +425,8 @@ impl<T: Drop> Words<T> {
     }
 
     /// The same, but only if the link's word is what was seen. See `Link::compare_exchange`.
+    ///
+    /// It takes no memory and waits for nobody: one load to find the link, and one atomic compare and exchange.
     pub fn exchange_link<'g>(
         &self,
         link: usize,

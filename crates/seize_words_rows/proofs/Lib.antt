@@ -11,6 +11,7 @@ pub mod Passages
 pub mod Successors
 pub mod Marks
 pub mod NotedRuns
+pub mod NumberedRuns
 pub mod Rows
 pub mod Stages
 pub mod Tries

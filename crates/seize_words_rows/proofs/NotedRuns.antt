@@ -1,12 +1,12 @@
 -- The steps of the run of a noted batch, from stage to stage.
-use Rattle.std.proofs.Common.{◌≡◌, ℕ, pos, Bool, true, false, not, ◌||◌, if◌then◌else◌, Some, None, List, [], ◌∷◌, ◌++◌, refl, sym, ap, ◌∙◌, subst}
+use Rattle.std.proofs.Common.{◌≡◌, ℕ, pos, Bool, false, not, ◌||◌, if◌then◌else◌, Some, None, List, [], ◌∷◌, ◌++◌, refl, sym, ap, ◌∙◌, subst}
 use denote.Builtin.{u64}
 use Rattle.seize_machine.specs.Machine.State.{has, slot_at}
 use Rattle.seize_machine.specs.Machine.Event.{Take, Begin, Put, Return, ReadHead, Detach, AddCount, Hand}
 use Rattle.seize_machine.specs.declared.machine.event.Answer.TheVariants.{Done, Head as HeadRead, Count, Handed}
 use Rattle.seize_machine.specs.declared.machine.event.Job.TheVariants.{Retire}
 use Rattle.seize_book.specs.Blocks.{block_of}
-use Rattle.seize_book.specs.Others.{FollowsValue, value_of}
+use Rattle.seize_book.specs.Others.{FollowsValue}
 use Rattle.seize_book.specs.Slots.{hands_next}
 use Rattle.seize_book.specs.Tokens.{Name}
 use Rattle.seize_book.specs.Values.{values_of as keys_values}
@@ -14,13 +14,11 @@ use Rattle.seize_book.specs.declared.book.pass.Pass.{Pass}
 use Rattle.seize_book.specs.declared.book.slot_key.SlotKey.{SlotKey}
 use Rattle.seize_book.specs.declared.book.value_key.ValueKey.{ValueKey}
 use Rattle.seize_book.specs.declared.book.value_keys.ValueKeys.{ValueKeys}
-use Rattle.seize_words.specs.Noted.{IsSeenAt}
 use Rattle.seize_words.proofs.Facts.{is_lent}
 use Rattle.seize_words_rows.specs.BlockRuns.{IsIn, IsNew}
 use Rattle.seize_words_rows.specs.Reclaiming.{IsNextAt}
-use Rattle.seize_words_rows.specs.Stages.{Goes, Knows, Sees, Stage}
+use Rattle.seize_words_rows.specs.Stages.{Goes, Knows, Stage}
 use Rattle.seize_words_rows.specs.declared.block_run.Lent.{Lent}
-use Rattle.seize_words_rows.proofs.BlockRuns.{is_named}
 use Rattle.seize_words_rows.proofs.Stages.{record_is, same_value}
 use Rattle.seize_words_rows.specs.NotedRuns.{HasKey, Values, all, all_handed, begun, detached, full, given, made, one_handed, one_put, opened, over, read, two_handed, waits}
 
@@ -70,10 +68,6 @@ returns_last t = record { size = refl; legal = refl; planned = refl }
 -- a key whose value was retired is the same one
 pub has_key : (n : Name) (lent : Lent) (key key' : ValueKey) (pass' : Pass) → IsNew n lent key → FollowsValue key pass' key' → HasKey n lent key'
 has_key n lent key key' pass' new follows = record { book = follows.0 ∙ new.book; its = subst (IsIn lent) (sym (same_value key key' pass' follows)) new.its }
-
--- a value that was named is seen so
-pub seen_at : (n : Name) (lent : Lent) (key : ValueKey) (pass : Pass) (stage : Stage) → HasKey n lent key → Sees n pass stage → has (value_of key) stage.state.named ≡ true → IsSeenAt key lent.number pass
-seen_at n lent key pass stage is sees named = (is_named n pass stage (value_of key) sees named, is.its.number)
 
 -- the next value that is handed
 abbrev pub next_at : (n : Name) (key : SlotKey) (keys : ValueKeys) (lent : Lent) (v number : ℕ) (vs : List ℕ) (stage : Stage) → keys_values keys ≡ v ∷ vs → Knows n key 0 stage → hands_next (slot_at stage.state 0) ≡ Some v → IsIn lent v → block_of v ≡ number

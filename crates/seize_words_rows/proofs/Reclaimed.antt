@@ -5,14 +5,13 @@ use Rattle.std.specs.Prelude.{slice_index_or}
 use Rattle.seize_machine.specs.Machine.Event.{Event, Hand}
 use Rattle.seize_machine.specs.declared.machine.event.Answer.{Answer}
 use Rattle.seize_book.specs.Adding.{private}
-use Rattle.seize_book.specs.Book.{after, blocks}
+use Rattle.seize_book.specs.Book.{after}
 use Rattle.seize_book.specs.Entry.{Entry}
 use Rattle.seize_book.specs.Ledger.{Held, renewed}
 use Rattle.seize_book.specs.Linked.{next_in}
-use Rattle.seize_book.specs.Notes.{IsStored, IsUnchanged}
+use Rattle.seize_book.specs.Notes.{IsStored}
 use Rattle.seize_book.specs.Others.{IsLast, IsLastIn, value_of}
 use Rattle.seize_book.specs.Passes.{LooksOn}
-use Rattle.seize_book.specs.Private.{is_one, label_of, own_of}
 use Rattle.seize_book.specs.Slots.{IsOf, Notes, number_of}
 use Rattle.seize_book.specs.Tokens.{Name, start}
 use Rattle.seize_book.specs.Values.{Nexts, values_of}

@@ -178,16 +178,11 @@ pub fn retire(
     retirer.begin_retire(&mut one, pass);
     retirer.put(pass);
     retirer.finish(pass);
-    run.blocks.set_note(
-        pair.first.number,
-        note_of(pair.second.number + 1),
-        &mut one,
-        pass,
-    );
+    run.blocks.set_note(pair.first.number, note_of(pair.second.number + 1), &mut one);
     retirer.begin_retire(&mut other, pass);
     retirer.put(pass);
     run.blocks
-        .set_note(pair.second.number, note_of(0), &mut other, pass);
+        .set_note(pair.second.number, note_of(0), &mut other);
     let mut values = ValueKeys::of(one);
     values.push(other);
     Batch { pair, values }

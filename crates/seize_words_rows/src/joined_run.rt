@@ -181,8 +181,8 @@ pub fn note_beside(
 {
     let value = see(words, lent, finder, pass);
     let (_, mut key) = take_out(words, lent, other, pass);
-    words.blocks.set_note(lent.number, note, &mut key, pass);
-    let noted = words.blocks.note(lent.number, &mut key, pass);
+    words.blocks.set_note(lent.number, note, &mut key);
+    let noted = words.blocks.note(lent.number, &mut key);
     (*value, noted, key)
 }
 

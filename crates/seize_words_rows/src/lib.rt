@@ -17,6 +17,7 @@ pub mod linked;
 pub mod making;
 pub mod marking;
 pub mod noted_run;
+pub mod numbered_run;
 pub mod numbers;
 pub mod reads;
 pub mod reclaiming;

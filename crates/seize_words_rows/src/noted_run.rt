@@ -7,10 +7,10 @@ ghost use Rattle.seize_words_rows.specs.Making.{CanMake, made_by, name_by};
 ghost use Rattle.seize_words_rows.specs.NotedRuns.{AreKeys, AreNew, AreWords, EndsAt, HoldsKeys, LeadsNext, Stands, StandsWith, book_of, full, given, made, opened, values_of};
 ghost use Rattle.seize_words_rows.specs.Reclaiming.{AreReady};
 ghost use Rattle.seize_words_rows.specs.Stages.{Knows, Sees};
-ghost use Rattle.seize_book.specs.Others.{IsValueOf};
-ghost use Rattle.seize_book.specs.Passes.{LooksOn};
+ghost use Rattle.seize_book.specs.Blocks.{block_of};
+ghost use Rattle.seize_book.specs.Others.{value_of};
+ghost use Rattle.seize_book.specs.Others.{book_of as value_book};
 ghost use Rattle.seize_words.specs.Named.{head_book};
-ghost use Rattle.seize_words.specs.Noted.{IsSeenAt};
 ghost use Rattle.seize_words.specs.Reservations.{slot};
 
 use crate::block_run::{Lent, give_back, lend};
@@ -133,10 +133,9 @@ fn retire(
 }
 
 // Notes of the block that this word follows.
-fn note_next(blocks: &Blocks<u64>, lent: Lent, next: u64, key: &mut ValueKey, pass: &mut Pass)
-    requires book { IsValueOf key.old pass.old × (blocks_book blocks.now ≡ pass.old.name) }
-    requires seen { IsSeenAt key.old lent.number pass.old }
-    ensures looks { LooksOn pass.old pass.new }
+fn note_next(blocks: &Blocks<u64>, lent: Lent, next: u64, key: &mut ValueKey)
+    requires book { value_book key.old ≡ blocks_book blocks.now }
+    requires number { block_of (value_of key.old) ≡ lent.number }
     ensures leads { LeadsNext key.old key.new next }
 {
     let note = Note {
@@ -144,42 +143,21 @@ fn note_next(blocks: &Blocks<u64>, lent: Lent, next: u64, key: &mut ValueKey, pa
         slot: 0,
         kept: 0,
     };
-    blocks.set_note(lent.number, note, key, pass);
+    blocks.set_note(lent.number, note, key);
 }
 
 // Notes of each block the word of the next one, and gives all keys. The last leads to none.
-fn link(
-    run: &Run,
-    three: Three,
-    one: ValueKey,
-    two: ValueKey,
-    last: ValueKey,
-    pass: &mut Pass,
-) -> ValueKeys
+fn link(run: &Run, three: Three, one: ValueKey, two: ValueKey, last: ValueKey) -> ValueKeys
     requires words { AreWords run.now }
-    requires sees { Sees (book_of run.now) pass.old (full (values_of one two last)) }
     requires keys { AreKeys (book_of run.now) three one two last }
-    ensures sees { Sees (book_of run.now) pass.new (full (values_of one two last)) }
     ensures keys { HoldsKeys (book_of run.now) three (values_of one two last) result }
 {
     let mut one = one;
     let mut two = two;
     let mut last = last;
-    note_next(
-        &run.blocks,
-        three.first,
-        three.second.number + 1,
-        &mut one,
-        pass,
-    );
-    note_next(
-        &run.blocks,
-        three.second,
-        three.third.number + 1,
-        &mut two,
-        pass,
-    );
-    note_next(&run.blocks, three.third, 0, &mut last, pass);
+    note_next(&run.blocks, three.first, three.second.number + 1, &mut one);
+    note_next(&run.blocks, three.second, three.third.number + 1, &mut two);
+    note_next(&run.blocks, three.third, 0, &mut last);
     let mut values = ValueKeys::of(one);
     values.push(two);
     values.push(last);
@@ -204,7 +182,7 @@ pub fn retire_noted(
     let mut two = two;
     let mut last = last;
     retire(run, three, &mut one, &mut two, &mut last, key, pass);
-    link(run, three, one, two, last, pass)
+    link(run, three, one, two, last)
 }
 
 /// Its call finds no active slot, so its batch waits for nobody: the count is 0, and the batch is given up to it.

@@ -56,7 +56,7 @@ pub fn reclaim_next<T: Drop>(
     ensures reclaims { Reclaims slot.old pass.old slot.new pass.new [] }
 {
     let mut key = values.next();
-    let note = blocks.note(number, &mut key, pass);
+    let note = blocks.note(number, &mut key);
     let mut none = ValueKeys::new(pass);
     let value = reclaim(blocks, number, key, &mut none, slot, pass);
     (value, note.next)

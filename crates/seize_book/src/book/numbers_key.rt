@@ -6,6 +6,8 @@ ghost use Rattle.seize_book.specs.Private.{is_one, key_of};
 use crate::book::keys::Keys;
 
 /// The right to take slots' numbers and to give them back. It knows which are in use.
+///
+/// Where it is dropped, no number is taken or given back any more, so no slot is made.
 #[derive(Drop)]
 pub struct NumbersKey {
     /// The right by itself, for crates with words.

@@ -1,5 +1,5 @@
 //! The key of a slot, and the events that its holder makes of the slot itself. It is `Keys` with one key; they are added with a pass.
-ghost use Rattle.std.specs.Prelude.{◌≡◌, [], true, false, IfSome, None, Some, is_some};
+ghost use Rattle.std.specs.Prelude.{◌≡◌, [], true, false, slice_set, IfSome, None, Some, is_some};
 ghost use Rattle.seize_machine.specs.Machine.State.{is_idle};
 ghost use Rattle.seize_machine.specs.Machine.Event.{Begin, Detach, Give, Hand, Put, Return, Take};
 ghost use Rattle.seize_machine.specs.declared.machine.event.Job.TheVariants.{Flush, Leave, Refresh, Retire};
@@ -17,6 +17,8 @@ use std::marker::Brand;
 /// The right to the events of one slot, but for those on links, which whoever has a guard of the slot may make, and to its uses of fields.
 /// It knows the slot's record, whether the slot is active, and what was last stored in the fields of the block that its call is about to
 /// insert, whatever others add.
+///
+/// Where it is dropped, its slot stays as it is for good: active if it is active, and with its batch.
 #[derive(Drop)]
 pub struct SlotKey {
     /// The right by itself, for crates with words.
@@ -27,7 +29,7 @@ pub struct SlotKey {
 impl SlotKey {
     ghost use Rattle.seize_book.specs.Batches.{CanDetach, Detaches};
     ghost use Rattle.seize_book.specs.Values.{AreLast, AreOfBook, AreNew, AreSpent, Keep, values_of};
-    ghost use Rattle.seize_book.specs.Others.{AreNumbersOf, CannotRetire, Follows, FollowsNumbers, FollowsValue, IsLast, IsOfBook, IsValueOf, IsWith, Knew, MayRetire, MayTake, SameKind, value_of};
+    ghost use Rattle.seize_book.specs.Others.{AreNumbersOf, CannotRetire, Follows, FollowsNumbers, FollowsValue, IsLast, IsOfBook, IsValueOf, IsWith, Knew, MayRetire, MayTake, SameKind, in_use, value_of};
     ghost use Rattle.seize_book.specs.Private.{IsOpen, IsPrivate};
     ghost use Rattle.seize_book.specs.Slots.{HandsOnce, HandsSoon, Looks, Notes, IsOf, active_of, hands_next, number_of, size_of, slot_of, start_of};
     ghost use Rattle.seize_book.specs.Tables.{IsLike, IsPlaced};
@@ -106,6 +108,7 @@ impl SlotKey {
         requires idle { (is_idle (slot_of self.old) ≡ true) × (active_of self.old ≡ false) }
         ensures noted { Notes self.old pass.old self.new pass.new (Give (number_of self.old)) }
         ensures numbers { FollowsNumbers numbers.old pass.new numbers.new }
+        ensures used { in_use numbers.new ≡ slice_set (in_use numbers.old) (number_of self.old) false }
     {
         self.note_with::<Brand>(&mut numbers.keys, pass);
     }
@@ -116,6 +119,7 @@ impl SlotKey {
         requires least { MayTake numbers.old self.old }
         ensures noted { Notes self.old pass.old self.new pass.new (Take (number_of self.old)) }
         ensures numbers { FollowsNumbers numbers.old pass.new numbers.new }
+        ensures used { in_use numbers.new ≡ slice_set (in_use numbers.old) (number_of self.old) true }
     {
         self.note_with::<Brand>(&mut numbers.keys, pass);
     }

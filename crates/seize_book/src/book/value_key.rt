@@ -14,6 +14,8 @@ use seize_store::Known;
 
 /// The right to name the values of one block, of which it is this one's turn: to put it into a link, out of one, and to begin to retire it.
 /// It knows which of the block's values were ever named, and which came out of a link and no call began to retire them.
+///
+/// Where it is dropped, what is lent with the value is lost, and its block stays out of the store for good.
 #[derive(Drop)]
 pub struct ValueKey {
     /// The right by itself, for crates with words.

@@ -9,6 +9,8 @@ use crate::slots::Reservation;
 use seize_book::book::{Book, SlotKey, SlotKeys};
 
 /// The slot that comes next, with its head, which is in no place yet.
+///
+/// Where it is dropped, no further slot can be made in its book; those that are there stay.
 #[derive(Drop)]
 pub struct NextSlot {
     pub(super) number: usize,
@@ -38,5 +40,12 @@ impl NextSlot {
             key: slot,
             reservation: Reservation::new(Head::new(head), book.again()),
         }
+    }
+
+    /// The number at which the slot will be made, by which calls name it then.
+    pub fn number(&self) -> usize
+        ensures { result ≡ comes_next self.now }
+    {
+        self.number
     }
 }

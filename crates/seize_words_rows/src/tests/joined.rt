@@ -2,7 +2,7 @@
 ghost use Rattle.seize_words_rows.specs.Entrants.{HasLinks, MayEnter, MayRead, MayReadAll};
 
 use crate::entrants::{Entered, Entrant, LINKS, meet, open, read_under};
-use crate::joined_run;
+use crate::{joined_run, numbered_run};
 use seize_words::note::Note;
 use seize_words::words::Words;
 use std::sync::Wait;
@@ -45,6 +45,30 @@ fn a_block_goes_through_a_link(rt: HostRuntime) {
         joined_run::leave(&words, 1, second, &mut other, &mut pass),
         1
     );
+}
+
+// A value is retired over words that are found by their numbers. The reader counts its batch down first, below 0, and nothing is given up
+// with that; the other slot's one insertion brings it up to 0, and then the value goes to its reclaimer.
+#[test]
+fn a_batch_is_counted_by_the_number_of_its_block(rt: HostRuntime) {
+    let Some((words, mut reader, mut retirer, mut pass)) = numbered_run::begin(rt.alloc()) else {
+        panic!(rt; "no memory");
+    };
+    let activation = numbered_run::enter(&words, &mut reader, &mut pass);
+    let Some(mut retired) = numbered_run::retire(&words, 70, &mut retirer, &mut pass) else {
+        panic!(rt; "no memory");
+    };
+    let marked = numbered_run::mark(&words, &retired, &mut retirer, &mut pass);
+    assert_eq!(rt; marked, (1, 0));
+    let seen = numbered_run::detach(&words, &retired, &mut retirer, &mut pass);
+    let found = numbered_run::insert(&words, &retired, &mut retirer, &mut pass);
+    assert_eq!(rt; (seen, found), (1, 1));
+    let list = numbered_run::leave(&words, &retired, &mut reader, activation, &mut pass);
+    assert_eq!(rt; list, retired.lent.number + 2);
+    assert!(rt; !numbered_run::count_down(&words, &retired, &mut reader, &mut pass));
+    assert!(rt; numbered_run::count_up(&words, &mut retired, &mut retirer, &mut pass));
+    let value = numbered_run::hand(&words, retired, &mut retirer, &mut pass);
+    assert_eq!(rt; value, 70);
 }
 
 // A block is noted while a reader sees its value: the value comes out of the link meanwhile, and is what it was.

@@ -1,62 +1,28 @@
-use Rattle.std.proofs.Common.{◌≡◌, ℕ, ◌+◌, true, List, [], ◌∷◌, ◌++◌, append_assoc, arith, ap, sym, subst, ◌∙◌, refl}
+use Rattle.std.proofs.Common.{ℕ, ◌+◌, List, [], ◌∷◌, ◌++◌, arith, ap, sym, ◌∙◌, refl}
 use Rattle.seize_machine.specs.Machine.Event.{Begin, Put, Return}
-use Rattle.seize_machine.specs.Machine.State.{has}
 use Rattle.seize_machine.specs.declared.machine.event.Answer.TheVariants.{Done}
 use Rattle.seize_machine.specs.declared.machine.event.Job.TheVariants.{Retire}
 use Rattle.seize_book.specs.Blocks.{block_of}
-use Rattle.seize_book.specs.Homesteads.{state_seen}
 use Rattle.seize_book.specs.Linked.{next_in}
 use Rattle.seize_book.specs.Others.{value_of}
 use Rattle.seize_words.specs.declared.note.Note.{Note}
 use Rattle.seize_words.proofs.Facts.{has_noted, last_closes, one_leads}
-use Rattle.seize_words_rows.specs.BlockRuns.{Two, begun_first, begun_second, book_of, both, named_in, one_put, put, put_first, rests}
-use Rattle.seize_words_rows.proofs.BlockRuns.{begins_first, begins_second, few_before, fresh_now, has_among, is_named, puts_first, puts_second, returns_first}
-use Rattle.seize_words_rows.proofs.Stages.{looks_on, same_value, steps}
+use Rattle.seize_words_rows.specs.BlockRuns.{Two, begun_first, begun_second, book_of, both, one_put, put, put_first, rests}
+use Rattle.seize_words_rows.proofs.BlockRuns.{begins_first, begins_second, few_before, fresh_now, puts_first, puts_second, returns_first}
+use Rattle.seize_words_rows.proofs.Stages.{same_value, steps}
 use Rattle.seize_words_rows.proofs.block_run.retire.Goals as goal
 
 pub set_note-requires : goal.set_note-requires
 set_note-requires c =
-    let run = c.args.run.now in let n = book_of run in let stands = c.requires.stands.0 in let rest = c.requires.stands.1 in
-    let ps = stands.0 in let few = few_before c.args.before ps stands.2 in
-    let p : Two = (value_of c.args.one, value_of c.args.other) in
-    let one = c.begin_retire in let two = c.put in let three = c.finish in
-    let fresh_first = fresh_now n c.args.retirer.now one.new.self c.args.pass.now one.new.pass p.0 (rests ps) one.ensures.noted stands.3 refl in
-    let begun = steps n c.args.retirer.now one.new.self c.args.pass.now one.new.pass 1 0 (λ s. Begin s (Retire p.0)) (rests ps) rest.0 (begun_first ps p) Done one.ensures.noted stands.3 rest.1 (begins_first ps few p fresh_first) in
-    let first_put = steps n one.new.self two.new.self one.new.pass two.new.pass 1 0 (λ s. Put s) (begun_first ps p) (begun_first ps p) (put_first ps p) Done two.ensures.noted begun.0 begun.1 (puts_first ps few p) in
-    let back = steps n two.new.self three.new.self two.new.pass three.new.pass 1 0 (λ s. Return s) (put_first ps p) (put_first ps p) (one_put ps p) Done three.ensures.noted first_put.0 first_put.1 (returns_first ps few p) in
+    let one = c.begin_retire in let new = c.requires.new.0 in
     let same = same_value c.args.one one.new.value one.new.pass one.ensures.value in
-    let named = is_named n three.new.pass (one_put ps p) p.0 back.0 (has_among (named_in ps) p.0 []) in
-    let book = sym back.0.book in (
-      omega arith,
-      (
-        (one.ensures.value.0 ∙ (c.requires.new.0.book ∙ book), stands.1.1 ∙ book),
-        (ap (λ (v : ℕ). has v (state_seen three.new.pass).named) same ∙ named, ap block_of same ∙ c.requires.new.0.its.number),
-      ),
-    )
+    (omega arith, (one.ensures.value.0 ∙ new.book ∙ sym c.requires.stands.0.1.1, ap block_of same ∙ new.its.number))
 
 pub set_note-requires-2 : goal.set_note-requires-2
 set_note-requires-2 c =
-    let run = c.args.run.now in let n = book_of run in let stands = c.requires.stands.0 in let rest = c.requires.stands.1 in
-    let ps = stands.0 in let few = few_before c.args.before ps stands.2 in
-    let p : Two = (value_of c.args.one, value_of c.args.other) in
-    let one = c.begin_retire in let two = c.put in let three = c.finish in let four = c.begin_retire-2 in let five = c.put-2 in
-    let fresh_first = fresh_now n c.args.retirer.now one.new.self c.args.pass.now one.new.pass p.0 (rests ps) one.ensures.noted stands.3 refl in
-    let begun = steps n c.args.retirer.now one.new.self c.args.pass.now one.new.pass 1 0 (λ s. Begin s (Retire p.0)) (rests ps) rest.0 (begun_first ps p) Done one.ensures.noted stands.3 rest.1 (begins_first ps few p fresh_first) in
-    let first_put = steps n one.new.self two.new.self one.new.pass two.new.pass 1 0 (λ s. Put s) (begun_first ps p) (begun_first ps p) (put_first ps p) Done two.ensures.noted begun.0 begun.1 (puts_first ps few p) in
-    let back = steps n two.new.self three.new.self two.new.pass three.new.pass 1 0 (λ s. Return s) (put_first ps p) (put_first ps p) (one_put ps p) Done three.ensures.noted first_put.0 first_put.1 (returns_first ps few p) in
-    let noted = c.set_note in let looked = looks_on n three.new.self three.new.self three.new.pass noted.new.pass 1 (one_put ps p) noted.ensures.looks refl back.0 back.1 in
-    let fresh_second = fresh_now n three.new.self four.new.self noted.new.pass four.new.pass p.1 (one_put ps p) four.ensures.noted looked.0 refl in
-    let again = steps n three.new.self four.new.self noted.new.pass four.new.pass 1 0 (λ s. Begin s (Retire p.1)) (one_put ps p) (one_put ps p) (begun_second ps p) Done four.ensures.noted looked.0 looked.1 (begins_second ps few p fresh_second) in
-    let last = steps n four.new.self five.new.self four.new.pass five.new.pass 1 0 (λ s. Put s) (begun_second ps p) (begun_second ps p) (put ps p) Done five.ensures.noted again.0 again.1 (puts_second ps few p) in
+    let four = c.begin_retire-2 in let new = c.requires.new.1 in
     let same = same_value c.args.other four.new.value four.new.pass four.ensures.value in
-    let named = is_named n five.new.pass (put ps p) p.1 last.0 (subst (λ (vs : List ℕ). has p.1 vs ≡ true) (append_assoc (named_in ps) (p.0 ∷ []) (p.1 ∷ [])) (has_among (named_in ps ++ p.0 ∷ []) p.1 [])) in
-    let book = sym last.0.book in (
-      omega arith,
-      (
-        (four.ensures.value.0 ∙ (c.requires.new.1.book ∙ book), stands.1.1 ∙ book),
-        (ap (λ (v : ℕ). has v (state_seen five.new.pass).named) same ∙ named, ap block_of same ∙ c.requires.new.1.its.number),
-      ),
-    )
+    (omega arith, (four.ensures.value.0 ∙ new.book ∙ sym c.requires.stands.0.1.1, ap block_of same ∙ new.its.number))
 
 pub push-requires-clause-leads : goal.push-requires-clause-leads
 push-requires-clause-leads c =
@@ -75,13 +41,12 @@ returns-clause-stands c =
     let begun = steps n c.args.retirer.now one.new.self c.args.pass.now one.new.pass 1 0 (λ s. Begin s (Retire p.0)) (rests ps) rest.0 (begun_first ps p) Done one.ensures.noted stands.3 rest.1 (begins_first ps few p fresh_first) in
     let first_put = steps n one.new.self two.new.self one.new.pass two.new.pass 1 0 (λ s. Put s) (begun_first ps p) (begun_first ps p) (put_first ps p) Done two.ensures.noted begun.0 begun.1 (puts_first ps few p) in
     let back = steps n two.new.self three.new.self two.new.pass three.new.pass 1 0 (λ s. Return s) (put_first ps p) (put_first ps p) (one_put ps p) Done three.ensures.noted first_put.0 first_put.1 (returns_first ps few p) in
-    let noted = c.set_note in let looked = looks_on n three.new.self three.new.self three.new.pass noted.new.pass 1 (one_put ps p) noted.ensures.looks refl back.0 back.1 in
-    let fresh_second = fresh_now n three.new.self four.new.self noted.new.pass four.new.pass p.1 (one_put ps p) four.ensures.noted looked.0 refl in
-    let again = steps n three.new.self four.new.self noted.new.pass four.new.pass 1 0 (λ s. Begin s (Retire p.1)) (one_put ps p) (one_put ps p) (begun_second ps p) Done four.ensures.noted looked.0 looked.1 (begins_second ps few p fresh_second) in
+    let noted = c.set_note in
+    let fresh_second = fresh_now n three.new.self four.new.self three.new.pass four.new.pass p.1 (one_put ps p) four.ensures.noted back.0 refl in
+    let again = steps n three.new.self four.new.self three.new.pass four.new.pass 1 0 (λ s. Begin s (Retire p.1)) (one_put ps p) (one_put ps p) (begun_second ps p) Done four.ensures.noted back.0 back.1 (begins_second ps few p fresh_second) in
     let last = steps n four.new.self five.new.self four.new.pass five.new.pass 1 0 (λ s. Put s) (begun_second ps p) (begun_second ps p) (put ps p) Done five.ensures.noted again.0 again.1 (puts_second ps few p) in
     let first_value = (has_noted _ one.new.value noted.new.key noted.ensures.noted).1 ∙ same_value c.args.one one.new.value one.new.pass one.ensures.value in
-    let six = c.set_note-2 in let end = looks_on n five.new.self five.new.self five.new.pass six.new.pass 1 (put ps p) six.ensures.looks refl last.0 last.1 in
-    let told = has_noted _ four.new.value six.new.key six.ensures.noted in
+    let six = c.set_note-2 in let told = has_noted _ four.new.value six.new.key six.ensures.noted in
     let second_value = told.1 ∙ same_value c.args.other four.new.value four.new.pass four.ensures.value in
     let closed = last_closes c.of-values.result six.new.key c.push.new.self c.push.ensures (ap next_in told.0 ∙ ap (λ (note : Note). note.next) c.note_of-2.ensures) in
     let keys = c.push.ensures.1 ∙ (ap (λ (vs : List ℕ). vs ++ value_of six.new.key ∷ []) c.of-values.ensures.1 ∙ ap (λ (q : Two). both q) (λ j. (first_value j, second_value j))) in
@@ -92,6 +57,6 @@ returns-clause-stands c =
       stands.2,
       (new.0.its, new.1.its),
       (book, keys, closed),
-      end.0,
-      end.1,
+      last.0,
+      last.1,
     )

@@ -3,5 +3,5 @@ use Rattle.seize_words_rows.proofs.noted_run.retire_noted.Goals as goal
 
 pub returns : goal.returns
 returns c =
-    let retired = c.retire in let linked = c.link in let stands = retired.ensures.stands in
-    record { stands = (values_of retired.new.one retired.new.two retired.new.last, linked.ensures.keys, (stands.0, linked.ensures.sees, stands.2)) }
+    let retired = c.retire in
+    record { stands = (values_of retired.new.one retired.new.two retired.new.last, c.link.ensures.keys, retired.ensures.stands) }

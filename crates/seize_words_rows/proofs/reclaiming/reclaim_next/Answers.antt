@@ -1,7 +1,5 @@
-use Rattle.std.proofs.Common.{◌≡◌, ℕ, Some, true, List, [], arith, ap, sym, subst, ◌∙◌}
-use Rattle.seize_machine.specs.Machine.State.{has}
+use Rattle.std.proofs.Common.{◌≡◌, ℕ, Some, List, [], arith, ap, sym, subst, ◌∙◌}
 use Rattle.seize_book.specs.Blocks.{block_of}
-use Rattle.seize_book.specs.Homesteads.{state_seen}
 use Rattle.seize_book.specs.Loans.{CarriesNone}
 use Rattle.seize_book.specs.Notes.{IsStored}
 use Rattle.seize_book.specs.Others.{value_of}
@@ -11,39 +9,32 @@ use Rattle.seize_book.specs.Values.{values_of}
 use Rattle.seize_book.specs.declared.book.pass.Pass.{Pass}
 use Rattle.seize_words.specs.Chunks.{IsLentAs}
 use Rattle.seize_words.specs.Walks.{Knows}
-use Rattle.seize_words.proofs.Facts.{blocks_stored, handing_named, knows_still, none_new, unchanged_last, unchanged_value}
+use Rattle.seize_words.proofs.Facts.{blocks_stored, none_new, unchanged_last, unchanged_value}
 use Rattle.seize_words_rows.specs.Reclaiming.{Reclaims}
-use Rattle.seize_words_rows.proofs.Reclaimed.{first_is, is_last, its_book, looked_too, next_noted, reclaimed_by, rest_ready}
+use Rattle.seize_words_rows.proofs.Reclaimed.{first_is, is_last, its_book, next_noted, reclaimed_by, rest_ready}
 use Rattle.seize_words_rows.proofs.reclaiming.reclaim_next.Goals as goal
 
 pub note-note-requires : goal.note-note-requires
 note-note-requires g c =
-    let ready = c.requires.ready.0 in let next = c.requires.next in let key = c.next-key.result in
-    let same : next.value ≡ value_of key = first_is next.value (value_of key) next.rest (values_of c.next-key.new.self) (values_of c.args.values.now) next.are c.next-key.ensures.2 in (
-      omega arith,
-      (
-        (its_book c.args.values.now c.args.slot.now c.args.pass.now ready key c.next-key.new.self c.next-key.ensures, c.requires.ready.1),
-        (
-          subst (λ (v : ℕ). has v (state_seen c.args.pass.now).named ≡ true) same (handing_named c.args.slot.now c.args.pass.now ready.its ready.seen next.value next.soon),
-          subst (λ (v : ℕ). block_of v ≡ c.args.number) same next.numbered,
-        ),
-      ),
-    )
+    let ready = c.requires.ready in let next = c.requires.next in let key = c.next-key.result in
+    let same : next.value ≡ value_of key = first_is next.value (value_of key) next.rest (values_of c.next-key.new.self) (values_of c.args.values.now) next.are c.next-key.ensures.2 in
+    let its = its_book c.args.values.now c.args.slot.now c.args.pass.now ready.0 key c.next-key.new.self c.next-key.ensures in
+    (omega arith, (its ∙ sym ready.1, subst (λ (v : ℕ). block_of v ≡ c.args.number) same next.numbered))
 
 pub reclaim-value-requires : goal.reclaim-value-requires
 reclaim-value-requires g c =
     let ready = c.requires.ready.0 in let next = c.requires.next in let key = c.next-key.result in let slot = c.args.slot.now in let pass = c.args.pass.now in let noted = c.note-note in let none = c.new-none in
     let same : next.value ≡ value_of noted.new.key =
     first_is next.value (value_of key) next.rest (values_of c.next-key.new.self) (values_of c.args.values.now) next.are c.next-key.ensures.2 ∙ sym (unchanged_value key noted.new.key noted.ensures.same) in
-    let one : none.new.pass.name ≡ noted.new.pass.name = ap (λ (p : Pass). p.name) none.ensures.1 in let name = one ∙ noted.ensures.looks.same.0 in
+    let one : none.new.pass.name ≡ c.args.pass.now.name = ap (λ (p : Pass). p.name) none.ensures.1 in let name = one in
     let book = its_book c.args.values.now slot pass ready key c.next-key.new.self c.next-key.ensures in (
       omega arith,
       (
         (noted.ensures.same.0 ∙ (book ∙ sym name), ready.its ∙ sym name, c.requires.ready.1 ∙ sym name),
         (
-          (none.ensures.0.0 ∙ sym one, none_new none.result noted.new.pass none.ensures.0),
+          (none.ensures.0.0 ∙ sym one, none_new none.result pass none.ensures.0),
           (
-            subst (λ (p : Pass). Knows slot p) (sym none.ensures.1) (knows_still slot pass noted.new.pass ready.seen noted.ensures.looks),
+            subst (λ (p : Pass). Knows slot p) (sym none.ensures.1) ready.seen,
             (
               subst (λ (v : ℕ). hands_next (slot_of slot) ≡ Some v) same next.soon,
               (
@@ -71,9 +62,8 @@ returns-clause-code g c =
 
 pub returns-clause-reclaims : goal.returns-clause-reclaims
 returns-clause-reclaims g c =
-    let slot = c.args.slot.now in let slot' = c.reclaim-value.new.slot in let pass' = c.reclaim-value.new.pass in let noted = c.note-note.new.pass in let none = c.new-none in
+    let slot = c.args.slot.now in let slot' = c.reclaim-value.new.slot in let pass' = c.reclaim-value.new.pass in let none = c.new-none in
     let puts : values_of none.result ≡ [] = ap labels_of none.ensures.0.1 in
-    looked_too slot slot' c.args.pass.now noted pass' [] c.note-note.ensures.looks
     (subst (λ (t : Pass × List ℕ). Reclaims slot t.0 slot' pass' t.1) (λ j. (none.ensures.1 j, puts j)) c.reclaim-value.ensures.reclaims)
 
 pub returns-clause-ready : goal.returns-clause-ready

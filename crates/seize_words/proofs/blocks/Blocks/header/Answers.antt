@@ -5,15 +5,10 @@ use Rattle.seize_book.specs.Homesteads.{state_seen}
 use Rattle.seize_words.specs.Counts.{home}
 use Rattle.seize_book.specs.Homes.{home_of}
 use Rattle.seize_book.specs.Loans.{cell_of}
-use Rattle.seize_book.specs.Tokens.{chunk_label}
 use Rattle.seize_table.specs.Pairs.{pair}
-use Rattle.seize_words.specs.declared.chunk.Header.{Header}
 use Rattle.seize_book.specs.declared.book.pass.Pass.{Pass}
-use Rattle.seize_words.proofs.Chunked.{found_label, named_seen, same_cell, same_family, same_home}
+use Rattle.seize_words.proofs.Chunked.{found_label, label, named_seen, same_cell, same_family, same_home}
 use Rattle.seize_words.proofs.blocks.Blocks.header.Goals as goal
-
-abbrev label : Header → ℕ
-label header = chunk_label header.book.name (home header.count) header.note.name
 
 pub agree-requires : goal.agree-requires
 agree-requires g c =

@@ -1,15 +1,14 @@
-use Rattle.std.proofs.Common.{refl, sym, ap, ◌∙◌, arith, is_some}
-use base.Growing.{prefix_refl}
+use Rattle.std.proofs.Common.{sym, ap, ◌∙◌, arith, is_some}
 use Rattle.seize_book.specs.Tokens.{Name}
 use Rattle.seize_words.specs.LinkWords.{Finds, held_before}
 use Rattle.seize_words.proofs.Facts.{glimpse_found}
-use Rattle.seize_words.proofs.Joined.{holds_none, holds_some}
+use Rattle.seize_words.proofs.Joined.{holds_none, holds_some, looks_here}
 use Rattle.seize_words.proofs.words.Words.find.Goals as goal
 
 pub returns-then-word-eq0 : goal.returns-then-word-eq0
 returns-then-word-eq0 g c =
     let sees = c.read_link-word.ensures.sees in let mid = c.read_link-word.new.pass in let reads = sees.2.0 in
-    let found : Finds sees.0 c.args.activation.now c.args.pass.now mid c.read_link-word.result.0 = record { mid = mid; reads = reads; same = (refl, refl); none_made = refl; grows = prefix_refl mid.seen } in
+    let found : Finds sees.0 c.args.activation.now c.args.pass.now mid c.read_link-word.result.0 = record { mid = mid; reads = reads; looks = looks_here c.args.pass.now mid _ reads.same reads.noted } in
     record { finds = (sees.0, sees.1, (found, sym (ap is_some (holds_none (held_before reads) (sym reads.found ∙ c.if-word-eq0.true))), tt)) }
 
 pub see-requires : goal.see-requires
@@ -21,6 +20,6 @@ see-requires g c =
 pub returns : goal.returns
 returns g c =
     let sees = c.read_link-word.ensures.sees in let reads = sees.2.0 in let looks = c.see.ensures.looks in
-    let found : Finds sees.0 c.args.activation.now c.args.pass.now c.see.new.pass c.read_link-word.result.0 = record { mid = c.read_link-word.new.pass; reads = reads; same = looks.same; none_made = looks.none_made; grows = looks.grows } in
+    let found : Finds sees.0 c.args.activation.now c.args.pass.now c.see.new.pass c.read_link-word.result.0 = record { mid = c.read_link-word.new.pass; reads = reads; looks = looks } in
     let code = c.see.ensures.code in
     record { finds = (sees.0, sees.1, (found, sym (holds_some (held_before reads) (λ none. c.if-word-eq0.false (reads.found ∙ none))), (code.0, sym sees.2.1 ∙ code.1, code.2))) }

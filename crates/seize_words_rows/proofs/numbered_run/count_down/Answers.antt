@@ -1,0 +1,18 @@
+use Rattle.std.proofs.Common.{negsuc}
+use Rattle.seize_machine.specs.Machine.Event.{Return, SubCount}
+use Rattle.seize_machine.specs.declared.machine.event.Answer.TheVariants.{Count, Done}
+use Rattle.seize_words.specs.Joined.{words_book}
+use Rattle.seize_words_rows.specs.NumberedRuns.{value_in}
+use Rattle.seize_words_rows.specs.Runs.{counted_down, left, reader_over}
+use Rattle.seize_words_rows.proofs.NumberedRuns.{looked_at}
+use Rattle.seize_words_rows.proofs.Runs.{counts_down, returns_reader}
+use Rattle.seize_words_rows.proofs.Stages.{sees_still, steps}
+use Rattle.seize_words_rows.proofs.numbered_run.count_down.Goals as goal
+
+pub returns-clause-stands : goal.returns-clause-stands
+returns-clause-stands c =
+    let n = words_book c.args.words.now in let v = value_in c.args.retired.now in let look = c.look in let one = c.subtract-zero in let two = c.finish in let stands = c.requires.stands in let pass = c.new-values.new.pass in
+    let at = looked_at n c.args.reader.now look.new.self c.args.pass.now look.new.pass 0 (left v) (left v) look.ensures.looked stands.1 stands.2 in
+    let first = steps n look.new.self one.new.key pass one.new.pass 0 0 (λ s. SubCount s) (left v) (left v) (counted_down v) (Count (negsuc 0)) one.ensures.counts.0 (sees_still n look.new.pass pass (left v) c.new-values.ensures.1 at.0.0) at.0.1 (counts_down v) in
+    let last = steps n one.new.key two.new.self one.new.pass two.new.pass 0 0 (λ s. Return s) (counted_down v) (counted_down v) (reader_over v) Done two.ensures.noted first.0 first.1 (returns_reader v) in
+    (stands.0, last.0, last.1)

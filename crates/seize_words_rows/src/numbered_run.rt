@@ -1,0 +1,208 @@
+//! The worked run again, over all words of one book, each found by its number: the value lies in a block of a store, where it is lent, and
+//! the heads in a table. One slot reads, and another retires the value. The batch is detached, inserted at the reader's head, counted down
+//! below 0 by the reader and up to 0 by the other, which gives it up and hands its value to its reclaimer.
+//!
+//! The stages are those of `worked_run`. No contract fixes the block's number: it is the one that the store gave.
+ghost use Rattle.std.specs.Prelude.{◌≡◌, ◌+◌, ℕ, IfSome, false, true};
+ghost use Rattle.seize_words.specs.Joined.{words_book};
+ghost use Rattle.seize_words.specs.Named.{numbers_book};
+ghost use Rattle.seize_words.specs.Reservations.{IsLastOf};
+ghost use Rattle.seize_words.specs.Reserved.{HasNext};
+ghost use Rattle.seize_words.specs.Totals.{made_of};
+ghost use Rattle.seize_words_rows.specs.NumberedRuns.{StandsAt};
+ghost use Rattle.seize_words_rows.specs.Reclaiming.{AreReady};
+ghost use Rattle.seize_words_rows.specs.Runs.{counted_up, entered, inserted, left, looked, marked, one_made, opened, over, put, reader_over, two_made};
+ghost use Rattle.seize_words_rows.specs.Stages.{Knows, Leads, Sees};
+
+use crate::attempts::prepare;
+use crate::block_run::{Lent, lend};
+use crate::reclaiming::reclaim_next;
+use seize_words::activation::Activation;
+use seize_words::book::{NumbersKey, Pass, SlotKey, ValueKeys};
+use seize_words::note::Note;
+use seize_words::slots::NextSlot;
+use seize_words::words::Words;
+use std::alloc::Global;
+
+/// A value that is retired: its block, and its key, alone among keys of values.
+#[derive(Drop)]
+pub struct Retired {
+    pub lent: Lent,
+    pub values: ValueKeys,
+}
+
+/// The words of a new book with one link, and two slots. It gives the key of the slot that reads, that of the one that retires, and the one
+/// pass. Nothing comes where memory was refused.
+pub fn begin(alloc: Global) -> Option<(Words<u64>, SlotKey, SlotKey, Pass)>
+    ensures reader { IfSome result (λ begun. Knows (words_book begun.0) begun.1 0 one_made) }
+    ensures retirer { IfSome result (λ begun. Leads (words_book begun.0) begun.3 begun.2 1 two_made) }
+{
+    let Ok((words, mut pass, numbers, next)) = Words::new_alone(alloc, 0, 1, 1) else {
+        return None;
+    };
+    let (reader, retirer) = make_slots(&words, numbers, next, &mut pass)?;
+    Some((words, reader, retirer, pass))
+}
+
+// Makes the slot that reads, and the one that retires.
+fn make_slots(
+    words: &Words<u64>,
+    numbers: NumbersKey,
+    next: NextSlot,
+    pass: &mut Pass,
+) -> Option<(SlotKey, SlotKey)>
+    requires empty { Sees (words_book words.now) pass.old opened × (numbers_book numbers ≡ words_book words.now) }
+    requires next { HasNext numbers next × (made_of numbers ≡ 0) }
+    ensures reader { IfSome result (λ made. Knows (words_book words.now) made.0 0 one_made) }
+    ensures retirer { IfSome result (λ made. Leads (words_book words.now) pass.new made.1 1 two_made) }
+{
+    let mut numbers = numbers;
+    let Ok((reader, next)) = words.make_slot(next, &mut numbers, pass) else {
+        return None;
+    };
+    let Ok((retirer, _)) = words.make_slot(next, &mut numbers, pass) else {
+        return None;
+    };
+    Some((reader, retirer))
+}
+
+/// The reader enters.
+pub fn enter(words: &Words<u64>, reader: &mut SlotKey, pass: &mut Pass) -> Activation
+    requires sees { Sees (words_book words.now) pass.old two_made × Knows (words_book words.now) reader.old 0 one_made }
+    ensures leads { Leads (words_book words.now) pass.new reader.new 0 entered }
+    ensures last { IsLastOf reader.new result }
+{
+    words.enter_head(0, reader, pass)
+}
+
+/// The other slot retires the value from a block of the store, which is lent. Its batch is full with that, so its call is to read the heads.
+/// Nothing comes where a growth of the store was refused.
+pub fn retire(
+    words: &Words<u64>,
+    value: u64,
+    retirer: &mut SlotKey,
+    pass: &mut Pass,
+) -> Option<Retired>
+    requires sees { Sees (words_book words.now) pass.old entered × Knows (words_book words.now) retirer.old 1 two_made }
+    ensures value { IfSome result (λ retired. retired.lent.value ≡ value) }
+    ensures stands { IfSome result (λ retired. StandsAt words.now retired pass.new put retirer.new 1 put) }
+{
+    let Ok((mut key, block)) = words.blocks.add(value, pass) else {
+        return None;
+    };
+    let lent = lend(&words.blocks, &mut key, block);
+    retirer.begin_retire(&mut key, pass);
+    retirer.put(pass);
+    let last = Note {
+        next: 0,
+        slot: 0,
+        kept: 0,
+    };
+    words.blocks.set_note(lent.number, last, &mut key);
+    let mut values = ValueKeys::new(pass);
+    values.push(key);
+    Some(Retired { lent, values })
+}
+
+/// It reads both heads, and marks the reader, which alone is active.
+pub fn mark(
+    words: &Words<u64>,
+    retired: &Retired,
+    retirer: &mut SlotKey,
+    pass: &mut Pass,
+) -> (u64, u64)
+    requires stands { StandsAt words.now retired.now pass.old put retirer.old 1 put }
+    ensures found { (result.0 ≡ 1) × (result.1 ≡ 0) }
+    ensures stands { StandsAt words.now retired.now pass.new marked retirer.new 1 marked }
+{
+    let reader = words.read_head(0, retirer, pass);
+    (reader, words.read_head(1, retirer, pass))
+}
+
+/// It detaches its batch, and looks at the reader's head again.
+pub fn detach(words: &Words<u64>, retired: &Retired, retirer: &mut SlotKey, pass: &mut Pass) -> u64
+    requires stands { StandsAt words.now retired.now pass.old marked retirer.old 1 marked }
+    ensures found { result ≡ 1 }
+    ensures stands { StandsAt words.now retired.now pass.new looked retirer.new 1 looked }
+{
+    retirer.detach(pass);
+    words.read_head(0, retirer, pass)
+}
+
+/// It stores in the block's fields the word that it saw, and the block's number, and inserts the batch with the block. It gives the word that
+/// it found, which is the one that it saw.
+pub fn insert(words: &Words<u64>, retired: &Retired, retirer: &mut SlotKey, pass: &mut Pass) -> u64
+    requires stands { StandsAt words.now retired.now pass.old looked retirer.old 1 looked }
+    ensures found { result ≡ 1 }
+    ensures stands { StandsAt words.now retired.now pass.new inserted retirer.new 1 inserted }
+{
+    let block = retired.lent.number;
+    let header = words.blocks.header(block, pass);
+    prepare(&header.next, &header.first, 1, block, retirer, pass);
+    words.insert(0, 1, block, retirer, pass)
+}
+
+/// The reader leaves. The word that comes out is that of a list with the batch alone.
+pub fn leave(
+    words: &Words<u64>,
+    retired: &Retired,
+    reader: &mut SlotKey,
+    activation: Activation,
+    pass: &mut Pass,
+) -> u64
+    requires stands { StandsAt words.now retired.now pass.old inserted reader.old 0 (λ v. entered) }
+    requires last { IsLastOf reader.old activation }
+    ensures found { result ≡ retired.now.lent.number + 2 }
+    ensures stands { StandsAt words.now retired.now pass.new left reader.new 0 left }
+{
+    reader.begin_leave(pass);
+    words.swap_out(0, activation, reader, pass)
+}
+
+/// It counts the batch down to -1, and its call is over. It gives nothing up.
+pub fn count_down(
+    words: &Words<u64>,
+    retired: &Retired,
+    reader: &mut SlotKey,
+    pass: &mut Pass,
+) -> bool
+    requires stands { StandsAt words.now retired.now pass.old left reader.old 0 left }
+    ensures zero { result ≡ false }
+    ensures stands { StandsAt words.now retired.now pass.new reader_over reader.new 0 reader_over }
+{
+    reader.look(pass);
+    let mut values = ValueKeys::new(pass);
+    let zero = words.subtract(retired.lent.number, reader, &mut values, pass);
+    reader.finish(pass);
+    zero
+}
+
+/// The other slot adds its one insertion. The count is 0 with that, and the batch is given up, with the key of its value.
+pub fn count_up(
+    words: &Words<u64>,
+    retired: &mut Retired,
+    retirer: &mut SlotKey,
+    pass: &mut Pass,
+) -> bool
+    requires stands { StandsAt words.now retired.old pass.old reader_over retirer.old 1 inserted }
+    ensures zero { result ≡ true }
+    ensures lent { retired.new.lent ≡ retired.old.lent }
+    ensures ready { AreReady retired.new.values retirer.new pass.new }
+    ensures stands { StandsAt words.now retired.new pass.new counted_up retirer.new 1 counted_up }
+{
+    retirer.look(pass);
+    words.add(retired.lent.number, 1, retirer, &mut retired.values, pass)
+}
+
+/// It hands the value to its reclaimer, its block goes back into the store, and its call is over. It gives the value.
+pub fn hand(words: &Words<u64>, retired: Retired, retirer: &mut SlotKey, pass: &mut Pass) -> u64
+    requires stands { StandsAt words.now retired pass.old counted_up retirer.old 1 counted_up }
+    requires ready { AreReady retired.values retirer.old pass.old }
+    ensures value { result ≡ retired.lent.value }
+    ensures over { (v : ℕ) × Leads (words_book words.now) pass.new retirer.new 1 (over v) }
+{
+    let Retired { lent, mut values } = retired;
+    let (value, _) = reclaim_next(&words.blocks, lent.number, &mut values, retirer, pass);
+    retirer.finish(pass);
+    value
+}
