@@ -1,5 +1,5 @@
 -- Calls with a pass that is alone: what the links hold then, and what is left at the end.
-use Rattle.std.proofs.Common.{◌≡◌, ℕ, zero, suc, ◌+◌, ◌-◌, ◌^◌, ◌<◌, min, Bool, true, false, List, [], ◌∷◌, length, None, is_some, not, ◌&&◌, inl, inr, ⊎_elim, refl, sym, ap, ◌∙◌, subst, arith}
+use Rattle.std.proofs.Common.{◌≡◌, ℕ, zero, suc, ◌+◌, ◌-◌, ◌^◌, ◌<◌, min, Bool, true, false, List, [], ◌∷◌, length, None, is_some, not, ◌&&◌, inl, inr, ⊎_elim, append-nil, append_assoc, if◌then◌else◌, refl, sym, ap, ◌∙◌, subst, arith, ◌++◌}
 use Rattle.std.specs.Prelude.{slice_index_or}
 use Rattle.std.specs.List.{list_all}
 use native.Mathlib.Decide.{ℕ_discrete}
@@ -8,6 +8,7 @@ use mathlib.Core.List.{IsPrefix}
 use Rattle.seize_machine.proofs.Facts.{and_true, heads_length, law_quiet}
 use Rattle.seize_machine.specs.Machine.History.{Reclaimed, Retired, answers_of}
 use Rattle.seize_machine.specs.Machine.Laws.{is_quiet}
+use Rattle.seize_machine.specs.Machine.Next.{is_zero}
 use Rattle.seize_machine.specs.Machine.State.{Head, Inactive, Slot, State, are_distinct, head_at, is_active, is_idle, link_at, linked, no_slot, slot_at}
 use Rattle.seize_machine.specs.declared.machine.event.Job.{Job}
 use Rattle.seize_book.specs.Book.{IsLegalList, after, moments}
@@ -23,15 +24,20 @@ use Rattle.seize_book.specs.declared.book.value_keys.ValueKeys.{ValueKeys}
 use Rattle.seize_book.proofs.Lists.{as_legal, reached_after}
 use Rattle.seize_book.proofs.Turns.{turn_alone}
 use Rattle.seize_calls.specs.Calls.{Flushes, Leaves, RetiresOne, Settles}
-use Rattle.seize_calls.specs.Handing.{Had}
+use Rattle.seize_calls.specs.Handing.{Had, HasHad}
 use Rattle.seize_calls.specs.Marks.{actives, readings}
-use Rattle.seize_calls_rows.specs.Turns.{AllBack, EmptyBelow, Holds, IsPartOf, KeepsLinks}
+use Rattle.seize_calls_rows.specs.Turns.{AllBack, EmptyBelow, Gave, Holds, IsPartOf, KeepsLinks}
 use Rattle.seize_calls_rows.specs.Workers.{GoesOn, MayWork, Shared, Works}
 use Rattle.seize_calls_rows.specs.declared.turns.Holder.{Holder}
 use Rattle.seize_calls_rows.specs.declared.worker.Worker.{Worker}
 use Rattle.seize_calls.specs.declared.batch.Batch.{Batch}
 use Rattle.seize_words.proofs.Facts.{more_slots}
-use Rattle.seize_calls_rows.proofs.Links.{IsNone, Since, at_first, kept_twice, more_since, none_changed, none_handed, none_read, none_turns, none_walked, sole_still}
+use Rattle.seize_calls_rows.proofs.Links.{IsNone, Since, at_first, gone_since, handed_hands, handed_read, handed_turns, handed_walked, kept_twice, more_since, none_changed, none_handed, none_read, none_turns, none_walked, on_since, sole_still}
+use Rattle.seize_machine.specs.declared.machine.event.Answer.{Answer}
+use Rattle.seize_machine.specs.declared.machine.event.Answer.TheVariants.{Done}
+use Rattle.seize_calls.proofs.Handed.{had_more, had_none}
+use Rattle.seize_calls.specs.Alone.{AddsAlone}
+use Rattle.seize_calls.specs.Walking.{handed_in}
 use Rattle.seize_calls_rows.proofs.Workers.{goes_known, settled, works_on}
 use Rattle.seize_words.specs.Walks.{Knows}
 
@@ -41,53 +47,80 @@ has_turn pass turn = subst (IsSole pass.name.gate) (sym turn.1) (turn_alone pass
 pub turn_still : (pass pass' : Pass) → IsSame pass pass' → HasTurn pass → HasTurn pass'
 turn_still pass pass' same turn = subst (λ (t : Name × ℕ). Rattle.seize_book.specs.Tokens.IsTurns t.0.gate × (t.1 ≡ 0)) (λ j. (sym same.0 j, sym same.1 j)) turn
 
--- Where a call has settled, was made, or the slot has left, each link holds what it held.
+-- The values that are gone since went to the reclaimer, in this order.
 
-settles_keep : (key : SlotKey) (pass : Pass) (values : ValueKeys) (had : Had) (key' : SlotKey) (pass' : Pass) (values' : ValueKeys) (had' : Had) (b : Bool)
-    → Settles key pass values had key' pass' values' had' b → IsSole pass.name.gate pass.id → KeepsLinks pass pass'
-settles_keep key pass values had key' pass' values' had' false s sole =
+pub gave_none : (pass pass' : Pass) (had : Had) → (state_seen pass').gone ≡ (state_seen pass).gone → Gave pass pass' had had
+gave_none pass pass' had same = record { values = []; kepts = []; gone = same ∙ sym (append-nil (state_seen pass).gone); has_had = had_none had }
+
+pub gave_twice : (a b c : Pass) (had had1 had2 : Had) → Gave a b had had1 → Gave b c had1 had2 → Gave a c had had2
+gave_twice a b c had had1 had2 one two = record {
+  values = one.values ++ two.values;
+  kepts = one.kepts ++ two.kepts;
+  gone = two.gone ∙ ap (λ (gone : List ℕ). gone ++ two.values) one.gone ∙ append_assoc (state_seen a).gone one.values two.values;
+  has_had = had_more one.values two.values one.kepts two.kepts had had1 had2 one.has_had two.has_had;
+}
+
+-- What a call does that makes these events: it leaves the links as they were, and the reclaimer had what is gone.
+abbrev pub Did : Pass → Pass → Had → Had → Type 0
+Did pass pass' had had' = KeepsLinks pass pass' × Gave pass pass' had had'
+
+did_twice : (a b c : Pass) (had had1 had2 : Had) → Did a b had had1 → Did b c had1 had2 → Did a c had had2
+did_twice a b c had had1 had2 one two = (kept_twice a b c one.0 two.0, gave_twice a b c had had1 had2 one.1 two.1)
+
+did_since : (pass pass' : Pass) (vs kepts : List ℕ) (had had' : Had) → IsSame pass pass' → AddsAlone pass pass' → IsSole pass.name.gate pass.id → Since (events_by pass) (events_by pass') vs → HasHad vs kepts had had' → Did pass pass' had had'
+did_since pass pass' vs kepts had had' same adds sole since has =
+    (none_changed pass pass' same adds vs sole since, record { values = vs; kepts = kepts; gone = gone_since pass pass' same adds vs sole since; has_had = has })
+
+did_one : (pass pass' : Pass) (d : Deed) (had : Had) → IsSame pass pass' → AddsAlone pass pass' → IsSole pass.name.gate pass.id → IsNone d.event → events_by pass' ≡ events_by pass ++ (d, Done) ∷ [] → Did pass pass' had had
+did_one pass pass' d had same adds sole none made = did_since pass pass' [] [] had had same adds sole (_, made, (none, tt), refl) (had_none had)
+
+settles_did : (key : SlotKey) (pass : Pass) (values : ValueKeys) (had : Had) (key' : SlotKey) (pass' : Pass) (values' : ValueKeys) (had' : Had) (b : Bool)
+    → Settles key pass values had key' pass' values' had' b → IsSole pass.name.gate pass.id → Did pass pass' had had'
+settles_did key pass values had key' pass' values' had' false s sole =
     let e = events_by pass in let k = number_of key in
-    none_changed pass pass' s.same s.alone sole (subst (Since e) (sym s.made)
-    (more_since e _ _ (more_since e e (readings pass k 0 s.finds) (at_first e) (none_read pass k 0 s.finds)) ((λ l. refl), tt)))
-settles_keep key pass values had key' pass' values' had' true s sole =
-    let e = events_by pass in let k = number_of key in
-    let read = more_since e e (readings pass k 0 s.finds) (at_first e) (none_read pass k 0 s.finds) in
-    let turns = more_since e _ _ (more_since e _ _ read ((λ l. refl), tt)) (none_turns pass k (actives 0 s.finds) s.turns) in
-    let handed = more_since e _ _ (more_since e _ _ turns ((λ l. refl), tt)) (none_handed pass k _) in
-    none_changed pass pass' s.same s.alone sole (subst (Since e) (sym s.made) (more_since e _ _ handed ((λ l. refl), tt)))
+    did_since pass pass' [] [] had had' s.same s.alone sole (subst (λ (x : List (Deed × Answer)). Since e x []) (sym s.made)
+    (on_since e _ _ [] (on_since e e (readings pass k 0 s.finds) [] (at_first e) (none_read pass k 0 s.finds) (handed_read pass k 0 s.finds)) ((λ l. refl), tt) refl))
+    (subst (HasHad [] [] had) (sym s.had_none) (had_none had))
+settles_did key pass values had key' pass' values' had' true s sole =
+    let e = events_by pass in let k = number_of key in let vs = if is_zero s.count then (slot_of key).batch else [] in
+    let read = on_since e e (readings pass k 0 s.finds) [] (at_first e) (none_read pass k 0 s.finds) (handed_read pass k 0 s.finds) in
+    let turns = on_since e _ _ [] (on_since e _ _ [] read ((λ l. refl), tt) refl) (none_turns pass k (actives 0 s.finds) s.turns) (handed_turns pass k (actives 0 s.finds) s.turns) in
+    let handed = more_since e _ _ [] vs (on_since e _ _ [] turns ((λ l. refl), tt) refl) (none_handed pass k vs) (handed_hands pass k vs) in
+    did_since pass pass' vs _ had had' s.same s.alone sole (subst (λ (x : List (Deed × Answer)). Since e x vs) (sym s.made) (on_since e _ _ vs handed ((λ l. refl), tt) refl)) s.has_had
 
-module _ (key : SlotKey) (pass : Pass) (values : ValueKeys) (had : Had) (key' : SlotKey) (pass' : Pass) (values' : ValueKeys) (had' : Had) (b : Bool) (knows : Knows key' pass') where
-  pub retired_goes : (v kept : ℕ) → RetiresOne key pass v kept values had key' pass' values' had' b → GoesOn pass pass'
-  retired_goes v kept r =
-      let one = r.begins.keeps in let two = r.puts in let s = settled r.full r.later r.pushed had key' pass' values' had' b r.settles in
-      goes_known key' pass pass' (s.same.0 ∙ two.same.0 ∙ one.same.0, s.same.1 ∙ two.same.1 ∙ one.same.1)
-      (prefix_trans pass.seen r.mid.seen pass'.seen one.grows (prefix_trans r.mid.seen r.later.seen pass'.seen two.grows s.grows)) knows
+module _ (key : SlotKey) (pass : Pass) (values : ValueKeys) (had : Had) (key' : SlotKey) (pass' : Pass) (values' : ValueKeys) (had' : Had) (b : Bool) where
+  pub retired_did : (v kept : ℕ) → RetiresOne key pass v kept values had key' pass' values' had' b → IsSole pass.name.gate pass.id → Did pass pass' had had'
+  retired_did v kept r sole =
+      let one = r.begins.keeps in let two = r.puts in let mid = sole_still pass r.mid one.same sole in
+      did_twice pass r.mid pass' had had had' (did_one pass r.mid _ had one.same one.alone sole (λ l. refl) r.begins.made)
+      (did_twice r.mid r.later pass' had had had' (did_one r.mid r.later _ had two.same two.alone mid (λ l. refl) two.made)
+      (settles_did r.full r.later r.pushed had key' pass' values' had' b r.settles (sole_still r.mid r.later two.same mid)))
 
-  pub retired_keeps : (v kept : ℕ) → RetiresOne key pass v kept values had key' pass' values' had' b → IsSole pass.name.gate pass.id → KeepsLinks pass pass'
-  retired_keeps v kept r sole =
-      let one = r.begins.keeps in let two = r.puts in let mid = sole_still pass r.mid one.same sole in let later = sole_still r.mid r.later two.same mid in
-      kept_twice pass r.mid pass' (none_changed pass r.mid one.same one.alone sole (_, r.begins.made, ((λ l. refl), tt)))
-      (kept_twice r.mid r.later pass' (none_changed r.mid r.later two.same two.alone mid (_, two.made, ((λ l. refl), tt)))
-      (settles_keep r.full r.later r.pushed had key' pass' values' had' b r.settles later))
-
-  pub flushed_goes : Flushes key pass values had key' pass' values' had' b → GoesOn pass pass'
-  flushed_goes f =
-      let one = f.begins.keeps in let s = settled f.begun f.mid values had key' pass' values' had' b f.settles in
-      goes_known key' pass pass' (s.same.0 ∙ one.same.0, s.same.1 ∙ one.same.1) (prefix_trans pass.seen f.mid.seen pass'.seen one.grows s.grows) knows
-
-  pub flushed_keeps : Flushes key pass values had key' pass' values' had' b → IsSole pass.name.gate pass.id → KeepsLinks pass pass'
-  flushed_keeps f sole =
+  pub flushed_did : Flushes key pass values had key' pass' values' had' b → IsSole pass.name.gate pass.id → Did pass pass' had had'
+  flushed_did f sole =
       let one = f.begins.keeps in
-      kept_twice pass f.mid pass' (none_changed pass f.mid one.same one.alone sole (_, f.begins.made, ((λ l. refl), tt)))
-      (settles_keep f.begun f.mid values had key' pass' values' had' b f.settles (sole_still pass f.mid one.same sole))
+      did_twice pass f.mid pass' had had had' (did_one pass f.mid _ had one.same one.alone sole (λ l. refl) f.begins.made)
+      (settles_did f.begun f.mid values had key' pass' values' had' b f.settles (sole_still pass f.mid one.same sole))
 
-pub left_keeps : (job : Job) (stays : Bool) (swap : Deed) (key : SlotKey) (pass : Pass) (key' : SlotKey) (pass' : Pass) (had had' : Had)
-    → Leaves job stays swap key pass key' pass' had had' → IsNone swap.event → IsSole pass.name.gate pass.id → KeepsLinks pass pass'
-left_keeps job stays swap key pass key' pass' had had' leaves none sole =
-    let e = events_by pass in let k = number_of key in
-    let out = more_since e _ _ (more_since e e _ (at_first e) ((λ l. refl), tt)) (none, tt) in
-    let walked = more_since e _ _ out (none_walked pass k leaves.walked) in
-    none_changed pass pass' leaves.same leaves.alone sole (subst (Since e) (sym leaves.made) (more_since e _ _ walked ((λ l. refl), tt)))
+  module _ (knows : Knows key' pass') where
+    pub retired_goes : (v kept : ℕ) → RetiresOne key pass v kept values had key' pass' values' had' b → GoesOn pass pass'
+    retired_goes v kept r =
+        let one = r.begins.keeps in let two = r.puts in let s = settled r.full r.later r.pushed had key' pass' values' had' b r.settles in
+        goes_known key' pass pass' (s.same.0 ∙ two.same.0 ∙ one.same.0, s.same.1 ∙ two.same.1 ∙ one.same.1)
+        (prefix_trans pass.seen r.mid.seen pass'.seen one.grows (prefix_trans r.mid.seen r.later.seen pass'.seen two.grows s.grows)) knows
+
+    pub flushed_goes : Flushes key pass values had key' pass' values' had' b → GoesOn pass pass'
+    flushed_goes f =
+        let one = f.begins.keeps in let s = settled f.begun f.mid values had key' pass' values' had' b f.settles in
+        goes_known key' pass pass' (s.same.0 ∙ one.same.0, s.same.1 ∙ one.same.1) (prefix_trans pass.seen f.mid.seen pass'.seen one.grows s.grows) knows
+
+pub left_did : (job : Job) (stays : Bool) (swap : Deed) (key : SlotKey) (pass : Pass) (key' : SlotKey) (pass' : Pass) (had had' : Had)
+    → Leaves job stays swap key pass key' pass' had had' → IsNone swap.event → IsSole pass.name.gate pass.id → Did pass pass' had had'
+left_did job stays swap key pass key' pass' had had' leaves none sole =
+    let e = events_by pass in let k = number_of key in let vs = handed_in leaves.walked in
+    let out = on_since e _ _ [] (on_since e e _ [] (at_first e) ((λ l. refl), tt) refl) (none, tt) refl in
+    let walked = more_since e _ _ [] vs out (none_walked pass k leaves.walked) (handed_walked pass k leaves.walked) in
+    did_since pass pass' vs leaves.kepts had had' leaves.same leaves.alone sole (subst (λ (x : List (Deed × Answer)). Since e x vs) (sym leaves.made) (on_since e _ _ vs walked ((λ l. refl), tt) refl)) leaves.has_had
 
 -- One link more is empty.
 pub one_emptier : (n : ℕ) (pass pass' : Pass) → EmptyBelow n pass → (link_at (state_seen pass') n ≡ None) × ((l : ℕ) → ¬ (l ≡ n) → link_at (state_seen pass') l ≡ link_at (state_seen pass) l) → EmptyBelow (n + 1) pass'

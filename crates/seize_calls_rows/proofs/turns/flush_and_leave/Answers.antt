@@ -1,6 +1,6 @@
 use Rattle.std.proofs.Common.{refl, ap}
 use Rattle.seize_calls_rows.proofs.Links.{kept_twice, look_keeps, sole_still}
-use Rattle.seize_calls_rows.proofs.Shut.{flushed_goes, flushed_keeps, has_turn, left_keeps}
+use Rattle.seize_calls_rows.proofs.Shut.{flushed_did, flushed_goes, gave_none, gave_twice, has_turn, left_did}
 use Rattle.seize_calls_rows.proofs.Workers.{flushed_so, goes_out, goes_twice, idle_out, works_out}
 use Rattle.seize_machine.specs.Machine.State.{State, link_at}
 use Rattle.seize_calls_rows.proofs.turns.flush_and_leave.Goals as goal
@@ -35,6 +35,16 @@ returns-clause-keeps g c =
     let sole = has_turn a.pass.now c.requires.turn in
     let goes = flushed_goes a.key a.pass.now _ _ one.new.key one.new.pass _ _ one.result one.ensures.knows one.ensures.flushes in
     let mid = sole_still a.pass.now one.new.pass goes.same sole in
-    kept_twice a.pass.now one.new.pass three.new.pass (flushed_keeps a.key a.pass.now _ _ one.new.key one.new.pass _ _ one.result one.ensures.knows one.ensures.flushes sole)
+    kept_twice a.pass.now one.new.pass three.new.pass (flushed_did a.key a.pass.now _ _ one.new.key one.new.pass _ _ one.result one.ensures.flushes sole).0
     (kept_twice one.new.pass two.new.pass three.new.pass (λ l. ap (λ (s : State). link_at s l) (look_keeps one.new.pass two.new.pass two.ensures.looks mid))
-    (left_keeps _ _ _ one.new.key two.new.pass three.new.key three.new.pass _ _ three.ensures.leaves (λ l. refl) (sole_still one.new.pass two.new.pass two.ensures.looks.same mid)))
+    (left_did _ _ _ one.new.key two.new.pass three.new.key three.new.pass _ _ three.ensures.leaves (λ l. refl) (sole_still one.new.pass two.new.pass two.ensures.looks.same mid)).0)
+
+pub returns-clause-gave : goal.returns-clause-gave
+returns-clause-gave g c =
+    let one = c.flush in let two = c.head-head in let three = c.leave in let a = c.args in
+    let sole = has_turn a.pass.now c.requires.turn in
+    let goes = flushed_goes a.key a.pass.now _ _ one.new.key one.new.pass _ _ one.result one.ensures.knows one.ensures.flushes in
+    let mid = sole_still a.pass.now one.new.pass goes.same sole in
+    gave_twice a.pass.now one.new.pass three.new.pass _ _ _ (flushed_did a.key a.pass.now _ _ one.new.key one.new.pass _ _ one.result one.ensures.flushes sole).1
+    (gave_twice one.new.pass two.new.pass three.new.pass _ _ _ (gave_none one.new.pass two.new.pass _ (ap (λ (s : State). s.gone) (look_keeps one.new.pass two.new.pass two.ensures.looks mid)))
+    (left_did _ _ _ one.new.key two.new.pass three.new.key three.new.pass _ _ three.ensures.leaves (λ l. refl) (sole_still one.new.pass two.new.pass two.ensures.looks.same mid)).1)
