@@ -2,7 +2,7 @@
 --     GoesOn pass pass'                it is the same pass, which has seen no less
 --     IsOutside key                    no call of the slot is under way, and it is not active
 --     Shared                           words of blocks of numbers
---     HasLinks words                   their book has eight links
+--     HasEight words                   their book has eight links;  HasLinks words   and many may append to it
 --     made_by source, size_in source   how many slots were made, and how many values a batch has
 --     CanTake source words             the next slot of the book can be made, and it has a number;  CanMake   and whoever wants has a pass
 --     HasTaken source source' words    one more slot was made, and where there is one more number, so can the slot after it;  HasOneMore
@@ -49,8 +49,11 @@ IsOutside key = (is_idle (slot_of key) ≡ true) × (active_of key ≡ false)
 abbrev pub Shared : Type 0
 Shared = Words ℕ
 
+abbrev pub HasEight : Shared → Type 0
+HasEight words = length (words_book words).links ≡ 8
+
 abbrev pub HasLinks : Shared → Type 0
-HasLinks words = length (words_book words).links ≡ 8
+HasLinks words = ((words_book words).gate ≡ many) × HasEight words
 
 abbrev pub made_by : Source → ℕ
 made_by source = source.made
@@ -59,7 +62,7 @@ abbrev pub size_in : Source → ℕ
 size_in source = source.size
 
 pub record CanTake (source : Source) (words : Shared) : Type 0 where
-  pub links : HasLinks words
+  pub links : HasEight words
   pub size : size_in source ≡ (words_book words).size
   pub book : numbers_book source.numbers ≡ words_book words
   pub next : HasNext source.numbers source.next
@@ -80,7 +83,7 @@ abbrev pub IsBatchOf : Batch → SlotKey → Pass → Type 0
 IsBatchOf batch key pass = AreOfBook (keys_in batch) pass × (values_of (keys_in batch) ≡ (slot_of key).batch)
 
 pub record Works (words : Shared) (slot size : ℕ) (batch : Batch) (key : SlotKey) (pass : Pass) : Type 0 where
-  pub links : HasLinks words
+  pub links : HasEight words
   pub book : words_book words ≡ pass.name
   pub size_is : size ≡ pass.name.size
   pub holder : IsHolder key pass slot
