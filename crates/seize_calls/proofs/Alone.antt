@@ -66,9 +66,11 @@ their_deeds st [] = refl
 their_deeds st (Made d ∷ log) = ap (λ (ds : List Deed). d ∷ ds) (their_deeds (done_by next st (timed d)).0 log)
 their_deeds st (Used u ∷ log) = their_deeds st log
 
-pub made_alone : (pass pass' : Pass) (made : List (Deed × Answer)) → IsSame pass pass' → AddsAlone pass pass' → IsSole pass.name.gate pass.id → events_by pass' ≡ events_by pass ++ made
-    → deeds pass'.seen ≡ deeds pass.seen ++ map (λ a. a.0) made
-made_alone pass pass' made same adds sole events = ap deeds more.1 ∙ deeds_append pass.seen more.0 ∙ ap (λ (ds : List Deed). deeds pass.seen ++ ds) (sym (their_deeds st more.0) ∙ ap (λ (log : List (Deed × Answer)). map (λ a. a.0) log) all)
+-- and with their answers
+pub made_there : (pass pass' : Pass) (made : List (Deed × Answer)) → IsSame pass pass' → (adds : AddsAlone pass pass') (sole : IsSole pass.name.gate pass.id) → events_by pass' ≡ events_by pass ++ made
+    → events_in (answered (after (start pass.name) pass.seen) (adds sole).0) ≡ made
+made_there pass pass' made same adds sole events =
+    append_cancel_left (events_by pass) (events_in (answered st more.0)) made (sym (events_append (mine_of pass) (answered st more.0)) ∙ sym (ap events_in mine_now) ∙ events)
   where
     more : (added : List Entry) × (pass'.seen ≡ pass.seen ++ added) × AllBy pass.id added
     more = adds sole
@@ -84,5 +86,9 @@ made_alone pass pass' made same adds sole events = ap deeds more.1 ∙ deeds_app
         ∙ filter-append (λ a. maker a.0 == pass.id) (answered (start pass.name) pass.seen) (answered st more.0)
         ∙ ap (λ (log : List (Entry × Answer)). mine_of pass ++ log) (all_mine st pass.id more.0 more.2)
 
-    all : events_in (answered st more.0) ≡ made
-    all = append_cancel_left (events_by pass) (events_in (answered st more.0)) made (sym (events_append (mine_of pass) (answered st more.0)) ∙ sym (ap events_in mine_now) ∙ events)
+pub made_alone : (pass pass' : Pass) (made : List (Deed × Answer)) → IsSame pass pass' → AddsAlone pass pass' → IsSole pass.name.gate pass.id → events_by pass' ≡ events_by pass ++ made
+    → deeds pass'.seen ≡ deeds pass.seen ++ map (λ a. a.0) made
+made_alone pass pass' made same adds sole events =
+    let more = adds sole in let st = after (start pass.name) pass.seen in
+    ap deeds more.1 ∙ deeds_append pass.seen more.0
+    ∙ ap (λ (ds : List Deed). deeds pass.seen ++ ds) (sym (their_deeds st more.0) ∙ ap (λ (log : List (Deed × Answer)). map (λ a. a.0) log) (made_there pass pass' made same adds sole events))

@@ -1,5 +1,5 @@
 -- Calls with a pass that is alone: what the links hold then, and what is left at the end.
-use Rattle.std.proofs.Common.{◌≡◌, ℕ, zero, suc, ◌+◌, ◌-◌, ◌^◌, ◌<◌, min, Bool, true, false, List, [], ◌∷◌, length, None, is_some, not, ◌&&◌, inl, inr, ⊎_elim, refl, sym, ap, ◌∙◌, subst, arith}
+use Rattle.std.proofs.Common.{◌≡◌, ℕ, zero, suc, ◌+◌, ◌-◌, ◌^◌, ◌<◌, min, Bool, true, false, List, [], ◌∷◌, length, None, is_some, not, ◌&&◌, inl, inr, ⊎_elim, append-nil, append_assoc, if◌then◌else◌, refl, sym, ap, ◌∙◌, subst, arith, ◌++◌}
 use Rattle.std.specs.Prelude.{slice_index_or}
 use Rattle.std.specs.List.{list_all}
 use native.Mathlib.Decide.{ℕ_discrete}
@@ -8,8 +8,8 @@ use mathlib.Core.List.{IsPrefix}
 use Rattle.seize_machine.proofs.Facts.{and_true, heads_length, law_quiet}
 use Rattle.seize_machine.specs.Machine.History.{Reclaimed, Retired, answers_of}
 use Rattle.seize_machine.specs.Machine.Laws.{is_quiet}
+use Rattle.seize_machine.specs.Machine.Next.{is_zero}
 use Rattle.seize_machine.specs.Machine.State.{Head, Inactive, Slot, State, are_distinct, head_at, is_active, is_idle, link_at, linked, no_slot, slot_at}
-use Rattle.seize_machine.specs.declared.machine.event.Answer.{Answer}
 use Rattle.seize_machine.specs.declared.machine.event.Job.{Job}
 use Rattle.seize_book.specs.Book.{IsLegalList, after, moments}
 use Rattle.seize_book.specs.Entry.{Deed, Entry, events_of}
@@ -23,19 +23,24 @@ use Rattle.seize_book.specs.declared.book.slot_key.SlotKey.{SlotKey}
 use Rattle.seize_book.specs.declared.book.value_keys.ValueKeys.{ValueKeys}
 use Rattle.seize_book.proofs.Lists.{as_legal, reached_after}
 use Rattle.seize_book.proofs.Turns.{turn_alone}
-use Rattle.seize_calls.specs.Calls.{BeginsSo, Flushes, Leaves, RetiresOne, Returns}
+use Rattle.seize_calls.specs.Calls.{Flushes, Leaves, RetiresOne, Returns}
 use Rattle.seize_calls.specs.Settling.{Drains, Round, Settles, Stand}
-use Rattle.seize_calls.specs.Handing.{Had}
-use Rattle.seize_calls.specs.Marks.{actives}
-use Rattle.seize_calls_rows.specs.Turns.{AllBack, EmptyBelow, Holds, IsPartOf, KeepsLinks}
+use Rattle.seize_calls.specs.Batches.{kepts_of}
+use Rattle.seize_calls.specs.Handing.{Had, HasHad, values_handed}
+use Rattle.seize_calls.specs.Marks.{actives, readings}
+use Rattle.seize_calls_rows.specs.Turns.{AllBack, EmptyBelow, Gave, Holds, IsPartOf, KeepsLinks}
 use Rattle.seize_calls_rows.specs.Workers.{GoesOn, MayWork, Shared, Works}
 use Rattle.seize_calls_rows.specs.declared.turns.Holder.{Holder}
 use Rattle.seize_calls_rows.specs.declared.worker.Worker.{Worker}
 use Rattle.seize_calls.specs.declared.batch.Batch.{Batch}
 use Rattle.seize_words.proofs.Facts.{more_slots}
-use Rattle.seize_calls_rows.proofs.Links.{IsNone, Since, at_first, more_since, none_changed, none_handed, none_read, none_turns, none_walked}
-use Rattle.seize_calls_rows.proofs.Workers.{goes_known, works_on}
-use Rattle.seize_words.specs.Walks.{Knows}
+use Rattle.seize_calls_rows.proofs.Links.{IsNone, Since, at_first, gone_since, handed_hands, handed_read, handed_turns, handed_walked, more_since, none_changed, none_handed, none_read, none_turns, none_walked, on_since, since_twice}
+use Rattle.seize_machine.specs.declared.machine.event.Answer.{Answer}
+use Rattle.seize_machine.specs.declared.machine.event.Answer.TheVariants.{Done}
+use Rattle.seize_calls.proofs.Handed.{had_more, had_none}
+use Rattle.seize_calls.specs.Alone.{AddsAlone}
+use Rattle.seize_calls.specs.Walking.{handed_in}
+use Rattle.seize_calls_rows.proofs.Workers.{works_on}
 
 pub has_turn : (pass : Pass) → HasTurn pass → IsSole pass.name.gate pass.id
 has_turn pass turn = subst (IsSole pass.name.gate) (sym turn.1) (turn_alone pass.name.gate turn.0)
@@ -43,57 +48,105 @@ has_turn pass turn = subst (IsSole pass.name.gate) (sym turn.1) (turn_alone pass
 pub turn_still : (pass pass' : Pass) → IsSame pass pass' → HasTurn pass → HasTurn pass'
 turn_still pass pass' same turn = subst (λ (t : Name × ℕ). Rattle.seize_book.specs.Tokens.IsTurns t.0.gate × (t.1 ≡ 0)) (λ j. (sym same.0 j, sym same.1 j)) turn
 
--- Where a call was made, each link holds what it held: none of its events changes one.
+-- The values that are gone since went to the reclaimer, in this order.
 
-since_settled : (e : List (Deed × Answer)) (a b : Stand) (r : Bool) → Settles a b r → Since e (events_by a.pass) → Since e (events_by b.pass)
-since_settled e a b false s so = subst (Since e) (sym s.made) (more_since e _ _ so (none_read a.pass (number_of a.key) 0 s.finds))
-since_settled e a b true s so =
-    let k = number_of a.key in
-    let read = more_since e _ _ so (none_read a.pass k 0 s.finds) in
-    let turns = more_since e _ _ (more_since e _ _ read ((λ l. refl), tt)) (none_turns a.pass k (actives 0 s.finds) s.turns) in
-    subst (Since e) (sym s.made) (more_since e _ _ (more_since e _ _ turns ((λ l. refl), tt)) (none_handed a.pass k s.handed))
+pub gave_none : (pass pass' : Pass) (had : Had) → (state_seen pass').gone ≡ (state_seen pass).gone → Gave pass pass' had had
+gave_none pass pass' had same = record { values = []; kepts = []; gone = same ∙ sym (append-nil (state_seen pass).gone); has_had = had_none had }
 
-since_round : (e : List (Deed × Answer)) (a : Stand) (v kept : ℕ) (b : Stand) (r : Bool) → Round a v kept b r → Since e (events_by a.pass) → Since e (events_by b.pass)
-since_round e a v kept b r round so = since_settled e round.full b r round.settles (subst (Since e) (sym round.puts.made) (more_since e _ _ so ((λ l. refl), tt)))
+pub gave_twice : (a b c : Pass) (had had1 had2 : Had) → Gave a b had had1 → Gave b c had1 had2 → Gave a c had had2
+gave_twice a b c had had1 had2 one two = record {
+  values = one.values ++ two.values;
+  kepts = one.kepts ++ two.kepts;
+  gone = two.gone ∙ ap (λ (gone : List ℕ). gone ++ two.values) one.gone ∙ append_assoc (state_seen a).gone one.values two.values;
+  has_had = had_more one.values two.values one.kepts two.kepts had had1 had2 one.has_had two.has_had;
+}
 
-since_drained : (e : List (Deed × Answer)) (a b : Stand) → Drains a b → Since e (events_by a.pass) → Since e (events_by b.pass)
-since_drained e a _ Drains.over so = so
-since_drained e a _ (Drains.round b c queue v kept r before first one) so =
-    since_round e (record { key = b.key; pass = b.pass; batch = b.batch; queue = queue; had = b.had }) v kept c r one (since_drained e a b before so)
+-- What a call does that makes these events: it leaves the links as they were, and the reclaimer had what is gone.
+abbrev pub Did : Pass → Pass → Had → Had → Type 0
+Did pass pass' had had' = KeepsLinks pass pass' × Gave pass pass' had had'
 
-since_returned : (e : List (Deed × Answer)) (a : Stand) (key' : SlotKey) (pass' : Pass) (values : ValueKeys) (had : Had) → Returns a key' pass' values had → Since e (events_by a.pass) → Since e (events_by pass')
-since_returned e a key' pass' values had returns so = subst (Since e) (sym returns.made) (more_since e _ _ so ((λ l. refl), tt))
+-- These events were made meanwhile, none of them on a link; and what was handed by them the reclaimer had.
+pub record Makes (was now : List (Deed × Answer)) (had had' : Had) : Type 0 where
+  pub values : List ℕ
+  pub kepts : List ℕ
+  pub since : Since was now values
+  pub has_had : HasHad values kepts had had'
 
-module _ (key : SlotKey) (pass : Pass) (values : ValueKeys) (had : Had) (key' : SlotKey) (pass' : Pass) (values' : ValueKeys) (had' : Had) (b : Bool) (knows : Knows key' pass') where
-  begun : (job : Job) (a : Stand) → BeginsSo key pass job values had a → Since (events_by pass) (events_by a.pass)
-  begun job a begins = subst (Since (events_by pass)) (sym begins.begins.made) (more_since (events_by pass) _ _ (at_first (events_by pass)) ((λ l. refl), tt))
+makes_twice : (a b c : List (Deed × Answer)) (had had1 had2 : Had) → Makes a b had had1 → Makes b c had1 had2 → Makes a c had had2
+makes_twice a b c had had1 had2 one two = record {
+  values = one.values ++ two.values;
+  kepts = one.kepts ++ two.kepts;
+  since = since_twice a b c one.values two.values one.since two.since;
+  has_had = had_more one.values two.values one.kepts two.kepts had had1 had2 one.has_had two.has_had;
+}
 
-  pub retired_goes : (v kept : ℕ) → RetiresOne key pass v kept values had key' pass' values' had' b → GoesOn pass pass'
-  retired_goes v kept r = goes_known key' pass pass' r.rests.same r.rests.grows knows
+-- nothing is handed by one event
+makes_one : (was now : List (Deed × Answer)) (d : Deed) (had had' : Had) → now ≡ was ++ (d, Done) ∷ [] → IsNone d.event → had' ≡ had → Makes was now had had'
+makes_one was now d had had' made none same = record { values = []; kepts = []; since = (_, made, (none, tt), refl); has_had = subst (HasHad [] [] had) (sym same) (had_none had) }
 
-  pub retired_keeps : (v kept : ℕ) → RetiresOne key pass v kept values had key' pass' values' had' b → IsSole pass.name.gate pass.id → KeepsLinks pass pass'
-  retired_keeps v kept r sole =
-      let e = events_by pass in
-      none_changed pass pass' r.rests.same r.rests.alone sole
-      (since_returned e r.drained key' pass' values' had' r.returns (since_drained e r.settled r.drained r.drains (since_round e r.begun v kept r.settled b r.round (begun _ r.begun r.begins))))
+did_by : (pass pass' : Pass) (had had' : Had) → IsSame pass pass' → AddsAlone pass pass' → IsSole pass.name.gate pass.id → Makes (events_by pass) (events_by pass') had had' → Did pass pass' had had'
+did_by pass pass' had had' same adds sole m =
+    (none_changed pass pass' same adds m.values sole m.since, record { values = m.values; kepts = m.kepts; gone = gone_since pass pass' same adds m.values sole m.since; has_had = m.has_had })
 
-  pub flushed_goes : Flushes key pass values had key' pass' values' had' b → GoesOn pass pass'
-  flushed_goes f = goes_known key' pass pass' f.rests.same f.rests.grows knows
+settles_makes : (a b : Stand) (retired : Bool) → Settles a b retired → Makes (events_by a.pass) (events_by b.pass) a.had b.had
+settles_makes a b false s =
+    let e = events_by a.pass in let k = number_of a.key in
+    record {
+      values = [];
+      kepts = [];
+      since = subst (λ (x : List (Deed × Answer)). Since e x []) (sym s.made) (on_since e e (readings a.pass k 0 s.finds) [] (at_first e) (none_read a.pass k 0 s.finds) (handed_read a.pass k 0 s.finds));
+      has_had = subst (HasHad [] [] a.had) (sym s.had_none) (had_none a.had);
+    }
+settles_makes a b true s =
+    let e = events_by a.pass in let k = number_of a.key in let vs = values_handed s.handed in
+    let read = on_since e e (readings a.pass k 0 s.finds) [] (at_first e) (none_read a.pass k 0 s.finds) (handed_read a.pass k 0 s.finds) in
+    let turns = on_since e _ _ [] (on_since e _ _ [] read ((λ l. refl), tt) refl) (none_turns a.pass k (actives 0 s.finds) s.turns) (handed_turns a.pass k (actives 0 s.finds) s.turns) in
+    record {
+      values = vs;
+      kepts = if is_zero s.count then kepts_of a.batch else [];
+      since = subst (λ (x : List (Deed × Answer)). Since e x vs) (sym s.made) (more_since e _ _ [] vs (on_since e _ _ [] turns ((λ l. refl), tt) refl) (none_handed a.pass k s.handed) (handed_hands a.pass k s.handed));
+      has_had = s.has_had;
+    }
 
-  pub flushed_keeps : Flushes key pass values had key' pass' values' had' b → IsSole pass.name.gate pass.id → KeepsLinks pass pass'
-  flushed_keeps f sole =
-      let e = events_by pass in
-      none_changed pass pass' f.rests.same f.rests.alone sole
-      (since_returned e f.drained key' pass' values' had' f.returns (since_drained e f.settled f.drained f.drains (since_settled e f.begun f.settled b f.settles (begun _ f.begun f.begins))))
+round_makes : (a b : Stand) (v kept : ℕ) (retired : Bool) → Round a v kept b retired → Makes (events_by a.pass) (events_by b.pass) a.had b.had
+round_makes a b v kept retired r =
+    makes_twice (events_by a.pass) (events_by r.full.pass) (events_by b.pass) a.had r.full.had b.had (makes_one _ _ _ a.had r.full.had r.puts.made (λ l. refl) r.same.1) (settles_makes r.full b retired r.settles)
 
-pub left_keeps : (job : Job) (stays : Bool) (swap : Deed) (key : SlotKey) (pass : Pass) (values : ValueKeys) (had : Had) (key' : SlotKey) (pass' : Pass) (values' : ValueKeys) (had' : Had)
-    → Leaves job stays swap key pass values had key' pass' values' had' → IsNone swap.event → IsSole pass.name.gate pass.id → KeepsLinks pass pass'
-left_keeps job stays swap key pass values had key' pass' values' had' leaves none sole =
-    let e = events_by pass in let k = number_of key in
-    let out = more_since e _ _ (more_since e e _ (at_first e) ((λ l. refl), tt)) (none, tt) in
-    let behind = subst (Since e) (sym leaves.made) (more_since e _ _ out (none_walked pass k leaves.walked)) in
-    none_changed pass pass' leaves.rests.same leaves.rests.alone sole
-    (since_returned e leaves.drained key' pass' values' had' leaves.returns (since_drained e leaves.behind leaves.drained leaves.drains behind))
+drains_makes : (a b : Stand) → Drains a b → Makes (events_by a.pass) (events_by b.pass) a.had b.had
+drains_makes a _ Drains.over = record { values = []; kepts = []; since = at_first (events_by a.pass); has_had = had_none a.had }
+drains_makes a _ (Drains.round b c queue v kept retired drains takes round) =
+    makes_twice (events_by a.pass) (events_by b.pass) (events_by c.pass) a.had b.had c.had (drains_makes a b drains)
+    (round_makes (record { key = b.key; pass = b.pass; batch = b.batch; queue = queue; had = b.had }) c v kept retired round)
+
+-- it drained its queue, and returned
+ends_makes : (a b : Stand) (key' : SlotKey) (pass' : Pass) (values' : ValueKeys) (had' : Had) → Drains a b → Returns b key' pass' values' had' → Makes (events_by a.pass) (events_by pass') a.had had'
+ends_makes a b key' pass' values' had' drains returns =
+    makes_twice (events_by a.pass) (events_by b.pass) (events_by pass') a.had b.had had' (drains_makes a b drains) (makes_one _ _ _ b.had had' returns.made (λ l. refl) returns.had_none)
+
+module _ (key : SlotKey) (pass : Pass) (values : ValueKeys) (had : Had) (key' : SlotKey) (pass' : Pass) (values' : ValueKeys) (had' : Had) (b : Bool) where
+  pub retired_did : (v kept : ℕ) → RetiresOne key pass v kept values had key' pass' values' had' b → IsSole pass.name.gate pass.id → Did pass pass' had had'
+  retired_did v kept r sole =
+      let e = events_by in
+      did_by pass pass' had had' r.rests.same r.rests.alone sole
+      (makes_twice (e pass) (e r.begun.pass) (e pass') had r.begun.had had' (makes_one _ _ _ had r.begun.had r.begins.begins.made (λ l. refl) r.begins.had_none)
+      (makes_twice (e r.begun.pass) (e r.settled.pass) (e pass') r.begun.had r.settled.had had' (round_makes r.begun r.settled v kept b r.round) (ends_makes r.settled r.drained key' pass' values' had' r.drains r.returns)))
+
+  pub flushed_did : Flushes key pass values had key' pass' values' had' b → IsSole pass.name.gate pass.id → Did pass pass' had had'
+  flushed_did f sole =
+      let e = events_by in
+      did_by pass pass' had had' f.rests.same f.rests.alone sole
+      (makes_twice (e pass) (e f.begun.pass) (e pass') had f.begun.had had' (makes_one _ _ _ had f.begun.had f.begins.begins.made (λ l. refl) f.begins.had_none)
+      (makes_twice (e f.begun.pass) (e f.settled.pass) (e pass') f.begun.had f.settled.had had' (settles_makes f.begun f.settled b f.settles) (ends_makes f.settled f.drained key' pass' values' had' f.drains f.returns)))
+
+pub left_did : (job : Job) (stays : Bool) (swap : Deed) (key : SlotKey) (pass : Pass) (values : ValueKeys) (had : Had) (key' : SlotKey) (pass' : Pass) (values' : ValueKeys) (had' : Had)
+    → Leaves job stays swap key pass values had key' pass' values' had' → IsNone swap.event → IsSole pass.name.gate pass.id → Did pass pass' had had'
+left_did job stays swap key pass values had key' pass' values' had' l none sole =
+    let e = events_by pass in let k = number_of key in let vs = values_handed (handed_in l.walked) in
+    let out = on_since e _ _ [] (on_since e e _ [] (at_first e) ((λ l. refl), tt) refl) (none, tt) refl in
+    did_by pass pass' had had' l.rests.same l.rests.alone sole
+    (makes_twice e (events_by l.behind.pass) (events_by pass') had l.behind.had had'
+    (record { values = vs; kepts = l.kepts; since = subst (λ (x : List (Deed × Answer)). Since e x vs) (sym l.made) (more_since e _ _ [] vs out (none_walked pass k l.walked) (handed_walked pass k l.walked)); has_had = l.has_had })
+    (ends_makes l.behind l.drained key' pass' values' had' l.drains l.returns))
 
 -- One link more is empty.
 pub one_emptier : (n : ℕ) (pass pass' : Pass) → EmptyBelow n pass → (link_at (state_seen pass') n ≡ None) × ((l : ℕ) → ¬ (l ≡ n) → link_at (state_seen pass') l ≡ link_at (state_seen pass) l) → EmptyBelow (n + 1) pass'

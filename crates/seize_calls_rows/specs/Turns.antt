@@ -7,10 +7,14 @@
 --     KeepsLinks pass pass'            each link holds what it held
 --     TakesOut l pass pass'            but link l, which holds nothing
 --     EmptyBelow n pass                the links below this number hold nothing
+--     Gave pass pass' had had'         the values that are gone since went to the reclaimer (HasHad), in order
+--     IsShutBy porter first second shut     it is the pass of the gate that was shut, and has seen what the two workers had
+--     Regains shut pass had had'       so did all that are gone since this pass had seen the whole list, and all contents are back
 --     AllBack pass                     the pass has seen the whole list, and nobody else can add to it. In it no link holds anything, no
 --                                      call is under way, no slot is active and none has a batch. So each value that was ever retired went
 --                                      to its reclaimer
-use Rattle.std.specs.Prelude.{◌≡◌, ℕ, ◌+◌, ◌<◌, true, [], None}
+use Rattle.std.specs.Prelude.{◌≡◌, ℕ, ◌+◌, ◌<◌, true, List, [], ◌++◌, None}
+use mathlib.Core.List.{IsPrefix}
 use Rattle.seize_machine.specs.Machine.History.{Reclaimed, Retired}
 use Rattle.seize_machine.specs.Machine.Laws.{is_quiet}
 use Rattle.seize_machine.specs.Machine.State.{link_at, slot_at}
@@ -20,6 +24,7 @@ use Rattle.seize_book.specs.Tokens.{IsSole, start}
 use Rattle.seize_book.specs.declared.book.pass.Pass.{Pass}
 use Rattle.seize_book.specs.declared.book.porter.Porter.{Porter}
 use Rattle.seize_book.specs.declared.book.slot_key.SlotKey.{SlotKey}
+use Rattle.seize_calls.specs.Handing.{Had, HasHad}
 use Rattle.seize_calls.specs.declared.batch.Batch.{Batch}
 use Rattle.seize_words.specs.Joined.{words_book}
 use Rattle.seize_words.specs.declared.activation.Activation.{Activation}
@@ -58,9 +63,25 @@ TakesOut n pass pass' =
 abbrev pub EmptyBelow : ℕ → Pass → Type 0
 EmptyBelow n pass = (l : ℕ) → l < n → link_at (state_seen pass) l ≡ None
 
+pub record Gave (pass pass' : Pass) (had had' : Had) : Type 0 where
+  pub values : List ℕ
+  pub kepts : List ℕ
+  pub gone : (state_seen pass').gone ≡ (state_seen pass).gone ++ values
+  pub has_had : HasHad values kepts had had'
+
 pub record AllBack (pass : Pass) : Type 0 where
   pub alone : IsSole pass.name.gate pass.id
   pub links : EmptyBelow 1024 pass
   pub quiet : is_quiet (state_seen pass) ≡ true
   pub batches : (s : ℕ) → (slot_at (state_seen pass) s).batch ≡ []
-  pub reclaimed : (v q : ℕ) → let ms = moments (start pass.name) pass.seen in Retired ms v q → (c : ℕ) × Reclaimed ms v c
+  pub reclaimed : (v q : ℕ) → let ms = moments (start pass.name) pass.seen in
+      Retired ms v q → (c : ℕ) × Reclaimed ms v c
+
+pub record Regains (shut pass : Pass) (had had' : Had) : Type 0 where
+  pub gave : Gave shut pass had had'
+  pub grows : IsPrefix shut.seen pass.seen
+  pub all : AllBack pass
+
+abbrev pub IsShutBy : Porter → Worker → Worker → Pass → Type 0
+IsShutBy porter first second shut =
+    (shut.name ≡ porter.name) × IsSole shut.name.gate shut.id × IsPrefix first.pass.seen shut.seen × IsPrefix second.pass.seen shut.seen

@@ -3,8 +3,8 @@
 //! first pass has seen is the whole list from then on, and each slot leaves nothing behind.
 ghost use Rattle.std.specs.Prelude.{◌≡◌, ◌<◌, IfSome};
 ghost use Rattle.seize_book.specs.Turns.{HasTurn, TakesBack};
-ghost use Rattle.seize_calls_rows.specs.Turns.{AllBack, CanMakeIn, IsOneMoreOut, IsSlotAfter};
-ghost use Rattle.seize_calls_rows.specs.Turns.{EmptyBelow, Holds, IsPartOf, KeepsLinks, StandsAs, TakesOut};
+ghost use Rattle.seize_calls_rows.specs.Turns.{CanMakeIn, IsOneMoreOut, IsShutBy, IsSlotAfter, Regains};
+ghost use Rattle.seize_calls_rows.specs.Turns.{EmptyBelow, Gave, Holds, IsPartOf, KeepsLinks, StandsAs, TakesOut};
 ghost use Rattle.seize_calls_rows.specs.Workers.{GoesOn, MayWork, made_by};
 ghost use Rattle.seize_words.specs.Joined.{words_book};
 
@@ -104,6 +104,7 @@ fn take_out(
     ensures stands { StandsAs words.now slot size batch.new key.new activation.now pass.new }
     ensures goes_on { GoesOn pass.old pass.new }
     ensures out { TakesOut link pass.old pass.new }
+    ensures gave { Gave pass.old pass.new counting.old.told.had counting.new.told.had }
 {
     let mut value = MaybeKey::none(pass);
     let old = words.swap_link(link, 0, &mut value, activation, pass);
@@ -144,6 +145,7 @@ fn flush_and_leave(
     ensures holds { Holds words.now result pass.new × (result.slot ≡ slot) }
     ensures goes_on { GoesOn pass.old pass.new }
     ensures keeps { KeepsLinks pass.old pass.new }
+    ensures gave { Gave pass.old pass.new counting.old.told.had counting.new.told.had }
 {
     let (mut batch, mut key) = (batch, key);
     let (slots, blocks) = (&words.slots, &words.blocks);
@@ -174,6 +176,7 @@ fn clear(
     requires turn { HasTurn pass.old }
     ensures holds { Holds words.now result pass.new × (result.slot ≡ holder.slot) }
     ensures goes_on { GoesOn pass.old pass.new }
+    ensures gave { Gave pass.old pass.new counting.old.told.had counting.new.told.had }
 {
     let Holder {
         slot,
@@ -200,6 +203,7 @@ fn empty(
     ensures holds { Holds words.now result pass.new × (result.slot ≡ holder.slot) }
     ensures goes_on { GoesOn pass.old pass.new }
     ensures links { EmptyBelow 1024 pass.new }
+    ensures gave { Gave pass.old pass.new counting.old.told.had counting.new.told.had }
 {
     let Holder {
         slot,
@@ -240,7 +244,8 @@ pub fn reclaim_all(
 ) -> Option<Pass>
     requires workers { MayWork words.now first × MayWork words.now second }
     requires porter { (porter.name ≡ words_book words.now) × (porter.out ≡ 2) }
-    ensures back { IfSome result AllBack }
+    ensures back { IfSome result (λ pass. (shut : Pass) × IsShutBy porter first second shut
+        × Regains shut pass counting.old.told.had counting.new.told.had) }
 {
     let mut porter = porter;
     let first = part(first, &mut porter);

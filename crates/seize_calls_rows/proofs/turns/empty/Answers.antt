@@ -1,5 +1,6 @@
-use Rattle.std.proofs.Common.{◌∙◌, arith}
-use Rattle.seize_calls_rows.proofs.Shut.{one_emptier, turn_still}
+use Rattle.seize_calls_rows.proofs.Links.{one_gone}
+use Rattle.std.proofs.Common.{◌∙◌, arith, refl}
+use Rattle.seize_calls_rows.proofs.Shut.{one_emptier, turn_still, gave_none, gave_twice, has_turn}
 use Rattle.seize_calls_rows.proofs.Workers.{entered, goes_noted, goes_twice}
 use Rattle.seize_calls_rows.specs.declared.worker.Worker.{Worker}
 use Rattle.seize_calls_rows.proofs.turns.empty.Goals as goal
@@ -11,7 +12,8 @@ loop-link-init g c =
       entered c.args.words.now w c.requires.holds one.new.key one.new.pass one.result one.ensures.noted one.ensures.activation,
       turn_still pass one.new.pass one.ensures.noted.0 c.requires.turn,
       goes_noted pass one.new.pass _ one.ensures.noted.0 one.ensures.noted.2.0,
-      λ l less. absurd (omega (arith, less)),
+      (λ l less. absurd (omega (arith, less))),
+      gave_none pass one.new.pass _ (one_gone pass one.new.pass _ one.ensures.noted.0 one.ensures.noted.2.0 (has_turn pass c.requires.turn) refl),
     )
 
 pub take_out-requires-clause-stands : goal.take_out-requires-clause-stands
@@ -27,6 +29,7 @@ loop-link-preserved g c =
       turn_still was one.new.pass one.ensures.goes_on.same i.1,
       goes_twice c.args.pass.now was one.new.pass i.2 one.ensures.goes_on,
       one_emptier c.loop-link.link was one.new.pass i.3 one.ensures.out,
+      gave_twice c.args.pass.now was one.new.pass _ _ _ i.4 one.ensures.gave,
     )
 
 pub flush_and_leave-requires-clause-stands : goal.flush_and_leave-requires-clause-stands
@@ -42,3 +45,7 @@ returns-clause-goes_on g c =
 pub returns-clause-links : goal.returns-clause-links
 returns-clause-links g c =
     let one = c.flush_and_leave in λ l less. one.ensures.keeps l ∙ c.loop-link.invariant.3 l (omega (arith, less))
+
+pub returns-clause-gave : goal.returns-clause-gave
+returns-clause-gave g c =
+    let one = c.flush_and_leave in gave_twice c.args.pass.now c.loop-link.pass one.new.pass _ _ _ c.loop-link.invariant.4 one.ensures.gave

@@ -8,7 +8,7 @@ use Rattle.seize_book.specs.Slots.{slot_of}
 use Rattle.seize_book.specs.Values.{values_of}
 use Rattle.seize_calls.specs.Batches.{keys_in}
 use Rattle.seize_calls_rows.proofs.Links.{look_keeps, sole_still}
-use Rattle.seize_calls_rows.proofs.Shut.{LeavesNothing, all_back, has_turn, holds_on, left_by, longer_left, longer_right, no_values, part_holds, turn_still}
+use Rattle.seize_calls_rows.proofs.Shut.{LeavesNothing, all_back, has_turn, holds_on, left_by, longer_left, longer_right, no_values, part_holds, turn_still, gave_none, gave_twice}
 use Rattle.seize_calls_rows.proofs.turns.reclaim_all.Goals as goal
 
 pub clear-second-requires-clause-holds : goal.clear-second-requires-clause-holds
@@ -47,11 +47,27 @@ returns g c =
     let one : LeavesNothing (state_seen p3) 0 = left_by a.key c.look.new.self p2 p3 0 first ha.0.0.holder.0 (ha.0.0.holder.1 ∙ c.if-first_slot-ne0.false) ha.0.1.0 ha.0.1.1 na in
     let two : LeavesNothing (state_seen p4) 1 =
     left_by b.key c.look-2.new.self p3 p4 1 second (hb.0.0.holder.0 ∙ sym (first.on.same.0 ∙ c.empty-first.ensures.goes_on.same.0)) (hb.0.0.holder.1 ∙ c.if-second_slot-ne1.false) hb.0.1.0 hb.0.1.1 nb in
+    let gave = gave_twice p0 p1 p5 _ _ _ c.clear-second.ensures.gave
+    (gave_twice p1 p2 p5 _ _ _ c.empty-first.ensures.gave (gave_none p2 p5 _ (ap (λ (st : State). st.gone) (e5 ∙ e4 ∙ e3)))) in
+    let grows = prefix_trans p0.seen p1.seen p5.seen c.clear-second.ensures.goes_on.seen (prefix_trans p1.seen p2.seen p5.seen c.empty-first.ensures.goes_on.seen
+    (prefix_trans p2.seen p3.seen p5.seen first.on.grows (prefix_trans p3.seen p4.seen p5.seen second.on.grows load.looks.grows))) in
+    let porter = c.part-second.new.porter in let one_porter = c.part-first.new.porter in let back1 = c.part-first.ensures.back in let back2 = c.part-second.ensures.back in let shut = c.shut-pass.ensures in
+    let seen2 = prefix_trans c.args.second.pass.seen porter.seen p0.seen (longer_right one_porter.seen c.args.second.pass.seen porter.seen back2.2) shut.grows in
+    let seen1 = prefix_trans c.args.first.pass.seen one_porter.seen p0.seen (longer_right c.args.porter.seen c.args.first.pass.seen one_porter.seen back1.2)
+    (prefix_trans one_porter.seen porter.seen p0.seen (longer_left one_porter.seen c.args.second.pass.seen porter.seen back2.2) shut.grows) in
     record {
-      back = all_back p5 (sole_still p4 p5 load.looks.same sole4)
-          (λ l less. ap (λ (st : State). link_at st l) (e5 ∙ e4 ∙ e3) ∙ c.empty-first.ensures.links l less)
-          (subst (λ (n : Name). IsLegalList (start n) p5.seen) (sym load.looks.same.0) load.looks.legal) (subst (λ (n : Name). are_distinct (linked n.links) ≡ true) (sym load.looks.same.0) load.looks.distinct)
-          (ap (λ (st : State). length st.slots) (e5 ∙ sym em) ∙ sym load.count.3 ∙ c.if-many-ne2.false)
-          (subst (λ (st : State). LeavesNothing st 0) (sym (e5 ∙ e4)) one)
-          (subst (λ (st : State). LeavesNothing st 1) (sym e5) two);
+      back = (
+        p0,
+        (shut.book ∙ back2.0 ∙ back1.0, shut.alone, seen1, seen2),
+        record {
+          gave = gave;
+          grows = grows;
+          all = all_back p5 (sole_still p4 p5 load.looks.same sole4)
+              (λ l less. ap (λ (st : State). link_at st l) (e5 ∙ e4 ∙ e3) ∙ c.empty-first.ensures.links l less)
+              (subst (λ (n : Name). IsLegalList (start n) p5.seen) (sym load.looks.same.0) load.looks.legal) (subst (λ (n : Name). are_distinct (linked n.links) ≡ true) (sym load.looks.same.0) load.looks.distinct)
+              (ap (λ (st : State). length st.slots) (e5 ∙ sym em) ∙ sym load.count.3 ∙ c.if-many-ne2.false)
+              (subst (λ (st : State). LeavesNothing st 0) (sym (e5 ∙ e4)) one)
+              (subst (λ (st : State). LeavesNothing st 1) (sym e5) two);
+        },
+      );
     }

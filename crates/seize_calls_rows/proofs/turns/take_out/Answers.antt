@@ -1,4 +1,4 @@
-use Rattle.std.proofs.Common.{◌≡◌, ℕ, None, sym, ap, ◌∙◌, subst}
+use Rattle.std.proofs.Common.{◌≡◌, ℕ, None, sym, ap, ◌∙◌, subst, refl}
 use Rattle.seize_machine.specs.Machine.Event.{ExchangeLink}
 use Rattle.seize_machine.specs.declared.machine.event.Exchange.TheVariants.{Swap}
 use Rattle.seize_machine.specs.Machine.State.{link_at}
@@ -8,9 +8,9 @@ use Rattle.seize_book.specs.Tokens.{IsSole}
 use Rattle.seize_book.specs.declared.book.pass.Pass.{Pass}
 use Rattle.seize_words.specs.LinkWords.{holds, number}
 use Rattle.seize_words.specs.Links.{value_in}
-use Rattle.seize_calls_rows.proofs.Links.{sole_still, takes_out}
-use Rattle.seize_calls_rows.proofs.Shut.{has_turn, retired_goes, retired_keeps}
-use Rattle.seize_calls_rows.proofs.Workers.{goes_noted, goes_same, goes_twice, stands_after, stands_on}
+use Rattle.seize_calls_rows.proofs.Links.{one_gone, sole_still, takes_out}
+use Rattle.seize_calls_rows.proofs.Shut.{gave_none, gave_twice, has_turn, retired_did}
+use Rattle.seize_calls_rows.proofs.Workers.{goes_known, goes_noted, goes_same, goes_twice, stands_after, stands_on}
 use Rattle.seize_calls_rows.proofs.turns.take_out.Goals as goal
 
 pub returns-then-old-eq0-clause-stands : goal.returns-then-old-eq0-clause-stands
@@ -22,14 +22,13 @@ pub returns-clause-stands : goal.returns-clause-stands
 returns-clause-stands g c =
     let one = c.none-value in let two = c.swap_link-old in let takes = two.ensures.swaps.2.0 in let three = c.retire in
     let stands = stands_on c.args.words.now _ two.new.pass c.requires.stands (goes_same c.args.pass.now one.new.pass two.new.pass one.ensures.1 (goes_noted one.new.pass two.new.pass _ takes.same takes.noted)) in
-    let r = three.ensures.retires in
-    stands_after c.args.words.now _ stands three.new.key three.new.pass three.new.batch three.ensures.knows r.rests r.active r.life
+    let r = three.ensures.retires in stands_after c.args.words.now _ stands three.new.key three.new.pass three.new.batch three.ensures.knows r.rests r.active r.life
 
 pub returns-clause-goes_on : goal.returns-clause-goes_on
 returns-clause-goes_on g c =
     let one = c.none-value in let two = c.swap_link-old in let takes = two.ensures.swaps.2.0 in let three = c.retire in
     goes_twice c.args.pass.now two.new.pass three.new.pass (goes_same c.args.pass.now one.new.pass two.new.pass one.ensures.1 (goes_noted one.new.pass two.new.pass _ takes.same takes.noted))
-    (retired_goes c.args.key.now two.new.pass _ _ three.new.key three.new.pass _ _ three.result three.ensures.knows (value_of c.value-value.result) 0 three.ensures.retires)
+    (goes_known three.new.key two.new.pass three.new.pass three.ensures.retires.rests.same three.ensures.retires.rests.grows three.ensures.knows)
 
 pub returns-clause-out : goal.returns-clause-out
 returns-clause-out g c =
@@ -38,7 +37,21 @@ returns-clause-out g c =
     let is : ExchangeLink c.args.activation.now.slot (number swaps.0) (Swap (holds one.result)) ≡ ExchangeLink c.args.activation.now.slot c.args.link (Swap None)
     = λ j. ExchangeLink c.args.activation.now.slot (swaps.1.1 j) (Swap (value_in (one.ensures.0.1 j))) in
     let out = takes_out one.new.pass two.new.pass _ c.args.activation.now.slot c.args.link is takes.same takes.noted sole in
-    let keeps = retired_keeps c.args.key.now two.new.pass _ _ three.new.key three.new.pass _ _ three.result three.ensures.knows v 0 three.ensures.retires (sole_still one.new.pass two.new.pass takes.same sole) in (
+    let keeps = (retired_did c.args.key.now two.new.pass _ _ three.new.key three.new.pass _ _ three.result v 0 three.ensures.retires (sole_still one.new.pass two.new.pass takes.same sole)).0 in (
       keeps c.args.link ∙ out.0,
       λ l other. keeps l ∙ out.1 l other ∙ ap (λ (p : Pass). link_at (state_seen p) l) one.ensures.1,
     )
+
+pub returns-then-old-eq0-clause-gave : goal.returns-then-old-eq0-clause-gave
+returns-then-old-eq0-clause-gave g c =
+    let one = c.none-value in let two = c.swap_link-old in let takes = two.ensures.swaps.2.0 in
+    let sole = subst (λ (p : Pass). IsSole p.name.gate p.id) (sym one.ensures.1) (has_turn c.args.pass.now c.requires.turn) in
+    gave_none c.args.pass.now two.new.pass _ (one_gone one.new.pass two.new.pass _ takes.same takes.noted sole refl ∙ ap (λ (p : Pass). (state_seen p).gone) one.ensures.1)
+
+pub returns-clause-gave : goal.returns-clause-gave
+returns-clause-gave g c =
+    let one = c.none-value in let two = c.swap_link-old in let takes = two.ensures.swaps.2.0 in let three = c.retire in let v : ℕ = value_of c.value-value.result in
+    let sole = subst (λ (p : Pass). IsSole p.name.gate p.id) (sym one.ensures.1) (has_turn c.args.pass.now c.requires.turn) in
+    gave_twice c.args.pass.now two.new.pass three.new.pass _ _ _
+    (gave_none c.args.pass.now two.new.pass _ (one_gone one.new.pass two.new.pass _ takes.same takes.noted sole refl ∙ ap (λ (p : Pass). (state_seen p).gone) one.ensures.1))
+    (retired_did c.args.key.now two.new.pass _ _ three.new.key three.new.pass _ _ three.result v 0 three.ensures.retires (sole_still one.new.pass two.new.pass takes.same sole)).1
