@@ -19,6 +19,7 @@ use Rattle.seize_book.specs.Tokens.{IsSole, Name, Noted, start}
 use Rattle.seize_book.specs.declared.book.pass.Pass.{Pass}
 use Rattle.seize_book.proofs.Lists.{deeds_append, unequal}
 use Rattle.seize_calls.proofs.Alone.{made_alone, made_there}
+use Rattle.seize_calls.proofs.Handed.{handed_append}
 use Rattle.seize_calls.specs.Alone.{AddsAlone, AllBy}
 use Rattle.seize_calls.specs.Handing.{Handings, values_handed}
 use Rattle.seize_calls.specs.Inserts.{Turn, last_at, losses, turn_at, turns_at}
@@ -100,14 +101,10 @@ pub handed_hands : (pass : Pass) (s : ℕ) (handed : Handings) → handed_of (ha
 handed_hands pass s [] = refl
 handed_hands pass s (one ∷ handed) = ap (λ (ws : List ℕ). one.0 ∷ ws) (handed_hands pass s handed)
 
-both_handed : (a b : Handings) → values_handed (a ++ b) ≡ values_handed a ++ values_handed b
-both_handed [] b = refl
-both_handed (one ∷ a) b = ap (λ (ws : List ℕ). one.0 ∷ ws) (both_handed a b)
-
 pub handed_walked : (pass : Pass) (s : ℕ) (walked : List (_ × Handings)) → handed_of (steps pass s walked) ≡ values_handed (handed_in walked)
 handed_walked pass s [] = refl
 handed_walked pass s (step ∷ walked) =
-    handed_both (hands pass s step.1) (steps pass s walked) ∙ (λ i. handed_hands pass s step.1 i ++ handed_walked pass s walked i) ∙ sym (both_handed step.1 (handed_in walked))
+    handed_both (hands pass s step.1) (steps pass s walked) ∙ (λ i. handed_hands pass s step.1 i ++ handed_walked pass s walked i) ∙ sym (handed_append step.1 (handed_in walked))
 
 -- What was made since, with none of the events on links among it; and these values were handed.
 

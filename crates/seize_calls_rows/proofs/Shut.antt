@@ -26,7 +26,7 @@ use Rattle.seize_book.proofs.Turns.{turn_alone}
 use Rattle.seize_calls.specs.Calls.{Flushes, Leaves, RetiresOne, Returns}
 use Rattle.seize_calls.specs.Settling.{Drains, Round, Settles, Stand}
 use Rattle.seize_calls.specs.Batches.{kepts_of}
-use Rattle.seize_calls.specs.Handing.{Had, HasHad, values_handed}
+use Rattle.seize_calls.specs.Handing.{Had, Handings, HasHad, values_handed}
 use Rattle.seize_calls.specs.Marks.{actives, readings}
 use Rattle.seize_calls_rows.specs.Turns.{AllBack, EmptyBelow, Gave, Holds, IsPartOf, KeepsLinks}
 use Rattle.seize_calls_rows.specs.Workers.{GoesOn, MayWork, Shared, Works}
@@ -37,7 +37,7 @@ use Rattle.seize_words.proofs.Facts.{more_slots}
 use Rattle.seize_calls_rows.proofs.Links.{IsNone, Since, at_first, gone_since, handed_hands, handed_read, handed_turns, handed_walked, more_since, none_changed, none_handed, none_read, none_turns, none_walked, on_since, since_twice}
 use Rattle.seize_machine.specs.declared.machine.event.Answer.{Answer}
 use Rattle.seize_machine.specs.declared.machine.event.Answer.TheVariants.{Done}
-use Rattle.seize_calls.proofs.Handed.{had_more, had_none}
+use Rattle.seize_calls.proofs.Handed.{had_more, had_none, handed_append}
 use Rattle.seize_calls.specs.Alone.{AddsAlone}
 use Rattle.seize_calls.specs.Walking.{handed_in}
 use Rattle.seize_calls_rows.proofs.Workers.{works_on}
@@ -51,14 +51,15 @@ turn_still pass pass' same turn = subst (λ (t : Name × ℕ). Rattle.seize_book
 -- The values that are gone since went to the reclaimer, in this order.
 
 pub gave_none : (pass pass' : Pass) (had : Had) → (state_seen pass').gone ≡ (state_seen pass).gone → Gave pass pass' had had
-gave_none pass pass' had same = record { values = []; kepts = []; gone = same ∙ sym (append-nil (state_seen pass).gone); has_had = had_none had }
+gave_none pass pass' had same = record { handed = []; kepts = []; gone = same ∙ sym (append-nil (state_seen pass).gone); has_had = had_none had }
 
 pub gave_twice : (a b c : Pass) (had had1 had2 : Had) → Gave a b had had1 → Gave b c had1 had2 → Gave a c had had2
 gave_twice a b c had had1 had2 one two = record {
-  values = one.values ++ two.values;
+  handed = one.handed ++ two.handed;
   kepts = one.kepts ++ two.kepts;
-  gone = two.gone ∙ ap (λ (gone : List ℕ). gone ++ two.values) one.gone ∙ append_assoc (state_seen a).gone one.values two.values;
-  has_had = had_more one.values two.values one.kepts two.kepts had had1 had2 one.has_had two.has_had;
+  gone = two.gone ∙ ap (λ (gone : List ℕ). gone ++ values_handed two.handed) one.gone ∙ append_assoc (state_seen a).gone (values_handed one.handed) (values_handed two.handed)
+      ∙ ap (λ (vs : List ℕ). (state_seen a).gone ++ vs) (sym (handed_append one.handed two.handed));
+  has_had = had_more one.handed two.handed one.kepts two.kepts had had1 had2 one.has_had two.has_had;
 }
 
 -- What a call does that makes these events: it leaves the links as they were, and the reclaimer had what is gone.
@@ -67,32 +68,32 @@ Did pass pass' had had' = KeepsLinks pass pass' × Gave pass pass' had had'
 
 -- These events were made meanwhile, none of them on a link; and what was handed by them the reclaimer had.
 pub record Makes (was now : List (Deed × Answer)) (had had' : Had) : Type 0 where
-  pub values : List ℕ
+  pub handed : Handings
   pub kepts : List ℕ
-  pub since : Since was now values
-  pub has_had : HasHad values kepts had had'
+  pub since : Since was now (values_handed handed)
+  pub has_had : HasHad handed kepts had had'
 
 makes_twice : (a b c : List (Deed × Answer)) (had had1 had2 : Had) → Makes a b had had1 → Makes b c had1 had2 → Makes a c had had2
 makes_twice a b c had had1 had2 one two = record {
-  values = one.values ++ two.values;
+  handed = one.handed ++ two.handed;
   kepts = one.kepts ++ two.kepts;
-  since = since_twice a b c one.values two.values one.since two.since;
-  has_had = had_more one.values two.values one.kepts two.kepts had had1 had2 one.has_had two.has_had;
+  since = subst (Since a c) (sym (handed_append one.handed two.handed)) (since_twice a b c (values_handed one.handed) (values_handed two.handed) one.since two.since);
+  has_had = had_more one.handed two.handed one.kepts two.kepts had had1 had2 one.has_had two.has_had;
 }
 
 -- nothing is handed by one event
 makes_one : (was now : List (Deed × Answer)) (d : Deed) (had had' : Had) → now ≡ was ++ (d, Done) ∷ [] → IsNone d.event → had' ≡ had → Makes was now had had'
-makes_one was now d had had' made none same = record { values = []; kepts = []; since = (_, made, (none, tt), refl); has_had = subst (HasHad [] [] had) (sym same) (had_none had) }
+makes_one was now d had had' made none same = record { handed = []; kepts = []; since = (_, made, (none, tt), refl); has_had = subst (HasHad [] [] had) (sym same) (had_none had) }
 
 did_by : (pass pass' : Pass) (had had' : Had) → IsSame pass pass' → AddsAlone pass pass' → IsSole pass.name.gate pass.id → Makes (events_by pass) (events_by pass') had had' → Did pass pass' had had'
 did_by pass pass' had had' same adds sole m =
-    (none_changed pass pass' same adds m.values sole m.since, record { values = m.values; kepts = m.kepts; gone = gone_since pass pass' same adds m.values sole m.since; has_had = m.has_had })
+    (none_changed pass pass' same adds (values_handed m.handed) sole m.since, record { handed = m.handed; kepts = m.kepts; gone = gone_since pass pass' same adds (values_handed m.handed) sole m.since; has_had = m.has_had })
 
 settles_makes : (a b : Stand) (retired : Bool) → Settles a b retired → Makes (events_by a.pass) (events_by b.pass) a.had b.had
 settles_makes a b false s =
     let e = events_by a.pass in let k = number_of a.key in
     record {
-      values = [];
+      handed = [];
       kepts = [];
       since = subst (λ (x : List (Deed × Answer)). Since e x []) (sym s.made) (on_since e e (readings a.pass k 0 s.finds) [] (at_first e) (none_read a.pass k 0 s.finds) (handed_read a.pass k 0 s.finds));
       has_had = subst (HasHad [] [] a.had) (sym s.had_none) (had_none a.had);
@@ -102,7 +103,7 @@ settles_makes a b true s =
     let read = on_since e e (readings a.pass k 0 s.finds) [] (at_first e) (none_read a.pass k 0 s.finds) (handed_read a.pass k 0 s.finds) in
     let turns = on_since e _ _ [] (on_since e _ _ [] read ((λ l. refl), tt) refl) (none_turns a.pass k (actives 0 s.finds) s.turns) (handed_turns a.pass k (actives 0 s.finds) s.turns) in
     record {
-      values = vs;
+      handed = s.handed;
       kepts = if is_zero s.count then kepts_of a.batch else [];
       since = subst (λ (x : List (Deed × Answer)). Since e x vs) (sym s.made) (more_since e _ _ [] vs (on_since e _ _ [] turns ((λ l. refl), tt) refl) (none_handed a.pass k s.handed) (handed_hands a.pass k s.handed));
       has_had = s.has_had;
@@ -113,7 +114,7 @@ round_makes a b v kept retired r =
     makes_twice (events_by a.pass) (events_by r.full.pass) (events_by b.pass) a.had r.full.had b.had (makes_one _ _ _ a.had r.full.had r.puts.made (λ l. refl) r.same.1) (settles_makes r.full b retired r.settles)
 
 drains_makes : (a b : Stand) → Drains a b → Makes (events_by a.pass) (events_by b.pass) a.had b.had
-drains_makes a _ Drains.over = record { values = []; kepts = []; since = at_first (events_by a.pass); has_had = had_none a.had }
+drains_makes a _ Drains.over = record { handed = []; kepts = []; since = at_first (events_by a.pass); has_had = had_none a.had }
 drains_makes a _ (Drains.round b c queue v kept retired drains takes round) =
     makes_twice (events_by a.pass) (events_by b.pass) (events_by c.pass) a.had b.had c.had (drains_makes a b drains)
     (round_makes (record { key = b.key; pass = b.pass; batch = b.batch; queue = queue; had = b.had }) c v kept retired round)
@@ -145,7 +146,7 @@ left_did job stays swap key pass values had key' pass' values' had' l none sole 
     let out = on_since e _ _ [] (on_since e e _ [] (at_first e) ((λ l. refl), tt) refl) (none, tt) refl in
     did_by pass pass' had had' l.rests.same l.rests.alone sole
     (makes_twice e (events_by l.behind.pass) (events_by pass') had l.behind.had had'
-    (record { values = vs; kepts = l.kepts; since = subst (λ (x : List (Deed × Answer)). Since e x vs) (sym l.made) (more_since e _ _ [] vs out (none_walked pass k l.walked) (handed_walked pass k l.walked)); has_had = l.has_had })
+    (record { handed = handed_in l.walked; kepts = l.kepts; since = subst (λ (x : List (Deed × Answer)). Since e x vs) (sym l.made) (more_since e _ _ [] vs out (none_walked pass k l.walked) (handed_walked pass k l.walked)); has_had = l.has_had })
     (ends_makes l.behind l.drained key' pass' values' had' l.drains l.returns))
 
 -- One link more is empty.

@@ -24,7 +24,7 @@ use Rattle.seize_book.specs.Tokens.{IsSole, start}
 use Rattle.seize_book.specs.declared.book.pass.Pass.{Pass}
 use Rattle.seize_book.specs.declared.book.porter.Porter.{Porter}
 use Rattle.seize_book.specs.declared.book.slot_key.SlotKey.{SlotKey}
-use Rattle.seize_calls.specs.Handing.{Had, HasHad}
+use Rattle.seize_calls.specs.Handing.{Had, Handings, HasHad, values_handed}
 use Rattle.seize_calls.specs.declared.batch.Batch.{Batch}
 use Rattle.seize_words.specs.Joined.{words_book}
 use Rattle.seize_words.specs.declared.activation.Activation.{Activation}
@@ -64,10 +64,10 @@ abbrev pub EmptyBelow : ℕ → Pass → Type 0
 EmptyBelow n pass = (l : ℕ) → l < n → link_at (state_seen pass) l ≡ None
 
 pub record Gave (pass pass' : Pass) (had had' : Had) : Type 0 where
-  pub values : List ℕ
+  pub handed : Handings
   pub kepts : List ℕ
-  pub gone : (state_seen pass').gone ≡ (state_seen pass).gone ++ values
-  pub has_had : HasHad values kepts had had'
+  pub gone : (state_seen pass').gone ≡ (state_seen pass).gone ++ values_handed handed
+  pub has_had : HasHad handed kepts had had'
 
 pub record AllBack (pass : Pass) : Type 0 where
   pub alone : IsSole pass.name.gate pass.id
