@@ -12,8 +12,8 @@
 --     RetiresOne key pass v kept values had key' pass' values' had' retired     a retirement: it began, v was put, of which this is
 --                        kept, and then it settled with v as the last, drained its queue, and returned
 --     Leaves job stays swap key pass values had key' pass' values' had'     a leave or a refresh: it began, the head was swapped out by
---                        this entry, each batch that came out was counted down once, what was given up was handed before the next, it drained
---                        its queue, and returned. The slot is active afterwards or not. The reclaimer had what was handed (HasHad)
+--                        this entry, each batch that came out was counted down once, what was given up was handed before the next, it
+--                        drained its queue, and returned. The slot is active afterwards or not. The reclaimer had what was handed (HasHad)
 use Rattle.std.specs.Prelude.{◌≡◌, ℕ, ℤ, Bool, true, List, [], ◌∷◌, ◌++◌, None}
 use mathlib.Core.List.{IsPrefix}
 use Rattle.seize_machine.specs.Machine.Event.{Begin, Return}
