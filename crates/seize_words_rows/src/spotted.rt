@@ -18,6 +18,8 @@ pub fn make_again(
 ) -> Option<(u64, u64, u64)>
     requires book { book_in blocks.now ≡ pass.old.name }
     requires spots { AreSpotsIn blocks.now spots.old }
+    ensures pass { pass.new ≡ pass.old }
+    ensures spots { AreSpotsIn blocks.now spots.new }
     ensures numbers { IfSome result (λ made. made.1 ≡ made.0) }
     ensures value { IfSome result (λ made. made.2 ≡ one) }
 {
