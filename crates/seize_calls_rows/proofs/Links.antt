@@ -231,14 +231,6 @@ sole_still pass pass' same sole = subst (λ (t : Name × ℕ). IsSole t.0.gate t
 pub look_keeps : (pass pass' : Pass) → LooksOn pass pass' → IsSole pass.name.gate pass.id → state_seen pass' ≡ state_seen pass
 look_keeps pass pass' looks sole = ap (λ (n : Name). after (start n) pass'.seen) looks.same.0 ∙ ap (after (start pass.name)) (looks.alone sole)
 
--- and so does one event that is none of these
-pub one_changed : (pass pass' : Pass) (d : Deed) → IsSame pass pass' → Noted pass.name pass.id pass.seen pass'.seen (Made d) → IsSole pass.name.gate pass.id → IsNone d.event → KeepsLinks pass pass'
-one_changed pass pass' d same noted sole none l =
-    ap (λ (n : Name). link_at (after (start n) pass'.seen) l) same.0
-    ∙ ap (λ (s : State). link_at s l) noted.leads
-    ∙ link_frame l d.size (after (start pass.name) noted.before) d.event (noted.later, noted.answer) (step_of d.size _ d.event _ noted.does) (none l)
-    ∙ ap (λ (log : List Entry). link_at (after (start pass.name) log) l) (noted.alone sole)
-
 -- An exchange with nothing empties its link, and leaves the others.
 
 none_there : (xs : List (Option ℕ)) (n : ℕ) → slice_index_or (slice_set xs n None) n None ≡ None

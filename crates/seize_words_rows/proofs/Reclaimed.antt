@@ -11,7 +11,6 @@ use Rattle.seize_book.specs.Ledger.{Held, renewed}
 use Rattle.seize_book.specs.Linked.{next_in}
 use Rattle.seize_book.specs.Notes.{IsStored}
 use Rattle.seize_book.specs.Others.{IsLast, IsLastIn, value_of}
-use Rattle.seize_book.specs.Passes.{LooksOn}
 use Rattle.seize_book.specs.Slots.{IsOf, Notes, number_of}
 use Rattle.seize_book.specs.Tokens.{Name, start}
 use Rattle.seize_book.specs.Values.{Nexts, values_of}
@@ -23,7 +22,7 @@ use Rattle.seize_words.specs.Counts.{Leaves}
 use Rattle.seize_words.specs.Noted.{IsNoted}
 use Rattle.seize_words.specs.declared.note.Note.{Note}
 use Rattle.seize_words.specs.Walks.{Knows}
-use Rattle.seize_words.proofs.Facts.{knows_noted, knows_still, leads_next, looks_twice, others_know, own_is}
+use Rattle.seize_words.proofs.Facts.{knows_noted, knows_still, leads_next, others_know, own_is}
 use Rattle.seize_words_rows.specs.Reclaiming.{AreReady, IsFirstAt, Reclaims}
 use Rattle.seize_words_rows.specs.Stages as stages
 use Rattle.seize_words_rows.specs.Stages.{Goes, IsAt, Leads, Sees, Stage}
@@ -71,10 +70,6 @@ one_less number word is = grind (arith, is)
 -- the word that is noted is that of the next block
 pub next_noted : (values : ValueKeys) (key : ValueKey) (rest : ValueKeys) (note : Note) → IsStored values.keys.name → Nexts values key rest → IsNoted note key → IsFirstAt rest note.next
 next_noted values key rest note stored nexts noted v vs are = sym (ap next_in noted ∙ leads_next values key rest v vs stored nexts are)
-
--- Looks before and after leave a value reclaimed as it was.
-pub looked_too : (key key' : SlotKey) (pass mid pass' : Pass) (puts : List ℕ) → LooksOn pass mid → Reclaims key mid key' pass' puts → Reclaims key pass key' pass' puts
-looked_too key key' pass mid pass' puts looks r = record { looked = r.looked; handed = r.handed; looks = looks_twice pass mid r.looked looks r.looks; notes = r.notes; looks_after = r.looks_after }
 
 -- what is known of slot and pass after it
 pub reclaimed_by : (key key' : SlotKey) (pass pass' : Pass) (puts : List ℕ) → Reclaims key pass key' pass' puts → IsOf key pass → (pass'.name ≡ pass.name) × IsOf key' pass' × Knows key' pass'

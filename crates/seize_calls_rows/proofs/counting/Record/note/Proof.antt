@@ -1,5 +1,5 @@
 -- `note` tells one value more.
-use Rattle.seize_book.proofs.Kit.{vint, w64, u64, uint_vals, uint_Tells, yes, stay_dropped, Goes-dropped, ℕ, List, [], ◌∷◌, ◌++◌, refl, proved, named, Val, vptr, vunit, SProp, emp, Fml, ftrue, fsep, flft, ‵, raw, ◌⊛◌, ◌$◌, ◌∵◌, !, qed, by, move, keep, split, fsplit, fsplit3, fjoin, fjoin3, feq_i, unit_lit, of_opd, returns, enter, alloc_all, pass_all, free_all, look_at, sets, fact_i, tables, owns, types_at, plain, mut_vals, mut_Tells, nothing, opens, closes, Stays, stay_ref, walk_of, Goes-ref, RefOf, shr_vals, shr_Tells, drop}
+use Rattle.seize_book.proofs.Kit.{vint, w64, u64, uint_vals, uint_Tells, yes, stay_dropped, Goes-dropped, ℕ, List, [], ◌∷◌, ◌++◌, refl, proved, named, Val, vptr, vunit, SProp, emp, Fml, ftrue, fsep, flft, ‵, raw, ◌⊛◌, ◌$◌, ◌∵◌, !, qed, by, move, keep, split, fsplit, fsplit3, fjoin, fjoin3, feq_i, unit_lit, of_opd, returns, enter, alloc_all, pass_all, free_all, look_at, sets, fact_i, tables, owns, types_at, plain, mut_vals, mut_Tells, nothing, opens, closes, Stays, stay_ref, walk_of, Goes-ref, RefOf, shr_vals, shr_Tells}
 use base.Stored.{gnum}
 use Rattle.seize_book.proofs.Fields.{ends}
 use Rattle.seize_book.specs.Values.{values_of}

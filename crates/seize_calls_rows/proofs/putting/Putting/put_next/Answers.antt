@@ -1,4 +1,4 @@
-use Rattle.std.proofs.Common.{List, lit<, sym, subst, ◌∙◌}
+use Rattle.std.proofs.Common.{List, lit<, subst}
 use Rattle.seize_words.specs.Chunks.{book_in}
 use Rattle.seize_calls_rows.specs.Putting.{AreReady}
 use Rattle.seize_calls_rows.specs.declared.worker.Out.{Out}
