@@ -5,13 +5,15 @@ use Rattle.std.specs.List.{Contains, list_all, list_any}
 use mathlib.Core.List.{cons≢nil}
 use Rattle.std.proofs.lemmas.Bool.{and_from, or_from, or_left, or_right}
 use Rattle.seize_machine.specs.Machine.State.{State, are_distinct, has, linked, slot_at}
-use Rattle.seize_machine.specs.Machine.Event.{Event, Hand}
+use Rattle.seize_machine.specs.Machine.Event.{Hand}
 use Rattle.seize_machine.specs.Machine.Next.{are_fresh, hand, handing_at, next, of_call, scheme, slot_handed}
 use Rattle.seize_machine.specs.declared.machine.event.Answer.{Answer}
 use Rattle.seize_machine.specs.declared.machine.event.Answer.TheVariants.{Handed}
 use Rattle.seize_machine.proofs.Facts.{Step, and_true, eq_true, gone_grows, is_true, loose_named, not_true, step_of}
 use Rattle.seize_book.specs.Ledger.{AllKept, AllThere, Beside, Held, renewed}
+use Rattle.seize_book.specs.Adding.{telling}
 use Rattle.seize_book.specs.Entry.{Deed, Entry, Made}
+use Rattle.seize_book.specs.Kept.{kepts_of}
 use Rattle.seize_book.specs.Book.{IsLegalList, Kept, TheBlock, after, blocks, kind_of, rules, slots}
 use Rattle.seize_book.specs.Fair.{Before, Covers, Fair, IsLabel, MayAdd, pass_key}
 use Rattle.seize_book.specs.Homes.{HasOne, IsVacant, home_of}
@@ -152,18 +154,18 @@ module _ (n : Name) (log : List Entry) (legal : IsLegalList (start n) log) where
 
 -- The event.
 
-covers : (st : State) (log : List Entry) (p size : ℕ) (mine : List Entry) (a b : List (Held Entry)) → are_of_blocks b ≡ true
-    → Covers st (pass_key p mine ∷ (only slots a ++ b)) log (Made (record { pass = p; size = size; event = Hand (key_of a) (labels_of b); life = 0 }))
-covers st log p size mine a b are zero k other there = differ p k (λ i. other.0 (refl, i))
-covers st log p size mine a b are (suc zero) k other there = refl
-covers st log p size mine a b are (suc (suc zero)) k other there = differ (key_of a) k (λ i. other.1.0 (refl, i))
-covers st log p size mine a b are (suc (suc (suc zero))) k other there = refl
-covers st log p size mine a b are (suc (suc (suc (suc zero)))) k other there = refl
-covers st log p size mine a b are (suc (suc (suc (suc (suc zero))))) k other there = refl
-covers st log p size mine a b are (suc (suc (suc (suc (suc (suc zero)))))) k other there = none_there b k are other.1.1
-covers st log p size mine a b are (suc (suc (suc (suc (suc (suc (suc zero))))))) k other there = refl
-covers st log p size mine a b are (suc (suc (suc (suc (suc (suc (suc (suc zero)))))))) k other there = refl
-covers st log p size mine a b are (suc (suc (suc (suc (suc (suc (suc (suc (suc r))))))))) k other there = refl
+covers : (st : State) (log : List Entry) (p size : ℕ) (kepts : List ℕ) (mine : List Entry) (a b : List (Held Entry)) → are_of_blocks b ≡ true
+    → Covers st (pass_key p mine ∷ (only slots a ++ b)) log (Made (record { pass = p; size = size; event = Hand (key_of a) (labels_of b); life = 0; kepts = kepts }))
+covers st log p size kepts mine a b are zero k other there = differ p k (λ i. other.0 (refl, i))
+covers st log p size kepts mine a b are (suc zero) k other there = refl
+covers st log p size kepts mine a b are (suc (suc zero)) k other there = differ (key_of a) k (λ i. other.1.0 (refl, i))
+covers st log p size kepts mine a b are (suc (suc (suc zero))) k other there = refl
+covers st log p size kepts mine a b are (suc (suc (suc (suc zero)))) k other there = refl
+covers st log p size kepts mine a b are (suc (suc (suc (suc (suc zero))))) k other there = refl
+covers st log p size kepts mine a b are (suc (suc (suc (suc (suc (suc zero)))))) k other there = none_there b k are other.1.1
+covers st log p size kepts mine a b are (suc (suc (suc (suc (suc (suc (suc zero))))))) k other there = refl
+covers st log p size kepts mine a b are (suc (suc (suc (suc (suc (suc (suc (suc zero)))))))) k other there = refl
+covers st log p size kepts mine a b are (suc (suc (suc (suc (suc (suc (suc (suc (suc r))))))))) k other there = refl
 
 -- where the machine comes by it, and its answer
 abbrev pub handed_to : State → ℕ → ℕ → List ℕ → State × Answer
@@ -200,13 +202,13 @@ one_each size st s v puts step apart vacant one u w home a b c e = go (either st
     go (inr x) (inl y) f g = absurd (never u w (sym home) x y g)
     go (inr x) (inr y) f g = one_of puts u w apart home x y
 
-module _ (n : Name) (p size : ℕ) (seen : List Entry) (a b : List (Held Entry)) (one : is_one slots a ≡ true) (are : are_of_blocks b ≡ true) (apart : LieApart (labels_of b)) (new : AllNew n b)
+module _ (n : Name) (p size : ℕ) (kepts : List ℕ) (seen : List Entry) (a b : List (Held Entry)) (one : is_one slots a ≡ true) (are : are_of_blocks b ≡ true) (apart : LieApart (labels_of b)) (new : AllNew n b)
     (handing : is_some (of_call handing_at (slot_at (after (start n) (own_of a)) (key_of a)).call) ≡ true) where
   abbrev puts : List ℕ
   puts = labels_of b
 
   abbrev entry : Deed
-  entry = record { pass = p; size = size; event = Hand (key_of a) puts; life = 0 }
+  entry = record { pass = p; size = size; event = Hand (key_of a) puts; life = 0; kepts = kepts }
 
   module _ (log : List Entry) (before : Before n p seen (only slots a ++ b) log) where
     abbrev here : State
@@ -235,7 +237,7 @@ module _ (n : Name) (p size : ℕ) (seen : List Entry) (a b : List (Held Entry))
     fair mine = record {
       done = then_;
       legal = legal;
-      covers = covers (start n) log p size mine a b are;
+      covers = covers (start n) log p size kepts mine a b are;
       names = λ many was there. (there.0, (λ k le. refl), (λ k le. none_past b many k are there.1.1 le), λ f le. refl);
       one = one_each size here (key_of a) goes.0 puts step apart all_vacant;
       leads = tt;
@@ -283,8 +285,8 @@ module _ (n : Name) (p size : ℕ) (seen : List Entry) (a b : List (Held Entry))
 
 -- With a slot's key, and the keys of the further values, that were found to be apart.
 module _ (key : SlotKey) (further : ValueKeys) (pass : Pass) (apart : LieApart (values_of further)) (book : IsOf key pass) (books : AreOfBook further pass) (handing : is_some (hands_next (slot_of key)) ≡ true) (new : AreNew further) where
-  abbrev event : Event
-  event = Hand (number_of key) (values_of further)
+  abbrev deed : Deed
+  deed = telling pass (Hand (number_of key) (values_of further)) (kepts_of further)
 
   handing_in : is_some (of_call handing_at (slot_at (after (start pass.name) (own_of key.keys.held)) (key_of key.keys.held)).call) ≡ true
   handing_in = subst (λ (n : Name). is_some (of_call handing_at (slot_at (after (start n) (own_of key.keys.held)) (key_of key.keys.held)).call) ≡ true) book handing
@@ -292,13 +294,13 @@ module _ (key : SlotKey) (further : ValueKeys) (pass : Pass) (apart : LieApart (
   new_in : AllNew pass.name further.keys.held
   new_in = subst (λ (n : Name). AllNew n further.keys.held) books new
 
-  pub may_hand_with : IsWith key further.keys pass event
-  may_hand_with = ((λ log before. refl), may_hand pass.name pass.id pass.name.size pass.seen key.keys.held further.keys.held key.one further.each apart new_in handing_in)
+  pub may_hand_with : IsWith key further.keys pass deed
+  may_hand_with = ((λ log before. refl), may_hand pass.name pass.id pass.name.size (kepts_of further) pass.seen key.keys.held further.keys.held key.one further.each apart new_in handing_in)
 
-  pub known_then : (pass' : Pass) (values : List ℕ) → values ≡ values_of further → pass'.name ≡ pass.name → are_distinct (linked pass.name.links) ≡ true → Knew key further.keys pass pass' event
+  pub known_then : (pass' : Pass) (values : List ℕ) → values ≡ values_of further → pass'.name ≡ pass.name → are_distinct (linked pass.name.links) ≡ true → Knew key further.keys pass pass' deed
       → ((v : ℕ) → Contains values v → IsSpent v (after (start pass'.name) pass'.seen)) × ((v : ℕ) → Contains values v → IsLastIn v (after (start pass'.name) pass'.seen))
   known_then pass' values same name links knew =
-      let known = put_so pass.name pass.id pass.name.size pass.seen key.keys.held further.keys.held key.one further.each apart new_in handing_in knew.0 pass'.seen knew.2 links knew.1 in (
+      let known = put_so pass.name pass.id pass.name.size (kepts_of further) pass.seen key.keys.held further.keys.held key.one further.each apart new_in handing_in knew.0 pass'.seen knew.2 links knew.1 in (
         (λ v c. subst (λ (n : Name). IsSpent v (after (start n) pass'.seen)) (sym name) (known.0 v (subst (λ (vs : List ℕ). Contains vs v) same c))),
         (λ v c. subst (λ (n : Name). IsLastIn v (after (start n) pass'.seen)) (sym name) (known.1 v (subst (λ (vs : List ℕ). Contains vs v) same c))),
       )

@@ -71,11 +71,11 @@ may_turn n p seen a b e one one' zero_is pe turns ends starts goes =
 
 pub may_give : (n : Name) (p size : ℕ) (seen : List Entry) (a b : List (Held Entry)) → is_one slots a ≡ true → is_one numbers b ≡ true → key_of b ≡ 0
     → is_idle (slot_at (after (start n) (own_of a)) (key_of a)) ≡ true → is_active (head_at (after (start n) (own_of a)) (key_of a)) ≡ false
-    → MayAdd n p seen (a ++ b) (record { pass = p; size = size; event = Give (key_of a); life = 0 })
+    → MayAdd n p seen (a ++ b) (record { pass = p; size = size; event = Give (key_of a); life = 0; kepts = [] })
 may_give n p size seen a b one one' zero_is idle off =
-    may_turn n p seen a b (record { pass = p; size = size; event = Give (key_of a); life = 0 }) one one' zero_is refl (λ k. (refl, refl, refl), λ st k. (refl, refl)) (λ lives. refl) (λ s. refl) goes
+    may_turn n p seen a b (record { pass = p; size = size; event = Give (key_of a); life = 0; kepts = [] }) one one' zero_is refl (λ k. (refl, refl, refl), λ st k. (refl, refl)) (λ lives. refl) (λ s. refl) goes
   where
-    goes : (log : List Entry) → Before n p seen (only slots a ++ only numbers b) log → (d : State × Answer) × Does (start n) log (Made (record { pass = p; size = size; event = Give (key_of a); life = 0 })) d × (makes_slot (after (start n) log) (Give (key_of a)) ≡ false)
+    goes : (log : List Entry) → Before n p seen (only slots a ++ only numbers b) log → (d : State × Answer) × Does (start n) log (Made (record { pass = p; size = size; event = Give (key_of a); life = 0; kepts = [] })) d × (makes_slot (after (start n) log) (Give (key_of a)) ≡ false)
     goes log before = let st : State = after (start n) log in let s : ℕ = key_of a in let slot = before.kept.0.1 in let d : State × Answer = (set_slot st s (record (slot_at st s) { used = false }), Done) in
         (d, next_of size st (Give s) d (Step.gave s (ap is_idle (sym slot.1) ∙ idle) (sym slot.2 ∙ off)), refl)
 
@@ -110,11 +110,11 @@ module _ (n : Name) (a b : List (Held Entry)) where
       ∙ ap (λ (c : Bool). if c then Some (taken st s, Done) else None) (below s all_numbers few)
 
   pub may_take : (p size : ℕ) (seen : List Entry) → is_one slots a ≡ true → is_one numbers b ≡ true → key_of b ≡ 0 → Least
-      → MayAdd n p seen (a ++ b) (record { pass = p; size = size; event = Take (key_of a); life = 0 })
+      → MayAdd n p seen (a ++ b) (record { pass = p; size = size; event = Take (key_of a); life = 0; kepts = [] })
   may_take p size seen one one' zero_is least =
-      may_turn n p seen a b (record { pass = p; size = size; event = Take (key_of a); life = 0 }) one one' zero_is refl (λ k. (refl, refl, refl), λ st k. (refl, refl)) (λ lives. refl) (λ s. refl) goes
+      may_turn n p seen a b (record { pass = p; size = size; event = Take (key_of a); life = 0; kepts = [] }) one one' zero_is refl (λ k. (refl, refl, refl), λ st k. (refl, refl)) (λ lives. refl) (λ s. refl) goes
     where
-      goes : (log : List Entry) → Before n p seen (only slots a ++ only numbers b) log → (d : State × Answer) × Does (start n) log (Made (record { pass = p; size = size; event = Take (key_of a); life = 0 })) d × (makes_slot (after (start n) log) (Take (key_of a)) ≡ false)
+      goes : (log : List Entry) → Before n p seen (only slots a ++ only numbers b) log → (d : State × Answer) × Does (start n) log (Made (record { pass = p; size = size; event = Take (key_of a); life = 0; kepts = [] })) d × (makes_slot (after (start n) log) (Take (key_of a)) ≡ false)
       goes log before = ((taken (after (start n) log) (key_of a), Done), takes size (after (start n) log) (key_of a) (still log before.kept.1.0.1 least).0 least.2, unequal (key_of a) (length (after (start n) log).slots) (still log before.kept.1.0.1 least).1)
 
   -- it makes no keys, since the slot is there

@@ -8,9 +8,9 @@ use Rattle.seize_machine.specs.declared.machine.event.Answer.{Answer}
 use Rattle.seize_machine.proofs.Facts.{gone_named, some_is}
 use Rattle.seize_book.specs.Entry.{Entry, Made, Deed}
 use Rattle.seize_book.specs.Book.{after, IsLegalList, Does}
-use Rattle.seize_book.specs.Adding.{private}
+use Rattle.seize_book.specs.Adding.{telling}
 use Rattle.seize_book.specs.Books.{IsNextAfter, MaySettle}
-use Rattle.seize_book.specs.Slots.{Notes, HandsOnce, HandsSoon, hands_next, number_of, slot_of}
+use Rattle.seize_book.specs.Slots.{Notes, NotesAs, HandsOnce, HandsSoon, hands_next, number_of, slot_of}
 use Rattle.seize_book.specs.Tokens.{Name, start}
 use Rattle.seize_book.specs.declared.book.pass.Pass.{Pass}
 use Rattle.seize_book.specs.declared.book.slot_key.SlotKey.{SlotKey}
@@ -29,9 +29,10 @@ hands_it size st s v puts d is h = go (are_fresh st.named puts) (sym (ap (hand s
     go true e = ap (λ (x : State × Answer). handed_value x.1) (sym (some_is _ _ e))
     go false e = absurd (cc)
 
-pub hands_once : (key key' : SlotKey) (pass pass' : Pass) (v : ℕ) (puts : List ℕ) → key.keys.name ≡ pass.name → hands_next (slot_of key) ≡ Some v → Notes key pass key' pass' (Hand (number_of key) puts) → HandsOnce key pass' v
-hands_once key key' pass pass' v puts name is notes =
-    let noted = notes.2.0 in let moves = notes.2.1 in let n : Name = key.keys.name in let e : Deed = private pass (Hand (number_of key) puts) in let log = noted.before in
+pub hands_once : (key key' : SlotKey) (pass pass' : Pass) (v : ℕ) (puts kepts : List ℕ) → key.keys.name ≡ pass.name → hands_next (slot_of key) ≡ Some v
+    → NotesAs key pass key' pass' (telling pass (Hand (number_of key) puts) kepts) → HandsOnce key pass' v
+hands_once key key' pass pass' v puts kepts name is notes =
+    let noted = notes.2.0 in let moves = notes.2.1 in let n : Name = key.keys.name in let e : Deed = telling pass (Hand (number_of key) puts) kepts in let log = noted.before in
     let legal : IsLegalList (start n) (log ++ Made e ∷ []) = subst (λ (l : List Entry). IsLegalList (start n) l) noted.appended (subst (λ (m : Name). IsLegalList (start m) pass'.seen) (sym name) noted.legal) in
     let front : IsLegalList (start n) log = legal_front (start n) log (Made e) legal in
     let d : State × Answer = (noted.later, noted.answer) in
@@ -54,7 +55,7 @@ hands_once key key' pass pass' v puts name is notes =
 -- Before it is handed all this is known already, for it could be handed now, with no further value.
 pub hands_soon : (n : Name) (log : List Entry) (s v : ℕ) → are_distinct (linked n.links) ≡ true → IsLegalList (start n) log → hands_next (slot_at (after (start n) log) s) ≡ Some v → HandsSoon (start n) log v
 hands_soon n log s v distinct legal is =
-    let st : State = start n in let now : State = after st log in let e : Deed = record { pass = 0; size = n.size; event = Hand s []; life = 0 } in let d : State × Answer = handed_to now s v [] in
+    let st : State = start n in let now : State = after st log in let e : Deed = record { pass = 0; size = n.size; event = Hand s []; life = 0; kepts = [] } in let d : State × Answer = handed_to now s v [] in
     let does : Does st log (Made e) d = ap (hand scheme now s []) is in let hands = hands_it n.size now s v [] d is does in
     let parted = all_parted n.slots n.links distinct log e d v legal does hands in let left = retired_and_left n.slots n.links distinct log e d v legal does hands in
     record {
@@ -68,7 +69,7 @@ hands_soon n log s v distinct legal is =
 -- And it was named: it would be gone were it handed, and what is gone was named.
 pub soon_named : (n : Name) (log : List Entry) (s v : ℕ) → are_distinct (linked n.links) ≡ true → IsLegalList (start n) log → hands_next (slot_at (after (start n) log) s) ≡ Some v → has v (after (start n) log).named ≡ true
 soon_named n log s v distinct legal is =
-    let st : State = start n in let now : State = after st log in let e : Deed = record { pass = 0; size = n.size; event = Hand s []; life = 0 } in let d : State × Answer = handed_to now s v [] in
+    let st : State = start n in let now : State = after st log in let e : Deed = record { pass = 0; size = n.size; event = Hand s []; life = 0; kepts = [] } in let d : State × Answer = handed_to now s v [] in
     let does : Does st log (Made e) d = ap (hand scheme now s []) is in let later = log ++ Made e ∷ [] in let leads : after st later ≡ d.0 = after_push st log (Made e) d legal does in
     let named = gone_named (after st later) (reached_after n later distinct (legal_push st log (Made e) d legal does)) v (subst (λ (z : State). has v z.gone ≡ true) (sym leads) (has_last v now.gone)) in
     subst (λ (vs : List ℕ). has v vs ≡ true) (append-nil now.named) (subst (λ (z : State). has v z.named ≡ true) leads named)

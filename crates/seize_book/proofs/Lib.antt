@@ -41,6 +41,7 @@ pub mod Linked
 pub mod Leading
 pub mod Lasts
 pub mod Values
+pub mod Kept
 pub mod Apart
 pub mod Further
 pub mod Meets

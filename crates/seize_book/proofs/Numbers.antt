@@ -36,7 +36,7 @@ takes size st s _ below (Step.took_old _ l free least) = set_used st s (record (
 
 -- what the key of the numbers knew is so just before the event, and what it knows after it is so then
 module _ (key key' : SlotKey) (its_numbers : NumbersKey) (keys' : Keys) (pass pass' : Pass) (event : Event) (book : IsOf key pass) (its : AreNumbersOf its_numbers pass)
-    (knew : Knew key its_numbers.keys pass pass' event) (noted : Notes key pass key' pass' event) (follows : Follows its_numbers.keys pass' keys') where
+    (knew : Knew key its_numbers.keys pass pass' (private pass event)) (noted : Notes key pass key' pass' event) (follows : Follows its_numbers.keys pass' keys') where
   abbrev st : State
   st = after (start pass.name) noted.2.0.before
 
@@ -63,7 +63,7 @@ module _ (key key' : SlotKey) (its_numbers : NumbersKey) (keys' : Keys) (pass pa
   step = step_of _ _ _ _ (subst (λ (n : Name). next n.size (after (start n) noted.2.0.before) event ≡ Some (noted.2.0.later, noted.2.0.answer)) book noted.2.1.legal)
 
 pub gives_used : (key key' : SlotKey) (its_numbers : NumbersKey) (keys' : Keys) (pass pass' : Pass) → IsOf key pass → AreNumbersOf its_numbers pass
-    → Knew key its_numbers.keys pass pass' (Give (number_of key)) → Notes key pass key' pass' (Give (number_of key)) → Follows its_numbers.keys pass' keys'
+    → Knew key its_numbers.keys pass pass' (private pass (Give (number_of key))) → Notes key pass key' pass' (Give (number_of key)) → Follows its_numbers.keys pass' keys'
     → used (state_of keys') ≡ slice_set (in_use its_numbers) (number_of key) false
 gives_used key key' its_numbers keys' pass pass' book its knew noted follows =
     let s = number_of key in let event = Give s in
@@ -72,7 +72,7 @@ gives_used key key' its_numbers keys' pass pass' book its knew noted follows =
     ∙ ap (λ (us : List Bool). slice_set us s false) (sym (known key key' its_numbers keys' pass pass' event book its knew noted follows))
 
 pub takes_used : (key key' : SlotKey) (its_numbers : NumbersKey) (keys' : Keys) (pass pass' : Pass) → IsOf key pass → AreNumbersOf its_numbers pass → MayTake its_numbers key
-    → Knew key its_numbers.keys pass pass' (Take (number_of key)) → Notes key pass key' pass' (Take (number_of key)) → Follows its_numbers.keys pass' keys'
+    → Knew key its_numbers.keys pass pass' (private pass (Take (number_of key))) → Notes key pass key' pass' (Take (number_of key)) → Follows its_numbers.keys pass' keys'
     → used (state_of keys') ≡ slice_set (in_use its_numbers) (number_of key) true
 takes_used key key' its_numbers keys' pass pass' book its may knew noted follows =
     let s = number_of key in let event = Take s in let there : s < length (state_of its_numbers.keys).slots = may.1 in

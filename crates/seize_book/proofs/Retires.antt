@@ -18,7 +18,7 @@ use Rattle.seize_book.specs.Homes.{HasOne, IsVacant, home_of}
 use Rattle.seize_book.specs.Others.{IsLastIn, IsSpent, MayBegin, state_of, value_of}
 use Rattle.seize_book.specs.Private.{is_one, key_of, label_of, own_of}
 use Rattle.seize_book.specs.Tokens.{IsLentIn, Name, Noted, start}
-use Rattle.seize_book.specs.Adding.{private}
+use Rattle.seize_book.specs.Adding.{telling}
 use Rattle.seize_book.specs.declared.book.keys.Keys.{Keys}
 use Rattle.seize_book.specs.declared.book.pass.Pass.{Pass}
 use Rattle.seize_book.specs.declared.book.value_key.ValueKey.{ValueKey}
@@ -26,22 +26,22 @@ use Rattle.seize_book.proofs.Lists.{legal_front, reached_after}
 use Rattle.seize_book.proofs.Private.{renewed_label, after_one, only, only_is, differ}
 use Rattle.seize_book.proofs.Sound.{has_last, new_named, old_named, pushed, vacant_later}
 
-retires : ℕ → ℕ → ℕ → ℕ → Deed
-retires p size s v = record { pass = p; size = size; event = Begin s (Retire v); life = 0 }
+retires : ℕ → ℕ → ℕ → ℕ → List ℕ → Deed
+retires p size s v kepts = record { pass = p; size = size; event = Begin s (Retire v); life = 0; kepts = kepts }
 
-covers : (st : State) (log : List Entry) (p size v : ℕ) (mine : List Entry) (a b : List (Held Entry)) → key_of b ≡ home_of v
-    → Covers st (pass_key p mine ∷ (only slots a ++ only blocks b)) log (Made (retires p size (key_of a) v))
+covers : (st : State) (log : List Entry) (p size v : ℕ) (kepts : List ℕ) (mine : List Entry) (a b : List (Held Entry)) → key_of b ≡ home_of v
+    → Covers st (pass_key p mine ∷ (only slots a ++ only blocks b)) log (Made (retires p size (key_of a) v kepts))
 unfolding retires
-covers st log p size v mine a b home zero k other there = differ p k (λ i. other.0 (refl, i))
-covers st log p size v mine a b home (suc zero) k other there = refl
-covers st log p size v mine a b home (suc (suc zero)) k other there = differ (key_of a) k (λ i. other.1.0 (refl, i))
-covers st log p size v mine a b home (suc (suc (suc zero))) k other there = refl
-covers st log p size v mine a b home (suc (suc (suc (suc zero)))) k other there = refl
-covers st log p size v mine a b home (suc (suc (suc (suc (suc zero))))) k other there = refl
-covers st log p size v mine a b home (suc (suc (suc (suc (suc (suc zero)))))) k other there = differ (home_of v) k (λ i. other.1.1.0 (refl, i ∙ sym home))
-covers st log p size v mine a b home (suc (suc (suc (suc (suc (suc (suc zero))))))) k other there = refl
-covers st log p size v mine a b home (suc (suc (suc (suc (suc (suc (suc (suc zero)))))))) k other there = refl
-covers st log p size v mine a b home (suc (suc (suc (suc (suc (suc (suc (suc (suc r))))))))) k other there = refl
+covers st log p size v kepts mine a b home zero k other there = differ p k (λ i. other.0 (refl, i))
+covers st log p size v kepts mine a b home (suc zero) k other there = refl
+covers st log p size v kepts mine a b home (suc (suc zero)) k other there = differ (key_of a) k (λ i. other.1.0 (refl, i))
+covers st log p size v kepts mine a b home (suc (suc (suc zero))) k other there = refl
+covers st log p size v kepts mine a b home (suc (suc (suc (suc zero)))) k other there = refl
+covers st log p size v kepts mine a b home (suc (suc (suc (suc (suc zero))))) k other there = refl
+covers st log p size v kepts mine a b home (suc (suc (suc (suc (suc (suc zero)))))) k other there = differ (home_of v) k (λ i. other.1.1.0 (refl, i ∙ sym home))
+covers st log p size v kepts mine a b home (suc (suc (suc (suc (suc (suc (suc zero))))))) k other there = refl
+covers st log p size v kepts mine a b home (suc (suc (suc (suc (suc (suc (suc (suc zero)))))))) k other there = refl
+covers st log p size v kepts mine a b home (suc (suc (suc (suc (suc (suc (suc (suc (suc r))))))))) k other there = refl
 
 -- what was named afterwards was, or is this one
 added : (v : ℕ) (named : List ℕ) (u : ℕ) → has u (with_named named v) ≡ true → (u ≡ v) ⊎ (has u named ≡ true)
@@ -54,15 +54,15 @@ added v named u = go (has v named)
 later : (v k n : ℕ) → v < n → n ≤ k → (v == k) ≡ false
 later v k n l le = grind arith
 
-pub may_retire : (n : Name) (p size : ℕ) (seen : List Entry) (a b : List (Held Entry)) → is_one slots a ≡ true → is_one blocks b ≡ true → key_of b ≡ home_of (label_of b) → is_idle (slot_at (after (start n) (own_of a)) (key_of a)) ≡ true → MayBegin n (label_of b) (after (start n) (own_of b))
-    → MayAdd n p seen (a ++ b) (record { pass = p; size = size; event = Begin (key_of a) (Retire (label_of b)); life = 0 })
+pub may_retire : (n : Name) (p size : ℕ) (kepts : List ℕ) (seen : List Entry) (a b : List (Held Entry)) → is_one slots a ≡ true → is_one blocks b ≡ true → key_of b ≡ home_of (label_of b) → is_idle (slot_at (after (start n) (own_of a)) (key_of a)) ≡ true → MayBegin n (label_of b) (after (start n) (own_of b))
+    → MayAdd n p seen (a ++ b) (record { pass = p; size = size; event = Begin (key_of a) (Retire (label_of b)); life = 0; kepts = kepts })
 unfolding retires
-may_retire n p size seen a b one one' home idle may =
-    subst (λ (hs : List (Held Entry)). MayAdd n p seen (hs ++ b) (retires p size (key_of a) (label_of b))) (sym (only_is slots a one))
-    (subst (λ (hs : List (Held Entry)). MayAdd n p seen (only slots a ++ hs) (retires p size (key_of a) (label_of b))) (sym (only_is blocks b one'))
+may_retire n p size kepts seen a b one one' home idle may =
+    subst (λ (hs : List (Held Entry)). MayAdd n p seen (hs ++ b) (retires p size (key_of a) (label_of b) kepts)) (sym (only_is slots a one))
+    (subst (λ (hs : List (Held Entry)). MayAdd n p seen (only slots a ++ hs) (retires p size (key_of a) (label_of b) kepts)) (sym (only_is blocks b one'))
     ((omega arith, (omega arith, tt)), (λ lives. refl), (λ s. refl), fair))
   where
-    fair : (mine log : List Entry) → Before n p seen (only slots a ++ only blocks b) log → Fair n (pass_key p mine ∷ (only slots a ++ only blocks b)) log (Made (retires p size (key_of a) (label_of b)))
+    fair : (mine log : List Entry) → Before n p seen (only slots a ++ only blocks b) log → Fair n (pass_key p mine ∷ (only slots a ++ only blocks b)) log (Made (retires p size (key_of a) (label_of b) kepts))
     fair mine log before =
         let st : State = after (start n) log in let s : ℕ = key_of a in let v : ℕ = label_of b in
         let slot = before.kept.0.1 in let value = before.kept.1.0.1 v (sym home) in
@@ -72,7 +72,7 @@ may_retire n p size seen a b one one' home idle may =
         record {
           done = d;
           legal = next_of size st (Begin s (Retire v)) d step;
-          covers = covers (start n) log p size v mine a b home;
+          covers = covers (start n) log p size v kepts mine a b home;
           names = λ many was there. (there.0, (λ k le. refl), (λ k le. later (home_of v) k (many blocks) (subst (λ (z : ℕ). z < many blocks) home there.1.1.0) le), λ f le. refl);
           leads = tt;
           labels = λ u named. ⊎_elim
@@ -112,10 +112,10 @@ spends size st v event _ (Step.begun_other s job place idle which from) h = othe
 spends size st v event _ _ h = absurd (cc)
 
 -- and so does its key know
-pub spent : (pass : Pass) (seen' : List Entry) (value value' : Keys) (s : ℕ) (noted : Noted pass.name pass.id pass.seen seen' (Made (private pass (Begin s (Retire (label_of value.held))))))
+pub spent : (pass : Pass) (seen' : List Entry) (value value' : Keys) (s : ℕ) (kepts : List ℕ) (noted : Noted pass.name pass.id pass.seen seen' (Made (telling pass (Begin s (Retire (label_of value.held))) kepts)))
     → is_one blocks value.held ≡ true → value.name ≡ pass.name → value'.name ≡ value.name → value'.held ≡ renewed value.held seen' → IsSpent (label_of value'.held) (state_of value')
-spent pass seen' value value' s noted one book name held =
-    let v : ℕ = label_of value.held in let e : Deed = private pass (Begin s (Retire v)) in
+spent pass seen' value value' s kepts noted one book name held =
+    let v : ℕ = label_of value.held in let e : Deed = telling pass (Begin s (Retire v)) kepts in
     let now = subst (IsSpent v) (sym noted.leads) (spends e.size (after (start pass.name) noted.before) v e.event (noted.later, noted.answer) (step_of _ _ _ _ noted.does) (itself v)) in
     let known = ap own_of held ∙ renewed_own value.held seen' one in
     subst (λ (st : State). IsSpent (label_of value'.held) st) (sym (ap (λ (n : Name). after (start n) (own_of value'.held)) (name ∙ book) ∙ ap (λ (l : List Entry). after (start pass.name) l) known))
@@ -138,9 +138,9 @@ not_gone size st _ _ _ r (Step.begun_retire s v idle may) = ⊎_elim (λ unnamed
 not_gone size st _ _ _ r (Step.begun_other s job place idle which from) = absurd (let x : Option.None ≡ Some place = from.1 in cc)
 
 -- and all others of its block were, as its key knows
-pub last : (pass : Pass) (seen' : List Entry) (value : ValueKey) (keys' : Keys) (s : ℕ) (noted : Noted pass.name pass.id pass.seen seen' (Made (private pass (Begin s (Retire (value_of value)))))) → value.keys.name ≡ pass.name
+pub last : (pass : Pass) (seen' : List Entry) (value : ValueKey) (keys' : Keys) (s : ℕ) (kepts : List ℕ) (noted : Noted pass.name pass.id pass.seen seen' (Made (telling pass (Begin s (Retire (value_of value))) kepts))) → value.keys.name ≡ pass.name
     → IsSpent (label_of keys'.held) (state_of keys') → keys'.name ≡ value.keys.name → keys'.held ≡ renewed value.keys.held seen' → IsLastIn (label_of keys'.held) (state_of keys')
-last pass seen' value keys' s noted book spent name held w home other named = go (is_true (has w now.gone))
+last pass seen' value keys' s kepts noted book spent name held w home other named = go (is_true (has w now.gone))
   where
     now : State
     now = state_of keys'
@@ -156,7 +156,7 @@ last pass seen' value keys' s noted book spent name held w home other named = go
 
     alive : has v now.gone ≡ false
     alive =
-        let st : State = after (start pass.name) noted.before in let e = private pass (Begin s (Retire (value_of value))) in
+        let st : State = after (start pass.name) noted.before in let e = telling pass (Begin s (Retire (value_of value))) kepts in
         let legal = legal_front (start pass.name) noted.before (Made e) (subst (IsLegalList (start pass.name)) noted.appended noted.legal) in
         subst (λ (t : ℕ × State). has t.0 t.1.gone ≡ false) (λ j. (sym its j, sym (is_now ∙ noted.leads) j))
         (not_gone e.size st s (value_of value) (noted.later, noted.answer) (reached_after pass.name noted.before noted.distinct legal) (step_of _ _ _ _ noted.does))

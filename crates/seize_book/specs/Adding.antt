@@ -1,7 +1,8 @@
 -- The words in which the contracts of keys speak.
---     private pass event            the entry of an event that is made with the pass and begins no activation
---     Asks keys pass event          the holder of the keys may add it with the pass
---     Adds keys pass keys' pass' event   it was added: see Added
+--     telling pass event kepts      the entry of an event that is made with the pass, begins no activation, and says these words of the
+--                                   values that it retires or puts;  private pass event     it says none
+--     Asks keys pass d              the holder of the keys may add it with the pass
+--     Adds keys pass keys' pass' d  it was added: see Added
 --     MayLook keys pass             the holder of the keys may look at the list with the pass
 --     Looks keys pass keys' pass'      the pass has seen a legal list, as in Before, and nothing was made with it; the keys know all of it;
 --                                      the links of the book's opening are distinct
@@ -18,15 +19,18 @@ use Rattle.seize_book.specs.Passes.{IsSame}
 use Rattle.seize_book.specs.declared.book.keys.Keys.{Keys}
 use Rattle.seize_book.specs.declared.book.pass.Pass.{Pass}
 
+abbrev pub telling : Pass → Event → List ℕ → Deed
+telling pass event kepts = record { pass = pass.id; size = pass.name.size; event = event; life = 0; kepts = kepts }
+
 abbrev pub private : Pass → Event → Deed
-private pass event = record { pass = pass.id; size = pass.name.size; event = event; life = 0 }
+private pass event = telling pass event []
 
-abbrev pub Asks : Keys → Pass → Event → Type 0
-Asks keys pass event = (keys.name ≡ pass.name) × MayAdd pass.name pass.id pass.seen keys.held (private pass event)
+abbrev pub Asks : Keys → Pass → Deed → Type 0
+Asks keys pass d = (keys.name ≡ pass.name) × MayAdd pass.name pass.id pass.seen keys.held d
 
-abbrev pub Adds : Keys → Pass → Keys → Pass → Event → Type 0
-Adds keys pass keys' pass' event =
-    IsSame pass pass' × (keys'.name ≡ keys.name) × Added pass.name pass.id pass.seen pass'.seen keys.held keys'.held (private pass event)
+abbrev pub Adds : Keys → Pass → Keys → Pass → Deed → Type 0
+Adds keys pass keys' pass' d =
+    IsSame pass pass' × (keys'.name ≡ keys.name) × Added pass.name pass.id pass.seen pass'.seen keys.held keys'.held d
 
 abbrev pub MayLook : Keys → Pass → Type 0
 MayLook keys pass = (keys.name ≡ pass.name) × WithKinds kinds keys.held

@@ -15,12 +15,14 @@ use Rattle.seize_machine.specs.declared.machine.event.Event.{Event as Written}
 use Rattle.seize_machine.specs.declared.machine.event.Event.TheVariants.{Take as WTake, Give as WGive, Enter as WEnter, Begin as WBegin, Put as WPut, ReadHead as WReadHead, Detach as WDetach, Insert as WInsert, AddCount as WAddCount, SwapOut as WSwapOut, SubCount as WSubCount, Return as WReturn, ReadLink as WReadLink, ExchangeLink as WExchangeLink}
 use Rattle.seize_machine.specs.contracts.machine.event.Event.{the_row}
 
--- an event with the size at it, the pass that it was made with, and, where it begins an activation, the lifetime of that
+-- an event with the size at it, the pass that it was made with, where it begins an activation, the lifetime of that, and where it retires
+-- values, or puts them, the words that are kept of these
 pub record Deed : Type 0 where
   pub pass : ℕ
   pub size : ℕ
   pub event : Event
   pub life : ℕ
+  pub kepts : List ℕ
 
 -- by this slot, with this pass
 pub record Use : Type 0 where
@@ -92,9 +94,10 @@ abbrev pub event_coded : Coded Event
 event_coded = code_by (Written ⊎ (ℕ × List ℕ)) (coded⊎ the_row.coded (coded× coded_ℕ (coded_list coded_ℕ))) written read_back back
 
 abbrev pub deed_coded : Coded Deed
-deed_coded = code_by (ℕ × (ℕ × (ℕ × Event))) (coded× coded_ℕ (coded× coded_ℕ (coded× coded_ℕ event_coded)))
-    (λ d. (d.pass, (d.size, (d.life, d.event))))
-    (λ t. record { pass = t.0; size = t.1.0; event = t.1.1.1; life = t.1.1.0 })
+deed_coded =
+    code_by (ℕ × (ℕ × (ℕ × (List ℕ × Event)))) (coded× coded_ℕ (coded× coded_ℕ (coded× coded_ℕ (coded× (coded_list coded_ℕ) event_coded))))
+    (λ d. (d.pass, (d.size, (d.life, (d.kepts, d.event)))))
+    (λ t. record { pass = t.0; size = t.1.0; event = t.1.1.1.1; life = t.1.1.0; kepts = t.1.1.1.0 })
     (λ _. refl)
 
 abbrev pub use_coded : Coded Use

@@ -27,4 +27,5 @@ pub mod Books
 pub mod Turns
 pub mod Blocks
 pub mod Values
+pub mod Kept
 pub mod Tables

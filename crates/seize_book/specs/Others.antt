@@ -11,8 +11,8 @@
 --     IsOfBook keys pass                they are of one book;  IsValueOf value pass, AreNumbersOf numbers pass     so is this key
 --     state_of keys, value_of value     where the keys' list leads, and which value it is
 --     MakesNone n p seen held event     wherever the list is by then, the event makes no keys
---     IsWith key other pass event       the slot's holder may add the event with the other keys
---     Knew key other pass pass' event   the event was added where this was known of the list, by the slot's and the other keys
+--     IsWith key other pass d           the slot's holder may add the event with the other keys
+--     Knew key other pass pass' d       the event was added where this was known of the list, by the slot's and the other keys
 --     IsLastIn v st                     all other values of its block that were ever named were reclaimed;  IsLast value    so it is, as
 --                                       its key knows
 --     HasGone value pass                the value was reclaimed, as the pass has seen
@@ -36,8 +36,7 @@ use Rattle.seize_table.specs.Place.{all_numbers}
 use Rattle.seize_book.specs.Homes.{IsVacant, home_of}
 use Rattle.seize_book.specs.Loans.{CarriesNone, cell_of, place_of}
 use Rattle.seize_book.specs.Ledger.{Held, renewed}
-use Rattle.seize_book.specs.Entry.{Entry, Made}
-use Rattle.seize_book.specs.Adding.{private}
+use Rattle.seize_book.specs.Entry.{Deed, Entry, Made}
 use Rattle.seize_book.specs.Fair.{Before, MayAdd}
 use Rattle.seize_book.specs.Tokens.{Name, start, IsLentIn}
 use Rattle.seize_book.specs.declared.book.keys.Keys.{Keys}
@@ -101,15 +100,15 @@ abbrev pub MakesNone : Name → ℕ → List Entry → List (Held Entry) → Eve
 MakesNone n p seen held event = (log : List Entry) → Before n p seen held log → births (after (start n) log) event ≡ []
 
 -- the event makes no keys, and may be added with the slot's and the other keys
-abbrev pub IsWith : SlotKey → Keys → Pass → Event → Type 0
-IsWith key other pass event =
-    MakesNone pass.name pass.id pass.seen (key.keys.held ++ other.held) event
-    × MayAdd pass.name pass.id pass.seen (key.keys.held ++ other.held) (private pass event)
+abbrev pub IsWith : SlotKey → Keys → Pass → Deed → Type 0
+IsWith key other pass d =
+    MakesNone pass.name pass.id pass.seen (key.keys.held ++ other.held) d.event
+    × MayAdd pass.name pass.id pass.seen (key.keys.held ++ other.held) d
 
 -- it was added where this was known of the list, by these keys too
-abbrev pub Knew : SlotKey → Keys → Pass → Pass → Event → Type 0
-Knew key other pass pass' event =
-    (log : List Entry) × (pass'.seen ≡ log ++ Made (private pass event) ∷ [])
+abbrev pub Knew : SlotKey → Keys → Pass → Pass → Deed → Type 0
+Knew key other pass pass' d =
+    (log : List Entry) × (pass'.seen ≡ log ++ Made d ∷ [])
     × Before pass.name pass.id pass.seen (key.keys.held ++ other.held) log
 
 abbrev pub IsLastIn : ℕ → State → Type 0

@@ -164,8 +164,8 @@ keeps_book key key' pass pass' keeps book = keeps.its.0 ∙ book ∙ sym keeps.s
 -- the entry of an event is the same with a pass as it was before
 pub same_private : (pass pass' : Pass) → IsSame pass pass' → (event : Event) → private pass' event ≡ private pass event
 same_private pass pass' same event =
-    ap (λ (p : ℕ). record { pass = p; size = pass'.name.size; event = event; life = 0 }) same.1
-    ∙ ap (λ (z : Name). record { pass = pass.id; size = z.size; event = event; life = 0 }) same.0
+    ap (λ (p : ℕ). record { pass = p; size = pass'.name.size; event = event; life = 0; kepts = [] }) same.1
+    ∙ ap (λ (z : Name). record { pass = pass.id; size = z.size; event = event; life = 0; kepts = [] }) same.0
 
 pub looked_same : (pass pass' : Pass) → LooksOn pass pass' → events_by pass' ≡ events_by pass
 looked_same pass pass' looks = ap events_in looks.none_made

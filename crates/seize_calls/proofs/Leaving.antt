@@ -49,7 +49,7 @@ events_deed key key' pass pass' d notes =
 
 pub same_beginning : (pass pass' : Pass) → IsSame pass pass' → (life : ℕ) (event : Event) → beginning pass' life event ≡ beginning pass life event
 same_beginning pass pass' same life event =
-    ap (λ (p : ℕ). record { pass = p; size = pass'.name.size; event = event; life = life }) same.1 ∙ ap (λ (z : Name). record { pass = pass.id; size = z.size; event = event; life = life }) same.0
+    ap (λ (p : ℕ). record { pass = p; size = pass'.name.size; event = event; life = life; kepts = [] }) same.1 ∙ ap (λ (z : Name). record { pass = pass.id; size = z.size; event = event; life = life; kepts = [] }) same.0
 
 -- the machine swaps the head out
 after_swap : (size : ℕ) (st : State) (s : ℕ) (stays : Bool) (queue : List ℕ) (d : State × Answer) → Step size st (SwapOut s) d → (slot_at st s).call ≡ Some (record { place = Out stays; queue = queue }) → is_active (head_at st s) ≡ true

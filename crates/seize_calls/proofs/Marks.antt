@@ -287,8 +287,8 @@ module _ (key0 : SlotKey) (at : BeginsToMark key0) (end : ℕ) (pass0 : Pass) (h
         ∙ ap (λ (log : List (Deed × Answer)). before ++ log) (sym (readings_push pass0 s0 0 r.finds active))
       where
         is : (private pass (ReadHead (number_of key) (slot head)), noted.2.0.answer) ≡ reading pass0 (number_of key0) (0 + length r.finds) active
-        is = ap (λ (p : ℕ). (record { pass = p; size = pass.name.size; event = ReadHead (number_of key) (slot head); life = 0 }, noted.2.0.answer)) r.same.1
-            ∙ ap (λ (n : Name). (record { pass = pass0.id; size = n.size; event = ReadHead (number_of key) (slot head); life = 0 }, noted.2.0.answer)) r.same.0
+        is = ap (λ (p : ℕ). (record { pass = p; size = pass.name.size; event = ReadHead (number_of key) (slot head); life = 0; kepts = [] }, noted.2.0.answer)) r.same.1
+            ∙ ap (λ (n : Name). (record { pass = pass0.id; size = n.size; event = ReadHead (number_of key) (slot head); life = 0; kepts = [] }, noted.2.0.answer)) r.same.0
             ∙ ap (λ (s : ℕ). (private pass0 (ReadHead s (slot head)), noted.2.0.answer)) r.its.1
             ∙ ap (λ (m : ℕ). (private pass0 (ReadHead (number_of key0) m), noted.2.0.answer)) (head_is.1 ∙ sym r.read ∙ zero_plus (length r.finds))
             ∙ ap (λ (a : Answer). (private pass0 (ReadHead (number_of key0) (0 + length r.finds)), a)) (read.4 ∙ ap HeadRead e)
@@ -462,8 +462,8 @@ ends_before {key0} at pass0 pass1 key pass spots ends looks e =
     same_readings s n [] = refl
     same_readings s n (found ∷ finds) =
         ap (λ (log : List (Deed × Answer)). reading pass1 s n found ∷ log) (same_readings s (suc n) finds)
-        ∙ ap (λ (p : ℕ). (record { pass = p; size = pass1.name.size; event = ReadHead s n; life = 0 }, HeadRead found) ∷ readings pass0 s (suc n) finds) looks.same.1
-        ∙ ap (λ (z : Name). (record { pass = pass0.id; size = z.size; event = ReadHead s n; life = 0 }, HeadRead found) ∷ readings pass0 s (suc n) finds) looks.same.0
+        ∙ ap (λ (p : ℕ). (record { pass = p; size = pass1.name.size; event = ReadHead s n; life = 0; kepts = [] }, HeadRead found) ∷ readings pass0 s (suc n) finds) looks.same.1
+        ∙ ap (λ (z : Name). (record { pass = pass0.id; size = z.size; event = ReadHead s n; life = 0; kepts = [] }, HeadRead found) ∷ readings pass0 s (suc n) finds) looks.same.0
 
 -- A pass that has looked knows of no fewer slots than the slot's call has to read.
 pub note_seen_then : (key : SlotKey) (at : BeginsToMark key) (pass pass' : Pass) → IsOf key pass → IsPrefix (own_list key) pass.seen → LooksOn pass pass' → at.note ≤ slots_seen pass'

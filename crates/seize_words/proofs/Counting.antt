@@ -205,9 +205,9 @@ module _ (n : Name) (k : ℕ) where
     stands : (place : Place) (queue : List ℕ) → Stands (after st own) s place queue → Stands now s place queue
     stands place queue is = ap (λ slot. slot.call) (sym kept.1.1) ∙ is
 
-    pub adding : (p size won v : ℕ) → v ≡ count_word (count_in now k) → (a : IsAdding st s own k won) → Counting s own log (record { pass = p; size = size; event = AddCount s; life = 0 }) (plus won) v a.batch [] a.queue
+    pub adding : (p size won v : ℕ) → v ≡ count_word (count_in now k) → (a : IsAdding st s own k won) → Counting s own log (record { pass = p; size = size; event = AddCount s; life = 0; kepts = [] }) (plus won) v a.batch [] a.queue
     adding p size won v word a =
-        let b = a.batch in let e : Deed = record { pass = p; size = size; event = AddCount s; life = 0 } in let is = stands (Add b won) a.queue a.adding in
+        let b = a.batch in let e : Deed = record { pass = p; size = size; event = AddCount s; life = 0; kepts = [] } in let is = stands (Add b won) a.queue a.adding in
         let held = added_held now s b won a.queue is in let in_it = here b a.front held a.its_front a.its_home in
         let count : ℤ = (batch_at now b).count +ℤ pos won in let d : State × Answer = come now s b count [] a.queue in
         let does : Does st log (Made e) d = next_of size now (AddCount s) d (Step.added s b won a.queue d is refl) in
@@ -227,9 +227,9 @@ module _ (n : Name) (k : ℕ) where
           word = ap (plus won) word ∙ word_added (count_in now k) won (count_near now reached sound k b in_it) (subst (λ (c : ℤ). IsNear (c +ℤ pos won)) (sym so.0) near) ∙ ap (λ (c : ℤ). count_word (c +ℤ pos won)) so.0;
         }
 
-    pub subtracting : (p size v : ℕ) → v ≡ count_word (count_in now k) → (a : IsWalking st s own k) → Counting s own log (record { pass = p; size = size; event = SubCount s; life = 0 }) (minus 1) v a.batch a.walk a.queue
+    pub subtracting : (p size v : ℕ) → v ≡ count_word (count_in now k) → (a : IsWalking st s own k) → Counting s own log (record { pass = p; size = size; event = SubCount s; life = 0; kepts = [] }) (minus 1) v a.batch a.walk a.queue
     subtracting p size v word a =
-        let b = a.batch in let e : Deed = record { pass = p; size = size; event = SubCount s; life = 0 } in let is = stands (Rest [] (b ∷ a.walk)) a.queue a.walking in
+        let b = a.batch in let e : Deed = record { pass = p; size = size; event = SubCount s; life = 0; kepts = [] } in let is = stands (Rest [] (b ∷ a.walk)) a.queue a.walking in
         let held = walked_held now s b a.walk a.queue is in let in_it = here b a.front held a.its_front a.its_home in
         let count : ℤ = (batch_at now b).count -ℤ pos 1 in let d : State × Answer = come now s b count a.walk a.queue in
         let does : Does st log (Made e) d = next_of size now (SubCount s) d (Step.subtracted s b a.walk a.queue d is refl) in
@@ -263,7 +263,7 @@ module _ (n : Name) (k : ℕ) where
     abbrev before : State
     before = after st log
 
-    added_keys : (p size won v : ℕ) (a : IsAdding st s own k won) (c : Counting s own log (record { pass = p; size = size; event = AddCount s; life = 0 }) (plus won) v a.batch [] a.queue) (vs more : List (Held Entry)) → AreKeysOf n.store (deposit before k) vs → AreKeysOf n.store (slice_index_or (plans st own) a.batch no_plan).values more
+    added_keys : (p size won v : ℕ) (a : IsAdding st s own k won) (c : Counting s own log (record { pass = p; size = size; event = AddCount s; life = 0; kepts = [] }) (plus won) v a.batch [] a.queue) (vs more : List (Held Entry)) → AreKeysOf n.store (deposit before k) vs → AreKeysOf n.store (slice_index_or (plans st own) a.batch no_plan).values more
         → AreKeysOf n.store (deposit (come before s a.batch c.count [] a.queue).0 k) (if not (plus won v == 0) then more else vs)
     added_keys p size won v a c vs more are these =
         let b = a.batch in let r = reached_after n log distinct legal in let stands : Stands before s (Add b won) a.queue = ap (λ slot. slot.call) (sym kept.1.1) ∙ a.adding in
@@ -281,7 +281,7 @@ module _ (n : Name) (k : ℕ) where
         either true none = (ap labels_of none, are.1, are.2, are.3)
         either false none = these
 
-    taken_keys : (p size v : ℕ) (a : IsWalking st s own k) (c : Counting s own log (record { pass = p; size = size; event = SubCount s; life = 0 }) (minus 1) v a.batch a.walk a.queue) (vs : List (Held Entry)) → AreKeysOf n.store (deposit before k) vs
+    taken_keys : (p size v : ℕ) (a : IsWalking st s own k) (c : Counting s own log (record { pass = p; size = size; event = SubCount s; life = 0; kepts = [] }) (minus 1) v a.batch a.walk a.queue) (vs : List (Held Entry)) → AreKeysOf n.store (deposit before k) vs
         → AreKeysOf n.store (deposit (come before s a.batch c.count a.walk a.queue).0 k) (if minus 1 v == 0 then [] else vs)
     taken_keys p size v a c vs are =
         let b = a.batch in let r = reached_after n log distinct legal in let stands : Stands before s (Rest [] (b ∷ a.walk)) a.queue = ap (λ slot. slot.call) (sym kept.1.1) ∙ a.walking in
@@ -296,19 +296,19 @@ module _ (n : Name) (k : ℕ) where
         either false = are
 
   pub may_add_count : (p size won : ℕ) (seen : List Entry) (held more : List (Held Entry)) → is_one slots held ≡ true → (a : IsAdding st (key_of held) (own_of held) k won) → AreKeysOf n.store (slice_index_or (plans st (own_of held)) a.batch no_plan).values more
-      → MayStep (at_count n k) p seen (held ++ more) [] [] (plus won) (λ v log. Made (record { pass = p; size = size; event = AddCount (key_of held); life = 0 })) (λ v. not (plus won v == 0))
+      → MayStep (at_count n k) p seen (held ++ more) [] [] (plus won) (λ v log. Made (record { pass = p; size = size; event = AddCount (key_of held); life = 0; kepts = [] })) (λ v. not (plus won v == 0))
   unfolding MayStepAs
   may_add_count p size won seen held more one a these =
-      may_step p seen held more (plus won) (record { pass = p; size = size; event = AddCount (key_of held); life = 0 }) (λ v. not (plus won v == 0)) one these.1 (λ v t own log found kept word are.
+      may_step p seen held more (plus won) (record { pass = p; size = size; event = AddCount (key_of held); life = 0; kepts = [] }) (λ v. not (plus won v == 0)) one these.1 (λ v t own log found kept word are.
       let c = adding (key_of held) (own_of held) log found.distinct found.before.legal found.before.sound kept p size won v word a in
-      counting_step p (tag_of held) v a.batch (own_of held) own t.0 log t.1 more (plus won) (key_of held) (record { pass = p; size = size; event = AddCount (key_of held); life = 0 }) [] a.queue (not (plus won v == 0)) refl found.before.legal (λ q i. absurd i) c
+      counting_step p (tag_of held) v a.batch (own_of held) own t.0 log t.1 more (plus won) (key_of held) (record { pass = p; size = size; event = AddCount (key_of held); life = 0; kepts = [] }) [] a.queue (not (plus won v == 0)) refl found.before.legal (λ q i. absurd i) c
       (added_keys (key_of held) (own_of held) log found.distinct found.before.legal found.before.sound kept p size won v a c t.1 more are these))
 
   pub may_subtract_count : (p size : ℕ) (seen : List Entry) (held : List (Held Entry)) → is_one slots held ≡ true → IsWalking st (key_of held) (own_of held) k
-      → MayStep (at_count n k) p seen (held ++ []) [] [] (minus 1) (λ v log. Made (record { pass = p; size = size; event = SubCount (key_of held); life = 0 })) (λ v. minus 1 v == 0)
+      → MayStep (at_count n k) p seen (held ++ []) [] [] (minus 1) (λ v log. Made (record { pass = p; size = size; event = SubCount (key_of held); life = 0; kepts = [] })) (λ v. minus 1 v == 0)
   unfolding MayStepAs
   may_subtract_count p size seen held one a =
-      may_step p seen held [] (minus 1) (record { pass = p; size = size; event = SubCount (key_of held); life = 0 }) (λ v. minus 1 v == 0) one refl (λ v t own log found kept word are.
+      may_step p seen held [] (minus 1) (record { pass = p; size = size; event = SubCount (key_of held); life = 0; kepts = [] }) (λ v. minus 1 v == 0) one refl (λ v t own log found kept word are.
       let c = subtracting (key_of held) (own_of held) log found.distinct found.before.legal found.before.sound kept p size v word a in
-      counting_step p (tag_of held) v a.batch (own_of held) own t.0 log t.1 [] (minus 1) (key_of held) (record { pass = p; size = size; event = SubCount (key_of held); life = 0 }) a.walk a.queue (minus 1 v == 0) refl found.before.legal (λ q i. absurd i) c
+      counting_step p (tag_of held) v a.batch (own_of held) own t.0 log t.1 [] (minus 1) (key_of held) (record { pass = p; size = size; event = SubCount (key_of held); life = 0; kepts = [] }) a.walk a.queue (minus 1 v == 0) refl found.before.legal (λ q i. absurd i) c
       (taken_keys (key_of held) (own_of held) log found.distinct found.before.legal found.before.sound kept p size v a c t.1 are))

@@ -62,7 +62,7 @@ module _ (n : Name) (s a l : ℕ) (since seen : List Entry) (in_ : IsWithin n s 
       active (inl on) = on
       active (inr over) = absurd (found.none_ended a (inl refl) over)
 
-  pub may_read_link : (p size : ℕ) → MayStep (at_link n l) p seen [] (a ∷ []) [] (λ v. v) (λ v log. Made (record { pass = p; size = size; event = ReadLink s l; life = 0 })) (λ v. false)
+  pub may_read_link : (p size : ℕ) → MayStep (at_link n l) p seen [] (a ∷ []) [] (λ v. v) (λ v log. Made (record { pass = p; size = size; event = ReadLink s l; life = 0; kepts = [] })) (λ v. false)
   may_read_link p size = (tt, (λ v t own log found. let w = within v p [] t log found in read_step n l v p size s seen [] (a ∷ []) t own log found w.0 w.1))
 
   own_event : (s == s) ≡ true
@@ -70,10 +70,10 @@ module _ (n : Name) (s a l : ℕ) (since seen : List Entry) (in_ : IsWithin n s 
 
   -- and finds what the link holds
   pub read_finds : (p size : ℕ) (v : ℕ) (t : At) (log : List Entry) → FoundAs (at_link n l) v p seen [] (a ∷ []) t log → (w : ℕ)
-      → link_at (after st (log ++ Made (record { pass = p; size = size; event = ReadLink s l; life = 0 }) ∷ [])) l ≡ Some w
-      → Reader st (log ++ Made (record { pass = p; size = size; event = ReadLink s l; life = 0 }) ∷ []) w a
+      → link_at (after st (log ++ Made (record { pass = p; size = size; event = ReadLink s l; life = 0; kepts = [] }) ∷ [])) l ≡ Some w
+      → Reader st (log ++ Made (record { pass = p; size = size; event = ReadLink s l; life = 0; kepts = [] }) ∷ []) w a
   read_finds p size v t log found w is =
-      let e : Deed = record { pass = p; size = size; event = ReadLink s l; life = 0 } in let now : State = after st log in let d : State × Answer = (now, Held_ (link_at now l)) in let here = within v p [] t log found in
+      let e : Deed = record { pass = p; size = size; event = ReadLink s l; life = 0; kepts = [] } in let now : State = after st log in let d : State × Answer = (now, Held_ (link_at now l)) in let here = within v p [] t log found in
       let does : Does st log (Made e) d = next_of size now (ReadLink s l) d (Step.read s l (legal_link now s l here.0 here.1)) in
       let holds : link_at now l ≡ Some w = sym (ap (λ (z : State). link_at z l) (after_push st log (Made e) d found.before.legal does)) ∙ is in
       subst (Reader st (log ++ Made e ∷ []) w) here.2 (found_now st log e d s w does own_event holds)
@@ -84,7 +84,7 @@ module _ (n : Name) (s a l : ℕ) (since seen : List Entry) (in_ : IsWithin n s 
   all_blocks (x ∷ y ∷ held) one = absurd (cc)
 
   pub may_swap_link : (p size new : ℕ) (held : List (Held Entry)) → is_at_most_one held ≡ true → IsNewIn n (value_in held) held → new ≡ link_word (value_in held)
-      → MayStep (at_link n l) p seen held (a ∷ []) [] (λ v. new) (λ v log. Made (record { pass = p; size = size; event = ExchangeLink s l (Swap (value_in held)); life = 0 })) (λ v. true)
+      → MayStep (at_link n l) p seen held (a ∷ []) [] (λ v. new) (λ v log. Made (record { pass = p; size = size; event = ExchangeLink s l (Swap (value_in held)); life = 0; kepts = [] })) (λ v. true)
   may_swap_link p size new held one fresh word =
       (all_blocks held one, (λ v t own log found. let w = within v p held t log found in store_step n l v p size s seen held (a ∷ []) t own log found w.0 w.1 (value_in held) (Swap (value_in held)) refl fresh new word refl))
 
@@ -116,30 +116,30 @@ module _ (n : Name) (s a l : ℕ) (since seen : List Entry) (in_ : IsWithin n s 
 
   pub may_compare_link : (p size seen_word new : ℕ) (held : List (Held Entry)) → seen_word < 2 ^ 64 → is_at_most_one held ≡ true → IsNewIn n (value_in held) held → new ≡ link_word (value_in held)
       → MayStep (at_link n l) p seen held (a ∷ []) [] (exchanged seen_word new)
-      (λ v log. Made (record { pass = p; size = size; event = ExchangeLink s l (Compare (compared seen_word (link_at (after st log) l)) (value_in held)); life = 0 })) (λ v. v == seen_word)
+      (λ v log. Made (record { pass = p; size = size; event = ExchangeLink s l (Compare (compared seen_word (link_at (after st log) l)) (value_in held)); life = 0; kepts = [] })) (λ v. v == seen_word)
   may_compare_link p size seen_word new held fits one fresh word = (all_blocks held one, step)
     where
       e : List Entry → Entry
-      e log = Made (record { pass = p; size = size; event = ExchangeLink s l (Compare (compared seen_word (link_at (after st log) l)) (value_in held)); life = 0 })
+      e log = Made (record { pass = p; size = size; event = ExchangeLink s l (Compare (compared seen_word (link_at (after st log) l)) (value_in held)); life = 0; kepts = [] })
 
       step : (v : ℕ) (t : At) (own log : List Entry) → FoundAs (at_link n l) v p seen held (a ∷ []) t log
-          → IsStep (at_link n l) p held [] (exchanged seen_word new v) (Made (record { pass = p; size = size; event = ExchangeLink s l (Compare (compared seen_word (link_at (after st log) l)) (value_in held)); life = 0 })) (v == seen_word) t own log
+          → IsStep (at_link n l) p held [] (exchanged seen_word new v) (Made (record { pass = p; size = size; event = ExchangeLink s l (Compare (compared seen_word (link_at (after st log) l)) (value_in held)); life = 0; kepts = [] })) (v == seen_word) t own log
       step v t own log found =
           let w = within v p held t log found in let old : Option ℕ = link_at (after st log) l in let is : v ≡ link_word old = found.shows ∙ ap link_word (same n l v p seen held (a ∷ []) t log found) in
-          let goal : ℕ → Type 0 = λ x. IsStep (at_link n l) p held [] x (Made (record { pass = p; size = size; event = ExchangeLink s l (Compare (compared seen_word old) (value_in held)); life = 0 })) (v == seen_word) t own log in
+          let goal : ℕ → Type 0 = λ x. IsStep (at_link n l) p held [] x (Made (record { pass = p; size = size; event = ExchangeLink s l (Compare (compared seen_word old) (value_in held)); life = 0; kepts = [] })) (v == seen_word) t own log in
           kit.exchanged v seen_word new goal
-          (λ same. subst (λ (b : Bool). IsStep (at_link n l) p held [] new (Made (record { pass = p; size = size; event = ExchangeLink s l (Compare (compared seen_word old) (value_in held)); life = 0 })) b t own log) (sym (equal v seen_word same))
+          (λ same. subst (λ (b : Bool). IsStep (at_link n l) p held [] new (Made (record { pass = p; size = size; event = ExchangeLink s l (Compare (compared seen_word old) (value_in held)); life = 0; kepts = [] })) b t own log) (sym (equal v seen_word same))
           (store_step n l v p size s seen held (a ∷ []) t own log found w.0 w.1 (value_in held) (Compare (compared seen_word old) (value_in held)) refl fresh new word (hit seen_word old (value_in held) (sym is ∙ same))))
-          (λ differs. subst (λ (b : Bool). IsStep (at_link n l) p held [] v (Made (record { pass = p; size = size; event = ExchangeLink s l (Compare (compared seen_word old) (value_in held)); life = 0 })) b t own log) (sym (unequal v seen_word differs))
+          (λ differs. subst (λ (b : Bool). IsStep (at_link n l) p held [] v (Made (record { pass = p; size = size; event = ExchangeLink s l (Compare (compared seen_word old) (value_in held)); life = 0; kepts = [] })) b t own log) (sym (unequal v seen_word differs))
           (miss_step n l v p size s seen held (a ∷ []) t own log found w.0 w.1 (value_in held) (Compare (compared seen_word old) (value_in held)) refl fresh (missed seen_word old (value_in held) fits (λ x. differs (is ∙ x)))))
 
   -- and where something else is there, finds that
   pub compare_finds : (p size seen_word : ℕ) (held : List (Held Entry)) → seen_word < 2 ^ 64 → IsNewIn n (value_in held) held → (v : ℕ) (t : At) (log : List Entry) → FoundAs (at_link n l) v p seen held (a ∷ []) t log → (v == seen_word) ≡ false → (w : ℕ)
-      → link_at (after st (log ++ Made (record { pass = p; size = size; event = ExchangeLink s l (Compare (compared seen_word (link_at (after st log) l)) (value_in held)); life = 0 }) ∷ [])) l ≡ Some w
-      → Reader st (log ++ Made (record { pass = p; size = size; event = ExchangeLink s l (Compare (compared seen_word (link_at (after st log) l)) (value_in held)); life = 0 }) ∷ []) w a
+      → link_at (after st (log ++ Made (record { pass = p; size = size; event = ExchangeLink s l (Compare (compared seen_word (link_at (after st log) l)) (value_in held)); life = 0; kepts = [] }) ∷ [])) l ≡ Some w
+      → Reader st (log ++ Made (record { pass = p; size = size; event = ExchangeLink s l (Compare (compared seen_word (link_at (after st log) l)) (value_in held)); life = 0; kepts = [] }) ∷ []) w a
   compare_finds p size seen_word held fits fresh v t log found differs w is =
       let now : State = after st log in let old : Option ℕ = link_at now l in let o : Option ℕ = value_in held in let exchange : Exchange = Compare (compared seen_word old) o in
-      let e : Deed = record { pass = p; size = size; event = ExchangeLink s l exchange; life = 0 } in let d : State × Answer = (now, Held_ old) in let here = within v p held t log found in
+      let e : Deed = record { pass = p; size = size; event = ExchangeLink s l exchange; life = 0; kepts = [] } in let d : State × Answer = (now, Held_ old) in let here = within v p held t log found in
       let shows : v ≡ link_word old = found.shows ∙ ap link_word (same n l v p seen held (a ∷ []) t log found) in
       let not_seen : link_word old ≢ seen_word = λ x. absurd (let both : true ≡ false = sym (equal v seen_word (shows ∙ x)) ∙ differs in cc) in
       let does : Does st log (Made e) d = miss_does n l v p size s seen held (a ∷ []) t log log found here.0 here.1 o exchange refl fresh (missed seen_word old o fits not_seen) in

@@ -170,13 +170,13 @@ module _ (n : Name) (m : ℕ) where
   read_touches s = record { slot = λ k d. differ s k d; used = refl; head = λ k d. refl; link = λ k. refl; others = λ st k. (refl, refl); births = λ st. refl }
 
   pub may_read : (p size : ℕ) (seen : List Entry) (held : List (Held Entry)) → is_one slots held ≡ true → reads (slot_at (after st (own_of held)) (key_of held)) m ≡ true → m < length (after st seen).slots
-      → MayStep (at_head n m) p seen held [] [] (λ v. v) (λ v log. Made (record { pass = p; size = size; event = ReadHead (key_of held) m; life = 0 })) (λ v. false)
+      → MayStep (at_head n m) p seen held [] [] (λ v. v) (λ v log. Made (record { pass = p; size = size; event = ReadHead (key_of held) m; life = 0; kepts = [] })) (λ v. false)
   unfolding MayStepAs
   may_read p size seen held one may there =
-      may_step p seen held [] (λ v. v) (λ v log. Made (record { pass = p; size = size; event = ReadHead (key_of held) m; life = 0 })) one (λ v t own log found kept word.
+      may_step p seen held [] (λ v. v) (λ v log. Made (record { pass = p; size = size; event = ReadHead (key_of held) m; life = 0; kepts = [] })) one (λ v t own log found kept word.
       let s = key_of held in let le : length (after st seen).slots ≤ length (after st log).slots = slots_grow st seen log found.before.grows found.before.legal in
       let done = read_done size s (after st log) (ap (λ (x : Slot). reads x m) (sym kept.1.1) ∙ may) (omega (arith, le)) in
-      let e : Deed = record { pass = p; size = size; event = ReadHead s m; life = 0 } in
+      let e : Deed = record { pass = p; size = size; event = ReadHead s m; life = 0; kepts = [] } in
       made p s (tag_of held) (own_of held) own t.0 log [] v e refl (read_touches s) done.0 done.1 tt (λ a i. absurd i) (word ∙ unchanged log e done.0 found.distinct found.before.legal done.1 refl))
 
   -- The slot becomes active.
@@ -196,11 +196,11 @@ module _ (n : Name) (m : ℕ) where
 
   pub may_enter : (p size a : ℕ) (seen : List Entry) (held : List (Held Entry)) → is_one slots held ≡ true → is_idle (slot_at (after st (own_of held)) (key_of held)) ≡ true
       → is_active (head_at (after st (own_of held)) (key_of held)) ≡ false → key_of held ≡ m
-      → (lives : List ℕ) → MayStep (at_head n m) p seen held [] lives (λ v. 1) (λ v log. Made (record { pass = p; size = size; event = Enter (key_of held); life = a })) (λ v. false)
+      → (lives : List ℕ) → MayStep (at_head n m) p seen held [] lives (λ v. 1) (λ v log. Made (record { pass = p; size = size; event = Enter (key_of held); life = a; kepts = [] })) (λ v. false)
   unfolding MayStepAs
   may_enter p size a seen held one idle off is lives =
-      may_step p seen held lives (λ v. 1) (λ v log. Made (record { pass = p; size = size; event = Enter (key_of held); life = a })) one (λ v t own log found kept word.
-      let s = key_of held in let now : State = after st log in let e : Deed = record { pass = p; size = size; event = Enter s; life = a } in
+      may_step p seen held lives (λ v. 1) (λ v log. Made (record { pass = p; size = size; event = Enter (key_of held); life = a; kepts = [] })) one (λ v t own log found kept word.
+      let s = key_of held in let now : State = after st log in let e : Deed = record { pass = p; size = size; event = Enter s; life = a; kepts = [] } in
       let idle_now : is_idle (slot_at now s) ≡ true = ap is_idle (sym kept.1.1) ∙ idle in
       let d : State × Answer = (set_head now s (Active []), Done) in
       let does : Does st log (Made e) d = next_of size now (Enter s) d (Step.entered s idle_now (sym kept.1.2 ∙ off)) in
@@ -219,11 +219,11 @@ module _ (n : Name) (m : ℕ) where
 
   pub may_leave : (p size a : ℕ) (stays : Bool) (queue seen_lives : List ℕ) (seen : List Entry) (held : List (Held Entry)) → is_one slots held ≡ true
       → Stands (after st (own_of held)) (key_of held) (Out stays) queue → key_of held ≡ m → IsIn seen_lives (life (key_of held) (own_of held))
-      → MayStep (at_head n m) p seen held [] seen_lives (λ v. if stays then 1 else 0) (λ v log. Made (record { pass = p; size = size; event = SwapOut (key_of held); life = a })) (λ v. false)
+      → MayStep (at_head n m) p seen held [] seen_lives (λ v. if stays then 1 else 0) (λ v log. Made (record { pass = p; size = size; event = SwapOut (key_of held); life = a; kepts = [] })) (λ v. false)
   unfolding MayStepAs
   may_leave p size a stays queue lives seen held one stands is among =
-      may_step p seen held lives (λ v. if stays then 1 else 0) (λ v log. Made (record { pass = p; size = size; event = SwapOut (key_of held); life = a })) one (λ v t own log found kept word.
-      let s = key_of held in let now : State = after st log in let e : Deed = record { pass = p; size = size; event = SwapOut s; life = a } in let h : Head = if stays then Active [] else Inactive in
+      may_step p seen held lives (λ v. if stays then 1 else 0) (λ v log. Made (record { pass = p; size = size; event = SwapOut (key_of held); life = a; kepts = [] })) one (λ v t own log found kept word.
+      let s = key_of held in let now : State = after st log in let e : Deed = record { pass = p; size = size; event = SwapOut s; life = a; kepts = [] } in let h : Head = if stays then Active [] else Inactive in
       let stands_now : Stands now s (Out stays) queue = ap (λ (x : Slot). x.call) (sym kept.1.1) ∙ stands in
       let d : State × Answer = (go_on (set_head now s h) s (record { place = Rest [] (waiting_at (head_at now s)); queue = queue }), Done) in
       let does : Does st log (Made e) d = next_of size now (SwapOut s) d (Step.swapped_out s stays queue stands_now) in
@@ -270,7 +270,7 @@ module _ (n : Name) (m : ℕ) where
     now = after st log
 
     abbrev inserts : Insertion → Deed
-    inserts end = record { pass = p; size = size; event = Insert s m end; life = 0 }
+    inserts end = record { pass = p; size = size; event = Insert s m end; life = 0; kepts = [] }
 
     own_legal : IsLegalList st then_own
     own_legal = legal_prefix st then_own log kept.0 found.before.legal
@@ -292,7 +292,7 @@ module _ (n : Name) (m : ℕ) where
     saw_word = tries.is_seen ∙ blocks_stay n then_own log m tries.saw kept.0 (planned tries.saw (saw_there (after st then_own) reached_own s tries.batch tries.won m tries.later tries.saw tries.queue stands_own))
 
     abbrev Step_ : ℕ → Insertion → Type 0
-    Step_ w end = IsStep (at_head n m) p (key s (tag_of held) then_own) [] w (Made (record { pass = p; size = size; event = Insert s m end; life = 0 })) false (t.0, []) own log
+    Step_ w end = IsStep (at_head n m) p (key s (tag_of held) then_own) [] w (Made (record { pass = p; size = size; event = Insert s m end; life = 0; kepts = [] })) false (t.0, []) own log
 
     lost : v ≢ seen_word → Step_ v Lost
     lost differs =
@@ -338,10 +338,10 @@ module _ (n : Name) (m : ℕ) where
         (λ differs. subst (Step_ v) (sym (ap (λ (c : Bool). if c then Won else Lost) (unequal v seen_word differs))) (lost differs))
 
   pub may_insert : (p size seen_word block : ℕ) (seen : List Entry) (held : List (Held Entry)) → is_one slots held ≡ true → (tries : IsTrying st (key_of held) (own_of held) m seen_word block) → Wrote (key_of held) (own_of held) seen_word tries.batch
-      → MayStep (at_head n m) p seen held [] [] (exchanged seen_word (block + 2)) (λ v log. Made (record { pass = p; size = size; event = Insert (key_of held) m (found_end seen_word v); life = 0 })) (λ v. false)
+      → MayStep (at_head n m) p seen held [] [] (exchanged seen_word (block + 2)) (λ v log. Made (record { pass = p; size = size; event = Insert (key_of held) m (found_end seen_word v); life = 0; kepts = [] })) (λ v. false)
   unfolding MayStepAs
   may_insert p size seen_word block seen held one tries wrote =
-      may_step p seen held [] (exchanged seen_word (block + 2)) (λ v log. Made (record { pass = p; size = size; event = Insert (key_of held) m (found_end seen_word v); life = 0 })) one
+      may_step p seen held [] (exchanged seen_word (block + 2)) (λ v log. Made (record { pass = p; size = size; event = Insert (key_of held) m (found_end seen_word v); life = 0; kepts = [] })) one
       (λ v t own log found kept word. either_way p size seen_word block seen held tries wrote v t own log found kept word)
 
   -- What the word held is what the list said of the head just before.

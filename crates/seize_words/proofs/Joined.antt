@@ -60,7 +60,7 @@ module _ (key key' : SlotKey) (pass mid pass' : Pass) (looks : LooksOn pass mid)
   pub noted_on : (life : ℕ) (event event' : Event) → event ≡ event' → NotesAs key mid key' pass' (beginning mid life event) → NotesAs key pass key' pass' (beginning pass life event')
   noted_on life event event' is n =
       subst (λ (d : Deed). NotesAs key pass key' pass' d)
-      (λ j. record { pass = looks.same.1 j; size = (looks.same.0 j).size; event = is j; life = life })
+      (λ j. record { pass = looks.same.1 j; size = (looks.same.0 j).size; event = is j; life = life; kepts = [] })
       (notes_after (beginning mid life event) n)
 
 -- the head of a slot that the pass has seen is there, also after the look
@@ -79,7 +79,7 @@ tries_at key s head seen block is tries = subst (λ (m : ℕ). TriesAtSlot key m
 pub counts_on : (key key' : SlotKey) (pass mid pass' : Pass) (event : Event) (none : Bool) → LooksOn pass mid → Counts key mid key' pass' event none → Counts key pass key' pass' event none
 counts_on key key' pass mid pass' event none looks counts =
     subst (λ (d : Deed). (notes : NotesAs key pass key' pass' d) × ((count : ℤ) × (notes.2.0.answer ≡ Counted count) × (none ≡ is_zero count) × IsNear count))
-    (λ j. record { pass = looks.same.1 j; size = (looks.same.0 j).size; event = event; life = 0 })
+    (λ j. record { pass = looks.same.1 j; size = (looks.same.0 j).size; event = event; life = 0; kepts = [] })
     (notes_after key key' pass mid pass' looks (beginning mid 0 event) counts.0, counts.1)
 
 -- the batch is held, so the block of its first value is found, and that value's home is the header's

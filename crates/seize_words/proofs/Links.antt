@@ -118,10 +118,10 @@ module _ (n : Name) (l : ℕ) where
   module _ (v p size s : ℕ) (seen : List Entry) (held : List (Held Entry)) (alive : List ℕ) (t : At) (own log : List Entry) (found : FoundAs (at_link n l) v p seen held alive t log)
       (on : is_active (head_at (after st log) s) ≡ true) (within : l < length (after st log).links) where
     reads : Entry
-    reads = Made (record { pass = p; size = size; event = ReadLink s l; life = 0 })
+    reads = Made (record { pass = p; size = size; event = ReadLink s l; life = 0; kepts = [] })
 
     -- a read
-    pub read_step : IsStep (at_link n l) p held [] v (Made (record { pass = p; size = size; event = ReadLink s l; life = 0 })) false t own log
+    pub read_step : IsStep (at_link n l) p held [] v (Made (record { pass = p; size = size; event = ReadLink s l; life = 0; kepts = [] })) false t own log
     unfolding reads
     read_step =
         let now : State = after st log in let d : State × Answer = (now, Held_ (link_at now l)) in
@@ -137,7 +137,7 @@ module _ (n : Name) (l : ℕ) where
           stands = subst (λ (o : Option ℕ). IsKeyOf o (renewed t.1 (log ++ reads ∷ []))) is (key_later (link_at (after st t.0) l) t.1 (log ++ reads ∷ []) found.stands);
         }
       where
-        covers : Covers st (pass_key p own ∷ in_step (at_link n l) held t) log (Made (record { pass = p; size = size; event = ReadLink s l; life = 0 }))
+        covers : Covers st (pass_key p own ∷ in_step (at_link n l) held t) log (Made (record { pass = p; size = size; event = ReadLink s l; life = 0; kepts = [] }))
         covers zero k beside there = differ p k (λ i. beside.0 (refl, i))
         covers (suc zero) k beside there = refl
         covers (suc (suc zero)) k beside there = refl
@@ -152,7 +152,7 @@ module _ (n : Name) (l : ℕ) where
     -- An exchange, with the keys of the value that it would store.
     module _ (o : Option ℕ) (exchange : Exchange) (for : new_link exchange ≡ o) (new : IsNewIn n o held) where
       abbrev pub exchanges : Entry
-      exchanges = Made (record { pass = p; size = size; event = ExchangeLink s l exchange; life = 0 })
+      exchanges = Made (record { pass = p; size = size; event = ExchangeLink s l exchange; life = 0; kepts = [] })
 
       abbrev now : State
       now = after st log
@@ -164,7 +164,7 @@ module _ (n : Name) (l : ℕ) where
       here : IsKeyOf (link_at now l) t.1
       here = subst (λ (x : Option ℕ). IsKeyOf x t.1) (same v p seen held alive t log found) found.stands
 
-      covers_exchange : Covers st all log (Made (record { pass = p; size = size; event = ExchangeLink s l exchange; life = 0 }))
+      covers_exchange : Covers st all log (Made (record { pass = p; size = size; event = ExchangeLink s l exchange; life = 0; kepts = [] }))
       covers_exchange zero k beside there = differ p k (λ i. beside.0 (refl, i))
       covers_exchange (suc zero) k beside there = refl
       covers_exchange (suc (suc zero)) k beside there = refl
@@ -177,7 +177,7 @@ module _ (n : Name) (l : ℕ) where
       covers_exchange (suc (suc (suc (suc (suc (suc (suc (suc zero)))))))) k beside there = refl
       covers_exchange (suc (suc (suc (suc (suc (suc (suc (suc (suc r))))))))) k beside there = refl
 
-      names_exchange : NamesHeld st all log (Made (record { pass = p; size = size; event = ExchangeLink s l exchange; life = 0 }))
+      names_exchange : NamesHeld st all log (Made (record { pass = p; size = size; event = ExchangeLink s l exchange; life = 0; kepts = [] }))
       names_exchange many was there = let h = there_both many t.1 held there.1.1 in (
         there.0,
         (λ w le. refl),
@@ -202,7 +202,7 @@ module _ (n : Name) (l : ℕ) where
 
       -- it stores the value
       pub store_step : (w : ℕ) → w ≡ link_word o → is_stored (link_at now l) exchange ≡ true
-          → IsStep (at_link n l) p held [] w (Made (record { pass = p; size = size; event = ExchangeLink s l exchange; life = 0 })) true t own log
+          → IsStep (at_link n l) p held [] w (Made (record { pass = p; size = size; event = ExchangeLink s l exchange; life = 0; kepts = [] })) true t own log
       store_step w word stored =
           let d : State × Answer = (swapped now l o, Held_ (link_at now l)) in
           let step : Step size now (ExchangeLink s l exchange) d = Step.exchanged s l exchange o (legal_link now s l on within) fresh (sym for, stored) in
@@ -223,7 +223,7 @@ module _ (n : Name) (l : ℕ) where
           next_of size now (ExchangeLink s l exchange) (now, Held_ (link_at now l)) (Step.compared s l exchange (legal_link now s l on within) (ap (is_none_or_fresh now) for ∙ fresh, stored))
 
       pub miss_step : is_stored (link_at now l) exchange ≡ false
-          → IsStep (at_link n l) p held [] v (Made (record { pass = p; size = size; event = ExchangeLink s l exchange; life = 0 })) false t own log
+          → IsStep (at_link n l) p held [] v (Made (record { pass = p; size = size; event = ExchangeLink s l exchange; life = 0; kepts = [] })) false t own log
       miss_step stored =
           let d : State × Answer = (now, Held_ (link_at now l)) in
           let does : Does st log exchanges d = miss_does stored in

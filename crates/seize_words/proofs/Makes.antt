@@ -36,7 +36,7 @@ abbrev pub at_total : Name → Site
 at_total n = record { name = n; kind = totals; number = 0 }
 
 abbrev pub takes : ℕ → ℕ → ℕ → Deed
-takes p size s = record { pass = p; size = size; event = Take s; life = 0 }
+takes p size s = record { pass = p; size = size; event = Take s; life = 0; kepts = [] }
 
 -- the keys that are there in the step, but for the pass's
 abbrev all : ℕ → ℕ → List Entry → List Entry → List Entry → Tag → Tag → List (Held Entry)

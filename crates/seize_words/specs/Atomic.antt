@@ -47,7 +47,7 @@ abbrev pub Entries : Type 0
 Entries = ℕ → List Entry → Entry
 
 abbrev pub deed : Pass → ℕ → Events → ℕ → List Entry → Deed
-deed pass life event v log = record { pass = pass.id; size = pass.name.size; event = event v log; life = life }
+deed pass life event v log = record { pass = pass.id; size = pass.name.size; event = event v log; life = life; kepts = [] }
 
 abbrev pub entries : Pass → ℕ → Events → ℕ → List Entry → Entry
 entries pass life event v log = Made (deed pass life event v log)

@@ -68,7 +68,7 @@ IsLastOf key a = (a.name ≡ key.keys.name) × (a.slot ≡ number_of key) × (a.
 
 -- the entry of an event that begins an activation with this lifetime
 abbrev pub beginning : Pass → ℕ → Event → Deed
-beginning pass life event = record { pass = pass.id; size = pass.name.size; event = event; life = life }
+beginning pass life event = record { pass = pass.id; size = pass.name.size; event = event; life = life; kepts = [] }
 
 -- it has begun with what the key knows last
 pub record IsActivationOf (key : SlotKey) (a : Activation) : Type 0 where

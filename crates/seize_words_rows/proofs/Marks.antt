@@ -182,8 +182,8 @@ module _ (key0 : SlotKey) (at : BeginsToMark key0) (end : ℕ) (pass0 : Pass) (i
         ∙ ap (λ (log : List Entry). before ++ log) (sym (map-range_with_len_more f 0 i i (omega arith)))
       where
         is : Made (private pass (ReadHead (number_of key) (slot head))) ≡ Made (private pass0 (ReadHead (number_of key0) i))
-        is = ap (λ (p : ℕ). Made (record { pass = p; size = pass.name.size; event = ReadHead (number_of key) (slot head); life = 0 })) r.same.1
-            ∙ ap (λ (n : Name). Made (record { pass = pass0.id; size = n.size; event = ReadHead (number_of key) (slot head); life = 0 })) r.same.0
+        is = ap (λ (p : ℕ). Made (record { pass = p; size = pass.name.size; event = ReadHead (number_of key) (slot head); life = 0; kepts = [] })) r.same.1
+            ∙ ap (λ (n : Name). Made (record { pass = pass0.id; size = n.size; event = ReadHead (number_of key) (slot head); life = 0; kepts = [] })) r.same.0
             ∙ ap (λ (s : ℕ). Made (private pass0 (ReadHead s (slot head)))) r.its.1
             ∙ ap (λ (m : ℕ). Made (private pass0 (ReadHead (number_of key0) m))) head_is.1
 
@@ -270,7 +270,7 @@ all_read at end pass0 i k key pass r all le = record {
 -- The same is so from before a look on.
 pub ends_before : {key0 : SlotKey} (at : BeginsToMark key0) (pass0 pass1 : Pass) (key : SlotKey) (pass : Pass) (ends : Marked) → LooksOn pass0 pass1 → Ends at pass1 key pass ends → Ends at pass0 key pass ends
 ends_before {key0} at pass0 pass1 key pass ends looks e =
-    let reads : ℕ → ℕ → List Entry = λ p size. map (λ m. Made (record { pass = p; size = size; event = ReadHead (number_of key0) m; life = 0 })) (range_with_len 0 e.count) in
+    let reads : ℕ → ℕ → List Entry = λ p size. map (λ m. Made (record { pass = p; size = size; event = ReadHead (number_of key0) m; life = 0; kepts = [] })) (range_with_len 0 e.count) in
     record {
       count = e.count;
       within = e.within;

@@ -101,9 +101,9 @@ puts_first key mid key' pass between pass' values values' last some one keep two
     ap (λ (z : Slot). z.call) handed.0 ∙ ap (λ (us : List ℕ). Some (record { place = Rest [] []; queue = us })) some_.2 in
     let put = put_so mid key' second.0.before second.0.later second.0.answer second.1 some_.0 some_.1 stands in
     let same : private between (Put t) ≡ private pass (Put s) =
-    ap (λ (n : Name). record { pass = between.id; size = n.size; event = Put t; life = 0 }) one.0.0
-    ∙ ap (λ (p : ℕ). record { pass = p; size = pass.name.size; event = Put t; life = 0 }) one.0.1
-    ∙ ap (λ (k : ℕ). record { pass = pass.id; size = pass.name.size; event = Put k; life = 0 }) one.1.1 in
+    ap (λ (n : Name). record { pass = between.id; size = n.size; event = Put t; life = 0; kepts = [] }) one.0.0
+    ∙ ap (λ (p : ℕ). record { pass = p; size = pass.name.size; event = Put t; life = 0; kepts = [] }) one.0.1
+    ∙ ap (λ (k : ℕ). record { pass = pass.id; size = pass.name.size; event = Put k; life = 0; kepts = [] }) one.1.1 in
     record {
       handed = last.0;
       first = some_.0;

@@ -1,5 +1,5 @@
 //! Keys, one or several in a given order: the one generic step of the book. Each kind of key is a `Keys` with one key of that kind.
-ghost use Rattle.std.specs.Prelude.{◌≡◌, List, [], None, is_some, true};
+ghost use Rattle.std.specs.Prelude.{◌≡◌, ℕ, List, [], None, is_some, true};
 ghost use base.Stored.{coded_list};
 ghost use Rattle.seize_machine.specs.Machine.Event.{Event, Return};
 ghost use Rattle.seize_book.specs.Book.{blocks, slots};
@@ -34,17 +34,22 @@ impl Model for Keys {
     ghost also_shares = { λ k _ κ. keys_show k.name k.held κ };
 }
 
-/// An event. A caller passes `Brand`, and its proof picks the event; the one below stands where none is picked.
+/// An event, and the words that it says of the values that it retires or puts. A caller passes `Brand`, and its proof picks them; those
+/// below stand where none are picked.
 pub(crate) trait Picks {
     ghost event: { Event };
+
+    ghost kepts: { List ℕ };
 }
 
 impl Picks for Brand {
     ghost event = { Return 0 };
+
+    ghost kepts = { [] };
 }
 
 impl Keys {
-    ghost use Rattle.seize_book.specs.Adding.{Adds, Asks, Joins, Looks, MayLook, Parts, PartsLast};
+    ghost use Rattle.seize_book.specs.Adding.{Adds, Asks, Joins, Looks, MayLook, Parts, PartsLast, telling};
     ghost use Rattle.seize_book.specs.Ledger.{AllApart};
     ghost use Rattle.seize_book.specs.Lending.{IsRowAt, Lends, MayLend, MayRedeem, MayWithdraw, Redeems};
     ghost use Rattle.seize_book.specs.Notes.{MayOpen, Opens};
@@ -54,8 +59,8 @@ impl Keys {
 
     /// Adds the event with the pass.
     pub(crate) fn note<P: Picks>(&mut self, pass: &mut Pass)
-        requires { Asks self.old pass.old P.event }
-        ensures { Adds self.old pass.old self.new pass.new P.event }
+        requires { Asks self.old pass.old (telling pass.old P.event P.kepts) }
+        ensures { Adds self.old pass.old self.new pass.new (telling pass.old P.event P.kepts) }
     {}
 
     /// Looks at the list with the pass, and adds nothing.

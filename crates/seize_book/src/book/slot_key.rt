@@ -1,5 +1,5 @@
 //! The key of a slot, and the events that its holder makes of the slot itself. It is `Keys` with one key; they are added with a pass.
-ghost use Rattle.std.specs.Prelude.{◌≡◌, [], true, false, slice_set, IfSome, None, Some, is_some};
+ghost use Rattle.std.specs.Prelude.{◌≡◌, [], ◌∷◌, true, false, slice_set, IfSome, None, Some, is_some};
 ghost use Rattle.seize_machine.specs.Machine.State.{is_idle};
 ghost use Rattle.seize_machine.specs.Machine.Event.{Begin, Detach, Give, Hand, Put, Return, Take};
 ghost use Rattle.seize_machine.specs.declared.machine.event.Job.TheVariants.{Flush, Leave, Refresh, Retire};
@@ -27,11 +27,13 @@ pub struct SlotKey {
 }
 
 impl SlotKey {
+    ghost use Rattle.seize_book.specs.Adding.{telling};
     ghost use Rattle.seize_book.specs.Batches.{CanDetach, Detaches};
+    ghost use Rattle.seize_book.specs.Kept.{kepts_of};
     ghost use Rattle.seize_book.specs.Values.{AreLast, AreOfBook, AreNew, AreSpent, Keep, values_of};
     ghost use Rattle.seize_book.specs.Others.{AreNumbersOf, CannotRetire, Follows, FollowsNumbers, FollowsValue, IsLast, IsOfBook, IsValueOf, IsWith, Knew, MayRetire, MayTake, SameKind, in_use, value_of};
     ghost use Rattle.seize_book.specs.Private.{IsOpen, IsPrivate};
-    ghost use Rattle.seize_book.specs.Slots.{HandsOnce, HandsSoon, Looks, Notes, IsOf, active_of, hands_next, number_of, size_of, slot_of, start_of};
+    ghost use Rattle.seize_book.specs.Slots.{HandsOnce, HandsSoon, Looks, Notes, NotesAs, IsOf, active_of, hands_next, number_of, size_of, slot_of, start_of};
     ghost use Rattle.seize_book.specs.Tables.{IsLike, IsPlaced};
     ghost use Rattle.seize_book.specs.Tokens.{label_at};
 
@@ -40,18 +42,18 @@ impl SlotKey {
         requires book { IsOf self.old pass.old }
         requires private { IsPrivate (number_of self.old) P.event }
         requires open { IsOpen (slot_of self.old) (active_of self.old) (number_of self.old) (size_of self.old) P.event }
-        ensures noted { Notes self.old pass.old self.new pass.new P.event }
+        ensures noted { NotesAs self.old pass.old self.new pass.new (telling pass.old P.event P.kepts) }
     {
         self.keys.note::<P>(pass);
     }
 
-    // An event that changes what other keys know too.
-    fn note_with<P: Picks>(&mut self, other: &mut Keys, pass: &mut Pass)
+    // An event that changes what other keys know too. The word is there for the caller's proof, which picks the event by it.
+    fn note_with<P: Picks>(&mut self, other: &mut Keys, _kept: u64, pass: &mut Pass)
         requires book { IsOf self.old pass.old × IsOfBook other.old pass.old }
-        requires may { IsWith self.old other.old pass.old P.event }
-        ensures noted { Notes self.old pass.old self.new pass.new P.event }
+        requires may { IsWith self.old other.old pass.old (telling pass.old P.event P.kepts) }
+        ensures noted { NotesAs self.old pass.old self.new pass.new (telling pass.old P.event P.kepts) }
         ensures other { Follows other.old pass.new other.new × SameKind other.old other.new }
-        ensures knew { Knew self.old other.old pass.old pass.new P.event }
+        ensures knew { Knew self.old other.old pass.old pass.new (telling pass.old P.event P.kepts) }
     {
         let both = &mut self.keys;
         both.join(other);
@@ -89,17 +91,18 @@ impl SlotKey {
 
     /// The event `Begin` of the retirement of a value, which came out of a link, or was never named. In the second case something is lent
     /// with it, if the blocks of its book lie in a store. Its key knows then that no call may begin to retire it, and that all others that
-    /// lay in its block were reclaimed.
-    pub fn begin_retire(&mut self, value: &mut ValueKey, pass: &mut Pass)
+    /// lay in its block were reclaimed. The list says from then on that this word is kept of it, by which its reclaimer is found.
+    pub fn begin_retire(&mut self, value: &mut ValueKey, kept: u64, pass: &mut Pass)
         requires book { IsOf self.old pass.old × IsValueOf value.old pass.old }
         requires idle { is_idle (slot_of self.old) ≡ true }
         requires value { MayRetire value.old }
-        ensures noted { Notes self.old pass.old self.new pass.new (Begin (number_of self.old) (Retire (value_of value.old))) }
+        ensures noted { let begins = Begin (number_of self.old) (Retire (value_of value.old)) in
+            NotesAs self.old pass.old self.new pass.new (telling pass.old begins (kept ∷ [])) }
         ensures value { FollowsValue value.old pass.new value.new }
         ensures spent { CannotRetire value.new }
         ensures last { IsLast value.new }
     {
-        self.note_with::<Brand>(&mut value.keys, pass);
+        self.note_with::<Brand>(&mut value.keys, kept, pass);
     }
 
     /// The event `Give`: the slot's number goes back.
@@ -110,7 +113,7 @@ impl SlotKey {
         ensures numbers { FollowsNumbers numbers.old pass.new numbers.new }
         ensures used { in_use numbers.new ≡ slice_set (in_use numbers.old) (number_of self.old) false }
     {
-        self.note_with::<Brand>(&mut numbers.keys, pass);
+        self.note_with::<Brand>(&mut numbers.keys, 0, pass);
     }
 
     /// The event `Take` of a number that was in use before: the slot, which is there, is in use again.
@@ -121,7 +124,7 @@ impl SlotKey {
         ensures numbers { FollowsNumbers numbers.old pass.new numbers.new }
         ensures used { in_use numbers.new ≡ slice_set (in_use numbers.old) (number_of self.old) true }
     {
-        self.note_with::<Brand>(&mut numbers.keys, pass);
+        self.note_with::<Brand>(&mut numbers.keys, 0, pass);
     }
 
     /// The event `Begin` of a flush.
@@ -176,19 +179,20 @@ impl SlotKey {
     ///
     /// The value goes there for the first time, and was retired before. Each slot that was active then, and each that found it in a link,
     /// has left or refreshed since, and the activations in which they found it are over. The slot's call is to retire the further values
-    /// then, in their order, after those that it had before. So their keys know then that no call may begin to retire them, and that all
-    /// others that lay in their blocks were reclaimed.
+    /// then, in their order, after those that it had before, and the list says from then on what is kept of each, as it is noted of its
+    /// block. So their keys know then that no call may begin to retire them, and that all others that lay in their blocks were reclaimed.
     pub fn hand_with(&mut self, further: &mut ValueKeys, pass: &mut Pass)
         requires book { IsOf self.old pass.old × AreOfBook further.old pass.old }
         requires next { is_some (hands_next (slot_of self.old)) ≡ true }
         requires new { AreNew further.old }
-        ensures noted { Notes self.old pass.old self.new pass.new (Hand (number_of self.old) (values_of further.old)) }
+        ensures noted { let hands = Hand (number_of self.old) (values_of further.old) in
+            NotesAs self.old pass.old self.new pass.new (telling pass.old hands (kepts_of further.old)) }
         ensures once { IfSome (hands_next (slot_of self.old)) (HandsOnce self.old pass.new) }
         ensures keys { Keep further.old pass.new further.new }
         ensures spent { AreSpent further.new pass.new × AreLast further.new pass.new }
     {
         further.apart();
-        self.note_with::<Brand>(&mut further.keys, pass);
+        self.note_with::<Brand>(&mut further.keys, 0, pass);
     }
 
     /// The event `Hand` of a value whose reclaimer puts none: the value that the slot's call is about to hand to its reclaimer goes there.

@@ -28,9 +28,9 @@ returns-clause-made c =
     let one = grew pass mid (Begin s Flush) first.0 first.2.0 in
     let two = grew mid c.finish.new.pass (Return t) last.0 last.2.0 in
     let same : private mid (Return t) ≡ private pass (Return s) =
-    ap (λ (n : Name). record { pass = mid.id; size = n.size; event = Return t; life = 0 }) first.0.0
-    ∙ ap (λ (p : ℕ). record { pass = p; size = pass.name.size; event = Return t; life = 0 }) first.0.1
-    ∙ ap (λ (k : ℕ). record { pass = pass.id; size = pass.name.size; event = Return k; life = 0 }) first.1.1 in
+    ap (λ (n : Name). record { pass = mid.id; size = n.size; event = Return t; life = 0; kepts = [] }) first.0.0
+    ∙ ap (λ (p : ℕ). record { pass = p; size = pass.name.size; event = Return t; life = 0; kepts = [] }) first.0.1
+    ∙ ap (λ (k : ℕ). record { pass = pass.id; size = pass.name.size; event = Return k; life = 0; kepts = [] }) first.1.1 in
     two ∙ ap (λ l. l ++ (Made (private mid (Return t)), last.2.0.answer) ∷ []) one ∙ append_assoc (mine_of pass) _ _
     ∙ ap (λ e. mine_of pass ++ (Made (private pass (Begin s Flush)), first.2.0.answer) ∷ (Made e, last.2.0.answer) ∷ []) same
     ∙ ap (λ a. mine_of pass ++ (Made (private pass (Begin s Flush)), a) ∷ (Made (private pass (Return s)), last.2.0.answer) ∷ []) begins.1

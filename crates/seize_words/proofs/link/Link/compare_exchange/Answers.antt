@@ -34,7 +34,7 @@ exchange_in-requires c =
         in_.book.0,
         c.requires.new.0 ∙ in_.book.0,
         subst (λ (t : Site). MayStep t pass.id pass.seen held (a.life ∷ []) [] (exchanged c.args.seen c.args.new)
-            (λ v log. Made (record { pass = pass.id; size = pass.name.size; event = events pass.name a.slot l c.args.seen (holds value) v log; life = 0 })) (λ v. v == c.args.seen))
+            (λ v log. Made (record { pass = pass.id; size = pass.name.size; event = events pass.name a.slot l c.args.seen (holds value) v log; life = 0; kepts = [] })) (λ v. v == c.args.seen))
             (sym (is_at link.word pass.name in_.book.0 link.link)) may,
       ),
       subst (λ (t : Site). FindsFor t pass held a.life (entries pass 0 (events pass.name a.slot l c.args.seen (holds value))) (λ v. v == c.args.seen)) (sym (is_at link.word pass.name in_.book.0 link.link)) (λ v t log found e w is. finds v t log found e w is),

@@ -24,7 +24,7 @@ see_in-requires c =
       subst (λ (t : Pass × Keys). MayTake link.word t.1 t.0 (a.life ∷ []) [] (λ v. v) (entries t.0 0 (λ v log. ReadLink a.slot l)) (λ v. false)) (λ j. (sym c.empty-keys.ensures.2 j, c.empty-keys.result)) (
         in_.book.0,
         c.empty-keys.ensures.0,
-        subst (λ (t : Site × List (Held Entry)). MayStep t.0 pass.id pass.seen t.1 (a.life ∷ []) [] (λ v. v) (λ v log. Made (record { pass = pass.id; size = pass.name.size; event = ReadLink a.slot l; life = 0 })) (λ v. false))
+        subst (λ (t : Site × List (Held Entry)). MayStep t.0 pass.id pass.seen t.1 (a.life ∷ []) [] (λ v. v) (λ v log. Made (record { pass = pass.id; size = pass.name.size; event = ReadLink a.slot l; life = 0; kepts = [] })) (λ v. false))
             (λ j. (sym (is_at link.word pass.name in_.book.0 link.link) j, sym c.empty-keys.ensures.1 j)) may,
       ),
       subst (λ (t : Site × (Pass × List (Held Entry))). FindsFor t.0 t.1.0 t.1.1 a.life (entries t.1.0 0 (λ v log. ReadLink a.slot l)) (λ v. false))

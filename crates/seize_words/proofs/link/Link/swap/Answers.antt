@@ -19,7 +19,7 @@ swap_in-requires c =
     let may = may_swap_link pass.name a.slot a.life l a.since pass.seen in_.within pass.id pass.name.size c.args.new held value.value fresh c.requires.new.2 in (
       in_.book.0,
       c.requires.new.0 ∙ in_.book.0,
-      subst (λ (t : Site). MayStep t pass.id pass.seen held (a.life ∷ []) [] (λ v. c.args.new) (λ v log. Made (record { pass = pass.id; size = pass.name.size; event = ExchangeLink a.slot l (Swap (holds value)); life = 0 })) (λ v. true))
+      subst (λ (t : Site). MayStep t pass.id pass.seen held (a.life ∷ []) [] (λ v. c.args.new) (λ v log. Made (record { pass = pass.id; size = pass.name.size; event = ExchangeLink a.slot l (Swap (holds value)); life = 0; kepts = [] })) (λ v. true))
           (sym (is_at link.word pass.name in_.book.0 link.link)) may,
     )
 

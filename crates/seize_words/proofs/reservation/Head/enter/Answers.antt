@@ -25,7 +25,7 @@ swap-requires c =
     subst (λ (k : Keys). MayTake head.word k pass [] lives (λ v. 1) (entries pass next (λ v log. Enter (key_of k.held))) (λ v. false)) (sym c.new-activation.ensures.1) (
       book.1,
       book.0,
-      subst (λ (w : Site). MayStep w pass.id pass.seen held [] lives (λ v. 1) (λ v log. Made (record { pass = pass.id; size = pass.name.size; event = Enter s; life = next })) (λ v. false))
+      subst (λ (w : Site). MayStep w pass.id pass.seen held [] lives (λ v. 1) (λ v log. Made (record { pass = pass.id; size = pass.name.size; event = Enter s; life = next; kepts = [] })) (λ v. false))
           (sym (is_at_head head.word pass.name book.1 head.head)) (may_enter pass.name m pass.id pass.name.size next pass.seen held key.one idle off (sym book.2) lives),
     )
 

@@ -19,7 +19,7 @@ exchange-requires c =
     let tries = subst (λ (n : Name). (t : IsTrying (start n) (key_of held) (own_of held) (slot head) c.args.seen c.args.block) × Wrote n (slot head) (key_of held) (own_of held) c.args.seen t.batch) book.0 (c.requires.tries.0, c.requires.tries.1) in (
       book.1,
       book.0,
-      subst (λ (w : Site). MayStep w pass.id pass.seen held [] [] (exchanged c.args.seen (c.args.block + 2)) (λ v log. Made (record { pass = pass.id; size = pass.name.size; event = Insert (key_of held) (slot head) (found_end c.args.seen v); life = 0 })) (λ v. false))
+      subst (λ (w : Site). MayStep w pass.id pass.seen held [] [] (exchanged c.args.seen (c.args.block + 2)) (λ v log. Made (record { pass = pass.id; size = pass.name.size; event = Insert (key_of held) (slot head) (found_end c.args.seen v); life = 0; kepts = [] })) (λ v. false))
           (sym (is_at_head head.word pass.name book.1 head.head)) (may_insert pass.name (slot head) pass.id pass.name.size c.args.seen c.args.block pass.seen held key.one tries.0 tries.1),
     )
 

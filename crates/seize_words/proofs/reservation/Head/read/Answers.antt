@@ -22,7 +22,7 @@ load-requires c =
     let there = subst (λ (n : Name). slot head < length (after (start n) pass.seen).slots) book.1 c.requires.reads.1 in (
       book.1,
       book.0,
-      subst (λ (w : Site). MayStep w pass.id pass.seen held [] [] (λ v. v) (λ v log. Made (record { pass = pass.id; size = pass.name.size; event = ReadHead (key_of held) (slot head); life = 0 })) (λ v. false))
+      subst (λ (w : Site). MayStep w pass.id pass.seen held [] [] (λ v. v) (λ v log. Made (record { pass = pass.id; size = pass.name.size; event = ReadHead (key_of held) (slot head); life = 0; kepts = [] })) (λ v. false))
           (sym (is_at_head head.word pass.name book.1 head.head)) (may_read pass.name (slot head) pass.id pass.name.size pass.seen held key.one next there),
     )
 

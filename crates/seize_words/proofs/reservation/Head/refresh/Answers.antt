@@ -28,7 +28,7 @@ swap-word-requires c =
     let its = subst (λ (ls : List ℕ). IsIn ls (life s (own_of held))) (sym c.renew-ended.ensures.2) (inl c.requires.last.2) in (
       book.1,
       book.0,
-      subst (λ (w : Site). MayStep w pass.id pass.seen held [] lives (λ v. 1) (λ v log. Made (record { pass = pass.id; size = pass.name.size; event = SwapOut s; life = next })) (λ v. false))
+      subst (λ (w : Site). MayStep w pass.id pass.seen held [] lives (λ v. 1) (λ v log. Made (record { pass = pass.id; size = pass.name.size; event = SwapOut s; life = next; kepts = [] })) (λ v. false))
           (sym (is_at_head head.word pass.name book.1 head.head)) (may_leave pass.name m pass.id pass.name.size next true c.requires.refreshing.0 lives pass.seen held key.one out (sym book.2) its),
     )
 

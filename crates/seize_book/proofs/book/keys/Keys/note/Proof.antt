@@ -5,7 +5,7 @@ use mir.MapTy.{inst_fn}
 use denote.Param.{bounded}
 use Rattle.seize_book.specs.Entry.{Entry, Deed}
 use Rattle.seize_book.specs.Ledger.{Held}
-use Rattle.seize_book.specs.Adding.{Asks, private}
+use Rattle.seize_book.specs.Adding.{Asks, telling}
 use Rattle.seize_book.specs.Fair.{Added}
 use Rattle.seize_book.specs.Tokens.{Name, keys_own, pass_owns}
 use Rattle.seize_book.specs.contracts.book.pass.Pass as Pass
@@ -27,7 +27,7 @@ note_spec 𝓤 𝓛 𝓜 𝓡 wired P LP g d _ =
     let p = a.0.now in let r = a.1.0.now in let pb : ℕ = a.0.ref_ptr.0 in let po : ℕ = a.0.ref_ptr.1 in let rb : ℕ = a.1.0.ref_ptr.0 in let ro : ℕ = a.1.0.ref_ptr.1 in
     let y : (walk_of 𝓛 En hs c).Ghost = ((κs, qs, bounds, a, (vptr pb po ∷ [], (vptr rb ro ∷ [], tt))), gh) in let Post : Val → SProp 𝓤 = (walk_of 𝓛 En hs c).post y in
     let toks : Fml = fsep (flft κs.0 qs.0) (fsep (flft κs.1.0 qs.1.0) (fsep (flft κs.1.1.0 qs.1.1.0) ftrue)) in
-    let Asked : Type 0 = Asks p r g.event in
+    let Asked : Type 0 = Asks p r (telling r g.event g.kepts) in
     qed 𝓛 ((‵ toks ⊛ ‵ (owns (types_at En.signature.params κs) a y.0.4)) ∷ raw (fact 𝓤 _) ∷ raw (fact 𝓤 Asked) ∷ []) ∵ keep ! (2 ∷ 0 ∷ []) $ heard ! Asked (λ asked. split ! $
     fsplit ! $ move ! (1 ∷ []) $ fsplit ! $ move ! (3 ∷ []) $ fsplit ! $ fsplit3 ! $ move ! (3 ∷ []) $ fsplit ! $ fsplit3 ! $
     -- [the pass, in three entries; nothing; the keys, in three entries; the pass's token; the other tokens; the keys's token]
@@ -38,7 +38,7 @@ note_spec 𝓤 𝓛 𝓜 𝓡 wired P LP g d _ =
     -- [the rights; the keys; its cell, in four entries; the pass, in two; its token; the other tokens]
     move ! (6 ∷ 7 ∷ 8 ∷ []) $ opens ! tt Pass.the_row rb ro (λ vs1. move ! (1 ∷ []) $ fsplit ! $ move ! (1 ∷ []) $
     -- [what the pass owns; the pass; its cell, in four entries; the rights; the keys; its cell; the other tokens]
-    let e : Deed = private r g.event in
+    let e : Deed = telling r g.event g.kepts in
     move ! (0 ∷ 6 ∷ []) $ use2 𝓛 (later (some (λ (t : List Entry × List (Held Entry)). given (Added r.name r.id r.seen t.0 p.held t.1 e) (‵ (pass_owns r.name r.id t.0) ⊛ ‵ (keys_own r.name t.1)))))
     (adds 𝓛 r.name r.id r.seen p.held e refl asked.1) $ await ! tt $ pick ! (λ t. learn ! (λ so. split ! $
     -- [what the pass owns; the rights; the pass; its cell, in four entries; the keys; its cell; the other tokens]

@@ -1,8 +1,10 @@
 use Rattle.std.proofs.Common.{sym, ◌∙◌, ap, subst, List}
 use Rattle.seize_machine.specs.Machine.Event.{Hand}
 use Rattle.seize_book.specs.Ledger.{renewed}
+use Rattle.seize_book.specs.Adding.{telling}
+use Rattle.seize_book.specs.Kept.{kepts_in}
 use Rattle.seize_book.specs.Others.{IsWith, Knew}
-use Rattle.seize_book.specs.Slots.{Notes, hands_next, number_of, slot_of}
+use Rattle.seize_book.specs.Slots.{NotesAs, hands_next, number_of, slot_of}
 use Rattle.seize_book.specs.Private.{are_of_blocks, labels_of}
 use Rattle.seize_book.specs.declared.book.keys.Keys.{Keys}
 use Rattle.seize_book.proofs.Further.{known_then, may_hand_with}
@@ -18,7 +20,7 @@ use Rattle.seize_book.proofs.book.slot_key.SlotKey.hand_with.Goals as goal
 pub note_with-requires-clause-may : goal.note_with-requires-clause-may
 note_with-requires-clause-may c =
     let key = c.args.self.now in let pass = c.args.pass.now in
-    subst (λ (ks : Keys). IsWith key ks pass (Hand (number_of key) (labels_of ks.held))) (sym c.apart.ensures.0)
+    subst (λ (ks : Keys). IsWith key ks pass (telling pass (Hand (number_of key) (labels_of ks.held)) (kepts_in ks.held))) (sym c.apart.ensures.0)
     (may_hand_with key c.args.further.now pass c.apart.ensures.1 c.requires.book.0 c.requires.book.1 c.requires.next c.requires.new)
 
 pub invariant_of-further : goal.invariant_of-further
@@ -34,13 +36,13 @@ invariant_of-further c =
 pub returns-clause-noted : goal.returns-clause-noted
 returns-clause-noted c =
     let key = c.args.self.now in
-    subst (λ (ks : Keys). Notes key c.args.pass.now c.note_with.new.self c.note_with.new.pass (Hand (number_of key) (labels_of ks.held))) c.apart.ensures.0 c.note_with.ensures.noted
+    subst (λ (ks : Keys). NotesAs key c.args.pass.now c.note_with.new.self c.note_with.new.pass (telling c.args.pass.now (Hand (number_of key) (labels_of ks.held)) (kepts_in ks.held))) c.apart.ensures.0 c.note_with.ensures.noted
 
 pub returns-clause-once : goal.returns-clause-once
 returns-clause-once c =
     let key = c.args.self.now in
     if_some (hands_next (slot_of key))
-    (λ v is. hands_once key c.note_with.new.self c.args.pass.now c.note_with.new.pass v (labels_of c.apart.new.self.keys.held) c.requires.book.0 is c.note_with.ensures.noted)
+    (λ v is. hands_once key c.note_with.new.self c.args.pass.now c.note_with.new.pass v (labels_of c.apart.new.self.keys.held) (kepts_in c.apart.new.self.keys.held) c.requires.book.0 is c.note_with.ensures.noted)
 
 pub returns-clause-keys : goal.returns-clause-keys
 returns-clause-keys c =
@@ -55,4 +57,4 @@ returns-clause-spent c =
     let key = c.args.self.now in let pass = c.args.pass.now in let pass' = c.note_with.new.pass in let told = c.note_with.ensures in let same = c.apart.ensures.0 in
     known_then key c.args.further.now pass c.apart.ensures.1 c.requires.book.0 c.requires.book.1 c.requires.next c.requires.new pass' _
     (ap labels_of told.other.0.1 ∙ labels_later c.apart.new.self.keys.held pass'.seen ∙ ap (λ (ks : Keys). labels_of ks.held) same) told.noted.0.0 told.noted.2.0.distinct
-    (subst (λ (ks : Keys). Knew key ks pass pass' (Hand (number_of key) (labels_of ks.held))) same told.knew)
+    (subst (λ (ks : Keys). Knew key ks pass pass' (telling pass (Hand (number_of key) (labels_of ks.held)) (kepts_in ks.held))) same told.knew)

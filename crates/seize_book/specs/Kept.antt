@@ -1,0 +1,60 @@
+-- What is kept of a value: a word that says for which reclaimer it is. Its holder notes it beside the value's block, and the list says it
+-- for good, with the event that begins the value's retirement, or that puts it as a further value.
+--     kept_in g              the word that a note of this code keeps
+--     kepts_in held, kepts_of keys     those of the values whose keys these are, in order
+--     puts_in held, puts_of keys       the values whose keys these are, in order, each with the word that is kept of it
+--     retires_by event       the values of which it may say something
+--     IsTold log v k         an event of the list said that k is kept of value v
+--     AreToldIn store log held     of each of the values whose keys these are the list says what is noted of it, where their blocks lie in
+--                            a store; where they lie in none nothing is noted, and nothing is asked
+--     AreTold keys pass      so it is in what the pass has seen
+use Rattle.std.specs.Prelude.{◌≡◌, ℕ, List, [], ◌∷◌, map, Option, Some, None, ◌⊎◌}
+use base.Stored.{Gv, gnum, gcons}
+use Rattle.seize_machine.specs.Machine.Event.{Event, Begin, Hand}
+use Rattle.seize_machine.specs.declared.machine.event.Job.TheVariants.{Retire}
+use Rattle.seize_book.specs.Entry.{Entry, Made, Used}
+use Rattle.seize_book.specs.Ledger.{Held}
+use Rattle.seize_book.specs.declared.book.pass.Pass.{Pass}
+use Rattle.seize_book.specs.declared.book.value_keys.ValueKeys.{ValueKeys}
+
+abbrev pub kept_in : Gv → ℕ
+kept_in (gcons a (gcons b (gcons (gnum k) g))) = k
+kept_in g = 0
+
+abbrev pub kepts_in : List (Held Entry) → List ℕ
+kepts_in held = map (λ h. kept_in h.note) held
+
+abbrev pub kepts_of : ValueKeys → List ℕ
+kepts_of keys = kepts_in keys.keys.held
+
+abbrev pub puts_in : List (Held Entry) → List (ℕ × ℕ)
+puts_in held = map (λ h. (h.label, kept_in h.note)) held
+
+abbrev pub puts_of : ValueKeys → List (ℕ × ℕ)
+puts_of keys = puts_in keys.keys.held
+
+abbrev pub retires_by : Event → List ℕ
+retires_by (Begin s (Retire v)) = v ∷ []
+retires_by (Hand s puts) = puts
+retires_by _ = []
+
+-- the first of these words is of the first value, and so on
+abbrev pub Says : List ℕ → List ℕ → ℕ → ℕ → Type 0
+Says (x ∷ xs) (y ∷ ys) v k = ((x ≡ v) × (y ≡ k)) ⊎ Says xs ys v k
+Says _ _ v k = ⊥
+
+abbrev pub IsTold : List Entry → ℕ → ℕ → Type 0
+IsTold [] v k = ⊥
+IsTold (Made d ∷ log) v k = Says (retires_by d.event) d.kepts v k ⊎ IsTold log v k
+IsTold (Used u ∷ log) v k = IsTold log v k
+
+abbrev pub EachTold : List Entry → List (Held Entry) → Type 0
+EachTold log [] = Unit {0}
+EachTold log (h ∷ held) = IsTold log h.label (kept_in h.note) × EachTold log held
+
+abbrev pub AreToldIn : Option (List ℕ) → List Entry → List (Held Entry) → Type 0
+AreToldIn None log held = Unit {0}
+AreToldIn (Some store) log held = EachTold log held
+
+abbrev pub AreTold : ValueKeys → Pass → Type 0
+AreTold keys pass = AreToldIn keys.keys.name.store pass.seen keys.keys.held
