@@ -27,7 +27,10 @@ use Rattle.seize_book.specs.Tokens.{Name, start}
 use Rattle.seize_words.specs.Words.{Site}
 use Rattle.seize_book.specs.declared.book.pass.Pass.{Pass}
 use Rattle.seize_book.specs.declared.book.slot_key.SlotKey.{SlotKey}
-use Rattle.seize_words.proofs.Counting.{Counting, adding, at_count, come, deposited, kept_past, same, subtracting}
+use mathlib.Core.List.{IsPrefix}
+use Rattle.seize_book.specs.Kept.{AreToldIn}
+use Rattle.seize_book.proofs.Kept.{all_told_later, all_told_renewed, none_told}
+use Rattle.seize_words.proofs.Counting.{Counting, adding, at_count, come, deposited, kept_past, same, subtracting, told_then}
 use Rattle.seize_book.proofs.Counts.{count_alone, count_subtracted, word_zero}
 use Rattle.seize_book.proofs.Deposits.{deposit_added, deposit_subtracted}
 use Rattle.seize_book.proofs.Fronts.{held_values}
@@ -290,6 +293,23 @@ module _ (k : ℕ) (key : SlotKey) (held' : List (Held Entry)) (pass pass' : Pas
       either : (z : Bool) → are_joined pass.name.store (renewed (if z then step.since.1 else []) pass'.seen) [] ≡ true
       either true = (keys_later pass.name.store _ step.since.1 pass'.seen (stood k key [] held' pass pass' (minus 1) v (SubCount (number_of key)) (λ v. minus 1 v == 0) step)).3
       either false = none_joined pass.name.store []
+
+  -- and of each the list says what is noted
+  pub all_told : AreToldIn pass.name.store pass'.seen (drop 1 held')
+  all_told =
+      subst (AreToldIn pass.name.store pass'.seen) (sym others_are) (either (minus 1 v == 0))
+    where
+      grows : IsPrefix step.log pass'.seen
+      grows =
+          let e = entries pass 0 (λ v log. SubCount (number_of key)) v step.log in
+          (e ∷ [], ap (λ (l : List Entry). l ++ e ∷ []) (sym step.is_log) ∙ sym step.noted.appended)
+
+      theirs : AreToldIn pass.name.store pass'.seen step.since.1
+      theirs = all_told_later pass.name.store step.log pass'.seen step.since.1 grows (told_then pass.name k v pass.id pass.seen (key.keys.held ++ []) step.since step.log step.found)
+
+      either : (z : Bool) → AreToldIn pass.name.store pass'.seen (renewed (if z then step.since.1 else []) pass'.seen)
+      either true = all_told_renewed pass.name.store pass'.seen step.since.1 pass'.seen theirs
+      either false = none_told pass.name.store pass'.seen
 
 -- The steps as the calls on a count take them: with the slot's key and others joined, and the word as it is.
 

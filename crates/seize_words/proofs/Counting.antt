@@ -27,6 +27,8 @@ use Rattle.seize_words.specs.Stepping.{EndsAmong, FoundAs, IsStep, MayStep, in_s
 use Rattle.seize_book.specs.Tokens.{Name, start}
 use Rattle.seize_words.specs.Words.{Site}
 use Rattle.seize_book.proofs.Chains.{unled}
+use Rattle.seize_book.specs.Kept.{AreToldIn}
+use Rattle.seize_book.proofs.Kept.{all_told_later, all_told_renewed, none_told}
 use Rattle.seize_book.proofs.Counts.{batch_near, count_added, count_alone, count_near, count_subtracted, in_range, word_added, word_subtracted, word_zero}
 use Rattle.seize_book.proofs.Deposits.{deposit_added, deposit_subtracted}
 use Rattle.seize_book.proofs.Fronts.{added_held, front_grows, front_there, held_front, held_values, walked_held}
@@ -80,6 +82,11 @@ pub kept_past : (rules : Rules Entry) (vs : List (Held Entry)) (h : Held Entry) 
 kept_past rules [] h more log kept = kept.0
 kept_past rules (x ∷ vs) h more log kept = kept_past rules vs h more log kept.1
 
+-- the one or the other keys
+pub either_told : (store : Option (List ℕ)) (log : List Entry) (b : Bool) (more vs : List (Held Entry)) → AreToldIn store log more → AreToldIn store log vs → AreToldIn store log (if b then more else vs)
+either_told store log true more vs ours theirs = ours
+either_told store log false more vs ours theirs = theirs
+
 module _ (n : Name) (k : ℕ) where
   abbrev st : State
   st = start n
@@ -95,7 +102,10 @@ module _ (n : Name) (k : ℕ) where
   same v p seen held t log found = found.shows ∙ ap count_word found.before.kept.0.1.0
 
   pub deposited : (v p : ℕ) (seen : List Entry) (held : List (Held Entry)) (t : At) (log : List Entry) → FoundAs (at_count n k) v p seen held [] t log → AreKeysOf n.store (deposit (after st log) k) t.1
-  deposited v p seen held t log found = (found.stands.0 ∙ found.before.kept.0.1.1, found.stands.1, found.stands.2, found.stands.3)
+  deposited v p seen held t log found = let stands = found.stands.0 in (stands.0 ∙ found.before.kept.0.1.1, stands.1, stands.2, stands.3)
+
+  pub told_then : (v p : ℕ) (seen : List Entry) (held : List (Held Entry)) (t : At) (log : List Entry) → FoundAs (at_count n k) v p seen held [] t log → AreToldIn n.store log t.1
+  told_then v p seen held t log found = all_told_later n.store t.0 log t.1 found.before.kept.0.0 found.stands.1
 
   -- One event of the slot that counts batch b, which is of this block. The holder has other keys after the slot's, and others stand beside
   -- the count.
@@ -129,21 +139,22 @@ module _ (n : Name) (k : ℕ) where
 
     made : (trades : Bool) → Does st log (Made e) d → EndsAmong [] log (Made e) → w ≡ count_word (count_in (after st (log ++ Made e ∷ [])) k)
         → AreKeysOf n.store (deposit (after st (log ++ Made e ∷ [])) k) (renewed (if trades then more else vs) (log ++ Made e ∷ []))
+        → AreToldIn n.store (log ++ Made e ∷ []) (renewed (if trades then more else vs) (log ++ Made e ∷ []))
         → IsStep (at_count n k) p held_all [] w (Made e) trades (since, vs) own log
-    made trades does ends shows stands = record {
+    made trades does ends shows stands theirs = record {
       fair = record { done = d; legal = does; covers = covers; names = names; one = none_named e.size (after st log) e.event d (step_of _ _ _ _ does) (λ j. c.home (after st log) j); leads = unled (after st log) (plans st log) (told log) e.event (λ j. c.head j); labels = no_labels n (pass_key p own ∷ in_step (at_count n k) held_all (since, vs)) e.size (after st log) e.event d (step_of _ _ _ _ does) (λ j. c.home (after st log) j); places = no_place (after st log) (pass_key p own ∷ in_step (at_count n k) held_all (since, vs)) (Made e) (makes_none (after st log) e.event c.used) };
       its = pe;
       bears = c.births (after st log);
       ends = ends;
       shows = shows;
-      stands = stands;
+      stands = (stands, theirs);
     }
 
   -- it is enough to see it for the slot's key, with others after it
   MayStepAs : (p s : ℕ) (x : Tag) (seen slots_own : List Entry) (more : List (Held Entry)) (f : ℕ → ℕ) (e : Deed) (trades : ℕ → Bool) → Type 0
   MayStepAs p s x seen slots_own more f e trades =
       (v : ℕ) (t : At) (own log : List Entry) → FoundAs (at_count n k) v p seen (key s x slots_own ++ more) [] t log → Kept st TheSlot s slots_own log
-      → v ≡ count_word (count_in (after st log) k) → AreKeysOf n.store (deposit (after st log) k) t.1
+      → v ≡ count_word (count_in (after st log) k) → AreKeysOf n.store (deposit (after st log) k) t.1 → AreToldIn n.store log t.1
       → IsStep (at_count n k) p (key s x slots_own ++ more) [] (f v) (Made e) (trades v) t own log
 
   may_step : (p : ℕ) (seen : List Entry) (held more : List (Held Entry)) (f : ℕ → ℕ) (e : Deed) (trades : ℕ → Bool) → is_one slots held ≡ true → are_of_blocks more ≡ true → MayStepAs p (key_of held) (tag_of held) seen (own_of held) more f e trades
@@ -154,7 +165,7 @@ module _ (n : Name) (k : ℕ) where
         (omega arith, blocks_within more are),
         (λ v t own log found.
             let hs = key (key_of held) (tag_of held) (own_of held) ++ more in
-            steps v t own log found (kept_past (rules st) t.1 _ more log found.before.kept.1) (same v p seen hs t log found) (deposited v p seen hs t log found)),
+            steps v t own log found (kept_past (rules st) t.1 _ more log found.before.kept.1) (same v p seen hs t log found) (deposited v p seen hs t log found) (told_then v p seen hs t log found)),
       )
 
   -- the state after the batch came to this count
@@ -252,12 +263,14 @@ module _ (n : Name) (k : ℕ) where
   -- whoever counts may take the step
   counting_step : (p : ℕ) (x : Tag) (v b : ℕ) (own mine since log : List Entry) (vs more : List (Held Entry)) (f : ℕ → ℕ) (s : ℕ) (e : Deed) (walk queue : List ℕ) (trades : Bool) → e.pass ≡ p → IsLegalList st log → EndsAmong [] log (Made e)
       → (c : Counting s own log e f v b walk queue) → AreKeysOf n.store (deposit (come (after st log) s b c.count walk queue).0 k) (if trades then more else vs)
+      → AreToldIn n.store log (if trades then more else vs)
       → IsStep (at_count n k) p (key s x own ++ more) [] (f v) (Made e) trades (since, vs) mine log
-  counting_step p x v b own mine since log vs more f s e walk queue trades pe legal ends c stands =
+  counting_step p x v b own mine since log vs more f s e walk queue trades pe legal ends c stands told =
       let d : State × Answer = come (after st log) s b c.count walk queue in let push = after_push st log (Made e) d legal c.does in
       made p s x b own mine since log vs more (f v) e pe c.counts_it d c.touched c.in_it trades c.does ends
       (c.word ∙ ap count_word (sym c.is_count) ∙ ap (λ (z : State). count_word (count_in z k)) (sym push))
       (keys_later n.store _ _ (log ++ Made e ∷ []) (subst (λ (z : State). AreKeysOf n.store (deposit z k) (if trades then more else vs)) (sym push) stands))
+      (all_told_renewed n.store _ _ (log ++ Made e ∷ []) (all_told_later n.store log (log ++ Made e ∷ []) _ (Made e ∷ [], refl) told))
 
   module _ (s : ℕ) (own log : List Entry) (distinct : are_distinct (linked n.links) ≡ true) (legal : IsLegalList st log) (sound : IsSound (after st log)) (kept : Kept st TheSlot s own log) where
     abbrev before : State
@@ -295,20 +308,22 @@ module _ (n : Name) (k : ℕ) where
         either true = (refl, refl, none_linked n.store, none_joined n.store [])
         either false = are
 
-  pub may_add_count : (p size won : ℕ) (seen : List Entry) (held more : List (Held Entry)) → is_one slots held ≡ true → (a : IsAdding st (key_of held) (own_of held) k won) → AreKeysOf n.store (slice_index_or (plans st (own_of held)) a.batch no_plan).values more
+  pub may_add_count : (p size won : ℕ) (seen : List Entry) (held more : List (Held Entry)) → is_one slots held ≡ true → (a : IsAdding st (key_of held) (own_of held) k won) → AreKeysOf n.store (slice_index_or (plans st (own_of held)) a.batch no_plan).values more → AreToldIn n.store seen more
       → MayStep (at_count n k) p seen (held ++ more) [] [] (plus won) (λ v log. Made (record { pass = p; size = size; event = AddCount (key_of held); life = 0; kepts = [] })) (λ v. not (plus won v == 0))
   unfolding MayStepAs
-  may_add_count p size won seen held more one a these =
-      may_step p seen held more (plus won) (record { pass = p; size = size; event = AddCount (key_of held); life = 0; kepts = [] }) (λ v. not (plus won v == 0)) one these.1 (λ v t own log found kept word are.
+  may_add_count p size won seen held more one a these its =
+      may_step p seen held more (plus won) (record { pass = p; size = size; event = AddCount (key_of held); life = 0; kepts = [] }) (λ v. not (plus won v == 0)) one these.1 (λ v t own log found kept word are told.
       let c = adding (key_of held) (own_of held) log found.distinct found.before.legal found.before.sound kept p size won v word a in
       counting_step p (tag_of held) v a.batch (own_of held) own t.0 log t.1 more (plus won) (key_of held) (record { pass = p; size = size; event = AddCount (key_of held); life = 0; kepts = [] }) [] a.queue (not (plus won v == 0)) refl found.before.legal (λ q i. absurd i) c
-      (added_keys (key_of held) (own_of held) log found.distinct found.before.legal found.before.sound kept p size won v a c t.1 more are these))
+      (added_keys (key_of held) (own_of held) log found.distinct found.before.legal found.before.sound kept p size won v a c t.1 more are these)
+      (either_told n.store log (not (plus won v == 0)) more t.1 (all_told_later n.store seen log more found.before.grows its) told))
 
   pub may_subtract_count : (p size : ℕ) (seen : List Entry) (held : List (Held Entry)) → is_one slots held ≡ true → IsWalking st (key_of held) (own_of held) k
       → MayStep (at_count n k) p seen (held ++ []) [] [] (minus 1) (λ v log. Made (record { pass = p; size = size; event = SubCount (key_of held); life = 0; kepts = [] })) (λ v. minus 1 v == 0)
   unfolding MayStepAs
   may_subtract_count p size seen held one a =
-      may_step p seen held [] (minus 1) (record { pass = p; size = size; event = SubCount (key_of held); life = 0; kepts = [] }) (λ v. minus 1 v == 0) one refl (λ v t own log found kept word are.
+      may_step p seen held [] (minus 1) (record { pass = p; size = size; event = SubCount (key_of held); life = 0; kepts = [] }) (λ v. minus 1 v == 0) one refl (λ v t own log found kept word are told.
       let c = subtracting (key_of held) (own_of held) log found.distinct found.before.legal found.before.sound kept p size v word a in
       counting_step p (tag_of held) v a.batch (own_of held) own t.0 log t.1 [] (minus 1) (key_of held) (record { pass = p; size = size; event = SubCount (key_of held); life = 0; kepts = [] }) a.walk a.queue (minus 1 v == 0) refl found.before.legal (λ q i. absurd i) c
-      (taken_keys (key_of held) (own_of held) log found.distinct found.before.legal found.before.sound kept p size v a c t.1 are))
+      (taken_keys (key_of held) (own_of held) log found.distinct found.before.legal found.before.sound kept p size v a c t.1 are)
+      (either_told n.store log (minus 1 v == 0) [] t.1 (none_told n.store log) told))

@@ -51,6 +51,8 @@ pub use Rattle.seize_book.proofs.Leading.{closed_anywhere, has_noted, last_close
 pub use Rattle.seize_book.proofs.Linked.{closed_after, none_joined, parted_joined}
 pub use Rattle.seize_book.proofs.Firsts.{noted_one, one_label, others_closed, others_know, own_is, unchanged_last, unchanged_value}
 pub use Rattle.seize_book.proofs.Values.{labels_append}
+-- what the list says is kept of values: of keys that are put together or apart, and of those that were retired or put
+pub use Rattle.seize_book.proofs.Kept.{alike_told, all_told_later, all_told_renewed, both_told, none_told, put_told, retired_told, told_apart, told_later}
 -- the blocks of a store have cells for notes, and what was noted there is what is read
 pub use Rattle.seize_words.proofs.Noted.{blocks_stored, noted_back, same_note}
 -- with a value that was named something is lent, if the blocks of its book lie in a store

@@ -8,7 +8,8 @@
 --     values_in key b                           the values with which batch b was detached, as the slot's key knows
 --     AddsWith key count won values             the slot's call adds to this count, and the keys are those of the batch's values, closed
 --     Leaves values pass' values' zero          the keys stay where the count came to 0, and else they stand with the count
---     Takes key b pass' values' zero            the keys of the batch's values come out where the count came to 0, closed
+--     Takes key b pass' values' zero            the keys of the batch's values come out where the count came to 0, closed; of each the
+--                                               list says what is noted to be kept of it
 --     GivesUp key key' b walk queue zero        the slot's call goes on with this walk and queue; the values with which the batch was
 --                                               detached are given up to it if the count came to 0, and else none are
 use Rattle.std.specs.Prelude.{◌≡◌, ℕ, ℤ, Bool, if◌then◌else◌, List, [], ◌∷◌, Some, slice_index_or}
@@ -21,6 +22,7 @@ use Rattle.seize_book.specs.Book.{after}
 use Rattle.seize_book.specs.Books.{home_in}
 use Rattle.seize_book.specs.Entry.{Entry}
 use Rattle.seize_book.specs.Homes.{count_in, home_of}
+use Rattle.seize_book.specs.Kept.{AreTold}
 use Rattle.seize_book.specs.Tokens.{start}
 use Rattle.seize_book.specs.Ledger.{renewed}
 use Rattle.seize_book.specs.Slots.{Notes, number_of, own_list, slot_of, start_of}
@@ -87,7 +89,7 @@ abbrev pub Takes : SlotKey → ℕ → Pass → ValueKeys → Bool → Type 0
 Takes key b pass' values' zero =
     (book_in values' ≡ pass'.name) × (values'.keys.held ≡ renewed values'.keys.held pass'.seen)
     × (values_of values' ≡ (if zero then values_in key b else []))
-    × AreLast values' pass' × AreClosed values'
+    × AreLast values' pass' × AreClosed values' × AreTold values' pass'
 
 abbrev pub Counts : SlotKey → Pass → SlotKey → Pass → Event → Bool → Type 0
 Counts key pass key' pass' event zero =

@@ -5,7 +5,8 @@
 --     IsField site, IsCount site     it is that of a field, of a count;  IsTotal site    it is the one that says how many slots there are
 --     Shows site v log       the value v is what the list says
 --     Stands site log vs     these are the other keys that stand beside it: of a link that of the block of the value in it, of a count
---                            those of the blocks of the batch's values, which lead on, once its call has added to it
+--                            those of the blocks of the batch's values, which lead on, once its call has added to it; of each the list
+--                            says what is noted to be kept of it
 --     site_keys site since vs     its keys, its own first, which knows the list as it was at the last step on the word
 --     word_owns site v       what stands beside the memory of a word with this value;  word_shares    what a `&` to it is
 use Rattle.std.specs.Prelude.{◌≡◌, ℕ, true, List, [], ◌∷◌, length, Option, Some, None}
@@ -24,6 +25,7 @@ use Rattle.seize_book.specs.Blocks.{count_word, head_word, link_word}
 use Rattle.seize_book.specs.Chains.{told}
 use Rattle.seize_book.specs.Deposits.{deposit}
 use Rattle.seize_book.specs.Homes.{count_in, home_of}
+use Rattle.seize_book.specs.Kept.{AreToldIn}
 use Rattle.seize_book.specs.Private.{AreKeysOf, is_one, key_of, label_of}
 use Rattle.seize_book.specs.Tokens.{Name, name_coded, start, keys_own}
 
@@ -64,7 +66,7 @@ IsKeyOf (Some v) vs = (is_one blocks vs ≡ true) × (key_of vs ≡ home_of v) �
 
 abbrev pub StandsOf : Name → Kind → ℕ → List Entry → List (Held Entry) → Type 0
 StandsOf n TheLink l log vs = IsKeyOf (link_at (after (start n) log) l) vs
-StandsOf n TheCount k log vs = AreKeysOf n.store (deposit (after (start n) log) k) vs
+StandsOf n TheCount k log vs = AreKeysOf n.store (deposit (after (start n) log) k) vs × AreToldIn n.store log vs
 StandsOf n _ k log vs = vs ≡ []
 
 abbrev pub Stands : Site → List Entry → List (Held Entry) → Type 0

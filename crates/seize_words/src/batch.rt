@@ -19,6 +19,7 @@ pub struct Count {
 
 impl Count {
     ghost use Rattle.seize_words.specs.Counts.{AddsTo, AddsWith, Counts, GivesUp, IsCountOf, IsOfBook, Leaves, Takes, Walks, count_seen};
+    ghost use Rattle.seize_book.specs.Kept.{AreTold};
     ghost use Rattle.seize_book.specs.Passes.{LooksOn};
     ghost use Rattle.seize_book.specs.Values.{AreOfBook, IsEmpty};
     ghost use Rattle.seize_book.specs.Books.{count_known, deposit_known};
@@ -50,12 +51,13 @@ impl Count {
 
     /// Adds the insertions won to the batch's count: the event `AddCount` of the slot that detached the batch. It says whether the count
     /// is 0 then. If it is, nobody holds the batch, its values are given up to the slot's call, and their keys stay with the caller. If it
-    /// isn't, the keys go to whoever gives the batch up.
+    /// isn't, the keys go to whoever gives the batch up. Of each value the list says what is noted to be kept of it.
     ///
     /// It takes no memory and waits for nobody: one atomic addition.
     pub fn add(&self, won: u64, key: &mut SlotKey, values: &mut ValueKeys, pass: &mut Pass) -> bool
         requires book { IsOf key.old pass.old × IsOfBook self.now pass.old × AreOfBook values.old pass.old }
         requires adds { AddsWith key.old self.now won values.old }
+        requires told { AreTold values.old pass.old }
         ensures counts { Counts key.old pass.old key.new pass.new (AddCount (number_of key.old)) result }
         ensures gives { (adds : AddsTo key.old self.now won) → GivesUp key.old key.new adds.batch [] adds.queue result }
         ensures keys { Leaves values.old pass.new values.new result }

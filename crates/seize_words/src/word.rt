@@ -44,7 +44,7 @@ pub(crate) trait Finds {
 }
 
 impl Finds for Brand {
-    ghost entry = { λ v log. Made (record { pass = 0; size = 0; event = Return 0; life = 0 }) };
+    ghost entry = { λ v log. Made (record { pass = 0; size = 0; event = Return 0; life = 0; kepts = [] }) };
 
     ghost trades = { λ v. false };
 

@@ -53,6 +53,7 @@ impl<T: Drop> Words<T> {
     ghost use Rattle.seize_book.specs.Slots.{IsOf, Notes, NotesAs, active_of, number_of, slot_of};
     ghost use Rattle.seize_words.specs.Totals.{NumbersOf, slots_seen};
     ghost use Rattle.seize_words.specs.Walks.{Knows};
+    ghost use Rattle.seize_book.specs.Kept.{AreTold};
     ghost use Rattle.seize_book.specs.Values.{AreOfBook, IsEmpty};
 
     /// The words of a new book, to which many may append, with so many links, which are empty, and no slot; and what its slots are made
@@ -332,6 +333,7 @@ impl<T: Drop> Words<T> {
         requires book { IsOf key.old pass.old × (words_book self.now ≡ pass.old.name) × AreOfBook values.old pass.old }
         requires knows { Knows key.old pass.old }
         requires adds { AddsWithAt key.old block won values.old }
+        requires told { AreTold values.old pass.old }
         ensures counts { Counts key.old pass.old key.new pass.new (AddCount (number_of key.old)) result }
         ensures gives { (adds : IsAddingAt key.old block won) → GivesUp key.old key.new adds.batch [] adds.queue result }
         ensures keys { Leaves values.old pass.new values.new result }

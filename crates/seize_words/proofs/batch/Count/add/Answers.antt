@@ -10,6 +10,7 @@ use Rattle.seize_book.specs.declared.book.slot_key.SlotKey.{SlotKey}
 use Rattle.seize_words.proofs.Counting.{may_add_count}
 use Rattle.seize_book.specs.Entry.{Entry}
 use Rattle.seize_book.specs.Ledger.{Held}
+use Rattle.seize_book.specs.Kept.{AreToldIn}
 use Rattle.seize_book.specs.Linked.{are_joined, are_linked}
 use Rattle.seize_words.proofs.Counted.{closed_still, still_linked, added, adding_in, all_last, counts_so, gives_so, in_pass, joined_may, joined_step, labels_stay, left_with, of_those, still_blocks}
 use Rattle.seize_words.proofs.batch.Count.add.Goals as goal
@@ -19,7 +20,8 @@ add-old-requires c =
     let count = c.args.self.now in let key = c.args.key.now in let pass = c.args.pass.now in let held = key.keys.held in let values = c.args.values.now in let book = c.requires.book in let s = key_of held in
     let adds = adding_in key.keys.name pass.name s (own_of held) (home count) c.args.won book.0 c.requires.adds.0 in
     let these = in_pass key.keys.name pass.name (own_of held) adds.batch book.0 in
-    let may = may_add_count pass.name (home count) pass.id pass.name.size c.args.won pass.seen held values.keys.held key.one adds (c.requires.adds.1 ∙ these, values.each, ap (λ (n : Name). are_linked n.store values.keys.held) (sym c.requires.book.2) ∙ values.linked, ap (λ (n : Name). are_joined n.store values.keys.held []) (sym c.requires.book.2) ∙ c.requires.adds.2) in (
+    let may = may_add_count pass.name (home count) pass.id pass.name.size c.args.won pass.seen held values.keys.held key.one adds (c.requires.adds.1 ∙ these, values.each, ap (λ (n : Name). are_linked n.store values.keys.held) (sym c.requires.book.2) ∙ values.linked, ap (λ (n : Name). are_joined n.store values.keys.held []) (sym c.requires.book.2) ∙ c.requires.adds.2)
+    (subst (λ (n : Name). AreToldIn n.store pass.seen values.keys.held) c.requires.book.2 c.requires.told) in (
       book.1,
       c.join.ensures.0 ∙ book.0,
       joined_may count.word key values.keys.held c.join.new.self.held pass (plus c.args.won) (λ s. AddCount s) (λ v. not (plus c.args.won v == 0)) book.1 count.count c.join.ensures.2 may,

@@ -10,8 +10,9 @@ use Rattle.seize_book.specs.declared.book.slot_key.SlotKey.{SlotKey}
 use Rattle.seize_words.proofs.Counting.{may_subtract_count}
 use Rattle.seize_book.specs.Entry.{Entry}
 use Rattle.seize_book.specs.Ledger.{Held}
+use Rattle.seize_book.specs.Kept.{AreToldIn}
 use Rattle.seize_book.specs.Linked.{are_joined, are_linked}
-use Rattle.seize_words.proofs.Counted.{all_closed, all_linked, all_blocks, all_last, counts_so, gives_so, joined_may, joined_step, labels_are, of_those, others_are, renewed_twice, subtracted, values_known, walking_in, was_one}
+use Rattle.seize_words.proofs.Counted.{all_told, all_closed, all_linked, all_blocks, all_last, counts_so, gives_so, joined_may, joined_step, labels_are, of_those, others_are, renewed_twice, subtracted, values_known, walking_in, was_one}
 use Rattle.seize_words.proofs.batch.Count.subtract.Goals as goal
 
 pub subtract-old-requires : goal.subtract-old-requires
@@ -71,4 +72,6 @@ returns-clause-keys c walks_ =
           (all_last k key key' [] keys'.held pass pass' (minus 1) v (SubCount (key_of held)) (λ v. minus 1 v == 0) walks.batch walks.walk walks.queue step c.subtract-old.ensures.0 name c.part.ensures.2 c.requires.book.0 counting u among)),
       ap (λ (t : Name × List (Held Entry)). are_joined t.0.store t.1 []) (λ j. ((c.part.ensures.1 ∙ c.subtract-old.ensures.1 ∙ c.requires.book.0) j, c.part.ensures.3 j))
           ∙ all_closed k key keys'.held pass pass' v step walks c.requires.book.0,
+      subst (λ (t : Name × List (Held Entry)). AreToldIn t.0.store pass'.seen t.1) (λ j. (sym (c.part.ensures.1 ∙ c.subtract-old.ensures.1 ∙ c.requires.book.0) j, sym c.part.ensures.3 j))
+          (all_told k key keys'.held pass pass' v step walks c.requires.book.0),
     )

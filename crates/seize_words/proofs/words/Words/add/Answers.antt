@@ -2,6 +2,7 @@ use Rattle.std.proofs.Common.{arith, sym, ◌∙◌}
 use Rattle.seize_machine.specs.Machine.Event.{AddCount}
 use Rattle.seize_book.specs.Adding.{private}
 use Rattle.seize_book.specs.Slots.{number_of}
+use Rattle.seize_book.proofs.Kept.{all_told_later}
 use Rattle.seize_words.proofs.Joined.{adds_there, counts_on, held_adding, its_number}
 use Rattle.seize_words.proofs.Traversals.{knows_noted}
 use Rattle.seize_words.proofs.words.Words.add.Goals as goal
@@ -22,6 +23,11 @@ add-requires-clause-adds g c =
     let found = c.header-header in
     let adds = adds_there c.args.key.now c.args.pass.now found.new.pass c.requires.book.0 c.requires.knows c.args.block found.result.now found.ensures.looks found.ensures.header c.args.won c.requires.adds.0 in
     (adds, c.requires.adds.1, c.requires.adds.2)
+
+pub add-requires-clause-told : goal.add-requires-clause-told
+add-requires-clause-told g c =
+    let values = c.args.values.now in
+    all_told_later values.keys.name.store c.args.pass.now.seen c.header-header.new.pass.seen values.keys.held c.header-header.ensures.looks.grows c.requires.told
 
 pub returns-clause-counts : goal.returns-clause-counts
 returns-clause-counts g c =
