@@ -10,7 +10,7 @@ use Rattle.seize_book.specs.Entry.{Entry, Made, Deed}
 use Rattle.seize_book.specs.Book.{after, IsLegalList, Does}
 use Rattle.seize_book.specs.Adding.{telling}
 use Rattle.seize_book.specs.Books.{IsNextAfter, MaySettle}
-use Rattle.seize_book.specs.Slots.{Notes, NotesAs, HandsOnce, HandsSoon, hands_next, number_of, slot_of}
+use Rattle.seize_book.specs.Slots.{NotesAs, HandsOnce, HandsSoon, hands_next, number_of, slot_of}
 use Rattle.seize_book.specs.Tokens.{Name, start}
 use Rattle.seize_book.specs.declared.book.pass.Pass.{Pass}
 use Rattle.seize_book.specs.declared.book.slot_key.SlotKey.{SlotKey}
@@ -82,17 +82,18 @@ goes size st s v puts d is h = go (are_fresh st.named puts) (sym (ap (hand schem
     go false e = absurd (cc)
 
 -- afterwards it is gone, as the pass has seen
-pub hands_gone : (key key' : SlotKey) (pass pass' : Pass) (v : ℕ) (puts : List ℕ) → key.keys.name ≡ pass.name → hands_next (slot_of key) ≡ Some v → Notes key pass key' pass' (Hand (number_of key) puts)
+pub hands_gone : (key key' : SlotKey) (pass pass' : Pass) (v : ℕ) (puts kepts : List ℕ) → key.keys.name ≡ pass.name → hands_next (slot_of key) ≡ Some v
+    → NotesAs key pass key' pass' (telling pass (Hand (number_of key) puts) kepts)
     → has v (after (start pass'.name) pass'.seen).gone ≡ true
-hands_gone key key' pass pass' v puts name is notes =
+hands_gone key key' pass pass' v puts kepts name is notes =
     let noted = notes.2.0 in let moves = notes.2.1 in let n : Name = key.keys.name in let log = noted.before in
     let gone = goes n.size (after (start n) log) (number_of key) v puts (noted.later, noted.answer) (ap (λ slot. of_call handing_at slot.call) moves.was ∙ is) moves.legal in
     subst (λ (m : Name). has v (after (start m) pass'.seen).gone ≡ true) (sym notes.0.0) (subst (λ (z : State). has v z.gone ≡ true) (sym noted.leads) gone)
 
 -- so a key that was made ready by it may be settled
-pub settles_after : (value : ValueKey) (key key' : SlotKey) (pass pass' : Pass) (v number : ℕ) (puts : List ℕ) → IsNextAfter value v number → key.keys.name ≡ pass.name → hands_next (slot_of key) ≡ Some v
-    → Notes key pass key' pass' (Hand (number_of key) puts) → MaySettle value pass'
-settles_after value key key' pass pass' v number puts next_ name is notes = (v, (next_.0, next_.1, next_.2, refl), hands_gone key key' pass pass' v puts name is notes)
+pub settles_after : (value : ValueKey) (key key' : SlotKey) (pass pass' : Pass) (v number : ℕ) (puts kepts : List ℕ) → IsNextAfter value v number → key.keys.name ≡ pass.name → hands_next (slot_of key) ≡ Some v
+    → NotesAs key pass key' pass' (telling pass (Hand (number_of key) puts) kepts) → MaySettle value pass'
+settles_after value key key' pass pass' v number puts kepts next_ name is notes = (v, (next_.0, next_.1, next_.2, refl), hands_gone key key' pass pass' v puts kepts name is notes)
 
 -- what is so of a value, if there is one
 pub if_some : {P : ℕ → Type 0} (o : Option ℕ) → ((v : ℕ) → o ≡ Some v → P v) → IfSome o P

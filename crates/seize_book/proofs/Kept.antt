@@ -1,11 +1,11 @@
 -- What the list says is kept of values: what was said stays said, and what an event of the list says is so.
-use Rattle.std.proofs.Common.{◌≡◌, ℕ, List, [], ◌∷◌, ◌++◌, Option, Some, None, refl, sym, ap, subst, inl, inr}
+use Rattle.std.proofs.Common.{is_some, true, ◌≡◌, ℕ, List, [], ◌∷◌, ◌++◌, Option, Some, None, refl, sym, ap, subst, inl, inr}
 use mathlib.Core.List.{IsPrefix}
 use Rattle.seize_machine.specs.Machine.Event.{Begin, Hand}
 use Rattle.seize_machine.specs.declared.machine.event.Job.TheVariants.{Retire}
 use Rattle.seize_book.specs.Adding.{telling}
 use Rattle.seize_book.specs.Entry.{Entry, Made, Used, Deed}
-use Rattle.seize_book.specs.Kept.{AreTold, AreToldIn, EachTold, IsTold, Says, kept_in, kepts_in, kepts_of, retires_by}
+use Rattle.seize_book.specs.Kept.{AllTold, AreTold, AreToldIn, EachTold, IsTold, Says, kept_in, kepts_in, kepts_of, retires_by}
 use Rattle.seize_book.specs.Ledger.{Held, renewed}
 use Rattle.seize_book.specs.Private.{labels_of}
 use Rattle.seize_book.specs.Slots.{NotesAs, number_of}
@@ -97,6 +97,53 @@ each_alike log (g ∷ a) (h ∷ b) labels kepts told =
 pub alike_told : (store : Option (List ℕ)) (log : List Entry) (a b : List (Held Entry)) → labels_of a ≡ labels_of b → kepts_in a ≡ kepts_in b → AreToldIn store log a → AreToldIn store log b
 alike_told None log a b labels kepts told = tt
 alike_told (Some store) log a b labels kepts told = each_alike log a b labels kepts told
+
+-- Of values and words without their keys.
+
+told_all : (log : List Entry) (held : List (Held Entry)) → EachTold log held → AllTold log (labels_of held) (kepts_in held)
+told_all log [] told = tt
+told_all log (h ∷ held) told = (told.0, told_all log held told.1)
+
+pub all_of_told : (store : Option (List ℕ)) (log : List Entry) (held : List (Held Entry)) → is_some store ≡ true → AreToldIn store log held → AllTold log (labels_of held) (kepts_in held)
+all_of_told None log held some told = absurd (cc)
+all_of_told (Some store) log held some told = told_all log held told
+
+each_of_all : (log : List Entry) (held : List (Held Entry)) → AllTold log (labels_of held) (kepts_in held) → EachTold log held
+each_of_all log [] told = tt
+each_of_all log (h ∷ held) told = (told.0, each_of_all log held told.1)
+
+told_of_all : (log : List Entry) (vs ks : List ℕ) (held : List (Held Entry)) → labels_of held ≡ vs → kepts_in held ≡ ks → AllTold log vs ks → EachTold log held
+told_of_all log vs ks held labels kepts told = each_of_all log held (subst (λ (t : List ℕ × List ℕ). AllTold log t.0 t.1) (λ j. (sym labels j, sym kepts j)) told)
+
+pub all_told_append : (log : List Entry) (vs ks ws ls : List ℕ) → AllTold log vs ks → AllTold log ws ls → AllTold log (vs ++ ws) (ks ++ ls)
+all_told_append log [] [] ws ls one two = two
+all_told_append log [] (k ∷ ks) ws ls one two = absurd one
+all_told_append log (v ∷ vs) [] ws ls one two = absurd one
+all_told_append log (v ∷ vs) (k ∷ ks) ws ls one two = (one.0, all_told_append log vs ks ws ls one.1 two)
+
+pub all_told_grow : (a b : List Entry) (vs ks : List ℕ) → IsPrefix a b → AllTold a vs ks → AllTold b vs ks
+all_told_grow a b [] [] grows told = tt
+all_told_grow a b [] (k ∷ ks) grows told = absurd told
+all_told_grow a b (v ∷ vs) [] grows told = absurd told
+all_told_grow a b (v ∷ vs) (k ∷ ks) grows told = (told_later a b v k grows told.0, all_told_grow a b vs ks grows told.1)
+
+-- keys to which one more came, last
+pub pushed_told : (store : Option (List ℕ)) (log : List Entry) (a b : List (Held Entry)) (v k : ℕ) → labels_of b ≡ labels_of a ++ v ∷ [] → kepts_in b ≡ kepts_in a ++ k ∷ [] → AreToldIn store log a → IsTold log v k → AreToldIn store log b
+pushed_told None log a b v k labels kepts told its = tt
+pushed_told (Some store) log a b v k labels kepts told its =
+    told_of_all log (labels_of a ++ v ∷ []) (kepts_in a ++ k ∷ []) b labels kepts (all_told_append log (labels_of a) (kepts_in a) (v ∷ []) (k ∷ []) (told_all log a told) (its, tt))
+
+-- to which others came, after their own
+pub joined_told : (store : Option (List ℕ)) (log : List Entry) (a b c : List (Held Entry)) → labels_of c ≡ labels_of a ++ labels_of b → kepts_in c ≡ kepts_in a ++ kepts_in b → AreToldIn store log a → AreToldIn store log b → AreToldIn store log c
+joined_told None log a b c labels kepts told more = tt
+joined_told (Some store) log a b c labels kepts told more =
+    told_of_all log (labels_of a ++ labels_of b) (kepts_in a ++ kepts_in b) c labels kepts (all_told_append log (labels_of a) (kepts_in a) (labels_of b) (kepts_in b) (told_all log a told) (told_all log b more))
+
+-- from which the first was taken
+pub first_told : (store : Option (List ℕ)) (log : List Entry) (a b : List (Held Entry)) (v k : ℕ) → is_some store ≡ true → labels_of a ≡ v ∷ labels_of b → kepts_in a ≡ k ∷ kepts_in b → AreToldIn store log a → IsTold log v k × AreToldIn store log b
+first_told None log a b v k some labels kepts told = absurd (cc)
+first_told (Some store) log a b v k some labels kepts told =
+    let all = subst (λ (t : List ℕ × List ℕ). AllTold log t.0 t.1) (λ j. (labels j, kepts j)) (told_all log a told) in (all.0, each_of_all log b all.1)
 
 -- What the slot's events say.
 

@@ -2,9 +2,9 @@
 -- for good, with the event that begins the value's retirement, or that puts it as a further value.
 --     kept_in g              the word that a note of this code keeps
 --     kepts_in held, kepts_of keys     those of the values whose keys these are, in order
---     puts_in held, puts_of keys       the values whose keys these are, in order, each with the word that is kept of it
 --     retires_by event       the values of which it may say something
 --     IsTold log v k         an event of the list said that k is kept of value v
+--     AllTold log vs ks      it said so of each of these values, in order: the first word of the first value, and so on
 --     AreToldIn store log held     of each of the values whose keys these are the list says what is noted of it, where their blocks lie in
 --                            a store; where they lie in none nothing is noted, and nothing is asked
 --     AreTold keys pass      so it is in what the pass has seen
@@ -27,12 +27,6 @@ kepts_in held = map (λ h. kept_in h.note) held
 abbrev pub kepts_of : ValueKeys → List ℕ
 kepts_of keys = kepts_in keys.keys.held
 
-abbrev pub puts_in : List (Held Entry) → List (ℕ × ℕ)
-puts_in held = map (λ h. (h.label, kept_in h.note)) held
-
-abbrev pub puts_of : ValueKeys → List (ℕ × ℕ)
-puts_of keys = puts_in keys.keys.held
-
 abbrev pub retires_by : Event → List ℕ
 retires_by (Begin s (Retire v)) = v ∷ []
 retires_by (Hand s puts) = puts
@@ -47,6 +41,11 @@ abbrev pub IsTold : List Entry → ℕ → ℕ → Type 0
 IsTold [] v k = ⊥
 IsTold (Made d ∷ log) v k = Says (retires_by d.event) d.kepts v k ⊎ IsTold log v k
 IsTold (Used u ∷ log) v k = IsTold log v k
+
+abbrev pub AllTold : List Entry → List ℕ → List ℕ → Type 0
+AllTold log [] [] = Unit {0}
+AllTold log (v ∷ vs) (k ∷ ks) = IsTold log v k × AllTold log vs ks
+AllTold log _ _ = ⊥
 
 abbrev pub EachTold : List Entry → List (Held Entry) → Type 0
 EachTold log [] = Unit {0}

@@ -32,9 +32,11 @@ use Rattle.seize_book.specs.declared.book.pass.Pass.{Pass}
 use Rattle.seize_book.specs.declared.book.slot_key.SlotKey.{SlotKey}
 use Rattle.seize_book.specs.declared.book.value_keys.ValueKeys.{ValueKeys}
 use Rattle.seize_words.specs.declared.chunk.Header.{Header}
-use Rattle.seize_words.proofs.Facts.{detached_named, events_grew, knows_still, life_kept, more_slots, own_reached, seen_grows}
+use Rattle.seize_words.proofs.Facts.{alike_told, all_told_later, detached_named, events_grew, knows_still, life_kept, more_slots, own_reached, seen_grows}
 use Rattle.seize_calls.proofs.Alone.{alone_looked, alone_noted, alone_twice}
 use Rattle.seize_calls.specs.Attempts.{Retires}
+use Rattle.seize_book.specs.Kept.{AreTold, AreToldIn}
+use Rattle.seize_calls.proofs.Batches.{remarked_kepts, remarked_labels}
 use Rattle.seize_calls.specs.Batches.{AreRemarked, Spot, slots_of, spots_of}
 use Rattle.seize_calls.specs.Inserts.{ArePlanned, InsertedAll, IsInserting, plan_in, turns_at}
 use Rattle.seize_calls.specs.Marks.{BeginsToMark, Ends, actives, readings}
@@ -264,6 +266,16 @@ module _ (key0 : SlotKey) (at : BeginsToMark key0) (pass0 : Pass) (key : SlotKey
 
         pub values_are : values_in key2 b ≡ batch
         values_are = ap (λ (plan : Plan). plan.values) (all.planned ∙ plan_is)
+
+        -- the list says what is kept of each value, whatever slots were noted
+        pub told_three : (before values : ValueKeys) → AreRemarked before values → AreTold before pass0 → AreTold values pass3
+        told_three before values remarked told =
+            let store = before.keys.name.store in
+            subst (λ (n : Name). AreToldIn n.store pass3.seen values.keys.held) (sym remarked.0)
+            (alike_told store pass3.seen before.keys.held values.keys.held (sym (remarked_labels values.keys.held before.keys.held remarked.1)) (sym (remarked_kepts values.keys.held before.keys.held remarked.1))
+            (all_told_later store pass0.seen pass3.seen before.keys.held
+            (prefix_trans pass0.seen pass.seen pass3.seen ends.grows
+            (prefix_trans pass.seen pass1.seen pass3.seen (seen_grows pass.name pass.id pass.seen pass1.seen _ notes.2.0) (prefix_trans pass1.seen pass2.seen pass3.seen all.keeps.grows looks.grows))) told))
 
         -- The insertions were added.
         module _ (before : ValueKeys) (values : ValueKeys) (remarked : AreRemarked before values) (values' : ValueKeys) (key' : SlotKey) (pass' : Pass) (zero' : Bool) (counts : Counts key2 pass3 key' pass' (AddCount (number_of key2)) zero')

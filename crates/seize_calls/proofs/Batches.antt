@@ -11,7 +11,11 @@ use Rattle.seize_book.specs.Ledger.{Held, renewed}
 use Rattle.seize_book.specs.Linked.{are_joined, are_linked, next_in}
 use Rattle.seize_book.specs.Private.{is_one, label_of, labels_of, note_of}
 use Rattle.seize_words.proofs.Facts.{parted_joined}
-use Rattle.seize_calls.specs.Batches.{kept_noted, unslotted, without_slot}
+use Rattle.seize_book.specs.Kept.{kept_in, kepts_of}
+use Rattle.seize_book.specs.Values.{Keep}
+use Rattle.seize_book.specs.declared.book.pass.Pass.{Pass}
+use Rattle.seize_book.specs.declared.book.value_keys.ValueKeys.{ValueKeys}
+use Rattle.seize_calls.specs.Batches.{unslotted, without_slot}
 use Rattle.seize_calls.specs.Numbered.{counted, ends_at, starts_at}
 use Rattle.seize_calls.proofs.Rounds.{joined_past, leads_to}
 
@@ -89,13 +93,13 @@ last_joined (Some store) init (k ∷ []) h n is next number = joined_past init k
 -- What is kept, of keys of which the last is noted anew.
 
 abbrev pub kepts : Keys → List ℕ
-kepts held = map (λ h. kept_noted h.note) held
+kepts held = map (λ h. kept_in h.note) held
 
 pub kepts_append : (a b : Keys) → kepts (a ++ b) ≡ kepts a ++ kepts b
 kepts_append [] b = refl
-kepts_append (h ∷ a) b = ap (λ (vs : List ℕ). kept_noted h.note ∷ vs) (kepts_append a b)
+kepts_append (h ∷ a) b = ap (λ (vs : List ℕ). kept_in h.note ∷ vs) (kepts_append a b)
 
-pub kept_one : (one : Keys) (k : ℕ) → is_one blocks one ≡ true → kept_noted (note_of one) ≡ k → kepts one ≡ k ∷ []
+pub kept_one : (one : Keys) (k : ℕ) → is_one blocks one ≡ true → kept_in (note_of one) ≡ k → kepts one ≡ k ∷ []
 kept_one [] k is e = absurd (cc)
 kept_one (h ∷ x ∷ one) k is e = absurd (cc)
 kept_one (h ∷ []) k is e = ap (λ (n : ℕ). n ∷ []) e
@@ -121,13 +125,17 @@ contains_more (x ∷ vs) v w (suc n, less, is) = let rest = contains_more vs v w
 
 pub renewed_kepts : (held : Keys) (seen : List Entry) → kepts (renewed held seen) ≡ kepts held
 renewed_kepts [] seen = refl
-renewed_kepts (h ∷ held) seen = ap (λ (ks : List ℕ). kept_noted h.note ∷ ks) (renewed_kepts held seen)
+renewed_kepts (h ∷ held) seen = ap (λ (ks : List ℕ). kept_in h.note ∷ ks) (renewed_kepts held seen)
+
+-- keys that know more say the same
+pub kepts_kept : (keys keys' : ValueKeys) (pass' : Pass) → Keep keys pass' keys' → kepts_of keys' ≡ kepts_of keys
+kepts_kept keys keys' pass' keep = ap kepts keep.2 ∙ renewed_kepts keys.keys.held pass'.seen
 
 abbrev plain_kept : Gv → ℕ
 plain_kept (gcons a (gcons (gnum k) g)) = k
 plain_kept g = 0
 
-without_kept : (g : Gv) → plain_kept (without_slot g) ≡ kept_noted g
+without_kept : (g : Gv) → plain_kept (without_slot g) ≡ kept_in g
 without_kept gnil = refl
 without_kept (gnum n) = refl
 without_kept (gcons a gnil) = refl

@@ -10,13 +10,13 @@ use Rattle.seize_machine.specs.declared.machine.event.Answer.TheVariants.{Done}
 use Rattle.seize_machine.specs.declared.machine.event.Job.{Job}
 use Rattle.seize_machine.specs.declared.machine.event.Job.TheVariants.{Flush, Leave, Refresh, Retire}
 use Rattle.seize_machine.proofs.Facts.{Step, after_put, beginning, next_of, some_is, step_put}
-use Rattle.seize_book.specs.Adding.{private}
+use Rattle.seize_book.specs.Adding.{private, telling}
 use Rattle.seize_book.specs.Entry.{Deed, Made}
 use Rattle.seize_book.specs.Passes.{IsSame, events_by}
-use Rattle.seize_book.specs.Slots.{Notes, number_of, size_of, slot_of}
+use Rattle.seize_book.specs.Slots.{Notes, NotesAs, number_of, size_of, slot_of}
 use Rattle.seize_book.specs.declared.book.pass.Pass.{Pass}
 use Rattle.seize_book.specs.declared.book.slot_key.SlotKey.{SlotKey}
-use Rattle.seize_words.proofs.Facts.{events_grew, life_kept, seen_grows}
+use Rattle.seize_words.proofs.Facts.{deeds_grew, events_grew, life_kept, seen_grows}
 use Rattle.seize_calls.specs.Calls.{Begins}
 use Rattle.seize_calls.specs.Settling.{Puts, done}
 use Rattle.seize_calls.specs.Inserts.{Keeps}
@@ -34,13 +34,13 @@ module _ (key key' : SlotKey) (pass pass' : Pass) (notes : Notes key pass key' p
   abbrev event : Event
   event = Return (number_of key)
 
-  so : ((slot_at (outcome key key' pass pass' event notes).0 (number_of key)).call ≡ None) × ((slot_at (outcome key key' pass pass' event notes).0 (number_of key)).batch ≡ (slot_at (state_before key key' pass pass' event notes) (number_of key)).batch)
-      × ((slot_at (outcome key key' pass pass' event notes).0 (number_of key)).used ≡ (slot_at (state_before key key' pass pass' event notes) (number_of key)).used)
-      × ((outcome key key' pass pass' event notes).0.heads ≡ (state_before key key' pass pass' event notes).heads) × ((outcome key key' pass pass' event notes).1 ≡ Done)
-  so = after_return (size_of key) (state_before key key' pass pass' event notes) (number_of key) (outcome key key' pass pass' event notes) (step_noted key key' pass pass' event notes)
+  so : ((slot_at (outcome key key' pass pass' event [] notes).0 (number_of key)).call ≡ None) × ((slot_at (outcome key key' pass pass' event [] notes).0 (number_of key)).batch ≡ (slot_at (state_before key key' pass pass' event [] notes) (number_of key)).batch)
+      × ((slot_at (outcome key key' pass pass' event [] notes).0 (number_of key)).used ≡ (slot_at (state_before key key' pass pass' event [] notes) (number_of key)).used)
+      × ((outcome key key' pass pass' event [] notes).0.heads ≡ (state_before key key' pass pass' event [] notes).heads) × ((outcome key key' pass pass' event [] notes).1 ≡ Done)
+  so = after_return (size_of key) (state_before key key' pass pass' event [] notes) (number_of key) (outcome key key' pass pass' event [] notes) (step_noted key key' pass pass' event [] notes)
 
   pub keeps_returned : Keeps key pass key' pass'
-  keeps_returned = keeps_from key key' pass pass' event notes so.1 so.2 (ap (λ (hs : List Head). is_active (get_or hs (number_of key) Inactive)) so.3) refl
+  keeps_returned = keeps_from key key' pass pass' event [] notes so.1 so.2 (ap (λ (hs : List Head). is_active (get_or hs (number_of key) Inactive)) so.3) refl
 
   pub call_returned : (slot_of key').call ≡ None
   call_returned = ap (λ (z : Slot). z.call) notes.2.1.is ∙ so.0
@@ -82,12 +82,12 @@ retire_so size st _ _ _ (Step.begun_retire s v idle may) =
     (ap (λ (z : Slot). z.call) same, ap (λ (z : Slot). z.batch) same, ap (λ (z : Slot). z.used) same, refl, refl)
 retire_so size st _ _ _ (Step.begun_other s (Retire v) place idle which may) = absurd (let none : Option.None ≡ Some place = may.1 in cc)
 
-module _ (key key' : SlotKey) (pass pass' : Pass) (job : Job) (notes : Notes key pass key' pass' (Begin (number_of key) job)) (call : Call)
-    (so : Kept (state_before key key' pass pass' (Begin (number_of key) job) notes) (number_of key) (outcome key key' pass pass' (Begin (number_of key) job) notes) call) where
-  pub begins_so : Begins key pass job key' pass'
+module _ (key key' : SlotKey) (pass pass' : Pass) (job : Job) (kepts : List ℕ) (notes : NotesAs key pass key' pass' (telling pass (Begin (number_of key) job) kepts)) (call : Call)
+    (so : Kept (state_before key key' pass pass' (Begin (number_of key) job) kepts notes) (number_of key) (outcome key key' pass pass' (Begin (number_of key) job) kepts notes) call) where
+  pub begins_so : Begins key pass job kepts key' pass'
   begins_so = record {
-    keeps = keeps_from key key' pass pass' (Begin (number_of key) job) notes so.1 so.2 (ap (λ (hs : List Head). is_active (get_or hs (number_of key) Inactive)) so.3) refl;
-    made = events_grew pass pass' (Begin (number_of key) job) notes.0 notes.2.0 ∙ ap (λ (a : Answer). events_by pass ++ (private pass (Begin (number_of key) job), a) ∷ []) so.4;
+    keeps = keeps_from key key' pass pass' (Begin (number_of key) job) kepts notes so.1 so.2 (ap (λ (hs : List Head). is_active (get_or hs (number_of key) Inactive)) so.3) refl;
+    made = deeds_grew pass pass' (telling pass (Begin (number_of key) job) kepts) notes.0 notes.2.0 ∙ ap (λ (a : Answer). events_by pass ++ (telling pass (Begin (number_of key) job) kepts, a) ∷ []) so.4;
   }
 
   pub call_begun : (slot_of key').call ≡ Some call
@@ -98,24 +98,24 @@ module _ (key key' : SlotKey) (pass pass' : Pass) where
   abbrev out_call : Bool → Call
   out_call stays = record { place = Out stays; queue = [] }
 
-  pub leave_so : (notes : Notes key pass key' pass' (Begin (number_of key) Leave)) → Kept (state_before key key' pass pass' (Begin (number_of key) Leave) notes) (number_of key) (outcome key key' pass pass' (Begin (number_of key) Leave) notes) (out_call false)
-  leave_so notes = begun_so (size_of key) (state_before key key' pass pass' (Begin (number_of key) Leave) notes) (number_of key) Leave _ (Out false) (step_noted key key' pass pass' (Begin (number_of key) Leave) notes) refl
+  pub leave_so : (notes : Notes key pass key' pass' (Begin (number_of key) Leave)) → Kept (state_before key key' pass pass' (Begin (number_of key) Leave) [] notes) (number_of key) (outcome key key' pass pass' (Begin (number_of key) Leave) [] notes) (out_call false)
+  leave_so notes = begun_so (size_of key) (state_before key key' pass pass' (Begin (number_of key) Leave) [] notes) (number_of key) Leave _ (Out false) (step_noted key key' pass pass' (Begin (number_of key) Leave) [] notes) refl
 
-  pub refresh_so : (notes : Notes key pass key' pass' (Begin (number_of key) Refresh)) → Kept (state_before key key' pass pass' (Begin (number_of key) Refresh) notes) (number_of key) (outcome key key' pass pass' (Begin (number_of key) Refresh) notes) (out_call true)
-  refresh_so notes = begun_so (size_of key) (state_before key key' pass pass' (Begin (number_of key) Refresh) notes) (number_of key) Refresh _ (Out true) (step_noted key key' pass pass' (Begin (number_of key) Refresh) notes) refl
+  pub refresh_so : (notes : Notes key pass key' pass' (Begin (number_of key) Refresh)) → Kept (state_before key key' pass pass' (Begin (number_of key) Refresh) [] notes) (number_of key) (outcome key key' pass pass' (Begin (number_of key) Refresh) [] notes) (out_call true)
+  refresh_so notes = begun_so (size_of key) (state_before key key' pass pass' (Begin (number_of key) Refresh) [] notes) (number_of key) Refresh _ (Out true) (step_noted key key' pass pass' (Begin (number_of key) Refresh) [] notes) refl
 
   abbrev pub flush_call : (notes : Notes key pass key' pass' (Begin (number_of key) Flush)) → Call
-  flush_call notes = record { place = flushing_at (length (state_before key key' pass pass' (Begin (number_of key) Flush) notes).slots) (slot_of key).batch; queue = [] }
+  flush_call notes = record { place = flushing_at (length (state_before key key' pass pass' (Begin (number_of key) Flush) [] notes).slots) (slot_of key).batch; queue = [] }
 
-  pub flush_so : (notes : Notes key pass key' pass' (Begin (number_of key) Flush)) → Kept (state_before key key' pass pass' (Begin (number_of key) Flush) notes) (number_of key) (outcome key key' pass pass' (Begin (number_of key) Flush) notes) (flush_call notes)
+  pub flush_so : (notes : Notes key pass key' pass' (Begin (number_of key) Flush)) → Kept (state_before key key' pass pass' (Begin (number_of key) Flush) [] notes) (number_of key) (outcome key key' pass pass' (Begin (number_of key) Flush) [] notes) (flush_call notes)
   flush_so notes =
-      let st = state_before key key' pass pass' (Begin (number_of key) Flush) notes in
-      begun_so (size_of key) st (number_of key) Flush _ (flushing_at (length st.slots) (slot_of key).batch) (step_noted key key' pass pass' (Begin (number_of key) Flush) notes)
+      let st = state_before key key' pass pass' (Begin (number_of key) Flush) [] notes in
+      begun_so (size_of key) st (number_of key) Flush _ (flushing_at (length st.slots) (slot_of key).batch) (step_noted key key' pass pass' (Begin (number_of key) Flush) [] notes)
       (ap (λ (z : Slot). Some (flushing_at (length st.slots) z.batch)) notes.2.1.was)
 
-  pub begun_retire_so : (v : ℕ) (notes : Notes key pass key' pass' (Begin (number_of key) (Retire v)))
-      → Kept (state_before key key' pass pass' (Begin (number_of key) (Retire v)) notes) (number_of key) (outcome key key' pass pass' (Begin (number_of key) (Retire v)) notes) (record { place = Append v; queue = [] })
-  begun_retire_so v notes = retire_so (size_of key) _ (number_of key) v _ (step_noted key key' pass pass' (Begin (number_of key) (Retire v)) notes)
+  pub begun_retire_so : (v kept : ℕ) (notes : NotesAs key pass key' pass' (telling pass (Begin (number_of key) (Retire v)) (kept ∷ [])))
+      → Kept (state_before key key' pass pass' (Begin (number_of key) (Retire v)) (kept ∷ []) notes) (number_of key) (outcome key key' pass pass' (Begin (number_of key) (Retire v)) (kept ∷ []) notes) (record { place = Append v; queue = [] })
+  begun_retire_so v kept notes = retire_so (size_of key) _ (number_of key) v _ (step_noted key key' pass pass' (Begin (number_of key) (Retire v)) (kept ∷ []) notes)
 
 -- A value is put.
 module _ (key key' : SlotKey) (pass pass' : Pass) (notes : Notes key pass key' pass' (Put (number_of key))) (v : ℕ) (from : Place) (before after : List ℕ)
@@ -124,7 +124,7 @@ module _ (key key' : SlotKey) (pass pass' : Pass) (notes : Notes key pass key' p
   put = Put (number_of key)
 
   abbrev pub put_st : State
-  put_st = state_before key key' pass pass' put notes
+  put_st = state_before key key' pass pass' put [] notes
 
   abbrev batch : List ℕ
   batch = (slot_of key).batch
@@ -135,7 +135,7 @@ module _ (key key' : SlotKey) (pass pass' : Pass) (notes : Notes key pass key' p
   here : (slot_at put_st (number_of key)).call ≡ Some (record { place = from; queue = before })
   here = ap (λ (z : Slot). z.call) notes.2.1.was ∙ stands
 
-  is_put : outcome key key' pass pass' put notes ≡ (set_slot put_st (number_of key) new, Done)
+  is_put : outcome key key' pass pass' put [] notes ≡ (set_slot put_st (number_of key) new, Done)
   is_put = some_is _ _ (sym notes.2.1.legal ∙ next_of (size_of key) put_st put _ (step_put (size_of key) put_st (number_of key) v from before after here turn))
 
   slot_put : slot_of key' ≡ new

@@ -5,8 +5,9 @@ use Rattle.seize_machine.specs.Machine.Event.{Begin, Put, ReadHead, Return}
 use Rattle.seize_machine.specs.Machine.History.{end_of, history}
 use Rattle.seize_machine.specs.Machine.Next.{next}
 use Rattle.seize_machine.specs.declared.machine.event.Answer.{Answer}
-use Rattle.seize_machine.specs.declared.machine.event.Answer.TheVariants.{Head}
+use Rattle.seize_machine.specs.declared.machine.event.Answer.TheVariants.{Done, Head}
 use Rattle.seize_machine.specs.declared.machine.event.Job.TheVariants.{Retire}
+use Rattle.seize_book.specs.Adding.{telling}
 use Rattle.seize_book.specs.Book.{after}
 use Rattle.seize_book.specs.Entry.{Deed, Entry, Made, deeds, timed}
 use Rattle.seize_book.specs.Passes.{IsSame, events_by}
@@ -55,8 +56,11 @@ module _ (key : SlotKey) (pass : Pass) (v kept : ℕ) (values : ValueKeys) (had 
   abbrev stays : Stays full r.settled
   stays = r.round.settles
 
+  abbrev begin : List (Deed × Answer)
+  begin = (telling pass (Begin s (Retire v)) (kept ∷ []), Done) ∷ []
+
   abbrev events_made : List (Deed × Answer)
-  events_made = done pass (Begin s (Retire v)) ++ (done pass (Put s) ++ (readings pass s 0 stays.finds ++ done pass (Return s)))
+  events_made = begin ++ (done pass (Put s) ++ (readings pass s 0 stays.finds ++ done pass (Return s)))
 
   abbrev deeds_made : List Deed
   deeds_made = map (λ a. a.0) events_made
@@ -79,17 +83,17 @@ module _ (key : SlotKey) (pass : Pass) (v kept : ℕ) (values : ValueKeys) (had 
   last : r.drained ≡ r.settled
   last = no_rounds r.settled r.drained r.drains none
 
-  made_full : events_by full.pass ≡ (events_by pass ++ done pass (Begin s (Retire v))) ++ done pass (Put s)
+  made_full : events_by full.pass ≡ (events_by pass ++ begin) ++ done pass (Put s)
   made_full =
       r.round.puts.made ∙ ap (λ (log : List (Deed × Answer)). log ++ done begun.pass (Put (number_of begun.key))) r.begins.begins.made
-      ∙ ap (λ (log : List (Deed × Answer)). (events_by pass ++ done pass (Begin s (Retire v))) ++ log) (same_done pass begun.pass same_one Put s (number_of begun.key) r.begins.begins.keeps.its.1)
+      ∙ ap (λ (log : List (Deed × Answer)). (events_by pass ++ begin) ++ log) (same_done pass begun.pass same_one Put s (number_of begun.key) r.begins.begins.keeps.its.1)
 
   returned_so : events_by pass' ≡ events_by r.settled.pass ++ done r.settled.pass (Return (number_of r.settled.key))
   returned_so = r.returns.made ∙ ap (λ (a : Stand). events_by a.pass ++ done a.pass (Return (number_of a.key))) last
 
   made : events_by pass' ≡ events_by pass ++ events_made
   made =
-      let begin = done pass (Begin s (Retire v)) in let put = done pass (Put s) in let finds = stays.finds in
+      let put = done pass (Put s) in let finds = stays.finds in
       returned_so ∙ ap (λ (log : List (Deed × Answer)). log ++ done r.settled.pass (Return (number_of r.settled.key))) stays.made
       ∙ (λ i. (made_full i ++ (same_readings pass full.pass same_two (number_of full.key) 0 finds ∙ ap (λ (k : ℕ). readings pass k 0 finds) its) i)
       ++ same_done pass r.settled.pass same_three Return s (number_of r.settled.key) (stays.on.its.1 ∙ its) i)

@@ -7,23 +7,24 @@ use Rattle.seize_machine.specs.Machine.Next.{handing_at, of_call}
 use Rattle.seize_machine.specs.declared.machine.event.Answer.{Answer}
 use Rattle.seize_machine.specs.declared.machine.event.Answer.TheVariants.{Handed}
 use Rattle.seize_machine.proofs.Facts.{Step, some_is}
-use Rattle.seize_book.specs.Adding.{private}
+use Rattle.seize_book.specs.Adding.{telling}
 use Rattle.seize_book.specs.Entry.{Deed}
+use Rattle.seize_book.specs.Kept.{kepts_of}
 use Rattle.seize_book.specs.Lending.{IsLentKey}
 use Rattle.seize_book.specs.Others.{IsValueOf, value_of}
 use Rattle.seize_book.specs.Passes.{LooksOn, events_by}
-use Rattle.seize_book.specs.Slots.{IsOf, Notes, hands_next, number_of, size_of, slot_of}
+use Rattle.seize_book.specs.Slots.{IsOf, NotesAs, hands_next, number_of, size_of, slot_of}
 use Rattle.seize_book.specs.Tokens.{Name}
 use Rattle.seize_words.specs.Walks.{Knows}
 use Rattle.seize_book.specs.Values.{values_of}
 use Rattle.seize_book.specs.declared.book.pass.Pass.{Pass}
 use Rattle.seize_book.specs.declared.book.slot_key.SlotKey.{SlotKey}
 use Rattle.seize_book.specs.declared.book.value_key.ValueKey.{ValueKey}
-use Rattle.seize_words.proofs.Facts.{events_grew, hand_leaves, handing_named, knows_noted, knows_still, lent_key, named_lent}
+use Rattle.seize_words.proofs.Facts.{deeds_grew, hand_leaves, handing_named, knows_noted, knows_still, lent_key, named_lent}
 use Rattle.seize_book.specs.declared.book.value_keys.ValueKeys.{ValueKeys}
-use Rattle.seize_calls.specs.Handing.{AreTheirs, Had, Handings, HasHad, Queues, values_handed, values_put}
+use Rattle.seize_calls.specs.Handing.{AreTheirs, Had, Handings, HasHad, Queues, values_handed, values_put, words_put}
 use Rattle.seize_calls.specs.Walking.{GoesOn, HandsOne}
-use Rattle.seize_calls.proofs.Keeps.{keeps_from, keeps_looked, keeps_twice, looked_same, outcome, own_grows, same_private, state_before, step_noted}
+use Rattle.seize_calls.proofs.Keeps.{keeps_from, keeps_looked, keeps_twice, looked_same, outcome, own_grows, same_telling, state_before, step_noted}
 use Rattle.seize_calls.proofs.Marks.{within}
 
 -- the machine hands a value whose reclaimer puts these
@@ -38,39 +39,40 @@ after_hand size st _ v _ _ (Step.handed s w puts given walk queue stands fresh) 
     )
 
 -- The event, with the looks before and after it.
-module _ (key key' : SlotKey) (pass looked handed pass' : Pass) (v : ℕ) (puts : List ℕ) (before : LooksOn pass looked) (notes : Notes key looked key' handed (Hand (number_of key) puts)) (behind : LooksOn handed pass') (soon : hands_next (slot_of key) ≡ Some v) where
+module _ (key key' : SlotKey) (pass looked handed pass' : Pass) (v : ℕ) (puts words : List ℕ) (before : LooksOn pass looked) (notes : NotesAs key looked key' handed (telling looked (Hand (number_of key) puts) words)) (behind : LooksOn handed pass') (soon : hands_next (slot_of key) ≡ Some v) where
   abbrev event : Event
   event = Hand (number_of key) puts
 
-  pub so : ((slot_at (outcome key key' looked handed event notes).0 (number_of key)).batch ≡ (slot_at (state_before key key' looked handed event notes) (number_of key)).batch)
-      × ((slot_at (outcome key key' looked handed event notes).0 (number_of key)).used ≡ (slot_at (state_before key key' looked handed event notes) (number_of key)).used)
-      × ((outcome key key' looked handed event notes).0.heads ≡ (state_before key key' looked handed event notes).heads) × ((outcome key key' looked handed event notes).1 ≡ Handed v)
+  pub so : ((slot_at (outcome key key' looked handed event words notes).0 (number_of key)).batch ≡ (slot_at (state_before key key' looked handed event words notes) (number_of key)).batch)
+      × ((slot_at (outcome key key' looked handed event words notes).0 (number_of key)).used ≡ (slot_at (state_before key key' looked handed event words notes) (number_of key)).used)
+      × ((outcome key key' looked handed event words notes).0.heads ≡ (state_before key key' looked handed event words notes).heads) × ((outcome key key' looked handed event words notes).1 ≡ Handed v)
   so =
-      after_hand (size_of key) (state_before key key' looked handed event notes) (number_of key) v puts (outcome key key' looked handed event notes) (step_noted key key' looked handed event notes)
+      after_hand (size_of key) (state_before key key' looked handed event words notes) (number_of key) v puts (outcome key key' looked handed event words notes) (step_noted key key' looked handed event words notes)
       (ap hands_next notes.2.1.was ∙ soon)
 
   pub goes_on : GoesOn key pass key' pass'
   goes_on = (
     keeps_twice key key key' pass looked pass' (keeps_looked key pass looked before)
-        (keeps_twice key key' key' looked handed pass' (keeps_from key key' looked handed event notes so.0 so.1 (ap (λ (hs : List Head). is_active (get_or hs (number_of key) Inactive)) so.2) refl) (keeps_looked key' handed pass' behind)),
-    own_grows key key' looked handed event notes,
+        (keeps_twice key key' key' looked handed pass' (keeps_from key key' looked handed event words notes so.0 so.1 (ap (λ (hs : List Head). is_active (get_or hs (number_of key) Inactive)) so.2) refl) (keeps_looked key' handed pass' behind)),
+    own_grows key key' looked handed event words notes,
   )
 
-  abbrev pub hands_so : (queue queue' : ValueKeys) → Queues queue puts queue' → HandsOne key pass v queue key' pass' queue'
+  abbrev pub hands_so : (queue queue' : ValueKeys) → Queues queue puts words queue' → HandsOne key pass v queue key' pass' queue'
   hands_so queue queue' queued = record {
     goes_on = goes_on;
     puts = puts;
+    words = words;
     queued = queued;
     made =
-        looked_same handed pass' behind ∙ events_grew looked handed event notes.0 notes.2.0
-        ∙ ap (λ (a : Answer). events_by looked ++ (private looked event, a) ∷ []) so.3
-        ∙ ap (λ (log : List (Deed × Answer)). log ++ (private looked event, Handed v) ∷ []) (looked_same pass looked before)
-        ∙ ap (λ (d : Deed). events_by pass ++ (d, Handed v) ∷ []) (same_private pass looked before.same event);
-    stands = λ given walk waits is. hand_leaves key key' looked handed puts given walk waits v notes is;
+        looked_same handed pass' behind ∙ deeds_grew looked handed (telling looked event words) notes.0 notes.2.0
+        ∙ ap (λ (a : Answer). events_by looked ++ (telling looked event words, a) ∷ []) so.3
+        ∙ ap (λ (log : List (Deed × Answer)). log ++ (telling looked event words, Handed v) ∷ []) (looked_same pass looked before)
+        ∙ ap (λ (d : Deed). events_by pass ++ (d, Handed v) ∷ []) (same_telling pass looked before.same event words);
+    stands = λ given walk waits is. hand_leaves key key' looked handed puts words given walk waits v notes is;
   }
 
   pub knows_after : Knows key' pass'
-  knows_after = knows_still key' handed pass' (knows_noted key key' looked handed (private looked event) notes) behind
+  knows_after = knows_still key' handed pass' (knows_noted key key' looked handed (telling looked event words) notes) behind
 
 -- with a value that is about to be handed something is lent
 pub soon_lent : (value : ValueKey) (key : SlotKey) (pass pass' : Pass) → is_some pass'.name.store ≡ true → IsValueOf value pass' → IsOf key pass → Knows key pass → LooksOn pass pass'
@@ -111,11 +113,17 @@ put_append (first ∷ one) two = ap (λ (vs : List ℕ). first.1 ++ vs) (put_app
 
 -- and what came to the queue
 
-pub queues_none : (queue : ValueKeys) → Queues queue [] queue
-queues_none queue = (refl, sym (append-nil (values_of queue)))
+pub queues_none : (queue : ValueKeys) → Queues queue [] [] queue
+queues_none queue = (refl, sym (append-nil (values_of queue)), sym (append-nil (kepts_of queue)))
 
-pub queues_more : (queue queue1 queue2 : ValueKeys) (one two : Handings) → Queues queue (values_put one) queue1 → Queues queue1 (values_put two) queue2 → Queues queue (values_put (one ++ two)) queue2
+pub words_append : (one two : Handings) → words_put (one ++ two) ≡ words_put one ++ words_put two
+words_append [] two = refl
+words_append (first ∷ one) two = ap (λ (ks : List ℕ). first.2 ++ ks) (words_append one two) ∙ sym (append_assoc first.2 (words_put one) (words_put two))
+
+pub queues_more : (queue queue1 queue2 : ValueKeys) (one two : Handings) → Queues queue (values_put one) (words_put one) queue1 → Queues queue1 (values_put two) (words_put two) queue2
+    → Queues queue (values_put (one ++ two)) (words_put (one ++ two)) queue2
 queues_more queue queue1 queue2 one two first second = (
   second.0 ∙ first.0,
   second.1 ∙ (ap (λ (vs : List ℕ). vs ++ values_put two) first.1 ∙ (append_assoc (values_of queue) (values_put one) (values_put two) ∙ ap (λ (vs : List ℕ). values_of queue ++ vs) (sym (put_append one two)))),
+  second.2 ∙ (ap (λ (ks : List ℕ). ks ++ words_put two) first.2 ∙ (append_assoc (kepts_of queue) (words_put one) (words_put two) ∙ ap (λ (ks : List ℕ). kepts_of queue ++ ks) (sym (words_append one two)))),
 )

@@ -24,8 +24,8 @@ use Rattle.seize_book.specs.declared.book.slot_key.SlotKey.{SlotKey}
 use Rattle.seize_book.specs.declared.book.value_key.ValueKey.{ValueKey}
 use Rattle.seize_book.specs.declared.book.value_keys.ValueKeys.{ValueKeys}
 use Rattle.seize_calls.proofs.Alone.{alone_none}
-use Rattle.seize_calls.specs.Handing.{Had, Handings, HasHad, Queues, values_handed, values_put}
-use Rattle.seize_calls.specs.Batches.{kept_noted, kepts_of}
+use Rattle.seize_calls.specs.Handing.{Had, Handings, HasHad, Queues, values_handed, values_put, words_put}
+use Rattle.seize_book.specs.Kept.{kept_in, kepts_of}
 use Rattle.seize_calls.specs.Walking.{GoesOn, HandsAll, HandsOne, IsGiven, hands}
 use Rattle.seize_calls.proofs.Batches.{kept_one, kepts, kepts_append}
 use Rattle.seize_calls.proofs.Handed.{had_more, had_none, handed_append, put_append, queues_more, queues_none}
@@ -70,7 +70,7 @@ pub record IsHanding {key : SlotKey} {pass : Pass} {values : ValueKeys} {front :
   pub which : values_handed handed ≡ labels_of done
   pub made : events_by pass' ≡ events_by pass ++ hands pass (number_of key) handed
   pub stands : (slot_of key').call ≡ Some (record { place = Rest (values_of values') given.walk; queue = given.queue ++ values_put handed })
-  pub queued : Queues queue (values_put handed) queue'
+  pub queued : Queues queue (values_put handed) (words_put handed) queue'
   pub book : book_in values' ≡ pass.name
   pub knows : values'.keys.held ≡ renewed values'.keys.held pass.seen
   pub last : AreLast values' pass
@@ -132,7 +132,7 @@ module _ (key0 : SlotKey) (pass0 : Pass) (values0 : ValueKeys) (front : ℕ) (gi
     pub is_there : block_of (value_of value) ≡ number
     is_there = ap block_of (some_is _ _ (sym (ap first_of nexts.2) ∙ r.is_first)) ∙ sym r.its_block
 
-    module _ (store : is_some pass0.name.store ≡ true) (key' : SlotKey) (pass' : Pass) (queue' : ValueKeys) (had' : Had) (hand : HandsOne key pass (value_of value) queue key' pass' queue') (more : HasHad ((value_of value, hand.puts) ∷ []) (kept_noted (noted_in value) ∷ []) had had') where
+    module _ (store : is_some pass0.name.store ≡ true) (key' : SlotKey) (pass' : Pass) (queue' : ValueKeys) (had' : Had) (hand : HandsOne key pass (value_of value) queue key' pass' queue') (more : HasHad ((value_of value, hand.puts, hand.words) ∷ []) (kept_in (noted_in value) ∷ []) had had') where
       leads : leads_first (noted_in value) rest.keys.held ≡ true
       leads =
           leads_on (book_in values).store value.keys.held rest.keys.held (ap (λ (n : Name). is_some n.store) r.book ∙ store) value.one
@@ -145,7 +145,7 @@ module _ (key0 : SlotKey) (pass0 : Pass) (values0 : ValueKeys) (front : ℕ) (gi
       split_more = r.split ∙ (ap (λ (held : Keys). r.done ++ held) nexts.3 ∙ sym (append_assoc r.done value.keys.held rest.keys.held))
 
       abbrev one : Handings
-      one = (value_of value, hand.puts) ∷ []
+      one = (value_of value, hand.puts, hand.words) ∷ []
 
       which_more : values_handed (r.handed ++ one) ≡ labels_of (r.done ++ value.keys.held)
       which_more =
@@ -160,14 +160,16 @@ module _ (key0 : SlotKey) (pass0 : Pass) (values0 : ValueKeys) (front : ℕ) (gi
           ∙ append_assoc (events_by pass0) behind (hands pass0 s one)
           ∙ ap (λ (log : List (Deed × Answer)). events_by pass0 ++ log) (sym (hands_append pass0 s r.handed one))
 
-      queued_more : Queues queue0 (values_put (r.handed ++ one)) queue'
-      queued_more = queues_more queue0 queue queue' r.handed one r.queued (hand.queued.0, hand.queued.1 ∙ ap (λ (vs : List ℕ). values_of queue ++ vs) (sym (append-nil hand.puts)))
+      queued_more : Queues queue0 (values_put (r.handed ++ one)) (words_put (r.handed ++ one)) queue'
+      queued_more =
+          queues_more queue0 queue queue' r.handed one r.queued
+          (hand.queued.0, hand.queued.1 ∙ ap (λ (vs : List ℕ). values_of queue ++ vs) (sym (append-nil hand.puts)), hand.queued.2 ∙ ap (λ (ks : List ℕ). kepts_of queue ++ ks) (sym (append-nil hand.words)))
 
       theirs_more : HasHad (r.handed ++ one) (kepts (r.done ++ value.keys.held)) had0 had'
       theirs_more =
           subst (λ (ks : List ℕ). HasHad (r.handed ++ one) ks had0 had')
-          (ap (λ (ks : List ℕ). kepts r.done ++ ks) (sym (kept_one value.keys.held (kept_noted (noted_in value)) value.one refl)) ∙ sym (kepts_append r.done value.keys.held))
-          (had_more r.handed one (kepts r.done) (kept_noted (noted_in value) ∷ []) had0 had had' r.theirs more)
+          (ap (λ (ks : List ℕ). kepts r.done ++ ks) (sym (kept_one value.keys.held (kept_in (noted_in value)) value.one refl)) ∙ sym (kepts_append r.done value.keys.held))
+          (had_more r.handed one (kepts r.done) (kept_in (noted_in value) ∷ []) had0 had had' r.theirs more)
 
       stands_more : (slot_of key').call ≡ Some (record { place = Rest (values_of rest) given.walk; queue = given.queue ++ values_put (r.handed ++ one) })
       stands_more =

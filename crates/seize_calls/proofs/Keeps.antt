@@ -12,17 +12,17 @@ use Rattle.seize_machine.specs.declared.machine.event.Answer.{Answer}
 use Rattle.seize_machine.specs.declared.machine.event.Answer.TheVariants.{Done, Head as HeadRead}
 use Rattle.seize_machine.specs.declared.machine.event.Try.TheVariants.{Won, Lost}
 use Rattle.seize_machine.proofs.Facts.{Step, some_is, step_of}
-use Rattle.seize_book.specs.Adding.{private}
+use Rattle.seize_book.specs.Adding.{private, telling}
 use Rattle.seize_book.specs.Book.{after}
 use Rattle.seize_book.specs.Entry.{Made}
 use Rattle.seize_words.specs.Headers.{Uses, using}
 use Rattle.seize_book.specs.Laws.{starts}
 use Rattle.seize_book.specs.Passes.{IsSame, LooksOn, events_by, events_in}
-use Rattle.seize_book.specs.Slots.{IsOf, Notes, number_of, own_list, size_of, slot_of, start_of}
+use Rattle.seize_book.specs.Slots.{IsOf, NotesAs, number_of, own_list, size_of, slot_of, start_of}
 use Rattle.seize_book.specs.Tokens.{Name, start}
 use Rattle.seize_book.specs.declared.book.pass.Pass.{Pass}
 use Rattle.seize_book.specs.declared.book.slot_key.SlotKey.{SlotKey}
-use Rattle.seize_words.proofs.Facts.{events_grew, life_kept, more_seen, more_slots, seen_grows}
+use Rattle.seize_words.proofs.Facts.{deeds_grew, life_kept, more_seen, more_slots, seen_grows}
 use Rattle.seize_calls.specs.Inserts.{Keeps}
 use Rattle.seize_calls.proofs.Alone.{alone_looked, alone_noted, alone_twice}
 use Rattle.seize_calls.proofs.Marks.{within}
@@ -84,7 +84,7 @@ insert_lost size st _ _ call _ (Step.lost s m b won later saw queue e other) is 
     written st _ s _ _ _ _ is refl (ap (λ (c : Call). Some (goes lost_on c)) (some_is _ _ (sym e ∙ is))) refl refl refl
 
 -- What the slot's key knows of it.
-module _ (key key' : SlotKey) (pass pass' : Pass) (event : Event) (notes : Notes key pass key' pass' event) where
+module _ (key key' : SlotKey) (pass pass' : Pass) (event : Event) (kepts : List ℕ) (notes : NotesAs key pass key' pass' (telling pass event kepts)) where
   abbrev pub state_before : State
   state_before = after (start_of key) notes.2.0.before
 
@@ -105,17 +105,17 @@ module _ (key key' : SlotKey) (pass pass' : Pass) (event : Event) (notes : Notes
     batch = ap (λ (z : Slot). z.batch) notes.2.1.is ∙ batch ∙ ap (λ (z : Slot). z.batch) notes.2.1.was;
     used = ap (λ (z : Slot). z.used) notes.2.1.is ∙ used ∙ ap (λ (z : Slot). z.used) notes.2.1.was;
     active = notes.2.1.is_now_active ∙ active ∙ notes.2.1.was_active;
-    life = life_kept key key' pass pass' (private pass event) notes none;
+    life = life_kept key key' pass pass' (telling pass event kepts) notes none;
     seen =
         subst (λ (z : Name). length (after (start pass.name) pass.seen).slots ≤ length (after (start z) pass'.seen).slots) (sym notes.0.0)
         (more_slots pass.name pass.seen pass'.seen (seen_grows pass.name pass.id pass.seen pass'.seen _ notes.2.0) notes.2.0.legal);
     grows = seen_grows pass.name pass.id pass.seen pass'.seen _ notes.2.0;
-    alone = alone_noted pass pass' (Made (private pass event)) refl notes.2.0;
+    alone = alone_noted pass pass' (Made (telling pass event kepts)) refl notes.2.0;
   }
 
   -- it knows all that it knew
   pub own_grows : IsPrefix (own_list key) (own_list key')
-  own_grows = subst (IsPrefix (own_list key)) (sym notes.1.2) (prefix_trans (own_list key) notes.2.0.before pass'.seen notes.2.1.knew (Made (private pass event) ∷ [], sym notes.2.0.appended))
+  own_grows = subst (IsPrefix (own_list key)) (sym notes.1.2) (prefix_trans (own_list key) notes.2.0.before pass'.seen notes.2.1.knew (Made (telling pass event kepts) ∷ [], sym notes.2.0.appended))
 
   module _ (call : Call) (on : Place → Place) (answer : Answer) (goes_so : Goes state_before (number_of key) call on outcome answer) where
     pub keeps_noted : starts (number_of key) event ≡ false → Keeps key pass key' pass'
@@ -124,8 +124,8 @@ module _ (key key' : SlotKey) (pass pass' : Pass) (event : Event) (notes : Notes
     pub call_after : (slot_of key').call ≡ Some (goes on call)
     call_after = ap (λ (z : Slot). z.call) notes.2.1.is ∙ goes_so.stands
 
-    pub made_noted : events_by pass' ≡ events_by pass ++ (private pass event, answer) ∷ []
-    made_noted = events_grew pass pass' event notes.0 notes.2.0 ∙ ap (λ (a : Answer). events_by pass ++ (private pass event, a) ∷ []) goes_so.told
+    pub made_noted : events_by pass' ≡ events_by pass ++ (telling pass event kepts, answer) ∷ []
+    made_noted = deeds_grew pass pass' (telling pass event kepts) notes.0 notes.2.0 ∙ ap (λ (a : Answer). events_by pass ++ (telling pass event kepts, a) ∷ []) goes_so.told
 
 pub keeps_used : (key key' : SlotKey) (pass pass' : Pass) (f v : ℕ) → Uses key pass key' pass' f v → Keeps key pass key' pass'
 keeps_used key key' pass pass' f v uses = record {
@@ -162,10 +162,13 @@ pub keeps_book : (key key' : SlotKey) (pass pass' : Pass) → Keeps key pass key
 keeps_book key key' pass pass' keeps book = keeps.its.0 ∙ book ∙ sym keeps.same.0
 
 -- the entry of an event is the same with a pass as it was before
+pub same_telling : (pass pass' : Pass) → IsSame pass pass' → (event : Event) (kepts : List ℕ) → telling pass' event kepts ≡ telling pass event kepts
+same_telling pass pass' same event kepts =
+    ap (λ (p : ℕ). record { pass = p; size = pass'.name.size; event = event; life = 0; kepts = kepts }) same.1
+    ∙ ap (λ (z : Name). record { pass = pass.id; size = z.size; event = event; life = 0; kepts = kepts }) same.0
+
 pub same_private : (pass pass' : Pass) → IsSame pass pass' → (event : Event) → private pass' event ≡ private pass event
-same_private pass pass' same event =
-    ap (λ (p : ℕ). record { pass = p; size = pass'.name.size; event = event; life = 0; kepts = [] }) same.1
-    ∙ ap (λ (z : Name). record { pass = pass.id; size = z.size; event = event; life = 0; kepts = [] }) same.0
+same_private pass pass' same event = same_telling pass pass' same event []
 
 pub looked_same : (pass pass' : Pass) → LooksOn pass pass' → events_by pass' ≡ events_by pass
 looked_same pass pass' looks = ap events_in looks.none_made

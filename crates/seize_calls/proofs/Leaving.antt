@@ -20,16 +20,20 @@ use Rattle.seize_book.specs.Tokens.{Name, start}
 use Rattle.seize_book.specs.declared.book.pass.Pass.{Pass}
 use Rattle.seize_book.specs.declared.book.slot_key.SlotKey.{SlotKey}
 use Rattle.seize_words.specs.declared.reservation.Head.{Head as Word}
-use Rattle.seize_words.proofs.Facts.{seen_grows}
+use Rattle.seize_words.proofs.Facts.{all_told_later, seen_grows}
 use Rattle.seize_calls.proofs.Alone.{alone_noted, alone_twice}
 use Rattle.seize_book.specs.Slots.{IsOf}
-use Rattle.seize_book.specs.Values.{AreOfBook, values_of}
+use mathlib.Core.List.{IsPrefix}
+use Rattle.seize_book.specs.Kept.{AreTold, kepts_in, kepts_of}
+use Rattle.seize_book.specs.Ledger.{Held}
+use Rattle.seize_book.specs.Private.{labels_of}
+use Rattle.seize_book.specs.Values.{IsEmpty, values_of}
 use Rattle.seize_book.specs.declared.book.value_keys.ValueKeys.{ValueKeys}
 use Rattle.seize_words.specs.Walks.{Knows}
 use Rattle.seize_machine.specs.Machine.State.{Rest}
 use Rattle.seize_calls.specs.Calls.{Begins, Leaves}
-use Rattle.seize_calls.specs.Handing.{Had, values_put}
-use Rattle.seize_calls.specs.Settling.{Drains, HasQueue, Onward, Sits, Stand, done}
+use Rattle.seize_calls.specs.Handing.{Had, values_put, words_put}
+use Rattle.seize_calls.specs.Settling.{Drains, HasBatch, HasQueue, Onward, Sits, Stand, done}
 use Rattle.seize_calls.specs.Walking.{IsAtWalk, WalksAll, handed_in, steps}
 use Rattle.seize_calls.proofs.Events.{keeps_returned}
 use Rattle.seize_calls.proofs.Whole.{returned, whole_rests}
@@ -71,7 +75,7 @@ after_swap size st _ stays queue _ (Step.swapped_out s other q stands) is on =
     which true = refl
     which false = refl
 
-module _ (key one two : SlotKey) (pass pass1 pass2 : Pass) (job : Job) (stays : Bool) (life : ℕ) (begins : Begins key pass job one pass1) (on : active_of key ≡ true) (out : (slot_of one).call ≡ Some (record { place = Out stays; queue = [] }))
+module _ (key one two : SlotKey) (pass pass1 pass2 : Pass) (job : Job) (stays : Bool) (life : ℕ) (begins : Begins key pass job [] one pass1) (on : active_of key ≡ true) (out : (slot_of one).call ≡ Some (record { place = Out stays; queue = [] }))
     (notes : NotesAs one pass1 two pass2 (beginning pass1 life (SwapOut (number_of one)))) (head : Word) (word : ℕ) (walks : WalksOn head two word []) (own : slot head ≡ number_of key) where
   abbrev s : ℕ
   s = number_of key
@@ -111,7 +115,7 @@ module _ (key one two : SlotKey) (pass pass1 pass2 : Pass) (job : Job) (stays : 
       ∙ ap (λ (a : Answer). (events_by pass ++ done pass (Begin s job)) ++ (beginning pass1 life (SwapOut (number_of one)), a) ∷ []) so.3
       ∙ ap (λ (x : Deed). (events_by pass ++ done pass (Begin s job)) ++ (x, Done) ∷ []) (same_beginning pass pass1 begins.keeps.same life (SwapOut (number_of one)) ∙ ap (λ (k : ℕ). beginning pass life (SwapOut k)) begins.keeps.its.1)
 
-  module _ (three : SlotKey) (pass3 : Pass) (values queue0 queue3 : ValueKeys) (had had3 : Had) (none : values_of queue0 ≡ []) (all : WalksAll at_walk pass2 queue0 had three pass3 queue3 had3) where
+  module _ (three : SlotKey) (pass3 : Pass) (values queue0 queue3 : ValueKeys) (had had3 : Had) (empty0 : queue0.keys.held ≡ []) (all : WalksAll at_walk pass2 queue0 had three pass3 queue3 had3) where
     abbrev pub behind : Stand
     behind = record { key = three; pass = pass3; batch = values; queue = queue3; had = had3 }
 
@@ -121,21 +125,29 @@ module _ (key one two : SlotKey) (pass pass1 pass2 : Pass) (job : Job) (stays : 
     its_three : (three.keys.name ≡ key.keys.name) × (number_of three ≡ s)
     its_three = (all.goes_on.0.its.0 ∙ its_two.0, all.goes_on.0.its.1 ∙ its_two.1)
 
-    walked_queue : values_of queue3 ≡ values_put (handed_in all.walked)
-    walked_queue = all.queued.1 ∙ ap (λ (vs : List ℕ). vs ++ values_put (handed_in all.walked)) none
+    walked_queue : (values_of queue3 ≡ values_put (handed_in all.walked)) × (kepts_of queue3 ≡ words_put (handed_in all.walked))
+    walked_queue = (
+      all.queued.1 ∙ ap (λ (held : List (Held Entry)). labels_of held ++ values_put (handed_in all.walked)) empty0,
+      all.queued.2 ∙ ap (λ (held : List (Held Entry)). kepts_in held ++ words_put (handed_in all.walked)) empty0,
+    )
+
+    grows_three : IsPrefix pass.seen pass3.seen
+    grows_three =
+        prefix_trans pass.seen pass1.seen pass3.seen begins.keeps.grows
+        (prefix_trans pass1.seen pass2.seen pass3.seen (seen_grows pass1.name pass1.id pass1.seen pass2.seen _ notes.2.0) all.goes_on.0.grows)
 
     pub walked_over : HasQueue three queue3
-    walked_over = all.over ∙ ap (λ (q : List ℕ). Some (record { place = Rest [] []; queue = q })) (sym walked_queue)
+    walked_over = all.over ∙ ap (λ (q : List ℕ). Some (record { place = Rest [] []; queue = q })) (sym walked_queue.0)
 
     batch_three : (slot_of three).batch ≡ (slot_of key).batch
     batch_three = all.goes_on.0.batch ∙ ap (λ (z : Slot). z.batch) notes.2.1.is ∙ so.0 ∙ ap (λ (z : Slot). z.batch) notes.2.1.was ∙ begins.keeps.batch
 
-    pub walked_sits : IsOf key pass → Knows three pass3 → AreOfBook values pass × (values_of values ≡ (slot_of key).batch) → AreOfBook queue0 pass → Sits behind
-    walked_sits book knows batch queue = record {
+    pub walked_sits : IsOf key pass → Knows three pass3 → HasBatch key pass values → IsEmpty queue0 pass → AreTold queue3 pass3 → Sits behind
+    walked_sits book knows batch queue told = record {
       its = its_three.0 ∙ (book ∙ sym same_three.0);
       knows = knows;
-      batch = (batch.0 ∙ sym same_three.0, batch.1 ∙ sym batch_three);
-      queue = all.queued.0 ∙ (queue ∙ sym same_three.0);
+      batch = (batch.0 ∙ sym same_three.0, batch.1 ∙ sym batch_three, all_told_later values.keys.name.store pass.seen pass3.seen values.keys.held grows_three batch.2);
+      queue = (all.queued.0 ∙ (queue.0 ∙ sym same_three.0), told);
     }
 
     module _ (b : Stand) (drains : Drains behind b) (onward : Onward three pass3 b.key b.pass) (sits : Sits b) (empty : values_of b.queue ≡ []) (key' : SlotKey) (pass' : Pass) (last : Notes b.key b.pass key' pass' (Return (number_of b.key))) where
@@ -148,6 +160,7 @@ module _ (key one two : SlotKey) (pass pass1 pass2 : Pass) (job : Job) (stays : 
             ∙ ap (λ (log : List (Deed × Answer)). ((events_by pass ++ done pass (Begin s job)) ++ (swap, Done) ∷ []) ++ log)
             (same_steps pass pass2 same_two (number_of two) all.walked ∙ ap (λ (k : ℕ). steps pass k all.walked) its_two.1);
         has_had = all.has_had;
+        told = all.told;
         queued = walked_queue;
         batch = refl;
         drained = b;

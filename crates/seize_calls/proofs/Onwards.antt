@@ -1,5 +1,5 @@
 -- What stays over the parts of a call.
-use Rattle.std.proofs.Common.{◌≡◌, ℕ, ◌<◌, ◌≤◌, Bool, true, false, if◌then◌else◌, nat_le, List, [], ◌∷◌, ◌++◌, Option, Some, is_some, length, max, refl, sym, ap, ◌∙◌, append-nil, inl, inr, ◌⊎◌, arith}
+use Rattle.std.proofs.Common.{◌≡◌, ℕ, ◌<◌, ◌≤◌, Bool, true, false, if◌then◌else◌, nat_le, List, [], ◌∷◌, ◌++◌, Option, Some, is_some, length, max, refl, sym, ap, subst, ◌∙◌, append-nil, inl, inr, ◌⊎◌, arith}
 use base.Growing.{prefix_trans}
 use Rattle.seize_machine.specs.Machine.State.{Append, Call, Mark, Place, Rest}
 use Rattle.seize_machine.specs.Machine.Event.{Put}
@@ -12,6 +12,9 @@ use Rattle.seize_book.specs.Values.{values_of}
 use Rattle.seize_book.specs.declared.book.pass.Pass.{Pass}
 use Rattle.seize_book.specs.declared.book.slot_key.SlotKey.{SlotKey}
 use Rattle.seize_book.specs.declared.book.value_keys.ValueKeys.{ValueKeys}
+use Rattle.seize_book.specs.Kept.{AreTold, AreToldIn, IsTold}
+use Rattle.seize_book.specs.Tokens.{Name}
+use Rattle.seize_words.proofs.Facts.{all_told_later, pushed_told, told_later}
 use Rattle.seize_words.specs.Walks.{Knows}
 use Rattle.seize_calls.specs.Batches.{IsPushed}
 use Rattle.seize_calls.specs.Inserts.{Keeps}
@@ -114,10 +117,19 @@ module _ (key key' : SlotKey) (pass pass' : Pass) (v : ℕ) (queue : ValueKeys) 
       short : (a b : ℕ) → b < a → nat_le a b ≡ false
       short a b less = grind arith
 
-pub put_sits : (a b : Stand) (v kept : ℕ) → Puts a.key a.pass v b.key b.pass → IsPushed a.batch v kept b.batch → b.queue ≡ a.queue → Sits a → Knows b.key b.pass → Sits b
-put_sits a b v kept puts pushed queue sits knows = record {
+pub put_sits : (a b : Stand) (v kept : ℕ) → Puts a.key a.pass v b.key b.pass → IsPushed a.batch v kept b.batch → b.queue ≡ a.queue → Sits a → Knows b.key b.pass → IsTold a.pass.seen v kept → Sits b
+put_sits a b v kept puts pushed queue sits knows told = record {
   its = puts.on.its.0 ∙ (sits.its ∙ sym puts.on.same.0);
   knows = knows;
-  batch = (pushed.0 ∙ (sits.batch.0 ∙ sym puts.on.same.0), pushed.1 ∙ (ap (λ (vs : List ℕ). vs ++ v ∷ []) sits.batch.1 ∙ sym puts.batch));
-  queue = ap (λ (keys : ValueKeys). keys.keys.name) queue ∙ (sits.queue ∙ sym puts.on.same.0);
+  batch = (
+    pushed.0 ∙ (sits.batch.0 ∙ sym puts.on.same.0),
+    pushed.1 ∙ (ap (λ (vs : List ℕ). vs ++ v ∷ []) sits.batch.1 ∙ sym puts.batch),
+    subst (λ (n : Name). AreToldIn n.store b.pass.seen b.batch.keys.held) (sym pushed.0)
+        (pushed_told a.batch.keys.name.store b.pass.seen a.batch.keys.held b.batch.keys.held v kept pushed.1 pushed.2
+        (all_told_later a.batch.keys.name.store a.pass.seen b.pass.seen a.batch.keys.held puts.on.grows sits.batch.2) (told_later a.pass.seen b.pass.seen v kept puts.on.grows told)),
+  );
+  queue = (
+    ap (λ (keys : ValueKeys). keys.keys.name) queue ∙ (sits.queue.0 ∙ sym puts.on.same.0),
+    subst (λ (keys : ValueKeys). AreTold keys b.pass) (sym queue) (all_told_later a.queue.keys.name.store a.pass.seen b.pass.seen a.queue.keys.held puts.on.grows sits.queue.1),
+  );
 }

@@ -13,19 +13,21 @@ use Rattle.seize_book.specs.Entry.{Deed, Entry as Logged}
 use Rattle.seize_book.specs.Ledger.{Held, renewed}
 use Rattle.seize_book.specs.Passes.{IsSame, events_by}
 use Rattle.seize_book.specs.Slots.{IsOf, number_of, own_list, slot_of, start_of}
+use Rattle.seize_book.specs.Tokens.{Name}
 use Rattle.seize_book.specs.Values.{values_of}
 use Rattle.seize_words.specs.Walks.{Knows}
 use Rattle.seize_book.specs.Private.{labels_of}
 use Rattle.seize_book.specs.declared.book.pass.Pass.{Pass}
 use Rattle.seize_book.specs.declared.book.slot_key.SlotKey.{SlotKey}
 use Rattle.seize_book.specs.declared.book.value_keys.ValueKeys.{ValueKeys}
-use Rattle.seize_words.proofs.Facts.{own_reached}
+use Rattle.seize_words.proofs.Facts.{alike_told, all_told_later, all_told_renewed, none_told, own_reached}
 use Rattle.seize_calls.specs.Attempts.{Retires}
-use Rattle.seize_calls.specs.Batches.{AreRemarked, kepts_of}
+use Rattle.seize_book.specs.Kept.{AreTold, AreToldIn, kepts_of}
+use Rattle.seize_calls.specs.Batches.{AreRemarked}
 use Rattle.seize_calls.specs.Handing.{Had, HasHad, values_put}
 use Rattle.seize_calls.specs.Inserts.{turns_at}
 use Rattle.seize_calls.specs.Marks.{BeginsToMark, Ends, actives, readings}
-use Rattle.seize_calls.specs.Settling.{Goes, Marking, Sits, Stand, Stays, done}
+use Rattle.seize_calls.specs.Settling.{Goes, HasBatch, Marking, Sits, Stand, Stays, done}
 use Rattle.seize_calls.specs.Walking.{HandsAll, IsGiven, hands}
 use Rattle.seize_calls.specs.Numbered.{starts_at}
 use Rattle.seize_calls.specs.declared.marking.Marked.TheVariants.{TooMany}
@@ -90,7 +92,7 @@ module _ (a : Stand) (m : Marking a.key a.queue) where
         }
 
     -- or its values are given up to the call
-    module _ (on : zero ≡ true) (front : ℕ) (starts : starts_at front (values_of values1) ≡ true) (full : 1 ≤ length batch) (values_are : values_of a.batch ≡ batch) where
+    module _ (on : zero ≡ true) (front : ℕ) (starts : starts_at front (values_of values1) ≡ true) (full : 1 ≤ length batch) (its_batch : HasBatch a.key a.pass a.batch) where
       pub renewed_twice : (held : List (Held Logged)) (seen : List Logged) → renewed held seen ≡ renewed (renewed held seen) seen
       renewed_twice [] seen = refl
       renewed_twice (h ∷ held) seen = ap (λ (hs : List (Held Logged)). record { kind = h.kind; key = h.key; own = seen; label = h.label; note = h.note } ∷ hs) (renewed_twice held seen)
@@ -99,10 +101,18 @@ module _ (a : Stand) (m : Marking a.key a.queue) where
       kept_keys = r.keys.1 ∙ ap (λ (z : Bool). renewed (if z then r.marked.keys.held else []) pass1.seen) on
 
       pub same_values : values_of values1 ≡ batch
-      same_values = ap labels_of kept_keys ∙ renewed_labels r.marked.keys.held pass1.seen ∙ remarked_labels r.marked.keys.held a.batch.keys.held r.remarked.1 ∙ values_are
+      same_values = ap labels_of kept_keys ∙ renewed_labels r.marked.keys.held pass1.seen ∙ remarked_labels r.marked.keys.held a.batch.keys.held r.remarked.1 ∙ its_batch.1
 
       pub same_kepts : kepts_of values1 ≡ kepts_of a.batch
       same_kepts = ap kepts kept_keys ∙ renewed_kepts r.marked.keys.held pass1.seen ∙ remarked_kepts r.marked.keys.held a.batch.keys.held r.remarked.1
+
+      pub still_told : AreTold values1 pass1
+      still_told =
+          let store = a.batch.keys.name.store in let held = r.marked.keys.held in
+          subst (λ (t : Name × List (Held Logged)). AreToldIn t.0.store pass1.seen t.1) (λ j. ((its_batch.0 ∙ sym same.0 ∙ sym r.keys.0) j, sym kept_keys j))
+          (all_told_renewed store pass1.seen held pass1.seen
+          (alike_told store pass1.seen a.batch.keys.held held (sym (remarked_labels held a.batch.keys.held r.remarked.1)) (sym (remarked_kepts held a.batch.keys.held r.remarked.1))
+          (all_told_later store a.pass.seen pass1.seen a.batch.keys.held r.grows its_batch.2)))
 
       abbrev pub given_now : IsGiven key1 pass1 values1 front
       given_now =
@@ -118,6 +128,7 @@ module _ (a : Stand) (m : Marking a.key a.queue) where
             keys = (refl, refl, kept_keys ∙ renewed_twice r.marked.keys.held pass1.seen ∙ ap (λ (hs : List (Held Logged)). renewed hs pass1.seen) (sym kept_keys));
             last = r.keys.2;
             closed = r.keys.3;
+            told = still_told;
           }
 
       pub has_handed : (key2 : SlotKey) (pass2 : Pass) (values2 queue2 : ValueKeys) (had2 : Had) → (all_of : HandsAll given_now a.queue key2 pass2 values2 queue2) → HasHad all_of.handed (kepts_of values1) a.had had2
@@ -155,14 +166,29 @@ pub stays_sits : (a b : Stand) → Stays a b → Sits a → Knows b.key b.pass �
 stays_sits a b stays sits knows = record {
   its = stays.on.its.0 ∙ (sits.its ∙ sym stays.on.same.0);
   knows = knows;
-  batch = (stays.keys.0 ∙ (sits.batch.0 ∙ sym stays.on.same.0), remarked_labels b.batch.keys.held a.batch.keys.held stays.keys.1 ∙ (sits.batch.1 ∙ sym stays.batch));
-  queue = stays.queued.0 ∙ (sits.queue ∙ sym stays.on.same.0);
+  batch = (
+    stays.keys.0 ∙ (sits.batch.0 ∙ sym stays.on.same.0),
+    remarked_labels b.batch.keys.held a.batch.keys.held stays.keys.1 ∙ (sits.batch.1 ∙ sym stays.batch),
+    subst (λ (n : Name). AreToldIn n.store b.pass.seen b.batch.keys.held) (sym stays.keys.0)
+        (alike_told a.batch.keys.name.store b.pass.seen a.batch.keys.held b.batch.keys.held (sym (remarked_labels b.batch.keys.held a.batch.keys.held stays.keys.1)) (sym (remarked_kepts b.batch.keys.held a.batch.keys.held stays.keys.1))
+        (all_told_later a.batch.keys.name.store a.pass.seen b.pass.seen a.batch.keys.held stays.on.grows sits.batch.2)),
+  );
+  queue = (
+    stays.queued.0 ∙ (sits.queue.0 ∙ sym stays.on.same.0),
+    subst (λ (n : Name). AreToldIn n.store b.pass.seen b.queue.keys.held) (sym stays.queued.0)
+        (alike_told a.queue.keys.name.store b.pass.seen a.queue.keys.held b.queue.keys.held (sym (stays.queued.1 ∙ append-nil (values_of a.queue))) (sym (stays.queued.2 ∙ append-nil (kepts_of a.queue)))
+        (all_told_later a.queue.keys.name.store a.pass.seen b.pass.seen a.queue.keys.held stays.on.grows sits.queue.1)),
+  );
 }
 
-pub goes_sits : (a b : Stand) → Goes a b → Sits a → Knows b.key b.pass → Sits b
-goes_sits a b went sits knows = record {
+pub goes_sits : (a b : Stand) → Goes a b → Sits a → Knows b.key b.pass → AreTold b.queue b.pass → Sits b
+goes_sits a b went sits knows told = record {
   its = went.on.its.0 ∙ (sits.its ∙ sym went.on.same.0);
   knows = knows;
-  batch = (went.none.0, ap labels_of went.none.1 ∙ sym went.batch);
-  queue = went.queued.0 ∙ (sits.queue ∙ sym went.on.same.0);
+  batch = (
+    went.none.0,
+    ap labels_of went.none.1 ∙ sym went.batch,
+    subst (λ (held : List (Held Logged)). AreToldIn b.batch.keys.name.store b.pass.seen held) (sym went.none.1) (none_told b.batch.keys.name.store b.pass.seen),
+  );
+  queue = (went.queued.0 ∙ (sits.queue.0 ∙ sym went.on.same.0), told);
 }

@@ -1,5 +1,5 @@
 -- A whole walk, with what is handed in it.
-use Rattle.std.proofs.Common.{◌≡◌, ℕ, suc, ◌+◌, ◌<◌, ℤ, List, [], ◌∷◌, ◌++◌, length, map, Option, Some, refl, sym, ap, subst, ◌∙◌, append_assoc, append-nil, arith}
+use Rattle.std.proofs.Common.{◌≡◌, ℕ, suc, ◌+◌, ◌<◌, ℤ, List, [], ◌∷◌, ◌++◌, length, map, Option, Some, is_some, true, refl, sym, ap, subst, ◌∙◌, append_assoc, append-nil, arith}
 use Rattle.std.specs.List.{Contains}
 use Rattle.std.proofs.lemmas.List.{length_push, length-append}
 use base.Growing.{prefix_trans}
@@ -11,18 +11,20 @@ use Rattle.seize_machine.specs.declared.machine.event.Answer.TheVariants.{Count 
 use Rattle.seize_book.specs.Entry.{Deed}
 use Rattle.seize_book.specs.Passes.{IsSame, events_by}
 use Rattle.seize_book.specs.Slots.{IsOf, number_of, own_list, slot_of}
+use Rattle.seize_book.specs.Tokens.{Name}
+use Rattle.seize_book.specs.Values.{values_of}
 use Rattle.seize_words.specs.Walks.{Knows}
 use Rattle.seize_book.specs.declared.book.pass.Pass.{Pass}
 use Rattle.seize_book.specs.declared.book.slot_key.SlotKey.{SlotKey}
 use Rattle.seize_book.specs.declared.book.value_keys.ValueKeys.{ValueKeys}
-use Rattle.seize_words.proofs.Facts.{word_stays}
+use Rattle.seize_words.proofs.Facts.{all_of_told, all_told_append, all_told_grow, word_stays}
 use Rattle.seize_calls.proofs.Alone.{alone_none}
-use Rattle.seize_calls.specs.Handing.{Had, Handings, HasHad, Queues, values_put}
-use Rattle.seize_calls.specs.Batches.{kepts_of}
+use Rattle.seize_calls.specs.Handing.{Had, Handings, HasHad, Queues, values_handed, values_put, words_put}
+use Rattle.seize_book.specs.Kept.{AllTold, kepts_of}
 use Rattle.seize_calls.specs.Walking.{Ends, GoesOn, HandsAll, IsAtWalk, IsGiven, Stops, WalksAll, WalksTo, counting, countings, handed_in, hands, steps}
 use Rattle.seize_calls.specs.declared.walking.Walked.TheVariants.{GivesUp, Over}
-use Rattle.seize_calls.proofs.Handed.{had_more, had_none, put_append, queues_more, queues_none}
-use Rattle.seize_calls.proofs.Keeps.{keeps_twice, same_private}
+use Rattle.seize_calls.proofs.Handed.{had_more, had_none, handed_append, put_append, queues_more, queues_none}
+use Rattle.seize_calls.proofs.Keeps.{keeps_twice, same_private, same_telling}
 
 pub goes_twice : (key one two : SlotKey) (pass pass1 pass2 : Pass) → GoesOn key pass one pass1 → GoesOn one pass1 two pass2 → GoesOn key pass two pass2
 goes_twice key one two pass pass1 pass2 first second = (keeps_twice key one two pass pass1 pass2 first.0 second.0, prefix_trans (own_list key) (own_list one) (own_list two) first.1 second.1)
@@ -39,7 +41,7 @@ same_countings pass pass' same s (count ∷ counts) =
 
 pub same_hands : (pass pass' : Pass) → IsSame pass pass' → (s : ℕ) (handed : Handings) → hands pass' s handed ≡ hands pass s handed
 same_hands pass pass' same s [] = refl
-same_hands pass pass' same s (one ∷ handed) = λ i. (same_private pass pass' same (Hand s one.1) i, Handed one.0) ∷ same_hands pass pass' same s handed i
+same_hands pass pass' same s (one ∷ handed) = λ i. (same_telling pass pass' same (Hand s one.1) one.2 i, Handed one.0) ∷ same_hands pass pass' same s handed i
 
 pub same_steps : (pass pass' : Pass) → IsSame pass pass' → (s : ℕ) (walked : List (ℤ × Handings)) → steps pass' s walked ≡ steps pass s walked
 same_steps pass pass' same s [] = refl
@@ -95,11 +97,12 @@ pub record IsStrolling {key : SlotKey} {word : ℕ} (at : IsAtWalk key word) (pa
   pub walked : List (ℤ × Handings)
   pub kepts : List ℕ
   pub has_had : HasHad (handed_in walked) kepts had had'
+  pub told : AllTold pass'.seen (values_handed (handed_in walked)) kepts
   pub made : events_by pass' ≡ events_by pass ++ steps pass (number_of key) walked
   pub here : IsAtWalk key' leads'
   pub each : length walked + length here.walk ≡ length at.walk
   pub same_queue : here.queue ≡ at.queue ++ values_put (handed_in walked)
-  pub queued : Queues queue (values_put (handed_in walked)) queue'
+  pub queued : let handed = handed_in walked in Queues queue (values_put handed) (words_put handed) queue'
 
 abbrev pub none_strolled : (key : SlotKey) (word : ℕ) (at : IsAtWalk key word) (pass : Pass) (queue : ValueKeys) (had : Had) → IsStrolling at pass queue had key pass word queue had
 none_strolled key word at pass queue had = record {
@@ -107,6 +110,7 @@ none_strolled key word at pass queue had = record {
   walked = [];
   kepts = [];
   has_had = had_none had;
+  told = tt;
   made = sym (append-nil (events_by pass));
   here = at;
   each = omega arith;
@@ -133,17 +137,18 @@ module _ (key0 : SlotKey) (word : ℕ) (at : IsAtWalk key0 word) (pass0 : Pass) 
         walked = r.walked ++ plain w.held;
         kepts = r.kepts;
         has_had = subst (λ (vs : Handings). HasHad vs r.kepts had0 had) (handed_plain r.walked w.held) r.has_had;
+        told = subst (λ (vs : Handings). AllTold pass1.seen (values_handed vs) r.kepts) (handed_plain r.walked w.held) (all_told_grow pass.seen pass1.seen (values_handed (handed_in r.walked)) r.kepts w.goes_on.0.grows r.told);
         each = length-append r.walked (plain w.held) ∙ ap (λ (n : ℕ). length r.walked + n) (plain_many w.held ∙ ends.each) ∙ r.each;
         made = ends.made ∙ ap (λ (log : List (Deed × Answer)). log ++ countings pass (number_of key) w.held) r.made
             ∙ append_assoc (events_by pass0) behind (countings pass (number_of key) w.held)
             ∙ ap (λ (log : List (Deed × Answer)). events_by pass0 ++ log)
             (ap (λ (log : List (Deed × Answer)). behind ++ log) (goes w.held r.goes_on.0.same r.goes_on.0.its.1 ∙ sym (plain_steps pass0 s w.held)) ∙ sym (steps_append pass0 s r.walked (plain w.held)));
         over = ends.over ∙ ap (λ (q : List ℕ). Some (record { place = Rest [] []; queue = q })) (r.same_queue ∙ ap (λ (vs : Handings). at.queue ++ values_put vs) (handed_plain r.walked w.held));
-        queued = subst (λ (vs : Handings). Queues queue0 (values_put vs) queue) (handed_plain r.walked w.held) r.queued;
+        queued = subst (λ (vs : Handings). Queues queue0 (values_put vs) (words_put vs) queue) (handed_plain r.walked w.held) r.queued;
       }
 
   -- or a batch was given up, and is handed
-  module _ (front rest : ℕ) (w : WalksTo r.here pass key1 pass1 values (GivesUp front rest)) (book : IsOf key1 pass1) (knows : Knows key1 pass1) where
+  module _ (front rest : ℕ) (w : WalksTo r.here pass key1 pass1 values (GivesUp front rest)) (book : IsOf key1 pass1) (knows : Knows key1 pass1) (store : is_some pass1.name.store ≡ true) where
     abbrev stop : Stops r.here w.held pass key1 pass1 values front rest
     stop = w.ends_so
 
@@ -160,7 +165,13 @@ module _ (key0 : SlotKey) (word : ℕ) (at : IsAtWalk key0 word) (pass0 : Pass) 
             kepts = r.kepts ++ kepts_of values;
             has_had = subst (λ (us : Handings). HasHad us (r.kepts ++ kepts_of values) had0 had2) (handed_last r.walked w.held stop.zero vs)
                 (had_more (handed_in r.walked) vs r.kepts (kepts_of values) had0 had had2 r.has_had more);
-            queued = subst (λ (us : Handings). Queues queue0 (values_put us) queue2) (handed_last r.walked w.held stop.zero vs) (queues_more queue0 queue queue2 (handed_in r.walked) vs r.queued handed.queued);
+            told = subst (λ (us : Handings). AllTold pass2.seen (values_handed us) (r.kepts ++ kepts_of values)) (handed_last r.walked w.held stop.zero vs)
+                (subst (λ (us : List ℕ). AllTold pass2.seen us (r.kepts ++ kepts_of values)) (sym (handed_append (handed_in r.walked) vs))
+                (all_told_append pass2.seen (values_handed (handed_in r.walked)) r.kepts (values_handed vs) (kepts_of values)
+                (all_told_grow pass.seen pass2.seen (values_handed (handed_in r.walked)) r.kepts (prefix_trans pass.seen pass1.seen pass2.seen w.goes_on.0.grows handed.goes_on.0.grows) r.told)
+                (subst (λ (us : List ℕ). AllTold pass2.seen us (kepts_of values)) (sym handed.which)
+                (all_told_grow pass1.seen pass2.seen (values_of values) (kepts_of values) handed.goes_on.0.grows (all_of_told values.keys.name.store pass1.seen values.keys.held (ap (λ (n : Name). is_some n.store) given_now.book ∙ store) given_now.told)))));
+            queued = subst (λ (us : Handings). Queues queue0 (values_put us) (words_put us) queue2) (handed_last r.walked w.held stop.zero vs) (queues_more queue0 queue queue2 (handed_in r.walked) vs r.queued handed.queued);
             made = handed.made
                 ∙ ap (λ (log : List (Deed × Answer)). log ++ hands pass1 (number_of key1) vs) (stop.made ∙ ap (λ (log : List (Deed × Answer)). log ++ countings pass (number_of key) (w.held ++ stop.zero ∷ [])) r.made
                 ∙ ap (λ (log : List (Deed × Answer)). (events_by pass0 ++ behind) ++ log) (goes (w.held ++ stop.zero ∷ []) r.goes_on.0.same r.goes_on.0.its.1))

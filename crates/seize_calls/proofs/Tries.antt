@@ -86,9 +86,9 @@ module _ (key : SlotKey) (pass : Pass) (head : Head) (header : Header) (seen blo
       abbrev on : Bool → Place → Place
       on won = if won then won_on else lost_on
 
-      goes_so : (won : Bool) (notes : Notes two pass2 key' pass' (event won)) → Goes (state_before two key' pass2 pass' (event won) notes) (number_of two) call (on won) (outcome two key' pass2 pass' (event won) notes) Done
-      goes_so true notes = insert_won _ _ (number_of two) m call _ (step_noted two key' pass2 pass' (event true) notes) (call_before two key' pass2 pass' (event true) notes call stands_two)
-      goes_so false notes = insert_lost _ _ (number_of two) m call _ (step_noted two key' pass2 pass' (event false) notes) (call_before two key' pass2 pass' (event false) notes call stands_two)
+      goes_so : (won : Bool) (notes : Notes two pass2 key' pass' (event won)) → Goes (state_before two key' pass2 pass' (event won) [] notes) (number_of two) call (on won) (outcome two key' pass2 pass' (event won) [] notes) Done
+      goes_so true notes = insert_won _ _ (number_of two) m call _ (step_noted two key' pass2 pass' (event true) [] notes) (call_before two key' pass2 pass' (event true) [] notes call stands_two)
+      goes_so false notes = insert_lost _ _ (number_of two) m call _ (step_noted two key' pass2 pass' (event false) [] notes) (call_before two key' pass2 pass' (event false) [] notes call stands_two)
 
       stands_so : (won : Bool) → (slot_of key').call ≡ Some (record { place = on won call.place; queue = call.queue })
           → (slot_of key').call ≡ Some (record { place = if won then look t.batch (t.won + 1) t.later else Look t.batch t.won m t.later; queue = t.queue })
@@ -98,15 +98,15 @@ module _ (key : SlotKey) (pass : Pass) (head : Head) (header : Header) (seen blo
       pub tried : (won : Bool) → Notes two pass2 key' pass' (event won) → Tried at pass key' pass' won
       tried won notes =
           let so = goes_so won notes in
-          let keeps = keeps_noted two key' pass2 pass' (event won) notes call (on won) Done so refl in
+          let keeps = keeps_noted two key' pass2 pass' (event won) [] notes call (on won) Done so refl in
           let e : ℕ → Event = λ s. Insert s m (if won then Won else Lost) in
           record {
             keeps = keeps_twice key two key' pass pass2 pass' keeps_both keeps;
             made =
-                made_noted two key' pass2 pass' (event won) notes call (on won) Done so
+                made_noted two key' pass2 pass' (event won) [] notes call (on won) Done so
                 ∙ ap (λ (log : List (Deed × Answer)). log ++ (private pass2 (event won), Done) ∷ []) made_none
                 ∙ ap (λ (d : Deed). events_by pass ++ (d, Done) ∷ []) (same_private pass pass2 keeps_both.same (event won))
                 ∙ ap (λ (s : ℕ). events_by pass ++ (private pass (e s), Done) ∷ []) keeps_both.its.1;
             planned = plan_kept two key' pass2 pass' (private pass2 (event won)) t.batch at.its_front.0 notes (front_same key two t.batch front planned_both at.its_front).1 ∙ planned_both;
-            stands = stands_so won (call_after two key' pass2 pass' (event won) notes call (on won) Done so);
+            stands = stands_so won (call_after two key' pass2 pass' (event won) [] notes call (on won) Done so);
           }

@@ -116,30 +116,30 @@ module _ (key0 : SlotKey) (pass0 : Pass) (head : Head) (block front : ℕ) (at :
     event = ReadHead (number_of key) m
 
     abbrev st : State
-    st = state_before key key' pass pass' event noted
+    st = state_before key key' pass pass' event [] noted
 
     abbrev h : MachineHead
     h = head_at st m
 
-    goes_so : Goes st (number_of key) call (looked_on scheme h) (outcome key key' pass pass' event noted) (HeadRead (is_active h))
-    goes_so = looked_again _ st (number_of key) m at.batch at.won at.later at.queue _ (step_noted key key' pass pass' event noted) (call_before key key' pass pass' event noted call r.looking)
+    goes_so : Goes st (number_of key) call (looked_on scheme h) (outcome key key' pass pass' event [] noted) (HeadRead (is_active h))
+    goes_so = looked_again _ st (number_of key) m at.batch at.won at.later at.queue _ (step_noted key key' pass pass' event [] noted) (call_before key key' pass pass' event [] noted call r.looking)
 
     pub keeps_read : Keeps key0 pass0 key' pass'
-    keeps_read = keeps_twice key0 key key' pass0 pass pass' r.keeps (keeps_noted key key' pass pass' event noted call (looked_on scheme h) (HeadRead (is_active h)) goes_so refl)
+    keeps_read = keeps_twice key0 key key' pass0 pass pass' r.keeps (keeps_noted key key' pass pass' event [] noted call (looked_on scheme h) (HeadRead (is_active h)) goes_so refl)
 
     pub goes_on : (slot_of key').call ≡ Some (record { place = looked h at.batch at.won m at.later; queue = at.queue })
-    goes_on = call_after key key' pass pass' event noted call (looked_on scheme h) (HeadRead (is_active h)) goes_so
+    goes_on = call_after key key' pass pass' event [] noted call (looked_on scheme h) (HeadRead (is_active h)) goes_so
 
     -- what the word showed is what the machine read
     head_now : head_at (after (start pass.name) pass'.seen) m ≡ h
-    head_now = ap (λ (now : State). head_at now m) noted.2.0.leads ∙ ap (λ (hs : List MachineHead). get_or hs m Inactive) (heads_read _ st (number_of key) m _ (step_noted key key' pass pass' event noted))
+    head_now = ap (λ (now : State). head_at now m) noted.2.0.leads ∙ ap (λ (hs : List MachineHead). get_or hs m Inactive) (heads_read _ st (number_of key) m _ (step_noted key key' pass pass' event [] noted))
 
     pub word : v ≡ word_of (λ b. block_for (start head.word.name) pass'.seen b m) h
     word = shows ∙ ap (word_of (λ b. block_for (start head.word.name) pass'.seen b m)) (ap (λ (n : Name). head_at (after (start n) pass'.seen) m) is_head ∙ head_now)
 
     made_read : (active : Bool) → is_active h ≡ active → events_by pass' ≡ (events_by pass0 ++ losses pass0 (number_of key0) m r.lost) ++ reading pass0 (number_of key0) m active ∷ []
     made_read active e =
-        made_noted key key' pass pass' event noted call (looked_on scheme h) (HeadRead (is_active h)) goes_so
+        made_noted key key' pass pass' event [] noted call (looked_on scheme h) (HeadRead (is_active h)) goes_so
         ∙ ap (λ (log : List (Deed × Answer)). log ++ (private pass event, HeadRead (is_active h)) ∷ []) r.made
         ∙ ap (λ (x : Deed × Answer). (events_by pass0 ++ losses pass0 (number_of key0) m r.lost) ++ x ∷ [])
         (ap (λ (d : Deed). (d, HeadRead (is_active h))) (same_private pass0 pass r.keeps.same event)

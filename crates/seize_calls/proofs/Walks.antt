@@ -54,8 +54,8 @@ after_sub size st _ d (Step.subtracted s b walk queue _ stands is) =
 pub keeps_counted : (key key' : SlotKey) (pass pass' : Pass) → Notes key pass key' pass' (SubCount (number_of key)) → Keeps key pass key' pass'
 keeps_counted key key' pass pass' notes =
     let event = SubCount (number_of key) in
-    let so = after_sub (size_of key) (state_before key key' pass pass' event notes) (number_of key) (outcome key key' pass pass' event notes) (step_noted key key' pass pass' event notes) in
-    keeps_from key key' pass pass' event notes so.0 so.1 (ap (λ (hs : List Head). is_active (get_or hs (number_of key) Inactive)) so.2) refl
+    let so = after_sub (size_of key) (state_before key key' pass pass' event [] notes) (number_of key) (outcome key key' pass pass' event [] notes) (step_noted key key' pass pass' event [] notes) in
+    keeps_from key key' pass pass' event [] notes so.0 so.1 (ap (λ (hs : List Head). is_active (get_or hs (number_of key) Inactive)) so.2) refl
 
 -- some batches were counted down, and none was given up
 pub record IsWalking {key : SlotKey} {word : ℕ} (at : IsAtWalk key word) (pass : Pass) (key' : SlotKey) (pass' : Pass) (values' : ValueKeys) (leads' : ℕ) : Type 0 where
@@ -132,7 +132,7 @@ module _ (key0 : SlotKey) (word : ℕ) (at : IsAtWalk key0 word) (pass0 : Pass) 
       pub goes_down : GoesOn key0 pass0 key' pass'
       goes_down = (
         keeps_twice key0 key key' pass0 pass pass' r.goes_on.0 (keeps_twice key key key' pass down.mid pass' (keeps_looked key pass down.mid down.looks) (keeps_counted key key' down.mid pass' down.counts.0)),
-        prefix_trans (own_list key0) (own_list key) (own_list key') r.goes_on.1 (own_grows key key' down.mid pass' (SubCount (number_of key)) down.counts.0),
+        prefix_trans (own_list key0) (own_list key) (own_list key') r.goes_on.1 (own_grows key key' down.mid pass' (SubCount (number_of key)) [] down.counts.0),
       )
 
       mid_same : (down.mid.name ≡ pass0.name) × (down.mid.id ≡ pass0.id)
@@ -193,6 +193,7 @@ module _ (key0 : SlotKey) (word : ℕ) (at : IsAtWalk key0 word) (pass0 : Pass) 
               keys = (refl, refl, down.takes.1);
               last = down.takes.3;
               closed = down.takes.4;
+              told = down.takes.5;
             };
             leads = down.leads;
             done = r.done ++ batch.batch ∷ [];

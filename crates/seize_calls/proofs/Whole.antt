@@ -7,20 +7,23 @@ use Rattle.seize_machine.specs.Machine.Event.{Begin, Event, Return}
 use Rattle.seize_machine.specs.Machine.Next.{flushing_at}
 use Rattle.seize_machine.specs.declared.machine.event.Job.{Job}
 use Rattle.seize_machine.specs.declared.machine.event.Job.TheVariants.{Flush, Retire}
+use Rattle.seize_book.specs.Adding.{telling}
 use Rattle.seize_book.specs.Entry.{Entry as Logged}
+use Rattle.seize_book.specs.Kept.{AreTold, AreToldIn}
 use Rattle.seize_book.specs.Ledger.{Held, renewed}
 use Rattle.seize_book.specs.Private.{IsOver, label_of}
 use Rattle.seize_book.specs.Passes.{IsSame}
-use Rattle.seize_book.specs.Slots.{IsOf, Notes, number_of, slot_of}
-use Rattle.seize_book.specs.Values.{AreOfBook, values_of}
+use Rattle.seize_book.specs.Slots.{IsOf, Notes, NotesAs, number_of, slot_of}
+use Rattle.seize_book.specs.Values.{IsEmpty, values_of}
 use Rattle.seize_book.specs.declared.book.pass.Pass.{Pass}
 use Rattle.seize_book.specs.declared.book.slot_key.SlotKey.{SlotKey}
 use Rattle.seize_book.specs.declared.book.value_keys.ValueKeys.{ValueKeys}
 use Rattle.seize_words.specs.Named.{slot_book}
+use Rattle.seize_words.proofs.Facts.{all_told_later, none_told}
 use Rattle.seize_words.specs.Walks.{Knows}
 use Rattle.seize_calls.specs.Alone.{AddsAlone}
 use Rattle.seize_calls.specs.Calls.{Begins, Rests, Returns}
-use Rattle.seize_calls.specs.Settling.{HasQueue, Marking, MayPut, Sits, Stand}
+use Rattle.seize_calls.specs.Settling.{HasBatch, HasQueue, Marking, MayPut, Sits, Stand}
 use Rattle.seize_calls.proofs.Alone.{alone_twice}
 use Rattle.seize_calls.proofs.Events.{begins_so, begun_retire_so, call_begun, call_returned, flush_call, flush_so, keeps_returned, made_returned}
 use Rattle.seize_calls.proofs.Keeps.{state_before}
@@ -45,34 +48,38 @@ whole_rests key pass a key' pass' same grows alone its used sits notes =
       its = (keeps.its.0 ∙ its.0, keeps.its.1 ∙ its.1);
       call = call_returned a.key key' a.pass pass' notes;
       used = keeps.used ∙ used;
-      batch = (sits.batch.0 ∙ sym keeps.same.0, sits.batch.1 ∙ sym keeps.batch);
+      batch = (sits.batch.0 ∙ sym keeps.same.0, sits.batch.1 ∙ sym keeps.batch, all_told_later a.batch.keys.name.store a.pass.seen pass'.seen a.batch.keys.held keeps.grows sits.batch.2);
     }
 
 -- A call begins with an empty queue, with the pass that made the queue and is as it was.
 
-pub begun_notes : (key one : SlotKey) (made pass pass1 : Pass) (event : Event) → made ≡ pass → Notes key made one pass1 event → Notes key pass one pass1 event
-begun_notes key one made pass pass1 event same notes = subst (λ (p : Pass). Notes key p one pass1 event) same notes
+pub begun_notes : (key one : SlotKey) (made pass pass1 : Pass) (event : Event) (kepts : List ℕ) → made ≡ pass → NotesAs key made one pass1 (telling made event kepts) → NotesAs key pass one pass1 (telling pass event kepts)
+begun_notes key one made pass pass1 event kepts same notes = subst (λ (p : Pass). NotesAs key p one pass1 (telling p event kepts)) same notes
 
-pub begun_sits : (key : SlotKey) (pass : Pass) (job : Job) (a : Stand) → Begins key pass job a.key a.pass → IsOf key pass → Knows a.key a.pass → AreOfBook a.batch pass × (values_of a.batch ≡ (slot_of key).batch) → AreOfBook a.queue pass → Sits a
-begun_sits key pass job a begins book knows batch queue = let keeps = begins.keeps in
+-- of no values the list says what is to be said
+pub none_queued : (queue : ValueKeys) (pass : Pass) → queue.keys.held ≡ [] → AreTold queue pass
+none_queued queue pass none = subst (λ (held : List (Held Logged)). AreToldIn queue.keys.name.store pass.seen held) (sym none) (none_told queue.keys.name.store pass.seen)
+
+pub begun_sits : (key : SlotKey) (pass : Pass) (job : Job) (kepts : List ℕ) (a : Stand) → Begins key pass job kepts a.key a.pass → IsOf key pass → Knows a.key a.pass → HasBatch key pass a.batch → IsEmpty a.queue pass → Sits a
+begun_sits key pass job kepts a begins book knows batch queue = let keeps = begins.keeps in
     record {
       its = keeps.its.0 ∙ (book ∙ sym keeps.same.0);
       knows = knows;
-      batch = (batch.0 ∙ sym keeps.same.0, batch.1 ∙ sym keeps.batch);
-      queue = queue ∙ sym keeps.same.0;
+      batch = (batch.0 ∙ sym keeps.same.0, batch.1 ∙ sym keeps.batch, all_told_later a.batch.keys.name.store pass.seen a.pass.seen a.batch.keys.held keeps.grows batch.2);
+      queue = (queue.0 ∙ sym keeps.same.0, none_queued a.queue a.pass queue.1);
     }
 
 -- A flush begins.
 module _ (key one : SlotKey) (pass pass1 : Pass) (notes : Notes key pass one pass1 (Begin (number_of key) Flush)) where
-  pub flush_begins : Begins key pass Flush one pass1
-  flush_begins = begins_so key one pass pass1 Flush notes (flush_call key one pass pass1 notes) (flush_so key one pass pass1 notes)
+  pub flush_begins : Begins key pass Flush [] one pass1
+  flush_begins = begins_so key one pass pass1 Flush [] notes (flush_call key one pass pass1 notes) (flush_so key one pass pass1 notes)
 
   flush_stands : (slot_of one).call ≡ Some (flush_call key one pass pass1 notes)
-  flush_stands = call_begun key one pass pass1 Flush notes (flush_call key one pass pass1 notes) (flush_so key one pass pass1 notes)
+  flush_stands = call_begun key one pass pass1 Flush [] notes (flush_call key one pass pass1 notes) (flush_so key one pass pass1 notes)
 
   pub flush_marks : (queue : ValueKeys) → values_of queue ≡ [] → 0 < length (slot_of key).batch → Marking one queue
   flush_marks queue none some =
-      let n = length (state_before key one pass pass1 (Begin (number_of key) Flush) notes).slots in (
+      let n = length (state_before key one pass pass1 (Begin (number_of key) Flush) [] notes).slots in (
         record { note = n; queue = []; marking = flush_stands ∙ ap (λ place. Some (record { place = place; queue = [] })) (marks n (slot_of key).batch some) },
         sym none,
       )
@@ -83,20 +90,20 @@ module _ (key one : SlotKey) (pass pass1 : Pass) (notes : Notes key pass one pas
 
   pub flush_over : (queue : ValueKeys) → values_of queue ≡ [] → (slot_of key).batch ≡ [] → HasQueue one queue
   flush_over queue empty none =
-      let n = length (state_before key one pass pass1 (Begin (number_of key) Flush) notes).slots in
+      let n = length (state_before key one pass pass1 (Begin (number_of key) Flush) [] notes).slots in
       flush_stands ∙ ap (λ (batch : List ℕ). Some (record { place = flushing_at n batch; queue = [] })) none
       ∙ ap (λ (q : List ℕ). Some (record { place = Rest [] []; queue = q })) (sym empty)
 
 -- A retirement begins.
 
-pub begins_append : (key one : SlotKey) (pass pass1 : Pass) (v : ℕ) → Notes key pass one pass1 (Begin (number_of key) (Retire v)) → (slot_of one).call ≡ Some (record { place = Append v; queue = [] })
-begins_append key one pass pass1 v notes = call_begun key one pass pass1 (Retire v) notes (record { place = Append v; queue = [] }) (begun_retire_so key one pass pass1 v notes)
+pub begins_append : (key one : SlotKey) (pass pass1 : Pass) (v kept : ℕ) → NotesAs key pass one pass1 (telling pass (Begin (number_of key) (Retire v)) (kept ∷ [])) → (slot_of one).call ≡ Some (record { place = Append v; queue = [] })
+begins_append key one pass pass1 v kept notes = call_begun key one pass pass1 (Retire v) (kept ∷ []) notes (record { place = Append v; queue = [] }) (begun_retire_so key one pass pass1 v kept notes)
 
-pub retire_begins : (key one : SlotKey) (pass pass1 : Pass) (v : ℕ) → Notes key pass one pass1 (Begin (number_of key) (Retire v)) → Begins key pass (Retire v) one pass1
-retire_begins key one pass pass1 v notes = begins_so key one pass pass1 (Retire v) notes (record { place = Append v; queue = [] }) (begun_retire_so key one pass pass1 v notes)
+pub retire_begins : (key one : SlotKey) (pass pass1 : Pass) (v kept : ℕ) → NotesAs key pass one pass1 (telling pass (Begin (number_of key) (Retire v)) (kept ∷ [])) → Begins key pass (Retire v) (kept ∷ []) one pass1
+retire_begins key one pass pass1 v kept notes = begins_so key one pass pass1 (Retire v) (kept ∷ []) notes (record { place = Append v; queue = [] }) (begun_retire_so key one pass pass1 v kept notes)
 
-pub retire_puts : (key one : SlotKey) (pass pass1 : Pass) (v : ℕ) (queue : ValueKeys) → Notes key pass one pass1 (Begin (number_of key) (Retire v)) → values_of queue ≡ [] → MayPut one v queue
-retire_puts key one pass pass1 v queue notes none = (Append v, [], begins_append key one pass pass1 v notes, inl (refl, sym none))
+pub retire_puts : (key one : SlotKey) (pass pass1 : Pass) (v kept : ℕ) (queue : ValueKeys) → NotesAs key pass one pass1 (telling pass (Begin (number_of key) (Retire v)) (kept ∷ [])) → values_of queue ≡ [] → MayPut one v queue
+retire_puts key one pass pass1 v kept queue notes none = (Append v, [], begins_append key one pass pass1 v kept notes, inl (refl, sym none))
 
 -- the key of the value is for the same value, which comes last
 pub same_label : (held : List (Held Logged)) (log : List Logged) → label_of (renewed held log) ≡ label_of held

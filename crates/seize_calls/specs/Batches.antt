@@ -1,10 +1,9 @@
 -- What a slot's holder keeps of the slot's batch: the keys of its values. Which block comes next, and at which slot the batch is to be
 -- inserted with a block, is noted of the blocks themselves.
 --     keys_in batch            the keys of its values, in order;  first_in batch     the number of the first one's block
---     slot_noted g, kept_noted g    what a note of this code says of the slot, and what it keeps for the holder
+--     slot_noted g             what a note of this code says of the slot
 --     Spot                     a value's block, and the slot that is noted of it
 --     spots_of held, spots_in batch    those of the values whose keys these are, in order, or of a batch;  slots_of spots   the slots
---     kepts_of keys            what is kept of each value, in order
 --     unslotted held           the keys, with all that is noted but the slots
 --     AreRemarked keys keys'   they are the same keys, and all that is noted is the same but the slots
 --     IsAsBefore batch batch'  the keys and the first number are as they were, and what is noted
@@ -17,6 +16,7 @@ use Rattle.std.specs.Prelude.{◌≡◌, ℕ, true, map, List, [], ◌∷◌, �
 use base.Stored.{Gv, gnil, gnum, gcons}
 use Rattle.seize_book.specs.Blocks.{block_of}
 use Rattle.seize_book.specs.Entry.{Entry}
+use Rattle.seize_book.specs.Kept.{kepts_of}
 use Rattle.seize_book.specs.Ledger.{Held}
 use Rattle.seize_book.specs.Linked.{are_joined}
 use Rattle.seize_book.specs.Others.{book_of}
@@ -38,10 +38,6 @@ abbrev pub slot_noted : Gv → ℕ
 slot_noted (gcons a (gcons (gnum m) g)) = m
 slot_noted g = 0
 
-abbrev pub kept_noted : Gv → ℕ
-kept_noted (gcons a (gcons b (gcons (gnum k) g))) = k
-kept_noted g = 0
-
 pub record Spot : Type 0 where
   pub block : ℕ
   pub slot : ℕ
@@ -54,9 +50,6 @@ spots_in batch = spots_of batch.values.keys.held
 
 abbrev pub slots_of : List Spot → List ℕ
 slots_of spots = map (λ spot. spot.slot) spots
-
-abbrev pub kepts_of : ValueKeys → List ℕ
-kepts_of keys = map (λ h. kept_noted h.note) keys.keys.held
 
 abbrev pub without_slot : Gv → Gv
 without_slot gnil = gnil

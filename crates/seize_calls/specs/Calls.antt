@@ -1,8 +1,8 @@
 -- Whole calls of a slot, from where they begin to where no call is under way.
 --     IsInside key           no call of the slot is under way, and it is active
 --     HasBegun a pass        the activation has begun, as the pass has seen: its slot was active with what it began with
---     Begins key pass job key' pass'     the call began with this job
---     BeginsSo key pass job values had a     and stands there, with nothing in its queue
+--     Begins key pass job kepts key' pass'     the call began with this job, and said these words of what it retires
+--     BeginsSo key pass job kepts values had a     and stands there, with nothing in its queue
 --     Returns a key' pass' values had     the call returned, with nothing in its queue
 --     Rests key pass key' pass' values'   no call of the slot is under way then, and these are the keys of its batch; whether it is in use
 --                        is as before. The pass has seen what it had seen (`grows`), and what was added where it is alone was made with it
@@ -22,21 +22,23 @@ use Rattle.seize_machine.specs.declared.machine.event.Answer.TheVariants.{Done}
 use Rattle.seize_machine.specs.declared.machine.event.Job.{Job}
 use Rattle.seize_machine.specs.declared.machine.event.Job.TheVariants.{Flush, Retire}
 use Rattle.seize_book.specs.Book.{after}
+use Rattle.seize_book.specs.Adding.{telling}
 use Rattle.seize_book.specs.Entry.{Deed}
+use Rattle.seize_book.specs.Kept.{AllTold, kepts_of}
 use Rattle.seize_book.specs.Laws.{life}
 use Rattle.seize_book.specs.Tokens.{start}
 use Rattle.seize_words.specs.Named.{slot_book}
 use Rattle.seize_book.specs.Passes.{IsSame, events_by}
 use Rattle.seize_book.specs.Slots.{active_of, life_of, number_of, slot_of}
-use Rattle.seize_book.specs.Values.{AreOfBook, values_of}
+use Rattle.seize_book.specs.Values.{values_of}
 use Rattle.seize_book.specs.declared.book.pass.Pass.{Pass}
 use Rattle.seize_words.specs.declared.activation.Activation.{Activation}
 use Rattle.seize_book.specs.declared.book.slot_key.SlotKey.{SlotKey}
 use Rattle.seize_book.specs.declared.book.value_keys.ValueKeys.{ValueKeys}
 use Rattle.seize_calls.specs.Alone.{AddsAlone}
-use Rattle.seize_calls.specs.Handing.{Had, Handings, HasHad, values_put}
+use Rattle.seize_calls.specs.Handing.{Had, Handings, HasHad, values_handed, values_put, words_put}
 use Rattle.seize_calls.specs.Inserts.{Keeps}
-use Rattle.seize_calls.specs.Settling.{Drains, Round, Settles, Stand, done}
+use Rattle.seize_calls.specs.Settling.{Drains, HasBatch, Round, Settles, Stand, done}
 use Rattle.seize_calls.specs.Walking.{handed_in, steps}
 
 abbrev pub IsInside : SlotKey → Type 0
@@ -48,12 +50,12 @@ pub record HasBegun (a : Activation) (pass : Pass) : Type 0 where
   pub its : life a.slot a.since ≡ a.life
   pub known : IsPrefix a.since pass.seen
 
-pub record Begins (key : SlotKey) (pass : Pass) (job : Job) (key' : SlotKey) (pass' : Pass) : Type 0 where
+pub record Begins (key : SlotKey) (pass : Pass) (job : Job) (kepts : List ℕ) (key' : SlotKey) (pass' : Pass) : Type 0 where
   pub keeps : Keeps key pass key' pass'
-  pub made : events_by pass' ≡ events_by pass ++ done pass (Begin (number_of key) job)
+  pub made : events_by pass' ≡ events_by pass ++ (telling pass (Begin (number_of key) job) kepts, Done) ∷ []
 
-pub record BeginsSo (key : SlotKey) (pass : Pass) (job : Job) (values : ValueKeys) (had : Had) (a : Stand) : Type 0 where
-  pub begins : Begins key pass job a.key a.pass
+pub record BeginsSo (key : SlotKey) (pass : Pass) (job : Job) (kepts : List ℕ) (values : ValueKeys) (had : Had) (a : Stand) : Type 0 where
+  pub begins : Begins key pass job kepts a.key a.pass
   pub batch : a.batch ≡ values
   pub none : values_of a.queue ≡ []
   pub had_none : a.had ≡ had
@@ -72,12 +74,12 @@ pub record Rests (key : SlotKey) (pass : Pass) (key' : SlotKey) (pass' : Pass) (
   pub its : (slot_book key' ≡ slot_book key) × (number_of key' ≡ number_of key)
   pub call : (slot_of key').call ≡ None
   pub used : (slot_of key').used ≡ (slot_of key).used
-  pub batch : AreOfBook values' pass' × (values_of values' ≡ (slot_of key').batch)
+  pub batch : HasBatch key' pass' values'
 
 pub record Flushes (key : SlotKey) (pass : Pass) (values : ValueKeys) (had : Had) (key' : SlotKey) (pass' : Pass) (values' : ValueKeys)
     (had' : Had) (retired : Bool) : Type 0 where
   pub begun : Stand
-  pub begins : BeginsSo key pass Flush values had begun
+  pub begins : BeginsSo key pass Flush [] values had begun
   pub settled : Stand
   pub settles : Settles begun settled retired
   pub drained : Stand
@@ -90,7 +92,7 @@ pub record Flushes (key : SlotKey) (pass : Pass) (values : ValueKeys) (had : Had
 pub record RetiresOne (key : SlotKey) (pass : Pass) (v kept : ℕ) (values : ValueKeys) (had : Had) (key' : SlotKey) (pass' : Pass)
     (values' : ValueKeys) (had' : Had) (retired : Bool) : Type 0 where
   pub begun : Stand
-  pub begins : BeginsSo key pass (Retire v) values had begun
+  pub begins : BeginsSo key pass (Retire v) (kept ∷ []) values had begun
   pub settled : Stand
   pub round : Round begun v kept settled retired
   pub drained : Stand
@@ -108,7 +110,9 @@ pub record Leaves (job : Job) (stays : Bool) (swap : Deed) (key : SlotKey) (pass
   pub made : let s = number_of key in
       events_by behind.pass ≡ ((events_by pass ++ done pass (Begin s job)) ++ (swap, Done) ∷ []) ++ steps pass s walked
   pub has_had : HasHad (handed_in walked) kepts had behind.had
-  pub queued : values_of behind.queue ≡ values_put (handed_in walked)
+  pub told : AllTold behind.pass.seen (values_handed (handed_in walked)) kepts
+  pub queued : let handed = handed_in walked in
+      (values_of behind.queue ≡ values_put handed) × (kepts_of behind.queue ≡ words_put handed)
   pub batch : behind.batch ≡ values
   pub drained : Stand
   pub drains : Drains behind drained

@@ -9,7 +9,7 @@ use Rattle.seize_book.specs.Others.{book_of, value_of}
 use Rattle.seize_book.specs.Values.{book_in, values_of}
 use Rattle.seize_book.specs.declared.book.value_key.ValueKey.{ValueKey}
 use Rattle.seize_book.specs.declared.book.value_keys.ValueKeys.{ValueKeys}
-use Rattle.seize_calls.specs.Batches.{kepts_of}
+use Rattle.seize_book.specs.Kept.{kepts_of}
 use Rattle.seize_calls.specs.declared.further.Further.{Further}
 
 abbrev pub further_in : Further → ValueKeys

@@ -1,7 +1,9 @@
 -- What a slot's call does with its slot's batch, and with the further values in its queue.
 --     Stand                  where a call stands: the slot's key, its pass, the keys of the slot's batch and of the queue, and what the
 --                            reclaimer had so far;  stand key pass batch queue had     by what its caller holds
---     Sits a                 all is of one book, the pass has seen what the slot's key knows, and the batch's keys are those of its values
+--     HasBatch key pass values    these are the keys of the values of the slot's batch, and of each the list says what is kept of it
+--     Sits a                 all is of one book, the pass has seen what the slot's key knows, and the batch's keys are those of its values;
+--                            of these, and of the queue's, the list says what is kept
 --     Onward key pass key' pass'     it is the same slot and pass; whether it is in use and active, and its last activation, are as they
 --                            were. The pass has seen what it had seen, and what was added where it is alone was made with it (AddsAlone)
 --     Marking key queue      the slot's call is to read the first head, and has these values in its queue
@@ -34,9 +36,10 @@ use Rattle.seize_book.specs.declared.book.slot_key.SlotKey.{SlotKey}
 use Rattle.seize_book.specs.declared.book.value_keys.ValueKeys.{ValueKeys}
 use Rattle.seize_words.specs.Walks.{Knows}
 use Rattle.seize_calls.specs.Alone.{AddsAlone}
-use Rattle.seize_calls.specs.Batches.{AreRemarked, IsPushed, keys_in, kepts_of}
+use Rattle.seize_book.specs.Kept.{AreTold, kepts_of}
+use Rattle.seize_calls.specs.Batches.{AreRemarked, IsPushed, keys_in}
 use Rattle.seize_calls.specs.Furthers.{further_in}
-use Rattle.seize_calls.specs.Handing.{Had, Handings, HasHad, Queues, TakesFirst, values_handed, values_put}
+use Rattle.seize_calls.specs.Handing.{Had, Handings, HasHad, Queues, TakesFirst, values_handed, values_put, words_put}
 use Rattle.seize_calls.specs.Inserts.{Turn, turns_at}
 use Rattle.seize_calls.specs.Marks.{BeginsToMark, actives, readings}
 use Rattle.seize_calls.specs.Walking.{hands}
@@ -53,11 +56,14 @@ pub record Stand : Type 0 where
 abbrev pub stand : SlotKey → Pass → Batch → Further → Had → Stand
 stand key pass batch queue had = record { key = key; pass = pass; batch = keys_in batch; queue = further_in queue; had = had }
 
+abbrev pub HasBatch : SlotKey → Pass → ValueKeys → Type 0
+HasBatch key pass values = AreOfBook values pass × (values_of values ≡ (slot_of key).batch) × AreTold values pass
+
 pub record Sits (a : Stand) : Type 0 where
   pub its : IsOf a.key a.pass
   pub knows : Knows a.key a.pass
-  pub batch : AreOfBook a.batch a.pass × (values_of a.batch ≡ (slot_of a.key).batch)
-  pub queue : AreOfBook a.queue a.pass
+  pub batch : HasBatch a.key a.pass a.batch
+  pub queue : AreOfBook a.queue a.pass × AreTold a.queue a.pass
 
 pub record Onward (key : SlotKey) (pass : Pass) (key' : SlotKey) (pass' : Pass) : Type 0 where
   pub same : IsSame pass pass'
@@ -91,7 +97,7 @@ pub record Stays (a b : Stand) : Type 0 where
   pub made : events_by b.pass ≡ events_by a.pass ++ readings a.pass (number_of a.key) 0 finds
   pub too_few : (finds ≡ []) ⊎ (length (actives 0 finds) ≡ suc (length (slot_of a.key).batch))
   pub keys : AreRemarked a.batch b.batch
-  pub queued : Queues a.queue [] b.queue
+  pub queued : Queues a.queue [] [] b.queue
   pub had_none : b.had ≡ a.had
 
 pub record Goes (a b : Stand) : Type 0 where
@@ -108,7 +114,7 @@ pub record Goes (a b : Stand) : Type 0 where
       events_by b.pass ≡ ((((before ++ readings a.pass s 0 finds) ++ done a.pass (Detach s)) ++ turns_at a.pass s (actives 0 finds) turns)
       ++ (private a.pass (AddCount s), Count count) ∷ []) ++ hands a.pass s handed
   pub none : IsEmpty b.batch b.pass
-  pub queued : Queues a.queue (values_put handed) b.queue
+  pub queued : Queues a.queue (values_put handed) (words_put handed) b.queue
   pub has_had : HasHad handed (if is_zero count then kepts_of a.batch else []) a.had b.had
 
 -- a batch that is not attempted stays as well, and then no head was read

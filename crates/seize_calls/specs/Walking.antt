@@ -24,8 +24,9 @@ use Rattle.seize_machine.specs.Machine.Next.{is_zero}
 use Rattle.seize_machine.specs.Machine.State.{Rest}
 use Rattle.seize_machine.specs.declared.machine.event.Answer.{Answer}
 use Rattle.seize_machine.specs.declared.machine.event.Answer.TheVariants.{Count, Handed}
-use Rattle.seize_book.specs.Adding.{private}
+use Rattle.seize_book.specs.Adding.{private, telling}
 use Rattle.seize_book.specs.Blocks.{block_of}
+use Rattle.seize_book.specs.Kept.{AllTold, AreTold}
 use Rattle.seize_book.specs.Values.{AreClosed, AreLast, AreOfBook, IsEmpty, Keep, values_of}
 use Rattle.seize_book.specs.Entry.{Deed}
 use Rattle.seize_book.specs.Passes.{events_by}
@@ -34,7 +35,7 @@ use Rattle.seize_words.specs.Walks.{word_for}
 use Rattle.seize_book.specs.declared.book.pass.Pass.{Pass}
 use Rattle.seize_book.specs.declared.book.slot_key.SlotKey.{SlotKey}
 use Rattle.seize_book.specs.declared.book.value_keys.ValueKeys.{ValueKeys}
-use Rattle.seize_calls.specs.Handing.{Had, Handings, HasHad, Queues, values_handed, values_put}
+use Rattle.seize_calls.specs.Handing.{Had, Handings, HasHad, Queues, values_handed, values_put, words_put}
 use Rattle.seize_calls.specs.Inserts.{Keeps}
 use Rattle.seize_calls.specs.declared.walking.Walked.{Walked}
 use Rattle.seize_calls.specs.declared.walking.Walked.TheVariants.{GivesUp, Over}
@@ -46,8 +47,8 @@ abbrev pub countings : Pass → ℕ → List ℤ → List (Deed × Answer)
 countings pass s [] = []
 countings pass s (count ∷ counts) = counting pass s count ∷ countings pass s counts
 
-abbrev pub handing : Pass → ℕ → ℕ × List ℕ → Deed × Answer
-handing pass s one = (private pass (Hand s one.1), Handed one.0)
+abbrev pub handing : Pass → ℕ → ℕ × List ℕ × List ℕ → Deed × Answer
+handing pass s one = (telling pass (Hand s one.1) one.2, Handed one.0)
 
 abbrev pub hands : Pass → ℕ → Handings → List (Deed × Answer)
 hands pass s [] = []
@@ -73,6 +74,7 @@ pub record IsGiven (key : SlotKey) (pass : Pass) (values : ValueKeys) (front : �
   pub keys : Keep values pass values
   pub last : AreLast values pass
   pub closed : AreClosed values
+  pub told : AreTold values pass
 
 -- none of them is 0
 abbrev pub AreHeld : List ℤ → Type 0
@@ -117,10 +119,11 @@ pub record HandsOne (key : SlotKey) (pass : Pass) (v : ℕ) (queue : ValueKeys) 
     (queue' : ValueKeys) : Type 0 where
   pub goes_on : GoesOn key pass key' pass'
   pub puts : List ℕ
-  pub made : events_by pass' ≡ events_by pass ++ hands pass (number_of key) ((v, puts) ∷ [])
+  pub words : List ℕ
+  pub made : events_by pass' ≡ events_by pass ++ hands pass (number_of key) ((v, puts, words) ∷ [])
   pub stands : (given walk waits : List ℕ) → (slot_of key).call ≡ Some (record { place = Rest (v ∷ given) walk; queue = waits })
       → (slot_of key').call ≡ Some (record { place = Rest given walk; queue = waits ++ puts })
-  pub queued : Queues queue puts queue'
+  pub queued : Queues queue puts words queue'
 
 pub record HandsAll {key : SlotKey} {pass : Pass} {values : ValueKeys} {front : ℕ} (given : IsGiven key pass values front)
     (queue : ValueKeys) (key' : SlotKey) (pass' : Pass) (values' queue' : ValueKeys) : Type 0 where
@@ -130,7 +133,7 @@ pub record HandsAll {key : SlotKey} {pass : Pass} {values : ValueKeys} {front : 
   pub made : events_by pass' ≡ events_by pass ++ hands pass (number_of key) handed
   pub walks_on : (slot_of key').call ≡ Some (record { place = Rest [] given.walk; queue = given.queue ++ values_put handed })
   pub none : IsEmpty values' pass'
-  pub queued : Queues queue (values_put handed) queue'
+  pub queued : Queues queue (values_put handed) (words_put handed) queue'
 
 abbrev pub steps : Pass → ℕ → List (ℤ × Handings) → List (Deed × Answer)
 steps pass s [] = []
@@ -146,7 +149,8 @@ pub record WalksAll {key : SlotKey} {word : ℕ} (at : IsAtWalk key word) (pass 
   pub walked : List (ℤ × Handings)
   pub kepts : List ℕ
   pub has_had : HasHad (handed_in walked) kepts had had'
+  pub told : AllTold pass'.seen (values_handed (handed_in walked)) kepts
   pub each : length walked ≡ length at.walk
   pub made : events_by pass' ≡ events_by pass ++ steps pass (number_of key) walked
   pub over : (slot_of key').call ≡ Some (record { place = Rest [] []; queue = at.queue ++ values_put (handed_in walked) })
-  pub queued : Queues queue (values_put (handed_in walked)) queue'
+  pub queued : let handed = handed_in walked in Queues queue (values_put handed) (words_put handed) queue'

@@ -5,11 +5,11 @@ ghost use mathlib.Core.List.{IsPrefix};
 ghost use Rattle.seize_calls.specs.Attempts.{Attempts};
 ghost use Rattle.seize_calls.specs.Batches.{keys_in};
 ghost use Rattle.seize_calls.specs.Marks.{BeginsToMark};
+ghost use Rattle.seize_calls.specs.Settling.{HasBatch};
 ghost use Rattle.seize_words.specs.Chunks.{book_in};
-ghost use Rattle.seize_book.specs.Values.{AreOfBook, values_of};
 ghost use Rattle.seize_book.specs.Passes.{IsSame};
 ghost use Rattle.seize_words.specs.Reserved.{slots_book};
-ghost use Rattle.seize_book.specs.Slots.{IsOf, number_of, own_list, slot_of};
+ghost use Rattle.seize_book.specs.Slots.{IsOf, number_of, own_list};
 ghost use Rattle.seize_words.specs.Walks.{Knows};
 
 use crate::batch::Batch;
@@ -45,7 +45,7 @@ pub fn attempt<T: Drop>(
     requires book { IsOf key.old pass.old × (slots_book slots.now ≡ pass.old.name) × (book_in blocks.now ≡ pass.old.name) }
     requires knows { Knows key.old pass.old }
     requires begins { BeginsToMark key.old }
-    requires batch { AreOfBook (keys_in batch.old) pass.old × (values_of (keys_in batch.old) ≡ (slot_of key.old).batch) }
+    requires batch { HasBatch key.old pass.old (keys_in batch.old) }
     ensures book { IsOf key.new pass.new × IsSame pass.old pass.new × (number_of key.new ≡ number_of key.old) }
     ensures knows { Knows key.new pass.new }
     ensures ends { (at : BeginsToMark key.old) → Attempts at pass.old (keys_in batch.old) key.new pass.new (keys_in batch.new) result }

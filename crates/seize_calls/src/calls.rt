@@ -5,10 +5,10 @@ ghost use Rattle.seize_machine.specs.declared.machine.event.Job.TheVariants.{Lea
 ghost use Rattle.seize_machine.specs.Machine.Event.{SwapOut};
 ghost use Rattle.seize_calls.specs.Calls.{Flushes, HasBegun, IsInside, Leaves, RetiresOne};
 ghost use Rattle.seize_calls.specs.Batches.{keys_in};
+ghost use Rattle.seize_calls.specs.Settling.{HasBatch};
 ghost use Rattle.seize_book.specs.Blocks.{block_of};
 ghost use Rattle.seize_book.specs.Adding.{private};
 ghost use Rattle.seize_words.specs.Chunks.{book_in};
-ghost use Rattle.seize_book.specs.Values.{AreOfBook, values_of};
 ghost use Rattle.seize_machine.specs.Machine.State.{is_idle};
 ghost use Rattle.seize_book.specs.Others.{MayRetire, book_of, value_of};
 ghost use Rattle.seize_words.specs.Reservations.{IsLastOf, IsOfBook, IsOwn, beginning};
@@ -47,7 +47,7 @@ pub fn flush<T: Drop, R: Reclaim<T>>(
     requires book { IsOf key.old pass.old × (slots_book slots.now ≡ pass.old.name) × (book_in blocks.now ≡ pass.old.name) }
     requires inside { IsInside key.old }
     requires size { size ≡ size_of key.old }
-    requires batch { AreOfBook (keys_in batch.old) pass.old × (values_of (keys_in batch.old) ≡ (slot_of key.old).batch) }
+    requires batch { HasBatch key.old pass.old (keys_in batch.old) }
     requires serves { R.serves reclaimer.old (book_in blocks.now) }
     ensures knows { Knows key.new pass.new }
     ensures serves { R.serves reclaimer.new (book_in blocks.now) }
@@ -69,7 +69,8 @@ pub fn flush<T: Drop, R: Reclaim<T>>(
 }
 
 /// Retires the value of this key, which lies in the block of this number: it joins the slot's batch, which is this one, and comes last.
-/// What its owner keeps of it is noted of its block. Where the batch has `size` values or more, which is the size of the book, it is
+/// What its owner keeps of it is noted of its block, and the list says it for good: whoever is given the value hands it to its reclaimer
+/// with this word. Where the batch has `size` values or more, which is the size of the book, it is
 /// attempted. It says whether the batch was retired, with the values that it had then.
 ///
 /// What reclaimers put meanwhile is retired then, one after the other: the batch may have some of these values afterwards. It takes no
@@ -93,7 +94,7 @@ pub fn retire<T: Drop, R: Reclaim<T>>(
     requires idle { is_idle (slot_of key.old) ≡ true }
     requires value { (book_of value ≡ pass.old.name) × MayRetire value × (block_of (value_of value) ≡ number) }
     requires size { size ≡ size_of key.old }
-    requires batch { AreOfBook (keys_in batch.old) pass.old × (values_of (keys_in batch.old) ≡ (slot_of key.old).batch) }
+    requires batch { HasBatch key.old pass.old (keys_in batch.old) }
     requires serves { R.serves reclaimer.old (book_in blocks.now) }
     ensures knows { Knows key.new pass.new }
     ensures serves { R.serves reclaimer.new (book_in blocks.now) }
@@ -102,7 +103,7 @@ pub fn retire<T: Drop, R: Reclaim<T>>(
 {
     let mut queue = Further::new(pass);
     let mut value = value;
-    key.begin_retire(&mut value, pass);
+    key.begin_retire(&mut value, kept, pass);
     let retired = put(
         slots, blocks, batch, size, number, kept, value, &mut queue, key, reclaimer, pass, rt,
     );
@@ -135,7 +136,7 @@ pub fn leave<T: Drop, R: Reclaim<T>>(
     requires inside { IsInside key.old }
     requires last { IsLastOf key.old activation }
     requires size { size ≡ size_of key.old }
-    requires batch { AreOfBook (keys_in batch.old) pass.old × (values_of (keys_in batch.old) ≡ (slot_of key.old).batch) }
+    requires batch { HasBatch key.old pass.old (keys_in batch.old) }
     requires serves { R.serves reclaimer.old (book_in blocks.now) }
     ensures knows { Knows key.new pass.new }
     ensures serves { R.serves reclaimer.new (book_in blocks.now) }
@@ -175,7 +176,7 @@ pub fn refresh<T: Drop, R: Reclaim<T>>(
     requires inside { IsInside key.old }
     requires last { IsLastOf key.old activation.old }
     requires size { size ≡ size_of key.old }
-    requires batch { AreOfBook (keys_in batch.old) pass.old × (values_of (keys_in batch.old) ≡ (slot_of key.old).batch) }
+    requires batch { HasBatch key.old pass.old (keys_in batch.old) }
     requires serves { R.serves reclaimer.old (book_in blocks.now) }
     ensures knows { Knows key.new pass.new }
     ensures last { IsLastOf key.new activation.new }

@@ -27,10 +27,12 @@ pub struct Further {
 impl Further {
     ghost use Rattle.std.specs.Prelude.{◌≢◌, [], is_some};
     ghost use Rattle.seize_machine.specs.Machine.Event.{Hand};
+    ghost use Rattle.seize_book.specs.Adding.{telling};
     ghost use Rattle.seize_book.specs.Books.{IsNextIn};
+    ghost use Rattle.seize_book.specs.Kept.{kepts_of};
     ghost use Rattle.seize_book.specs.Lending.{IsLentKey};
     ghost use Rattle.seize_book.specs.Others.{book_of, value_of};
-    ghost use Rattle.seize_book.specs.Slots.{IsOf, Notes, hands_next, number_of, slot_of};
+    ghost use Rattle.seize_book.specs.Slots.{IsOf, NotesAs, hands_next, number_of, slot_of};
     ghost use Rattle.seize_book.specs.Values.{AreNew, AreOfBook, IsEmpty, Keep};
     ghost use Rattle.seize_calls.specs.Batches.{IsPushed, keys_book};
     ghost use Rattle.seize_calls.specs.Furthers.{IsFirstOut, Joins, further_in};
@@ -105,12 +107,14 @@ impl Further {
         (value, number, note.kept)
     }
 
-    /// The event `Hand`: the value that the slot's call is about to hand goes to its reclaimer, which put these.
+    /// The event `Hand`: the value that the slot's call is about to hand goes to its reclaimer, which put these. It says what is kept of
+    /// each.
     pub(crate) fn hand(&mut self, key: &mut SlotKey, pass: &mut Pass)
         requires book { IsOf key.old pass.old × AreOfBook (further_in self.old) pass.old }
         requires next { is_some (hands_next (slot_of key.old)) ≡ true }
         requires new { AreNew (further_in self.old) }
-        ensures noted { Notes key.old pass.old key.new pass.new (Hand (number_of key.old) (values_of (further_in self.old))) }
+        ensures noted { let hands = Hand (number_of key.old) (values_of (further_in self.old)) in
+            NotesAs key.old pass.old key.new pass.new (telling pass.old hands (kepts_of (further_in self.old))) }
         ensures keys { Keep (further_in self.old) pass.new (further_in self.new) }
     {
         key.hand_with(&mut self.values, pass);

@@ -9,7 +9,7 @@ ghost use Rattle.seize_book.specs.Others.{IsLast, IsValueOf, value_of};
 ghost use Rattle.seize_book.specs.Slots.{IsOf, hands_next, slot_of};
 ghost use Rattle.seize_book.specs.Tokens.{Name};
 ghost use Rattle.seize_book.specs.Values.{AreOfBook, values_of};
-ghost use Rattle.seize_calls.specs.Batches.{kept_noted, kepts_of};
+ghost use Rattle.seize_book.specs.Kept.{AreTold, kept_in, kepts_of};
 ghost use Rattle.seize_calls.specs.Furthers.{further_in};
 ghost use Rattle.seize_calls.specs.Handing.{HasHad, IsServed};
 ghost use Rattle.seize_calls.specs.Walking.{HandsAll, HandsOne, IsGiven};
@@ -22,8 +22,9 @@ use seize_words::book::{Pass, SlotKey, ValueKey, ValueKeys};
 
 /// What becomes of values that nobody can see any more.
 pub trait Reclaim<T> {
-    /// What it had so far: of each value the word that was kept of it, the value's code, and what it put with it, the oldest first.
-    ghost had: { Self → List (ℕ × Gv × List ℕ) };
+    /// What it had so far: of each value the word that was kept of it, the value's code, and what it put with it, the oldest first: values,
+    /// and the words that are kept of these.
+    ghost had: { Self → List (ℕ × Gv × List ℕ × List ℕ) };
 
     /// It may be called for this book: what it holds to put is of that.
     ghost serves: { Self → Name → Type 0 };
@@ -35,7 +36,8 @@ pub trait Reclaim<T> {
     fn reclaim(&mut self, kept: u64, value: T, further: &mut Further, blocks: &Blocks<T>)
         requires serves { serves self.old (book_in blocks.now) }
         requires further { IsServed (further_in further.old) (book_in blocks.now) × (values_of (further_in further.old) ≡ []) }
-        ensures had { had self.new ≡ had self.old ++ (kept, T.row.coded.code value, values_of (further_in further.new)) ∷ [] }
+        ensures had { let puts = further_in further.new in
+            had self.new ≡ had self.old ++ (kept, T.row.coded.code value, values_of puts, kepts_of puts) ∷ [] }
         ensures serves { serves self.new (book_in blocks.now) }
         ensures further { IsServed (further_in further.new) (book_in blocks.now) };
 }
@@ -56,6 +58,7 @@ pub fn hand_one<T: Drop, R: Reclaim<T>>(
 ) -> u64
     requires book { IsValueOf value pass.old × IsOf key.old pass.old × (book_in blocks.now ≡ pass.old.name) }
     requires queue { AreOfBook (further_in queue.old) pass.old }
+    requires told { AreTold (further_in queue.old) pass.old }
     requires knows { Knows key.old pass.old }
     requires soon { hands_next (slot_of key.old) ≡ Some (value_of value) }
     requires last { IsLast value }
@@ -64,7 +67,8 @@ pub fn hand_one<T: Drop, R: Reclaim<T>>(
     ensures book { IsOf key.new pass.new }
     ensures knows { Knows key.new pass.new }
     ensures handed { (one : HandsOne key.old pass.old (value_of value) (further_in queue.old) key.new pass.new (further_in queue.new))
-        × HasHad ((value_of value, one.puts) ∷ []) (kept_noted (noted_in value) ∷ []) (R.had reclaimer.old) (R.had reclaimer.new) }
+        × HasHad ((value_of value, one.puts, one.words) ∷ []) (kept_in (noted_in value) ∷ []) (R.had reclaimer.old) (R.had reclaimer.new) }
+    ensures told { AreTold (further_in queue.new) pass.new }
     ensures serves { R.serves reclaimer.new (book_in blocks.now) }
     ensures next { result ≡ next_in (noted_in value) }
 {
@@ -98,6 +102,7 @@ pub fn hand_all<T: Drop, R: Reclaim<T>>(
 )
     requires book { IsOf key.old pass.old × (book_in blocks.now ≡ pass.old.name) }
     requires queue { AreOfBook (further_in queue.old) pass.old }
+    requires told { AreTold (further_in queue.old) pass.old }
     requires knows { Knows key.old pass.old }
     requires given { IsGiven key.old pass.old values.old front }
     requires serves { R.serves reclaimer.old (book_in blocks.now) }
@@ -105,6 +110,7 @@ pub fn hand_all<T: Drop, R: Reclaim<T>>(
     ensures handed { (given : IsGiven key.old pass.old values.old front)
         → (all : HandsAll given (further_in queue.old) key.new pass.new values.new (further_in queue.new))
         × HasHad all.handed (kepts_of values.old) (R.had reclaimer.old) (R.had reclaimer.new) }
+    ensures told { AreTold (further_in queue.new) pass.new }
     ensures serves { R.serves reclaimer.new (book_in blocks.now) }
 {
     let mut number = front;

@@ -2,6 +2,7 @@
 //! reclaimers put joins the call's queue. Others may add any events meanwhile.
 ghost use Rattle.std.specs.Prelude.{◌≡◌};
 ghost use Rattle.seize_book.specs.Blocks.{block_of};
+ghost use Rattle.seize_book.specs.Kept.{IsTold};
 ghost use Rattle.seize_book.specs.Others.{IsValueOf, value_of};
 ghost use Rattle.seize_book.specs.Slots.{size_of};
 ghost use Rattle.seize_calls.specs.Furthers.{further_in};
@@ -88,6 +89,7 @@ pub fn put<T: Drop, R: Reclaim<T>>(
     requires sits { Sits (stand key.old pass.old batch.old queue.old (R.had reclaimer.old)) }
     requires next { MayPut key.old (value_of value) (further_in queue.old) }
     requires value { IsValueOf value pass.old × (block_of (value_of value) ≡ number) }
+    requires told { IsTold pass.old.seen (value_of value) kept }
     requires serves { R.serves reclaimer.old (book_in blocks.now) }
     ensures sits { Sits (stand key.new pass.new batch.new queue.new (R.had reclaimer.new)) }
     ensures serves { R.serves reclaimer.new (book_in blocks.now) }

@@ -4,6 +4,7 @@ ghost use Rattle.std.specs.Prelude.{◌≡◌};
 ghost use Rattle.seize_calls.specs.Walking.{IsAtWalk, WalksAll, WalksTo};
 ghost use Rattle.seize_words.specs.Chunks.{book_in};
 ghost use Rattle.seize_book.specs.Slots.{IsOf};
+ghost use Rattle.seize_book.specs.Kept.{AreTold};
 ghost use Rattle.seize_book.specs.Values.{AreOfBook, IsEmpty};
 ghost use Rattle.seize_calls.specs.Furthers.{further_in};
 ghost use Rattle.seize_words.specs.Walks.{Knows};
@@ -66,6 +67,7 @@ pub fn walk_all<T: Drop, R: Reclaim<T>>(
 )
     requires book { IsOf key.old pass.old × (book_in blocks.now ≡ pass.old.name) }
     requires queue { AreOfBook (further_in queue.old) pass.old }
+    requires told { AreTold (further_in queue.old) pass.old }
     requires knows { Knows key.old pass.old }
     requires at { IsAtWalk key.old word }
     requires serves { R.serves reclaimer.old (book_in blocks.now) }
@@ -73,6 +75,7 @@ pub fn walk_all<T: Drop, R: Reclaim<T>>(
     ensures knows { Knows key.new pass.new }
     ensures walks { (at : IsAtWalk key.old word) → let had = R.had reclaimer.old in let had' = R.had reclaimer.new in
         WalksAll at pass.old (further_in queue.old) had key.new pass.new (further_in queue.new) had' }
+    ensures told { AreTold (further_in queue.new) pass.new }
     ensures serves { R.serves reclaimer.new (book_in blocks.now) }
 {
     let mut values = ValueKeys::new(pass);

@@ -52,7 +52,7 @@ pub use Rattle.seize_book.proofs.Linked.{closed_after, none_joined, parted_joine
 pub use Rattle.seize_book.proofs.Firsts.{noted_one, one_label, others_closed, others_know, own_is, unchanged_last, unchanged_value}
 pub use Rattle.seize_book.proofs.Values.{labels_append}
 -- what the list says is kept of values: of keys that are put together or apart, and of those that were retired or put
-pub use Rattle.seize_book.proofs.Kept.{alike_told, all_told_later, all_told_renewed, both_told, none_told, put_told, retired_told, told_apart, told_later}
+pub use Rattle.seize_book.proofs.Kept.{alike_told, all_of_told, all_told_append, all_told_grow, all_told_later, all_told_renewed, both_told, first_told, joined_told, none_told, pushed_told, put_told, retired_told, told_apart, told_later}
 -- the blocks of a store have cells for notes, and what was noted there is what is read
 pub use Rattle.seize_words.proofs.Noted.{blocks_stored, noted_back, same_note}
 -- with a value that was named something is lent, if the blocks of its book lie in a store
@@ -70,10 +70,13 @@ use Rattle.seize_words.specs.declared.glimpse.Glimpse.{Glimpse}
 use Rattle.seize_words.specs.declared.link.Link.{Link}
 
 -- what was made with a pass has grown by the event and its answer
+deed_grew : (pass pass' : Pass) (d : Deed) → IsSame pass pass' → (noted : Noted pass.name pass.id pass.seen pass'.seen (Made d)) → mine_of pass' ≡ mine_of pass ++ (Made d, noted.answer) ∷ []
+deed_grew pass pass' d same noted =
+    ap (λ (n : Name). mine (start n) pass'.id pass'.seen) same.0 ∙ ap (λ (p : ℕ). mine (start pass.name) p pass'.seen) same.1 ∙ noted.made
+
 pub grew : (pass pass' : Pass) (event : Event) → IsSame pass pass' → (noted : Noted pass.name pass.id pass.seen pass'.seen (Made (private pass event)))
     → mine_of pass' ≡ mine_of pass ++ (Made (private pass event), noted.answer) ∷ []
-grew pass pass' event same noted =
-    ap (λ (n : Name). mine (start n) pass'.id pass'.seen) same.0 ∙ ap (λ (p : ℕ). mine (start pass.name) p pass'.seen) same.1 ∙ noted.made
+grew pass pass' event same noted = deed_grew pass pass' (private pass event) same noted
 
 -- and so have the events made with it, while a use of a field leaves them as they were
 
@@ -82,9 +85,12 @@ events_append [] ys = refl
 events_append ((Made d, answer) ∷ xs) ys = ap (λ (made : List (Deed × Answer)). (d, answer) ∷ made) (events_append xs ys)
 events_append ((Used u, answer) ∷ xs) ys = events_append xs ys
 
+pub deeds_grew : (pass pass' : Pass) (d : Deed) → IsSame pass pass' → (noted : Noted pass.name pass.id pass.seen pass'.seen (Made d)) → events_by pass' ≡ events_by pass ++ (d, noted.answer) ∷ []
+deeds_grew pass pass' d same noted = ap events_in (deed_grew pass pass' d same noted) ∙ events_append (mine_of pass) ((Made d, noted.answer) ∷ [])
+
 pub events_grew : (pass pass' : Pass) (event : Event) → IsSame pass pass' → (noted : Noted pass.name pass.id pass.seen pass'.seen (Made (private pass event)))
     → events_by pass' ≡ events_by pass ++ (private pass event, noted.answer) ∷ []
-events_grew pass pass' event same noted = ap events_in (grew pass pass' event same noted) ∙ events_append (mine_of pass) ((Made (private pass event), noted.answer) ∷ [])
+events_grew pass pass' event same noted = deeds_grew pass pass' (private pass event) same noted
 
 pub events_same : (key key' : SlotKey) (pass pass' : Pass) (f v : ℕ) → Uses key pass key' pass' f v → events_by pass' ≡ events_by pass
 events_same key key' pass pass' f v uses =

@@ -14,7 +14,7 @@ use Rattle.seize_machine.specs.Machine.Next.{are_fresh, next, set_slot}
 use Rattle.seize_machine.specs.declared.machine.event.Answer.{Answer}
 use Rattle.seize_machine.specs.declared.machine.event.Answer.TheVariants.{Handed}
 use Rattle.seize_machine.proofs.Facts.{Stands, Step, next_of, some_is, step_of}
-use Rattle.seize_book.specs.Adding.{private}
+use Rattle.seize_book.specs.Adding.{private, telling}
 use Rattle.seize_machine.specs.Machine.Laws.{IsHeld, Walks, walk_of}
 use Rattle.seize_book.specs.Blocks.{Plan, block_for, block_of, front_of, no_plan, plans}
 use Rattle.seize_book.specs.Book.{IsLegalList, after, slots}
@@ -218,9 +218,9 @@ fresh_of : (size : ℕ) (st : State) (s : ℕ) (puts : List ℕ) (d : State × A
 fresh_of size _ _ _ _ (Step.handed s v puts given walk queue stands fresh) = fresh
 
 -- a value that goes to its reclaimer leaves the walk, and those that its reclaimer puts join the queue
-pub hand_leaves : (key key' : SlotKey) (pass pass' : Pass) (puts given walk queue : List ℕ) (v : ℕ) → Notes key pass key' pass' (Hand (number_of key) puts)
+pub hand_leaves : (key key' : SlotKey) (pass pass' : Pass) (puts kepts given walk queue : List ℕ) (v : ℕ) → NotesAs key pass key' pass' (telling pass (Hand (number_of key) puts) kepts)
     → (slot_of key).call ≡ Some (record { place = Rest (v ∷ given) walk; queue = queue }) → (slot_of key').call ≡ Some (record { place = Rest given walk; queue = queue ++ puts })
-hand_leaves key key' pass pass' puts given walk queue v notes stands =
+hand_leaves key key' pass pass' puts kepts given walk queue v notes stands =
     let s = number_of key in let noted = notes.2.0 in let moves = notes.2.1 in let st : State = after (start_of key) noted.before in
     let here : Stands st s (Rest (v ∷ given) walk) queue = ap (λ (slot : Slot). slot.call) moves.was ∙ stands in
     let fresh = fresh_of (size_of key) st s puts (noted.later, noted.answer) (step_of _ _ _ _ moves.legal) in
@@ -238,6 +238,6 @@ batch_next key key' pass pass' puts walk queue v batch word book knows notes sta
       batch = batch;
       walk = walk;
       queue = queue ++ puts;
-      walking = hand_leaves key key' pass pass' puts [] (batch ∷ walk) queue v notes stands;
+      walking = hand_leaves key key' pass pass' puts [] [] (batch ∷ walk) queue v notes stands;
       leads = leads ∙ walk_kept key key' pass pass' (private pass (Hand (number_of key) puts)) (v ∷ []) (batch ∷ walk) queue book knows notes stands;
     }

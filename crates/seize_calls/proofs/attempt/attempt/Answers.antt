@@ -7,7 +7,7 @@ use Rattle.seize_book.specs.Slots.{number_of}
 use Rattle.seize_words.proofs.Facts.{knows_noted}
 use Rattle.seize_calls.specs.Batches.{AreRemarked, keys_in, spots_in, unslotted}
 use Rattle.seize_calls.specs.Numbered.{counted, ends_at, starts_at}
-use Rattle.seize_calls.proofs.Attempts.{adds, book_one, book_three, has_front, inserts, its_last, its_values, retires, same_last, same_one, stays_so, values_are}
+use Rattle.seize_calls.proofs.Attempts.{adds, book_one, book_three, has_front, inserts, its_last, its_values, retires, same_last, same_one, stays_so, told_three, values_are}
 use Rattle.seize_calls.proofs.Batches.{remarked_labels, renewed_labels}
 use Rattle.seize_calls.proofs.attempt.attempt.Goals as goal
 
@@ -63,6 +63,14 @@ add-requires-clause-adds g c =
     let key = c.mark.new.key in let pass = c.mark.new.pass in let ready = c.in-Ready in let held = c.mark.new.batch.values.keys.held in let front = c.mark.new.batch.first in
     let are = remarked_labels held c.args.batch.now.values.keys.held ready.ensures.batch.1 ∙ c.requires.batch.1 in
     (adds c.args.key.now at c.args.pass.now key pass held front ready.marked (ready.ensures.marks at) ready.ensures.book.0 ready.ensures.knows ready.ensures.book.1 (ready.ensures.book.0 ∙ ready.ensures.book.1.0 ∙ sym c.requires.book.0, ready.ensures.book.2) are c.mark.new.batch.front c.detach.new.self c.detach.new.pass c.detach.ensures.noted c.detach.ensures.batch c.insert_each-won.new.key c.insert_each-won.new.pass c.insert_each-won.result (c.insert_each-won.ensures.all (inserts c.args.key.now at c.args.pass.now key pass held front ready.marked (ready.ensures.marks at) ready.ensures.book.0 ready.ensures.knows ready.ensures.book.1 (ready.ensures.book.0 ∙ ready.ensures.book.1.0 ∙ sym c.requires.book.0, ready.ensures.book.2) are c.mark.new.batch.front c.detach.new.self c.detach.new.pass c.detach.ensures.noted c.detach.ensures.batch)) c.insert_each-won.ensures.knows c.header-header.new.pass c.header-header.result.now c.header-header.ensures.looks c.header-header.ensures.header, ap labels_of c.insert_each-won.ensures.batch.1 ∙ are ∙ sym (values_are c.args.key.now at c.args.pass.now key pass held front ready.marked (ready.ensures.marks at) ready.ensures.book.0 ready.ensures.knows ready.ensures.book.1 (ready.ensures.book.0 ∙ ready.ensures.book.1.0 ∙ sym c.requires.book.0, ready.ensures.book.2) are c.mark.new.batch.front c.detach.new.self c.detach.new.pass c.detach.ensures.noted c.detach.ensures.batch c.insert_each-won.new.key c.insert_each-won.new.pass c.insert_each-won.result (c.insert_each-won.ensures.all (inserts c.args.key.now at c.args.pass.now key pass held front ready.marked (ready.ensures.marks at) ready.ensures.book.0 ready.ensures.knows ready.ensures.book.1 (ready.ensures.book.0 ∙ ready.ensures.book.1.0 ∙ sym c.requires.book.0, ready.ensures.book.2) are c.mark.new.batch.front c.detach.new.self c.detach.new.pass c.detach.ensures.noted c.detach.ensures.batch)) c.insert_each-won.ensures.knows c.header-header.new.pass c.header-header.result.now c.header-header.ensures.looks c.header-header.ensures.header), c.insert_each-won.new.batch.closed)
+
+pub add-requires-clause-told : goal.add-requires-clause-told
+add-requires-clause-told g c =
+    let at = c.requires.begins in
+    let key = c.mark.new.key in let pass = c.mark.new.pass in let ready = c.in-Ready in let held = c.mark.new.batch.values.keys.held in let front = c.mark.new.batch.first in
+    let are = remarked_labels held c.args.batch.now.values.keys.held ready.ensures.batch.1 ∙ c.requires.batch.1 in
+    let remarked : AreRemarked (keys_in c.args.batch.now) c.insert_each-won.new.batch.values = (c.insert_each-won.ensures.batch.0 ∙ ready.ensures.batch.0, ap unslotted c.insert_each-won.ensures.batch.1 ∙ ready.ensures.batch.1) in
+    told_three c.args.key.now at c.args.pass.now key pass held front ready.marked (ready.ensures.marks at) ready.ensures.book.0 ready.ensures.knows ready.ensures.book.1 (ready.ensures.book.0 ∙ ready.ensures.book.1.0 ∙ sym c.requires.book.0, ready.ensures.book.2) are c.mark.new.batch.front c.detach.new.self c.detach.new.pass c.detach.ensures.noted c.detach.ensures.batch c.insert_each-won.new.key c.insert_each-won.new.pass c.insert_each-won.result (c.insert_each-won.ensures.all (inserts c.args.key.now at c.args.pass.now key pass held front ready.marked (ready.ensures.marks at) ready.ensures.book.0 ready.ensures.knows ready.ensures.book.1 (ready.ensures.book.0 ∙ ready.ensures.book.1.0 ∙ sym c.requires.book.0, ready.ensures.book.2) are c.mark.new.batch.front c.detach.new.self c.detach.new.pass c.detach.ensures.noted c.detach.ensures.batch)) c.insert_each-won.ensures.knows c.header-header.new.pass c.header-header.result.now c.header-header.ensures.looks c.header-header.ensures.header (keys_in c.args.batch.now) c.insert_each-won.new.batch.values remarked c.requires.batch.2
 
 -- the same values
 pub invariant_of-batch : goal.invariant_of-batch

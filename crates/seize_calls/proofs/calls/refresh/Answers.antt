@@ -15,6 +15,7 @@ use Rattle.seize_calls.specs.Settling.{stand}
 use Rattle.seize_book.specs.Entry.{Entry}
 use Rattle.seize_book.specs.Laws.{life}
 use Rattle.seize_calls.proofs.Events.{begins_so, call_begun, keeps_returned, refresh_so}
+use Rattle.seize_calls.proofs.Whole.{none_queued}
 use Rattle.seize_calls.proofs.Leaving.{at_walk, has_left, walked_over, walked_sits}
 use Rattle.seize_calls.proofs.Onwards.{keeps_onward, onward_twice}
 use Rattle.seize_calls.proofs.Whole.{begun_notes, is_over}
@@ -28,33 +29,33 @@ begin_refresh-requires-clause-book g c = c.requires.book.0 ∙ sym (ap (λ (p : 
 pub refresh-word-requires-clause-book : goal.refresh-word-requires-clause-book
 refresh-word-requires-clause-book g c =
     let key = c.args.key.now in let pass = c.args.pass.now in let one = c.begin_refresh.new.self in let pass1 = c.begin_refresh.new.pass in let made = c.new-queue in let queue = further_in made.result in let had = g.R.Reclaim.had c.args.reclaimer.now in
-    let notes = begun_notes key one made.new.pass pass pass1 (Begin (number_of key) Refresh) made.ensures.1 c.begin_refresh.ensures.noted in let none = ap labels_of made.ensures.0.1 in
+    let notes = begun_notes key one made.new.pass pass pass1 (Begin (number_of key) Refresh) [] made.ensures.1 c.begin_refresh.ensures.noted in let none = ap labels_of made.ensures.0.1 in
     let call : Call = record { place = Out true; queue = [] } in let so = refresh_so key one pass pass1 notes in
-    let begins = begins_so key one pass pass1 Refresh notes call so in let out = call_begun key one pass pass1 Refresh notes call so in
+    let begins = begins_so key one pass pass1 Refresh [] notes call so in let out = call_begun key one pass pass1 Refresh [] notes call so in
     let keeps = begins.keeps in (keeps.its.0 ∙ (c.requires.book.0 ∙ sym keeps.same.0), c.requires.book.1 ∙ sym keeps.same.0, c.requires.book.2 ∙ sym keeps.its.1)
 
 pub refresh-word-requires-clause-refreshing : goal.refresh-word-requires-clause-refreshing
 refresh-word-requires-clause-refreshing g c =
     let key = c.args.key.now in let pass = c.args.pass.now in let one = c.begin_refresh.new.self in let pass1 = c.begin_refresh.new.pass in let made = c.new-queue in let queue = further_in made.result in let had = g.R.Reclaim.had c.args.reclaimer.now in
-    let notes = begun_notes key one made.new.pass pass pass1 (Begin (number_of key) Refresh) made.ensures.1 c.begin_refresh.ensures.noted in let none = ap labels_of made.ensures.0.1 in
+    let notes = begun_notes key one made.new.pass pass pass1 (Begin (number_of key) Refresh) [] made.ensures.1 c.begin_refresh.ensures.noted in let none = ap labels_of made.ensures.0.1 in
     let call : Call = record { place = Out true; queue = [] } in let so = refresh_so key one pass pass1 notes in
-    let begins = begins_so key one pass pass1 Refresh notes call so in let out = call_begun key one pass pass1 Refresh notes call so in
+    let begins = begins_so key one pass pass1 Refresh [] notes call so in let out = call_begun key one pass pass1 Refresh [] notes call so in
     ([], out)
 
 pub refresh-word-requires-clause-last : goal.refresh-word-requires-clause-last
 refresh-word-requires-clause-last g c =
     let key = c.args.key.now in let pass = c.args.pass.now in let one = c.begin_refresh.new.self in let pass1 = c.begin_refresh.new.pass in let made = c.new-queue in let queue = further_in made.result in let had = g.R.Reclaim.had c.args.reclaimer.now in
-    let notes = begun_notes key one made.new.pass pass pass1 (Begin (number_of key) Refresh) made.ensures.1 c.begin_refresh.ensures.noted in let none = ap labels_of made.ensures.0.1 in
+    let notes = begun_notes key one made.new.pass pass pass1 (Begin (number_of key) Refresh) [] made.ensures.1 c.begin_refresh.ensures.noted in let none = ap labels_of made.ensures.0.1 in
     let call : Call = record { place = Out true; queue = [] } in let so = refresh_so key one pass pass1 notes in
-    let begins = begins_so key one pass pass1 Refresh notes call so in let out = call_begun key one pass pass1 Refresh notes call so in
+    let begins = begins_so key one pass pass1 Refresh [] notes call so in let out = call_begun key one pass pass1 Refresh [] notes call so in
     let last = c.requires.last in (last.0 ∙ sym begins.keeps.its.0, last.1 ∙ sym begins.keeps.its.1, last.2 ∙ sym begins.keeps.life)
 
 pub walk_all-requires : goal.walk_all-requires
 walk_all-requires g c =
     let key = c.args.key.now in let pass = c.args.pass.now in let one = c.begin_refresh.new.self in let pass1 = c.begin_refresh.new.pass in let made = c.new-queue in let queue = further_in made.result in let had = g.R.Reclaim.had c.args.reclaimer.now in
-    let notes = begun_notes key one made.new.pass pass pass1 (Begin (number_of key) Refresh) made.ensures.1 c.begin_refresh.ensures.noted in let none = ap labels_of made.ensures.0.1 in
+    let notes = begun_notes key one made.new.pass pass pass1 (Begin (number_of key) Refresh) [] made.ensures.1 c.begin_refresh.ensures.noted in let none = ap labels_of made.ensures.0.1 in
     let call : Call = record { place = Out true; queue = [] } in let so = refresh_so key one pass pass1 notes in
-    let begins = begins_so key one pass pass1 Refresh notes call so in let out = call_begun key one pass pass1 Refresh notes call so in
+    let begins = begins_so key one pass pass1 Refresh [] notes call so in let out = call_begun key one pass pass1 Refresh [] notes call so in
     let swap = c.refresh-word in let two = swap.new.key in let pass2 = swap.new.pass in let noted = swap.ensures.noted in let named = noted.0.0 ∙ begins.keeps.same.0 in
     let at = at_walk key one two pass pass1 pass2 Refresh true swap.new.activation.life begins c.requires.inside.1 out noted c.args.head.now swap.result (swap.ensures.walks ([], out)) c.requires.book.2 in (
       lit< tt,
@@ -62,7 +63,10 @@ walk_all-requires g c =
         (noted.1.0 ∙ begins.keeps.its.0 ∙ c.requires.book.0 ∙ sym named, c.requires.words.1 ∙ sym named),
         (
           made.ensures.0.0 ∙ sym named,
-          (knows_noted one two pass1 pass2 (beginning pass1 swap.new.activation.life (SwapOut (number_of one))) noted, (at, c.requires.serves)),
+          (
+            none_queued queue pass2 made.ensures.0.1,
+            (knows_noted one two pass1 pass2 (beginning pass1 swap.new.activation.life (SwapOut (number_of one))) noted, (at, c.requires.serves)),
+          ),
         ),
       ),
     )
@@ -70,9 +74,9 @@ walk_all-requires g c =
 pub drain-requires : goal.drain-requires
 drain-requires g c =
     let key = c.args.key.now in let pass = c.args.pass.now in let one = c.begin_refresh.new.self in let pass1 = c.begin_refresh.new.pass in let made = c.new-queue in let queue = further_in made.result in let had = g.R.Reclaim.had c.args.reclaimer.now in
-    let notes = begun_notes key one made.new.pass pass pass1 (Begin (number_of key) Refresh) made.ensures.1 c.begin_refresh.ensures.noted in let none = ap labels_of made.ensures.0.1 in
+    let notes = begun_notes key one made.new.pass pass pass1 (Begin (number_of key) Refresh) [] made.ensures.1 c.begin_refresh.ensures.noted in let none = ap labels_of made.ensures.0.1 in
     let call : Call = record { place = Out true; queue = [] } in let so = refresh_so key one pass pass1 notes in
-    let begins = begins_so key one pass pass1 Refresh notes call so in let out = call_begun key one pass pass1 Refresh notes call so in
+    let begins = begins_so key one pass pass1 Refresh [] notes call so in let out = call_begun key one pass pass1 Refresh [] notes call so in
     let swap = c.refresh-word in let two = swap.new.key in let pass2 = swap.new.pass in let noted = swap.ensures.noted in let named = noted.0.0 ∙ begins.keeps.same.0 in
     let at = at_walk key one two pass pass1 pass2 Refresh true swap.new.activation.life begins c.requires.inside.1 out noted c.args.head.now swap.result (swap.ensures.walks ([], out)) c.requires.book.2 in
     let walk = c.walk_all in let three = walk.new.key in let pass3 = walk.new.pass in let queue3 = further_in walk.new.queue in let had3 = g.R.Reclaim.had walk.new.reclaimer in let values = c.args.batch.now.values in let all = walk.ensures.walks at in
@@ -83,8 +87,8 @@ drain-requires g c =
         (
           c.requires.size ∙ ap (λ (n : Name). n.size) (sym (all.goes_on.0.its.0 ∙ (noted.1.0 ∙ begins.keeps.its.0))),
           (
-            walked_sits key one two pass pass1 pass2 Refresh true swap.new.activation.life begins c.requires.inside.1 out noted c.args.head.now swap.result (swap.ensures.walks ([], out)) c.requires.book.2 three pass3 values queue queue3 had had3 none all c.requires.book.0 walk.ensures.knows c.requires.batch made.ensures.0.0,
-            (walked_over key one two pass pass1 pass2 Refresh true swap.new.activation.life begins c.requires.inside.1 out noted c.args.head.now swap.result (swap.ensures.walks ([], out)) c.requires.book.2 three pass3 values queue queue3 had had3 none all, walk.ensures.serves),
+            walked_sits key one two pass pass1 pass2 Refresh true swap.new.activation.life begins c.requires.inside.1 out noted c.args.head.now swap.result (swap.ensures.walks ([], out)) c.requires.book.2 three pass3 values queue queue3 had had3 made.ensures.0.1 all c.requires.book.0 walk.ensures.knows c.requires.batch made.ensures.0 walk.ensures.told,
+            (walked_over key one two pass pass1 pass2 Refresh true swap.new.activation.life begins c.requires.inside.1 out noted c.args.head.now swap.result (swap.ensures.walks ([], out)) c.requires.book.2 three pass3 values queue queue3 had had3 made.ensures.0.1 all, walk.ensures.serves),
           ),
         ),
       ),
@@ -102,21 +106,21 @@ returns-clause-knows g c = let key = c.drain.new.key in let pass = c.drain.new.p
 pub returns-clause-leaves : goal.returns-clause-leaves
 returns-clause-leaves g c =
     let key = c.args.key.now in let pass = c.args.pass.now in let one = c.begin_refresh.new.self in let pass1 = c.begin_refresh.new.pass in let made = c.new-queue in let queue = further_in made.result in let had = g.R.Reclaim.had c.args.reclaimer.now in
-    let notes = begun_notes key one made.new.pass pass pass1 (Begin (number_of key) Refresh) made.ensures.1 c.begin_refresh.ensures.noted in let none = ap labels_of made.ensures.0.1 in
+    let notes = begun_notes key one made.new.pass pass pass1 (Begin (number_of key) Refresh) [] made.ensures.1 c.begin_refresh.ensures.noted in let none = ap labels_of made.ensures.0.1 in
     let call : Call = record { place = Out true; queue = [] } in let so = refresh_so key one pass pass1 notes in
-    let begins = begins_so key one pass pass1 Refresh notes call so in let out = call_begun key one pass pass1 Refresh notes call so in
+    let begins = begins_so key one pass pass1 Refresh [] notes call so in let out = call_begun key one pass pass1 Refresh [] notes call so in
     let swap = c.refresh-word in let two = swap.new.key in let pass2 = swap.new.pass in let noted = swap.ensures.noted in let named = noted.0.0 ∙ begins.keeps.same.0 in
     let at = at_walk key one two pass pass1 pass2 Refresh true swap.new.activation.life begins c.requires.inside.1 out noted c.args.head.now swap.result (swap.ensures.walks ([], out)) c.requires.book.2 in
     let walk = c.walk_all in let three = walk.new.key in let pass3 = walk.new.pass in let queue3 = further_in walk.new.queue in let had3 = g.R.Reclaim.had walk.new.reclaimer in let values = c.args.batch.now.values in let all = walk.ensures.walks at in
     let drain = c.drain in let d = stand drain.new.key drain.new.pass drain.new.batch drain.new.queue (g.R.Reclaim.had drain.new.reclaimer) in let on = drain.ensures.on in let last = c.finish in
-    has_left key one two pass pass1 pass2 Refresh true swap.new.activation.life begins c.requires.inside.1 out noted c.args.head.now swap.result (swap.ensures.walks ([], out)) c.requires.book.2 three pass3 values queue queue3 had had3 none all d drain.ensures.drains on drain.ensures.sits drain.ensures.over.1 last.new.self last.new.pass last.ensures.noted
+    has_left key one two pass pass1 pass2 Refresh true swap.new.activation.life begins c.requires.inside.1 out noted c.args.head.now swap.result (swap.ensures.walks ([], out)) c.requires.book.2 three pass3 values queue queue3 had had3 made.ensures.0.1 all d drain.ensures.drains on drain.ensures.sits drain.ensures.over.1 last.new.self last.new.pass last.ensures.noted
 
 pub returns-clause-last : goal.returns-clause-last
 returns-clause-last g c =
     let key = c.args.key.now in let pass = c.args.pass.now in let one = c.begin_refresh.new.self in let pass1 = c.begin_refresh.new.pass in let made = c.new-queue in let queue = further_in made.result in let had = g.R.Reclaim.had c.args.reclaimer.now in
-    let notes = begun_notes key one made.new.pass pass pass1 (Begin (number_of key) Refresh) made.ensures.1 c.begin_refresh.ensures.noted in let none = ap labels_of made.ensures.0.1 in
+    let notes = begun_notes key one made.new.pass pass pass1 (Begin (number_of key) Refresh) [] made.ensures.1 c.begin_refresh.ensures.noted in let none = ap labels_of made.ensures.0.1 in
     let call : Call = record { place = Out true; queue = [] } in let so = refresh_so key one pass pass1 notes in
-    let begins = begins_so key one pass pass1 Refresh notes call so in let out = call_begun key one pass pass1 Refresh notes call so in
+    let begins = begins_so key one pass pass1 Refresh [] notes call so in let out = call_begun key one pass pass1 Refresh [] notes call so in
     let swap = c.refresh-word in let two = swap.new.key in let pass2 = swap.new.pass in let noted = swap.ensures.noted in let named = noted.0.0 ∙ begins.keeps.same.0 in
     let at = at_walk key one two pass pass1 pass2 Refresh true swap.new.activation.life begins c.requires.inside.1 out noted c.args.head.now swap.result (swap.ensures.walks ([], out)) c.requires.book.2 in
     let walk = c.walk_all in let three = walk.new.key in let pass3 = walk.new.pass in let queue3 = further_in walk.new.queue in let had3 = g.R.Reclaim.had walk.new.reclaimer in let values = c.args.batch.now.values in let all = walk.ensures.walks at in
@@ -128,9 +132,9 @@ returns-clause-last g c =
 pub returns-clause-begun : goal.returns-clause-begun
 returns-clause-begun g c =
     let key = c.args.key.now in let pass = c.args.pass.now in let one = c.begin_refresh.new.self in let pass1 = c.begin_refresh.new.pass in let made = c.new-queue in let queue = further_in made.result in let had = g.R.Reclaim.had c.args.reclaimer.now in
-    let notes = begun_notes key one made.new.pass pass pass1 (Begin (number_of key) Refresh) made.ensures.1 c.begin_refresh.ensures.noted in let none = ap labels_of made.ensures.0.1 in
+    let notes = begun_notes key one made.new.pass pass pass1 (Begin (number_of key) Refresh) [] made.ensures.1 c.begin_refresh.ensures.noted in let none = ap labels_of made.ensures.0.1 in
     let call : Call = record { place = Out true; queue = [] } in let so = refresh_so key one pass pass1 notes in
-    let begins = begins_so key one pass pass1 Refresh notes call so in let out = call_begun key one pass pass1 Refresh notes call so in
+    let begins = begins_so key one pass pass1 Refresh [] notes call so in let out = call_begun key one pass pass1 Refresh [] notes call so in
     let swap = c.refresh-word in let two = swap.new.key in let pass2 = swap.new.pass in let noted = swap.ensures.noted in let named = noted.0.0 ∙ begins.keeps.same.0 in
     let at = at_walk key one two pass pass1 pass2 Refresh true swap.new.activation.life begins c.requires.inside.1 out noted c.args.head.now swap.result (swap.ensures.walks ([], out)) c.requires.book.2 in
     let walk = c.walk_all in let three = walk.new.key in let pass3 = walk.new.pass in let queue3 = further_in walk.new.queue in let had3 = g.R.Reclaim.had walk.new.reclaimer in let values = c.args.batch.now.values in let all = walk.ensures.walks at in

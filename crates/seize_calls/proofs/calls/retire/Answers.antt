@@ -1,13 +1,14 @@
-use Rattle.std.proofs.Common.{◌≡◌, ℕ, lit<, refl, sym, ap, subst, ◌∙◌}
+use Rattle.std.proofs.Common.{[], ◌∷◌, ◌≡◌, ℕ, lit<, refl, sym, ap, subst, ◌∙◌}
 use Rattle.seize_machine.specs.Machine.Event.{Begin, Return}
 use Rattle.seize_machine.specs.declared.machine.event.Job.TheVariants.{Retire}
-use Rattle.seize_book.specs.Adding.{private}
+use Rattle.seize_book.specs.Adding.{private, telling}
 use Rattle.seize_book.specs.Blocks.{block_of}
 use Rattle.seize_book.specs.Others.{value_of}
 use Rattle.seize_book.specs.Private.{label_of, labels_of}
 use Rattle.seize_book.specs.Slots.{number_of}
 use Rattle.seize_book.specs.Tokens.{Name}
-use Rattle.seize_words.proofs.Facts.{knows_noted}
+use Rattle.seize_book.specs.Kept.{IsTold}
+use Rattle.seize_words.proofs.Facts.{knows_noted, retired_told}
 use Rattle.seize_book.specs.declared.book.pass.Pass.{Pass}
 use Rattle.seize_calls.specs.Furthers.{further_in}
 use Rattle.seize_calls.specs.Settling.{MayPut, Round, stand}
@@ -24,9 +25,9 @@ begin_retire-requires-clause-book g c = let same = sym (ap (λ (p : Pass). p.nam
 pub put-retired-requires : goal.put-retired-requires
 put-retired-requires g c =
     let key = c.args.key.now in let pass = c.args.pass.now in let one = c.begin_retire.new.self in let pass1 = c.begin_retire.new.pass in let made = c.new-queue in let queue = further_in made.result in let had = g.R.Reclaim.had c.args.reclaimer.now in
-    let v = value_of c.args.value in let event = Begin (number_of key) (Retire v) in let notes = begun_notes key one made.new.pass pass pass1 event made.ensures.1 c.begin_retire.ensures.noted in let begins = retire_begins key one pass pass1 v notes in
+    let v = value_of c.args.value in let event = Begin (number_of key) (Retire v) in let notes = begun_notes key one made.new.pass pass pass1 event (c.args.kept ∷ []) made.ensures.1 c.begin_retire.ensures.noted in let begins = retire_begins key one pass pass1 v c.args.kept notes in
     let none = ap labels_of made.ensures.0.1 in let label : value_of c.begin_retire.new.value ≡ v = ap label_of c.begin_retire.ensures.value.1 ∙ same_label c.args.value.keys.held pass1.seen in
-    let a = stand one pass1 c.args.batch.now made.result had in let sits = begun_sits key pass (Retire v) a begins c.requires.book.0 (knows_noted key one pass pass1 (private pass event) notes) c.requires.batch made.ensures.0.0 in
+    let a = stand one pass1 c.args.batch.now made.result had in let sits = begun_sits key pass (Retire v) (c.args.kept ∷ []) a begins c.requires.book.0 (knows_noted key one pass pass1 (telling pass event (c.args.kept ∷ [])) notes) c.requires.batch made.ensures.0 in
     let same = sym begins.keeps.same.0 in (
       lit< tt,
       (
@@ -36,8 +37,8 @@ put-retired-requires g c =
           (
             sits,
             (
-              subst (λ (w : ℕ). MayPut one w queue) (sym label) (retire_puts key one pass pass1 v queue notes none),
-              ((c.begin_retire.ensures.value.0 ∙ (c.requires.value.0 ∙ same), ap block_of label ∙ c.requires.value.2), c.requires.serves),
+              subst (λ (w : ℕ). MayPut one w queue) (sym label) (retire_puts key one pass pass1 v c.args.kept queue notes none),
+              ((c.begin_retire.ensures.value.0 ∙ (c.requires.value.0 ∙ same), ap block_of label ∙ c.requires.value.2), (subst (λ (w : ℕ). IsTold pass1.seen w c.args.kept) (sym label) (retired_told key one pass pass1 v c.args.kept notes), c.requires.serves)),
             ),
           ),
         ),
@@ -47,9 +48,9 @@ put-retired-requires g c =
 pub drain-requires : goal.drain-requires
 drain-requires g c =
     let key = c.args.key.now in let pass = c.args.pass.now in let one = c.begin_retire.new.self in let pass1 = c.begin_retire.new.pass in let made = c.new-queue in let queue = further_in made.result in let had = g.R.Reclaim.had c.args.reclaimer.now in
-    let v = value_of c.args.value in let event = Begin (number_of key) (Retire v) in let notes = begun_notes key one made.new.pass pass pass1 event made.ensures.1 c.begin_retire.ensures.noted in let begins = retire_begins key one pass pass1 v notes in
+    let v = value_of c.args.value in let event = Begin (number_of key) (Retire v) in let notes = begun_notes key one made.new.pass pass pass1 event (c.args.kept ∷ []) made.ensures.1 c.begin_retire.ensures.noted in let begins = retire_begins key one pass pass1 v c.args.kept notes in
     let none = ap labels_of made.ensures.0.1 in let label : value_of c.begin_retire.new.value ≡ v = ap label_of c.begin_retire.ensures.value.1 ∙ same_label c.args.value.keys.held pass1.seen in
-    let a = stand one pass1 c.args.batch.now made.result had in let sits = begun_sits key pass (Retire v) a begins c.requires.book.0 (knows_noted key one pass pass1 (private pass event) notes) c.requires.batch made.ensures.0.0 in
+    let a = stand one pass1 c.args.batch.now made.result had in let sits = begun_sits key pass (Retire v) (c.args.kept ∷ []) a begins c.requires.book.0 (knows_noted key one pass pass1 (telling pass event (c.args.kept ∷ [])) notes) c.requires.batch made.ensures.0 in
     let put = c.put-retired in let b = stand put.new.key put.new.pass put.new.batch put.new.queue (g.R.Reclaim.had put.new.reclaimer) in let round = put.ensures.round in
     let on = onward_twice key one b.key pass pass1 b.pass (keeps_onward key one pass pass1 begins.keeps) (round_on a (value_of c.begin_retire.new.value) c.args.kept b put.result round) in
     let same = sym on.same.0 in (
@@ -72,9 +73,9 @@ returns-clause-knows g c = let key = c.drain.new.key in let pass = c.drain.new.p
 pub returns-clause-retires : goal.returns-clause-retires
 returns-clause-retires g c =
     let key = c.args.key.now in let pass = c.args.pass.now in let one = c.begin_retire.new.self in let pass1 = c.begin_retire.new.pass in let made = c.new-queue in let queue = further_in made.result in let had = g.R.Reclaim.had c.args.reclaimer.now in
-    let v = value_of c.args.value in let event = Begin (number_of key) (Retire v) in let notes = begun_notes key one made.new.pass pass pass1 event made.ensures.1 c.begin_retire.ensures.noted in let begins = retire_begins key one pass pass1 v notes in
+    let v = value_of c.args.value in let event = Begin (number_of key) (Retire v) in let notes = begun_notes key one made.new.pass pass pass1 event (c.args.kept ∷ []) made.ensures.1 c.begin_retire.ensures.noted in let begins = retire_begins key one pass pass1 v c.args.kept notes in
     let none = ap labels_of made.ensures.0.1 in let label : value_of c.begin_retire.new.value ≡ v = ap label_of c.begin_retire.ensures.value.1 ∙ same_label c.args.value.keys.held pass1.seen in
-    let a = stand one pass1 c.args.batch.now made.result had in let sits = begun_sits key pass (Retire v) a begins c.requires.book.0 (knows_noted key one pass pass1 (private pass event) notes) c.requires.batch made.ensures.0.0 in
+    let a = stand one pass1 c.args.batch.now made.result had in let sits = begun_sits key pass (Retire v) (c.args.kept ∷ []) a begins c.requires.book.0 (knows_noted key one pass pass1 (telling pass event (c.args.kept ∷ [])) notes) c.requires.batch made.ensures.0 in
     let put = c.put-retired in let b = stand put.new.key put.new.pass put.new.batch put.new.queue (g.R.Reclaim.had put.new.reclaimer) in let round = put.ensures.round in
     let on = onward_twice key one b.key pass pass1 b.pass (keeps_onward key one pass pass1 begins.keeps) (round_on a (value_of c.begin_retire.new.value) c.args.kept b put.result round) in
     let drain = c.drain in let d = stand drain.new.key drain.new.pass drain.new.batch drain.new.queue (g.R.Reclaim.had drain.new.reclaimer) in

@@ -9,7 +9,7 @@ use Rattle.seize_book.specs.Private.{label_of, labels_of, note_of}
 use Rattle.seize_book.specs.Tokens.{Name}
 use Rattle.seize_book.specs.Values.{AllNew}
 use Rattle.seize_words.proofs.Facts.{none_joined, noted_one}
-use Rattle.seize_calls.specs.Batches.{kept_noted}
+use Rattle.seize_book.specs.Kept.{kept_in}
 use Rattle.seize_calls.specs.Numbered.{ends_at}
 use Rattle.seize_calls.proofs.Batches.{ends_last, joined_last, kept_one, kepts, kepts_append, last_joined}
 use Rattle.seize_calls.proofs.Chains.{new_noted, no_keys, none_all}
@@ -48,11 +48,11 @@ returns-clause-leads g c =
     let parts = noted_one seen.keys.held _ seen.one in
     let label = ap label_of c.set_note.ensures.1 ∙ parts.1 ∙ ap label_of c.note-note.ensures.same.1 in
     let noted = ap note_of c.set_note.ensures.1 ∙ parts.2 in
-    let kept = ap kept_noted c.note-note.ensures.note in (
+    let kept = ap kept_in c.note-note.ensures.note in (
       c.push.ensures.0 ∙ c.pop-value.ensures.0,
       c.push.ensures.1 ∙ ap (λ (w : ℕ). labels_of rest.keys.held ++ w ∷ []) label ∙ sym c.pop-value.ensures.2,
       ap kepts c.push.ensures.2 ∙ kepts_append rest.keys.held last.keys.held
-          ∙ ap (λ (ks : List ℕ). kepts rest.keys.held ++ ks) (kept_one last.keys.held c.note-note.result.kept last.one (ap kept_noted noted) ∙ sym (kept_one value.keys.held c.note-note.result.kept value.one (sym kept)))
+          ∙ ap (λ (ks : List ℕ). kepts rest.keys.held ++ ks) (kept_one last.keys.held c.note-note.result.kept last.one (ap kept_in noted) ∙ sym (kept_one value.keys.held c.note-note.result.kept value.one (sym kept)))
           ∙ sym (kepts_append rest.keys.held value.keys.held) ∙ ap kepts (sym c.pop-value.ensures.3),
       (λ h number.
           subst (λ (held : List (Held Entry)). are_joined (now.keys.name).store held (h ∷ []) ≡ true) (sym c.push.ensures.2)

@@ -1,4 +1,10 @@
+use Rattle.std.proofs.Common.{[], inr, is_some, lit<, refl, sym, ap, subst, ◌∙◌}
+use Rattle.seize_machine.specs.Machine.State.{Rest}
+use Rattle.seize_book.specs.Kept.{AreToldIn}
 use Rattle.seize_book.specs.Others.{value_of}
+use Rattle.seize_book.specs.Tokens.{Name}
+use Rattle.seize_book.specs.Values.{values_of}
+use Rattle.seize_words.proofs.Facts.{first_told}
 use Rattle.seize_calls.specs.Furthers.{further_in}
 use Rattle.seize_calls.specs.Settling.{Drains, Stand, stand}
 use Rattle.seize_calls.proofs.Onwards.{onward_none, onward_twice, round_on, settles_rest}
@@ -6,6 +12,31 @@ use Rattle.seize_calls.proofs.draining.drain.Goals as goal
 
 pub loop-init : goal.loop-init
 loop-init g c = (Drains.over, onward_none c.args.key.now c.args.pass.now, c.requires.rests, c.requires.sits, c.requires.serves)
+
+-- the first of the queue, with the word that the list says is kept of it
+pub put-requires : goal.put-requires
+put-requires g c =
+    let l = c.loop in let out = c.next-value.ensures in let on = l.invariant.1 in let rests = l.invariant.2 in let sits = l.invariant.3 in let same = sym on.same.0 in let word = c.requires.words.1 ∙ same in
+    let queue = further_in l.queue in let left = further_in c.next-value.new.self in let v = value_of c.next-value.result.0 in
+    let stored = ap (λ (n : Name). is_some n.store) (sits.queue.0 ∙ sym word) ∙ ap is_some c.args.blocks.now.stands in
+    let told = first_told queue.keys.name.store l.pass.seen queue.keys.held left.keys.held v c.next-value.result.2 stored out.first out.its_word sits.queue.1 in (
+      lit< tt,
+      (
+        (c.requires.words.0 ∙ same, word),
+        (
+          c.requires.size ∙ ap (λ (n : Name). n.size) (sym on.its.0),
+          (
+            record {
+              its = sits.its;
+              knows = sits.knows;
+              batch = sits.batch;
+              queue = (out.book.1 ∙ sits.queue.0, subst (λ (n : Name). AreToldIn n.store l.pass.seen left.keys.held) (sym out.book.1) told.1);
+            },
+            ((Rest [] [], values_of queue, rests, inr (refl, out.first)), ((out.book.0 ∙ sits.queue.0, out.its_block), (told.0, l.invariant.4))),
+          ),
+        ),
+      ),
+    )
 
 pub loop-preserved : goal.loop-preserved
 loop-preserved g c =

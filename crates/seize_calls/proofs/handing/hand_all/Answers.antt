@@ -10,6 +10,7 @@ loop-front-init g c = (
   c.requires.book.0,
   c.requires.knows,
   c.requires.serves,
+  c.requires.told,
 )
 
 pub next-value-requires : goal.next-value-requires
@@ -27,10 +28,13 @@ hand_one-next-requires g c =
         (
           r.queued.0 ∙ (c.requires.queue ∙ sym r.goes_on.0.same.0),
           (
-            l.invariant.2,
+            l.invariant.4,
             (
-              is_soon key pass values front given (further_in c.args.queue.now) old l.key l.pass l.values (further_in l.queue) l.number had r value rest nexts,
-              (is_last key pass values front given (further_in c.args.queue.now) old l.key l.pass l.values (further_in l.queue) l.number had r value rest nexts, (is_there key pass values front given (further_in c.args.queue.now) old l.key l.pass l.values (further_in l.queue) l.number had r value rest nexts, l.invariant.3)),
+              l.invariant.2,
+              (
+                is_soon key pass values front given (further_in c.args.queue.now) old l.key l.pass l.values (further_in l.queue) l.number had r value rest nexts,
+                (is_last key pass values front given (further_in c.args.queue.now) old l.key l.pass l.values (further_in l.queue) l.number had r value rest nexts, (is_there key pass values front given (further_in c.args.queue.now) old l.key l.pass l.values (further_in l.queue) l.number had r value rest nexts, l.invariant.3)),
+              ),
             ),
           ),
         ),
@@ -56,4 +60,5 @@ loop-front-preserved g c =
       hand.ensures.book,
       hand.ensures.knows,
       hand.ensures.serves,
+      hand.ensures.told,
     )

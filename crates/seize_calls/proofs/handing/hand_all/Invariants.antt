@@ -1,4 +1,5 @@
 use Rattle.std.specs.Prelude.{length}
+use Rattle.seize_book.specs.Kept.{AreTold}
 use Rattle.seize_book.specs.Slots.{IsOf}
 use Rattle.seize_book.specs.Values.{values_of}
 use Rattle.seize_words.specs.Walks.{Knows}
@@ -12,7 +13,7 @@ abbrev pub invariant-loop-front : goal.invariant-loop-front
 invariant-loop-front g l =
     ((given : IsGiven l.initial.key l.initial.pass l.initial.values l.fn.front)
     → IsHanding given (further_in l.initial.queue) (g.R.Reclaim.had l.initial.reclaimer) l.key l.pass l.values (further_in l.queue) l.number (g.R.Reclaim.had l.reclaimer))
-    × IsOf l.key l.pass × Knows l.key l.pass × g.R.Reclaim.serves l.reclaimer (book_in l.fn.blocks)
+    × IsOf l.key l.pass × Knows l.key l.pass × g.R.Reclaim.serves l.reclaimer (book_in l.fn.blocks) × AreTold (further_in l.queue) l.pass
 
 abbrev pub decreases-loop-front : goal.decreases-loop-front
 decreases-loop-front g l = length (values_of l.values)

@@ -1,9 +1,11 @@
 use Rattle.std.proofs.Common.{◌≡◌, ℕ, true, List, [], ◌∷◌, ◌++◌, Some, is_some, lit<, refl, sym, ap, ◌∙◌, subst}
+use base.Growing.{prefix_trans}
 use Rattle.seize_machine.specs.Machine.Event.{Hand}
+use Rattle.seize_book.specs.Adding.{telling}
 use Rattle.seize_book.specs.Blocks.{block_of}
 use Rattle.seize_book.specs.Others.{value_of}
 use Rattle.seize_book.specs.Private.{labels_of}
-use Rattle.seize_book.specs.Slots.{IsOf, Notes, hands_next, number_of, slot_of}
+use Rattle.seize_book.specs.Slots.{IsOf, NotesAs, hands_next, number_of, slot_of}
 use Rattle.seize_book.specs.Tokens.{Name}
 use Rattle.seize_book.specs.Passes.{LooksOn}
 use Rattle.seize_book.specs.Values.{values_of}
@@ -11,10 +13,11 @@ use Rattle.seize_book.specs.declared.book.pass.Pass.{Pass}
 use Rattle.seize_book.specs.declared.book.slot_key.SlotKey.{SlotKey}
 use Rattle.seize_store.specs.Named.{name_of}
 use Rattle.seize_words.proofs.Chunked.{named_seen}
-use Rattle.seize_words.proofs.Facts.{handing_named, knows_still, looks_twice, none_new, same_key, settles_after, unchanged_last, unchanged_value}
+use Rattle.seize_words.proofs.Facts.{all_told_later, handing_named, joined_told, knows_still, looks_twice, none_new, put_told, same_key, seen_grows, settles_after, unchanged_last, unchanged_value}
 use Rattle.seize_words.specs.Chunks.{IsLentAs}
-use Rattle.seize_calls.specs.Batches.{kept_noted}
+use Rattle.seize_book.specs.Kept.{AreToldIn, kept_in, kepts_of}
 use Rattle.seize_calls.specs.Furthers.{further_in}
+use Rattle.seize_calls.proofs.Batches.{kepts_kept}
 use Rattle.seize_calls.proofs.Handed.{hands_so, soon_lent}
 use Rattle.seize_calls.proofs.handing.hand_one.Goals as goal
 
@@ -84,19 +87,33 @@ settle-requires-clause-handed g c =
     let soon : hands_next (slot_of redeemed.new.slot) ≡ Some v = subst (λ (k : SlotKey). hands_next (slot_of k) ≡ Some v) still (c.requires.soon ∙ ap Some (sym same)) in
     let book : IsOf redeemed.new.slot made.new.pass =
     subst (λ (k : SlotKey). IsOf k made.new.pass) still (c.requires.book.1 ∙ sym looked.ensures.looks.same.0 ∙ sym redeemed.ensures.looks.same.0 ∙ sym (ap (λ (p : Pass). p.name) made.ensures.1)) in
-    settles_after redeemed.new.key redeemed.new.slot c.hand.new.key made.new.pass c.hand.new.pass v (block_of (value_of redeemed.new.key)) (values_of (further_in c.reclaim.new.further))
+    settles_after redeemed.new.key redeemed.new.slot c.hand.new.key made.new.pass c.hand.new.pass v (block_of (value_of redeemed.new.key)) (values_of (further_in c.reclaim.new.further)) (kepts_of (further_in c.reclaim.new.further))
     (let is = redeemed.ensures.block.0.next in (is.0, is.1, is.2, refl)) book soon c.hand.ensures.noted
+
+-- what was in the queue, and what was put with this value
+pub returns-clause-told : goal.returns-clause-told
+returns-clause-told g c =
+    let looked = c.header-header in let redeemed = c.redeem-block in let made = c.new-further in let hand = c.hand in let queue = further_in c.args.queue.now in let put = further_in hand.new.self in let all = further_in c.append.new.self in let pass' = c.settle.new.pass in
+    let before : LooksOn c.args.pass.now made.new.pass = subst (λ (p : Pass). LooksOn c.args.pass.now p) (sym made.ensures.1) (looks_twice c.args.pass.now looked.new.pass redeemed.new.pass looked.ensures.looks redeemed.ensures.looks) in
+    let grows = prefix_trans c.args.pass.now.seen made.new.pass.seen hand.new.pass.seen before.grows (seen_grows made.new.pass.name made.new.pass.id made.new.pass.seen hand.new.pass.seen _ hand.ensures.noted.2.0) in
+    let on = prefix_trans c.args.pass.now.seen hand.new.pass.seen pass'.seen grows c.settle.ensures.looks.grows in
+    let its = put_told redeemed.new.slot hand.new.key made.new.pass hand.new.pass (further_in c.reclaim.new.further) put hand.ensures.noted hand.ensures.keys in
+    let same = hand.ensures.keys.0 ∙ (c.reclaim.ensures.further.0 ∙ (c.requires.book.2 ∙ sym c.requires.queue)) in
+    subst (λ (n : Name). AreToldIn n.store pass'.seen all.keys.held) (sym c.append.ensures.book)
+    (joined_told queue.keys.name.store pass'.seen queue.keys.held put.keys.held all.keys.held c.append.ensures.all c.append.ensures.kept
+    (all_told_later queue.keys.name.store c.args.pass.now.seen pass'.seen queue.keys.held on c.requires.told)
+    (subst (λ (n : Name). AreToldIn n.store pass'.seen put.keys.held) same (all_told_later put.keys.name.store hand.new.pass.seen pass'.seen put.keys.held c.settle.ensures.looks.grows its)))
 
 pub returns-clause-handed : goal.returns-clause-handed
 returns-clause-handed g c =
-    let looked = c.header-header in let noted = c.note-note in let redeemed = c.redeem-block in let key = c.args.key.now in let hand = c.hand in let made = c.new-further in let puts = values_of (further_in c.reclaim.new.further) in let joins = c.append.ensures in
-    let notes : Notes key made.new.pass hand.new.key hand.new.pass (Hand (number_of key) puts) =
-    subst (λ (k : SlotKey). Notes k made.new.pass hand.new.key hand.new.pass (Hand (number_of k) puts)) (same_key key redeemed.new.slot redeemed.ensures.slot) hand.ensures.noted in
+    let looked = c.header-header in let noted = c.note-note in let redeemed = c.redeem-block in let key = c.args.key.now in let hand = c.hand in let made = c.new-further in let puts = values_of (further_in c.reclaim.new.further) in let words = kepts_of (further_in c.reclaim.new.further) in let joins = c.append.ensures in
+    let notes : NotesAs key made.new.pass hand.new.key hand.new.pass (telling made.new.pass (Hand (number_of key) puts) words) =
+    subst (λ (k : SlotKey). NotesAs k made.new.pass hand.new.key hand.new.pass (telling made.new.pass (Hand (number_of k) puts) words)) (same_key key redeemed.new.slot redeemed.ensures.slot) hand.ensures.noted in
     let looks : LooksOn c.args.pass.now made.new.pass = subst (λ (p : Pass). LooksOn c.args.pass.now p) (sym made.ensures.1) (looks_twice c.args.pass.now looked.new.pass redeemed.new.pass looked.ensures.looks redeemed.ensures.looks) in
     let same : value_of noted.new.self ≡ value_of c.args.value = unchanged_value c.args.value noted.new.self noted.ensures.same in
     let lent : IsLentAs (value_of c.args.value) (g.row.T.coded.code c.take-content.result.0) = subst (λ (v : ℕ). IsLentAs v (g.row.T.coded.code c.take-content.result.0)) same
     (subst (λ x. IsLentAs (value_of noted.new.self) (g.row.T.coded.code x)) (sym c.take-content.ensures.value) redeemed.ensures.code) in (
-      hands_so key hand.new.key c.args.pass.now made.new.pass hand.new.pass c.settle.new.pass (value_of c.args.value) puts looks notes c.settle.ensures.looks c.requires.soon
-          (further_in c.args.queue.now) (further_in c.append.new.self) (joins.book, joins.all ∙ ap (λ (vs : List ℕ). values_of (further_in c.args.queue.now) ++ vs) hand.ensures.keys.1),
-      record { more = (c.note-note.result.kept, g.row.T.coded.code c.take-content.result.0, puts) ∷ []; theirs = ((ap kept_noted c.note-note.ensures.note, lent, refl), tt); after = c.reclaim.ensures.had },
+      hands_so key hand.new.key c.args.pass.now made.new.pass hand.new.pass c.settle.new.pass (value_of c.args.value) puts words looks notes c.settle.ensures.looks c.requires.soon
+          (further_in c.args.queue.now) (further_in c.append.new.self) (joins.book, joins.all ∙ ap (λ (vs : List ℕ). values_of (further_in c.args.queue.now) ++ vs) hand.ensures.keys.1, joins.kept ∙ ap (λ (ks : List ℕ). kepts_of (further_in c.args.queue.now) ++ ks) (kepts_kept (further_in c.reclaim.new.further) (further_in hand.new.self) hand.new.pass hand.ensures.keys)),
+      record { more = (c.note-note.result.kept, g.row.T.coded.code c.take-content.result.0, puts, words) ∷ []; theirs = ((ap kept_in c.note-note.ensures.note, lent, refl, refl), tt); after = c.reclaim.ensures.had },
     )

@@ -40,7 +40,7 @@ returns-then-batch-size-clause-sits g c =
     let had = g.R.Reclaim.had c.args.reclaimer.now in let key = c.args.key.now in let two = c.put.new.self in let pass = c.args.pass.now in
     put_sits (stand key pass c.args.batch.now c.args.queue.now had) (stand two c.put.new.pass c.push.new.self c.args.queue.now had) (value_of c.args.value) c.args.kept
     (is_put key two pass c.put.new.pass (value_of c.args.value) (further_in c.args.queue.now) c.requires.next c.put.ensures.noted) c.push.ensures refl c.requires.sits
-    (knows_noted key two pass c.put.new.pass (private pass (Put (number_of key))) c.put.ensures.noted)
+    (knows_noted key two pass c.put.new.pass (private pass (Put (number_of key))) c.put.ensures.noted) c.requires.told
 
 pub settle-requires : goal.settle-requires
 settle-requires g c =
@@ -54,7 +54,7 @@ settle-requires g c =
         (c.requires.words.0 ∙ sym puts.on.same.0, c.requires.words.1 ∙ sym puts.on.same.0),
         (
           put_sits (stand key pass c.args.batch.now c.args.queue.now had) (stand two c.put.new.pass c.push.new.self c.args.queue.now had) v c.args.kept puts c.push.ensures refl sits
-              (knows_noted key two pass c.put.new.pass (private pass (Put (number_of key))) c.put.ensures.noted),
+              (knows_noted key two pass c.put.new.pass (private pass (Put (number_of key))) c.put.ensures.noted) c.requires.told,
           (
             put_marks key two pass c.put.new.pass v queue c.requires.next c.put.ensures.noted (omega (arith, long, many, c.if-batch-size.false, c.requires.size)) (omega (arith, push, longer)),
             c.requires.serves,

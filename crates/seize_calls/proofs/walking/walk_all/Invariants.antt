@@ -1,5 +1,6 @@
 use Rattle.std.specs.Prelude.{length}
 use Rattle.seize_machine.specs.Machine.Laws.{walk_of}
+use Rattle.seize_book.specs.Kept.{AreTold}
 use Rattle.seize_book.specs.Slots.{IsOf, slot_of}
 use Rattle.seize_book.specs.Values.{IsEmpty}
 use Rattle.seize_words.specs.Walks.{Knows}
@@ -13,7 +14,7 @@ abbrev pub invariant-loop-values : goal.invariant-loop-values
 invariant-loop-values g l =
     ((at : IsAtWalk l.initial.key l.fn.word)
     → IsStrolling at l.initial.pass (further_in l.initial.queue) (g.R.Reclaim.had l.initial.reclaimer) l.key l.pass l.leads (further_in l.queue) (g.R.Reclaim.had l.reclaimer))
-    × IsOf l.key l.pass × Knows l.key l.pass × IsEmpty l.values l.pass × g.R.Reclaim.serves l.reclaimer (book_in l.fn.blocks)
+    × IsOf l.key l.pass × Knows l.key l.pass × IsEmpty l.values l.pass × g.R.Reclaim.serves l.reclaimer (book_in l.fn.blocks) × AreTold (further_in l.queue) l.pass
 
 abbrev pub decreases-loop-values : goal.decreases-loop-values
 decreases-loop-values g l = length (walk_of (slot_of l.key).call)
