@@ -5,7 +5,7 @@ use Rattle.seize_calls.proofs.Onwards.{onward_none, onward_twice, round_on, sett
 use Rattle.seize_calls.proofs.draining.drain.Goals as goal
 
 pub loop-init : goal.loop-init
-loop-init g c = (Drains.over, onward_none c.args.key.now c.args.pass.now, c.requires.rests, c.requires.sits, c.requires.serves)
+loop-init g c = (Drains.over, onward_none c.args.key.now c.args.pass.now, c.requires.rests, c.requires.sits, c.requires.serves, c.requires.spots)
 
 pub loop-preserved : goal.loop-preserved
 loop-preserved g c =
@@ -17,4 +17,5 @@ loop-preserved g c =
       settles_rest round.full to put.result round.settles,
       put.ensures.sits,
       put.ensures.serves,
+      put.ensures.spots,
     )

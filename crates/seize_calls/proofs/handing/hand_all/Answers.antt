@@ -10,6 +10,7 @@ loop-front-init g c = (
   c.requires.book.0,
   c.requires.knows,
   c.requires.serves,
+  c.requires.spots,
 )
 
 pub next-value-requires : goal.next-value-requires
@@ -30,7 +31,7 @@ hand_one-next-requires g c =
             l.invariant.2,
             (
               is_soon key pass values front given (further_in c.args.queue.now) old l.key l.pass l.values (further_in l.queue) l.number had r value rest nexts,
-              (is_last key pass values front given (further_in c.args.queue.now) old l.key l.pass l.values (further_in l.queue) l.number had r value rest nexts, (is_there key pass values front given (further_in c.args.queue.now) old l.key l.pass l.values (further_in l.queue) l.number had r value rest nexts, l.invariant.3)),
+              (is_last key pass values front given (further_in c.args.queue.now) old l.key l.pass l.values (further_in l.queue) l.number had r value rest nexts, (is_there key pass values front given (further_in c.args.queue.now) old l.key l.pass l.values (further_in l.queue) l.number had r value rest nexts, (l.invariant.3, l.invariant.4))),
             ),
           ),
         ),
@@ -56,4 +57,5 @@ loop-front-preserved g c =
       hand.ensures.book,
       hand.ensures.knows,
       hand.ensures.serves,
+      hand.ensures.spots,
     )

@@ -9,8 +9,9 @@ use Rattle.seize_book.specs.Passes.{LooksOn}
 use Rattle.seize_book.specs.Values.{values_of}
 use Rattle.seize_book.specs.declared.book.pass.Pass.{Pass}
 use Rattle.seize_book.specs.declared.book.slot_key.SlotKey.{SlotKey}
-use Rattle.seize_store.specs.Named.{name_of}
-use Rattle.seize_words.proofs.Chunked.{named_seen}
+use Rattle.seize_store.specs.Named.{bare_value, name_of}
+use Rattle.seize_store.specs.declared.known.Title.{Title}
+use Rattle.seize_words.proofs.Chunked.{named_seen, settles_hollow, takes_block}
 use Rattle.seize_words.proofs.Facts.{handing_named, knows_still, looks_twice, none_new, same_key, settles_after, unchanged_last, unchanged_value}
 use Rattle.seize_words.specs.Chunks.{IsLentAs}
 use Rattle.seize_calls.specs.Batches.{kept_noted}
@@ -86,6 +87,20 @@ settle-requires-clause-handed g c =
     subst (λ (k : SlotKey). IsOf k made.new.pass) still (c.requires.book.1 ∙ sym looked.ensures.looks.same.0 ∙ sym redeemed.ensures.looks.same.0 ∙ sym (ap (λ (p : Pass). p.name) made.ensures.1)) in
     settles_after redeemed.new.key redeemed.new.slot c.hand.new.key made.new.pass c.hand.new.pass v (block_of (value_of redeemed.new.key)) (values_of (further_in c.reclaim.new.further))
     (let is = redeemed.ensures.block.0.next in (is.0, is.1, is.2, refl)) book soon c.hand.ensures.noted
+
+-- once the key is settled, the chunk may be laid into a list
+pub lay_into-requires : goal.lay_into-requires
+lay_into-requires g c =
+    let blocks = c.args.blocks.now in let redeemed = c.redeem-block in let taken = c.take-content in let settled = c.settle in let v = value_of c.note-note.new.self in
+    let left = takes_block _ blocks (bare_value redeemed.result) redeemed.new.key redeemed.result taken.result.1 taken.ensures.hollow redeemed.ensures.block.0 in
+    let hollow = settles_hollow v blocks redeemed.new.key settled.new.self taken.result.1 settled.new.pass left settled.ensures.follows settled.ensures.next in
+    (lit< tt, (hollow.book, (hollow.next.1, ((hollow.lay, hollow.store), c.requires.spots))))
+
+-- its chunk, by the number by which the block was had back
+pub returns-clause-laid : goal.returns-clause-laid
+returns-clause-laid g c =
+    let taken = c.take-content in
+    record { hollow = taken.result.1; its = ap (λ (t : Title). t.number) taken.ensures.hollow ∙ c.redeem-block.ensures.block.1; last = c.lay_into.ensures.last }
 
 pub returns-clause-handed : goal.returns-clause-handed
 returns-clause-handed g c =

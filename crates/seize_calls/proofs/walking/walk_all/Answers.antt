@@ -17,6 +17,7 @@ loop-values-init g c =
       subst (λ (p : Pass). Knows c.args.key.now p) same c.requires.knows,
       subst (λ (p : Pass). IsEmpty c.new-values.result p) same c.new-values.ensures.0,
       c.requires.serves,
+      c.requires.spots,
     )
 
 pub walk-requires : goal.walk-requires
@@ -46,7 +47,7 @@ hand_all-requires g c =
             (
               given_now c.args.key.now c.args.word c.requires.at c.new-values.new.pass (further_in c.args.queue.now) (g.R.Reclaim.had c.args.reclaimer.now) l.key l.pass l.leads (further_in l.queue) (g.R.Reclaim.had l.reclaimer) r c.walk.new.key
                   c.walk.new.pass c.walk.new.values c.in-GivesUp.front c.in-GivesUp.rest w c.walk.ensures.book c.walk.ensures.knows,
-              l.invariant.4,
+              (l.invariant.4, l.invariant.5),
             ),
           ),
         ),
@@ -74,4 +75,5 @@ loop-values-preserved g c =
       hand.ensures.knows,
       handed0.none,
       hand.ensures.serves,
+      hand.ensures.spots,
     )
