@@ -8,7 +8,7 @@ ghost use Rattle.seize_calls.specs.Batches.{keys_in};
 ghost use Rattle.seize_calls.specs.Settling.{HasBatch};
 ghost use Rattle.seize_book.specs.Blocks.{block_of};
 ghost use Rattle.seize_book.specs.Adding.{private};
-ghost use Rattle.seize_words.specs.Chunks.{book_in};
+ghost use Rattle.seize_words.specs.Chunks.{AreSpotsIn, book_in};
 ghost use Rattle.seize_machine.specs.Machine.State.{is_idle};
 ghost use Rattle.seize_book.specs.Others.{MayRetire, book_of, value_of};
 ghost use Rattle.seize_words.specs.Reservations.{IsLastOf, IsOfBook, IsOwn, beginning};
@@ -22,9 +22,11 @@ use crate::further::Further;
 use crate::handing::Reclaim;
 use crate::settling::{put, settle};
 use crate::walking::walk_all;
+use seize_store::Spots;
 use seize_words::activation::Activation;
 use seize_words::blocks::Blocks;
 use seize_words::book::{Pass, SlotKey, ValueKey};
+use seize_words::chunk::{Header, Part};
 use seize_words::reservation::Head;
 use seize_words::slots::Slots;
 use std::sync::Wait;
@@ -37,6 +39,7 @@ use std::sync::Wait;
 pub fn flush<T: Drop, R: Reclaim<T>>(
     slots: &Slots,
     blocks: &Blocks<T>,
+    spots: &mut Spots<Header, Part, T>,
     batch: &mut Batch,
     size: usize,
     key: &mut SlotKey,
@@ -49,8 +52,10 @@ pub fn flush<T: Drop, R: Reclaim<T>>(
     requires size { size ≡ size_of key.old }
     requires batch { HasBatch key.old pass.old (keys_in batch.old) }
     requires serves { R.serves reclaimer.old (book_in blocks.now) }
+    requires spots { AreSpotsIn blocks.now spots.old }
     ensures knows { Knows key.new pass.new }
     ensures serves { R.serves reclaimer.new (book_in blocks.now) }
+    ensures spots { AreSpotsIn blocks.now spots.new }
     ensures flushes { let had = R.had reclaimer.old in let had' = R.had reclaimer.new in
         Flushes key.old pass.old (keys_in batch.old) had key.new pass.new (keys_in batch.new) had' result }
 {
@@ -60,9 +65,11 @@ pub fn flush<T: Drop, R: Reclaim<T>>(
         key.finish(pass);
         return false;
     }
-    let retired = settle(slots, blocks, batch, &mut queue, key, reclaimer, pass, rt);
+    let retired = settle(
+        slots, blocks, spots, batch, &mut queue, key, reclaimer, pass, rt,
+    );
     drain(
-        slots, blocks, batch, size, &mut queue, key, reclaimer, pass, rt,
+        slots, blocks, spots, batch, size, &mut queue, key, reclaimer, pass, rt,
     );
     key.finish(pass);
     retired
@@ -80,6 +87,7 @@ pub fn flush<T: Drop, R: Reclaim<T>>(
 pub fn retire<T: Drop, R: Reclaim<T>>(
     slots: &Slots,
     blocks: &Blocks<T>,
+    spots: &mut Spots<Header, Part, T>,
     batch: &mut Batch,
     size: usize,
     number: u64,
@@ -96,8 +104,10 @@ pub fn retire<T: Drop, R: Reclaim<T>>(
     requires size { size ≡ size_of key.old }
     requires batch { HasBatch key.old pass.old (keys_in batch.old) }
     requires serves { R.serves reclaimer.old (book_in blocks.now) }
+    requires spots { AreSpotsIn blocks.now spots.old }
     ensures knows { Knows key.new pass.new }
     ensures serves { R.serves reclaimer.new (book_in blocks.now) }
+    ensures spots { AreSpotsIn blocks.now spots.new }
     ensures retires { let values = keys_in batch.old in let had = R.had reclaimer.old in let had' = R.had reclaimer.new in
         RetiresOne key.old pass.old (value_of value) kept values had key.new pass.new (keys_in batch.new) had' result }
 {
@@ -105,10 +115,11 @@ pub fn retire<T: Drop, R: Reclaim<T>>(
     let mut value = value;
     key.begin_retire(&mut value, kept, pass);
     let retired = put(
-        slots, blocks, batch, size, number, kept, value, &mut queue, key, reclaimer, pass, rt,
+        slots, blocks, spots, batch, size, number, kept, value, &mut queue, key, reclaimer, pass,
+        rt,
     );
     drain(
-        slots, blocks, batch, size, &mut queue, key, reclaimer, pass, rt,
+        slots, blocks, spots, batch, size, &mut queue, key, reclaimer, pass, rt,
     );
     key.finish(pass);
     retired
@@ -123,6 +134,7 @@ pub fn leave<T: Drop, R: Reclaim<T>>(
     slots: &Slots,
     head: &Head,
     blocks: &Blocks<T>,
+    spots: &mut Spots<Header, Part, T>,
     batch: &mut Batch,
     size: usize,
     activation: Activation,
@@ -138,8 +150,10 @@ pub fn leave<T: Drop, R: Reclaim<T>>(
     requires size { size ≡ size_of key.old }
     requires batch { HasBatch key.old pass.old (keys_in batch.old) }
     requires serves { R.serves reclaimer.old (book_in blocks.now) }
+    requires spots { AreSpotsIn blocks.now spots.old }
     ensures knows { Knows key.new pass.new }
     ensures serves { R.serves reclaimer.new (book_in blocks.now) }
+    ensures spots { AreSpotsIn blocks.now spots.new }
     ensures leaves { let swap = private pass.old (SwapOut (number_of key.old)) in let had = R.had reclaimer.old in
         let had' = R.had reclaimer.new in
         Leaves Leave false swap key.old pass.old (keys_in batch.old) had key.new pass.new (keys_in batch.new) had' }
@@ -147,9 +161,9 @@ pub fn leave<T: Drop, R: Reclaim<T>>(
     let mut queue = Further::new(pass);
     key.begin_leave(pass);
     let word = head.leave(activation, key, pass);
-    walk_all(blocks, word, key, reclaimer, &mut queue, pass);
+    walk_all(blocks, spots, word, key, reclaimer, &mut queue, pass);
     drain(
-        slots, blocks, batch, size, &mut queue, key, reclaimer, pass, rt,
+        slots, blocks, spots, batch, size, &mut queue, key, reclaimer, pass, rt,
     );
     key.finish(pass);
 }
@@ -163,6 +177,7 @@ pub fn refresh<T: Drop, R: Reclaim<T>>(
     slots: &Slots,
     head: &Head,
     blocks: &Blocks<T>,
+    spots: &mut Spots<Header, Part, T>,
     batch: &mut Batch,
     size: usize,
     activation: &mut Activation,
@@ -178,10 +193,12 @@ pub fn refresh<T: Drop, R: Reclaim<T>>(
     requires size { size ≡ size_of key.old }
     requires batch { HasBatch key.old pass.old (keys_in batch.old) }
     requires serves { R.serves reclaimer.old (book_in blocks.now) }
+    requires spots { AreSpotsIn blocks.now spots.old }
     ensures knows { Knows key.new pass.new }
     ensures last { IsLastOf key.new activation.new }
     ensures begun { HasBegun activation.new pass.new }
     ensures serves { R.serves reclaimer.new (book_in blocks.now) }
+    ensures spots { AreSpotsIn blocks.now spots.new }
     ensures leaves { let swap = beginning pass.old activation.new.life (SwapOut (number_of key.old)) in let had = R.had reclaimer.old in
         let had' = R.had reclaimer.new in
         Leaves Refresh true swap key.old pass.old (keys_in batch.old) had key.new pass.new (keys_in batch.new) had' }
@@ -189,9 +206,9 @@ pub fn refresh<T: Drop, R: Reclaim<T>>(
     let mut queue = Further::new(pass);
     key.begin_refresh(pass);
     let word = head.refresh(activation, key, pass);
-    walk_all(blocks, word, key, reclaimer, &mut queue, pass);
+    walk_all(blocks, spots, word, key, reclaimer, &mut queue, pass);
     drain(
-        slots, blocks, batch, size, &mut queue, key, reclaimer, pass, rt,
+        slots, blocks, spots, batch, size, &mut queue, key, reclaimer, pass, rt,
     );
     key.finish(pass);
 }

@@ -5,15 +5,17 @@ ghost use Rattle.seize_book.specs.Slots.{size_of};
 ghost use Rattle.seize_book.specs.Values.{values_of};
 ghost use Rattle.seize_calls.specs.Furthers.{further_in};
 ghost use Rattle.seize_calls.specs.Settling.{Drains, HasQueue, Onward, Sits, stand};
-ghost use Rattle.seize_words.specs.Chunks.{book_in};
+ghost use Rattle.seize_words.specs.Chunks.{AreSpotsIn, book_in};
 ghost use Rattle.seize_words.specs.Reserved.{slots_book};
 
 use crate::batch::Batch;
 use crate::further::Further;
 use crate::handing::Reclaim;
 use crate::settling::put;
+use seize_store::Spots;
 use seize_words::blocks::Blocks;
 use seize_words::book::{Pass, SlotKey};
+use seize_words::chunk::{Header, Part};
 use seize_words::slots::Slots;
 use std::sync::Wait;
 
@@ -25,6 +27,7 @@ use std::sync::Wait;
 pub fn drain<T: Drop, R: Reclaim<T>>(
     slots: &Slots,
     blocks: &Blocks<T>,
+    spots: &mut Spots<Header, Part, T>,
     batch: &mut Batch,
     size: usize,
     queue: &mut Further,
@@ -38,8 +41,10 @@ pub fn drain<T: Drop, R: Reclaim<T>>(
     requires sits { Sits (stand key.old pass.old batch.old queue.old (R.had reclaimer.old)) }
     requires rests { HasQueue key.old (further_in queue.old) }
     requires serves { R.serves reclaimer.old (book_in blocks.now) }
+    requires spots { AreSpotsIn blocks.now spots.old }
     ensures sits { Sits (stand key.new pass.new batch.new queue.new (R.had reclaimer.new)) }
     ensures serves { R.serves reclaimer.new (book_in blocks.now) }
+    ensures spots { AreSpotsIn blocks.now spots.new }
     ensures on { Onward key.old pass.old key.new pass.new }
     ensures over { HasQueue key.new (further_in queue.new) × (values_of (further_in queue.new) ≡ []) }
     ensures drains { let from = stand key.old pass.old batch.old queue.old (R.had reclaimer.old) in
@@ -51,7 +56,7 @@ pub fn drain<T: Drop, R: Reclaim<T>>(
         }
         let (value, number, kept) = queue.next(blocks);
         put(
-            slots, blocks, batch, size, number, kept, value, queue, key, reclaimer, pass, rt,
+            slots, blocks, spots, batch, size, number, kept, value, queue, key, reclaimer, pass, rt,
         );
     }
     unreachable!()

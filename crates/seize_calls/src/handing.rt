@@ -11,14 +11,16 @@ ghost use Rattle.seize_book.specs.Tokens.{Name};
 ghost use Rattle.seize_book.specs.Values.{AreOfBook, values_of};
 ghost use Rattle.seize_book.specs.Kept.{AreTold, kept_in, kepts_of};
 ghost use Rattle.seize_calls.specs.Furthers.{further_in};
-ghost use Rattle.seize_calls.specs.Handing.{HasHad, IsServed};
+ghost use Rattle.seize_calls.specs.Handing.{HasHad, IsLaid, IsServed};
 ghost use Rattle.seize_calls.specs.Walking.{HandsAll, HandsOne, IsGiven};
-ghost use Rattle.seize_words.specs.Chunks.{book_in};
+ghost use Rattle.seize_words.specs.Chunks.{AreSpotsIn, book_in};
 ghost use Rattle.seize_words.specs.Walks.{Knows};
 
 use crate::further::Further;
+use seize_store::Spots;
 use seize_words::blocks::Blocks;
 use seize_words::book::{Pass, SlotKey, ValueKey, ValueKeys};
+use seize_words::chunk::{Header, Part};
 
 /// What becomes of values that nobody can see any more.
 pub trait Reclaim<T> {
@@ -31,8 +33,8 @@ pub trait Reclaim<T> {
 
     /// Ends the value, or hands it on. The word is what was kept of it by whoever retired it. What it puts (`Further::put`) the call
     /// retires when it has nothing else to do, in the order in which it was put; the blocks are those of the book. Nothing was put when it
-    /// is called, before the value's hand is made and its block goes back. It is given no pass: what it puts it has to have, with its key,
-    /// or to make with a pass of its own.
+    /// is called, before the value's hand is made and its block is laid into the list. It is given no pass: what it puts it has to have,
+    /// with its key, or to make with a pass of its own.
     fn reclaim(&mut self, kept: u64, value: T, further: &mut Further, blocks: &Blocks<T>)
         requires serves { serves self.old (book_in blocks.now) }
         requires further { IsServed (further_in further.old) (book_in blocks.now) × (values_of (further_in further.old) ≡ []) }
@@ -43,12 +45,14 @@ pub trait Reclaim<T> {
 }
 
 /// Hands the value of this block, which is what the slot's call is about to hand: the value goes to the reclaimer, with the word that is
-/// kept of it, what that puts joins the call's queue, and then the block goes back into its store. It gives the word that is noted of what
-/// comes next.
+/// kept of it, what that puts joins the call's queue, and then the block's chunk goes to the list: it stays claimed, and comes last. It
+/// gives the word that is noted of what comes next.
 ///
-/// It takes no memory and waits for nobody, but for what the reclaimer does: three look-ups, plain reads and writes, and one atomic swap.
+/// It takes no memory and waits for nobody, but for what the reclaimer does: three look-ups, plain reads and writes. Where the list is
+/// full, half of it goes back into the store before, by an atomic swap for each spot.
 pub fn hand_one<T: Drop, R: Reclaim<T>>(
     blocks: &Blocks<T>,
+    spots: &mut Spots<Header, Part, T>,
     number: u64,
     value: ValueKey,
     reclaimer: &mut R,
@@ -64,12 +68,15 @@ pub fn hand_one<T: Drop, R: Reclaim<T>>(
     requires last { IsLast value }
     requires number { block_of (value_of value) ≡ number }
     requires serves { R.serves reclaimer.old (book_in blocks.now) }
+    requires spots { AreSpotsIn blocks.now spots.old }
     ensures book { IsOf key.new pass.new }
     ensures knows { Knows key.new pass.new }
     ensures handed { (one : HandsOne key.old pass.old (value_of value) (further_in queue.old) key.new pass.new (further_in queue.new))
         × HasHad ((value_of value, one.puts, one.words) ∷ []) (kept_in (noted_in value) ∷ []) (R.had reclaimer.old) (R.had reclaimer.new) }
     ensures told { AreTold (further_in queue.new) pass.new }
     ensures serves { R.serves reclaimer.new (book_in blocks.now) }
+    ensures spots { AreSpotsIn blocks.now spots.new }
+    ensures laid { IsLaid spots.old spots.new number }
     ensures next { result ≡ next_in (noted_in value) }
 {
     let mut value = value;
@@ -82,7 +89,7 @@ pub fn hand_one<T: Drop, R: Reclaim<T>>(
     further.hand(key, pass);
     queue.append(blocks, &mut further);
     value.settle(pass);
-    blocks.lay_back(value, hollow);
+    blocks.lay_into(value, hollow, spots);
     note.next
 }
 
@@ -93,6 +100,7 @@ pub fn hand_one<T: Drop, R: Reclaim<T>>(
 /// It takes no memory and waits for nobody, but for what the reclaimer does: for each value, what `hand_one` does.
 pub fn hand_all<T: Drop, R: Reclaim<T>>(
     blocks: &Blocks<T>,
+    spots: &mut Spots<Header, Part, T>,
     front: u64,
     values: &mut ValueKeys,
     reclaimer: &mut R,
@@ -106,17 +114,19 @@ pub fn hand_all<T: Drop, R: Reclaim<T>>(
     requires knows { Knows key.old pass.old }
     requires given { IsGiven key.old pass.old values.old front }
     requires serves { R.serves reclaimer.old (book_in blocks.now) }
+    requires spots { AreSpotsIn blocks.now spots.old }
     ensures knows { Knows key.new pass.new }
     ensures handed { (given : IsGiven key.old pass.old values.old front)
         → (all : HandsAll given (further_in queue.old) key.new pass.new values.new (further_in queue.new))
         × HasHad all.handed (kepts_of values.old) (R.had reclaimer.old) (R.had reclaimer.new) }
     ensures told { AreTold (further_in queue.new) pass.new }
     ensures serves { R.serves reclaimer.new (book_in blocks.now) }
+    ensures spots { AreSpotsIn blocks.now spots.new }
 {
     let mut number = front;
     loop {
         let value = values.next();
-        let next = hand_one(blocks, number, value, reclaimer, queue, key, pass);
+        let next = hand_one(blocks, spots, number, value, reclaimer, queue, key, pass);
         if next == 0 {
             return;
         }

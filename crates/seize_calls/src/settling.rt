@@ -7,15 +7,17 @@ ghost use Rattle.seize_book.specs.Others.{IsValueOf, value_of};
 ghost use Rattle.seize_book.specs.Slots.{size_of};
 ghost use Rattle.seize_calls.specs.Furthers.{further_in};
 ghost use Rattle.seize_calls.specs.Settling.{Marking, MayPut, Round, Settles, Sits, stand};
-ghost use Rattle.seize_words.specs.Chunks.{book_in};
+ghost use Rattle.seize_words.specs.Chunks.{AreSpotsIn, book_in};
 ghost use Rattle.seize_words.specs.Reserved.{slots_book};
 
 use crate::attempt::{Attempted, attempt};
 use crate::batch::Batch;
 use crate::further::Further;
 use crate::handing::{Reclaim, hand_all};
+use seize_store::Spots;
 use seize_words::blocks::Blocks;
 use seize_words::book::{Pass, SlotKey, ValueKey};
+use seize_words::chunk::{Header, Part};
 use seize_words::slots::Slots;
 use std::sync::Wait;
 
@@ -28,6 +30,7 @@ use std::sync::Wait;
 pub fn settle<T: Drop, R: Reclaim<T>>(
     slots: &Slots,
     blocks: &Blocks<T>,
+    spots: &mut Spots<Header, Part, T>,
     batch: &mut Batch,
     queue: &mut Further,
     key: &mut SlotKey,
@@ -39,8 +42,10 @@ pub fn settle<T: Drop, R: Reclaim<T>>(
     requires sits { Sits (stand key.old pass.old batch.old queue.old (R.had reclaimer.old)) }
     requires marking { Marking key.old (further_in queue.old) }
     requires serves { R.serves reclaimer.old (book_in blocks.now) }
+    requires spots { AreSpotsIn blocks.now spots.old }
     ensures sits { Sits (stand key.new pass.new batch.new queue.new (R.had reclaimer.new)) }
     ensures serves { R.serves reclaimer.new (book_in blocks.now) }
+    ensures spots { AreSpotsIn blocks.now spots.new }
     ensures settles { let from = stand key.old pass.old batch.old queue.old (R.had reclaimer.old) in
         Settles from (stand key.new pass.new batch.new queue.new (R.had reclaimer.new)) result }
 {
@@ -51,6 +56,7 @@ pub fn settle<T: Drop, R: Reclaim<T>>(
             let front = batch.first;
             hand_all(
                 blocks,
+                spots,
                 front,
                 &mut batch.values,
                 reclaimer,
@@ -73,6 +79,7 @@ pub fn settle<T: Drop, R: Reclaim<T>>(
 pub fn put<T: Drop, R: Reclaim<T>>(
     slots: &Slots,
     blocks: &Blocks<T>,
+    spots: &mut Spots<Header, Part, T>,
     batch: &mut Batch,
     size: usize,
     number: u64,
@@ -91,8 +98,10 @@ pub fn put<T: Drop, R: Reclaim<T>>(
     requires value { IsValueOf value pass.old × (block_of (value_of value) ≡ number) }
     requires told { IsTold pass.old.seen (value_of value) kept }
     requires serves { R.serves reclaimer.old (book_in blocks.now) }
+    requires spots { AreSpotsIn blocks.now spots.old }
     ensures sits { Sits (stand key.new pass.new batch.new queue.new (R.had reclaimer.new)) }
     ensures serves { R.serves reclaimer.new (book_in blocks.now) }
+    ensures spots { AreSpotsIn blocks.now spots.new }
     ensures round { let from = stand key.old pass.old batch.old queue.old (R.had reclaimer.old) in
         Round from (value_of value) kept (stand key.new pass.new batch.new queue.new (R.had reclaimer.new)) result }
 {
@@ -101,5 +110,5 @@ pub fn put<T: Drop, R: Reclaim<T>>(
     if batch.len < size {
         return false;
     }
-    settle(slots, blocks, batch, queue, key, reclaimer, pass, rt)
+    settle(slots, blocks, spots, batch, queue, key, reclaimer, pass, rt)
 }

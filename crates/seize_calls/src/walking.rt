@@ -2,7 +2,7 @@
 //! Others may step on all these words meanwhile, and add any events.
 ghost use Rattle.std.specs.Prelude.{◌≡◌};
 ghost use Rattle.seize_calls.specs.Walking.{IsAtWalk, WalksAll, WalksTo};
-ghost use Rattle.seize_words.specs.Chunks.{book_in};
+ghost use Rattle.seize_words.specs.Chunks.{AreSpotsIn, book_in};
 ghost use Rattle.seize_book.specs.Slots.{IsOf};
 ghost use Rattle.seize_book.specs.Kept.{AreTold};
 ghost use Rattle.seize_book.specs.Values.{AreOfBook, IsEmpty};
@@ -11,8 +11,10 @@ ghost use Rattle.seize_words.specs.Walks.{Knows};
 
 use crate::further::Further;
 use crate::handing::{Reclaim, hand_all};
+use seize_store::Spots;
 use seize_words::blocks::Blocks;
 use seize_words::book::{Pass, SlotKey, ValueKeys};
+use seize_words::chunk::{Header, Part};
 
 /// Where a walk stops.
 #[derive(Clone, Copy, PartialEq, Eq, Debug)]
@@ -59,6 +61,7 @@ pub fn walk<T: Drop>(
 #[inline(never)]
 pub fn walk_all<T: Drop, R: Reclaim<T>>(
     blocks: &Blocks<T>,
+    spots: &mut Spots<Header, Part, T>,
     word: u64,
     key: &mut SlotKey,
     reclaimer: &mut R,
@@ -71,12 +74,14 @@ pub fn walk_all<T: Drop, R: Reclaim<T>>(
     requires knows { Knows key.old pass.old }
     requires at { IsAtWalk key.old word }
     requires serves { R.serves reclaimer.old (book_in blocks.now) }
+    requires spots { AreSpotsIn blocks.now spots.old }
     ensures book { IsOf key.new pass.new }
     ensures knows { Knows key.new pass.new }
     ensures walks { (at : IsAtWalk key.old word) → let had = R.had reclaimer.old in let had' = R.had reclaimer.new in
         WalksAll at pass.old (further_in queue.old) had key.new pass.new (further_in queue.new) had' }
     ensures told { AreTold (further_in queue.new) pass.new }
     ensures serves { R.serves reclaimer.new (book_in blocks.now) }
+    ensures spots { AreSpotsIn blocks.now spots.new }
 {
     let mut values = ValueKeys::new(pass);
     let mut leads = word;
@@ -84,7 +89,16 @@ pub fn walk_all<T: Drop, R: Reclaim<T>>(
         match walk(blocks, leads, key, &mut values, pass) {
             Walked::Over => return,
             Walked::GivesUp(front, rest) => {
-                hand_all(blocks, front, &mut values, reclaimer, queue, key, pass);
+                hand_all(
+                    blocks,
+                    spots,
+                    front,
+                    &mut values,
+                    reclaimer,
+                    queue,
+                    key,
+                    pass,
+                );
                 leads = rest;
             }
         }

@@ -68,7 +68,7 @@ settle-retired-requires g c =
     let sits = begun_sits key pass Flush [] a begins c.requires.book.0 (knows_noted key one pass pass1 (private pass (Begin (number_of key) Flush)) notes) c.requires.batch made.ensures.0 in
     let some : 0 < length (slot_of key).batch = subst (λ (vs : List ℕ). 0 < length vs) c.requires.batch.1 (some_counted c.args.batch.now.len (values_of (keys_in c.args.batch.now)) c.args.batch.now.many c.if-batch-eq0.false) in
     let same = sym begins.keeps.same.0 in
-    (lit< tt, ((c.requires.book.1 ∙ same, c.requires.book.2 ∙ same), (sits, (flush_marks key one pass pass1 notes queue none some, c.requires.serves))))
+    (lit< tt, ((c.requires.book.1 ∙ same, c.requires.book.2 ∙ same), (sits, (flush_marks key one pass pass1 notes queue none some, (c.requires.serves, c.requires.spots)))))
 
 pub drain-requires : goal.drain-requires
 drain-requires g c =
@@ -82,7 +82,7 @@ drain-requires g c =
       lit< tt,
       (
         (c.requires.book.1 ∙ same, c.requires.book.2 ∙ same),
-        (c.requires.size ∙ ap (λ (n : Name). n.size) (sym on.its.0), (settle.ensures.sits, (settles_rest a b settle.result settle.ensures.settles, settle.ensures.serves))),
+        (c.requires.size ∙ ap (λ (n : Name). n.size) (sym on.its.0), (settle.ensures.sits, (settles_rest a b settle.result settle.ensures.settles, (settle.ensures.serves, settle.ensures.spots)))),
       ),
     )
 

@@ -65,7 +65,7 @@ walk_all-requires g c =
           made.ensures.0.0 ∙ sym named,
           (
             none_queued queue pass2 made.ensures.0.1,
-            (knows_noted one two pass1 pass2 (beginning pass1 swap.new.activation.life (SwapOut (number_of one))) noted, (at, c.requires.serves)),
+            (knows_noted one two pass1 pass2 (beginning pass1 swap.new.activation.life (SwapOut (number_of one))) noted, (at, (c.requires.serves, c.requires.spots))),
           ),
         ),
       ),
@@ -88,7 +88,7 @@ drain-requires g c =
           c.requires.size ∙ ap (λ (n : Name). n.size) (sym (all.goes_on.0.its.0 ∙ (noted.1.0 ∙ begins.keeps.its.0))),
           (
             walked_sits key one two pass pass1 pass2 Refresh true swap.new.activation.life begins c.requires.inside.1 out noted c.args.head.now swap.result (swap.ensures.walks ([], out)) c.requires.book.2 three pass3 values queue queue3 had had3 made.ensures.0.1 all c.requires.book.0 walk.ensures.knows c.requires.batch made.ensures.0 walk.ensures.told,
-            (walked_over key one two pass pass1 pass2 Refresh true swap.new.activation.life begins c.requires.inside.1 out noted c.args.head.now swap.result (swap.ensures.walks ([], out)) c.requires.book.2 three pass3 values queue queue3 had had3 made.ensures.0.1 all, walk.ensures.serves),
+            (walked_over key one two pass pass1 pass2 Refresh true swap.new.activation.life begins c.requires.inside.1 out noted c.args.head.now swap.result (swap.ensures.walks ([], out)) c.requires.book.2 three pass3 values queue queue3 had had3 made.ensures.0.1 all, (walk.ensures.serves, walk.ensures.spots)),
           ),
         ),
       ),

@@ -38,7 +38,7 @@ put-retired-requires g c =
             sits,
             (
               subst (λ (w : ℕ). MayPut one w queue) (sym label) (retire_puts key one pass pass1 v c.args.kept queue notes none),
-              ((c.begin_retire.ensures.value.0 ∙ (c.requires.value.0 ∙ same), ap block_of label ∙ c.requires.value.2), (subst (λ (w : ℕ). IsTold pass1.seen w c.args.kept) (sym label) (retired_told key one pass pass1 v c.args.kept notes), c.requires.serves)),
+              ((c.begin_retire.ensures.value.0 ∙ (c.requires.value.0 ∙ same), ap block_of label ∙ c.requires.value.2), (subst (λ (w : ℕ). IsTold pass1.seen w c.args.kept) (sym label) (retired_told key one pass pass1 v c.args.kept notes), (c.requires.serves, c.requires.spots))),
             ),
           ),
         ),
@@ -57,7 +57,7 @@ drain-requires g c =
       lit< tt,
       (
         (c.requires.book.1 ∙ same, c.requires.book.2 ∙ same),
-        (c.requires.size ∙ ap (λ (n : Name). n.size) (sym on.its.0), (put.ensures.sits, (settles_rest round.full b put.result round.settles, put.ensures.serves))),
+        (c.requires.size ∙ ap (λ (n : Name). n.size) (sym on.its.0), (put.ensures.sits, (settles_rest round.full b put.result round.settles, (put.ensures.serves, put.ensures.spots)))),
       ),
     )
 

@@ -11,7 +11,7 @@ use Rattle.seize_calls.proofs.Onwards.{onward_none, onward_twice, round_on, sett
 use Rattle.seize_calls.proofs.draining.drain.Goals as goal
 
 pub loop-init : goal.loop-init
-loop-init g c = (Drains.over, onward_none c.args.key.now c.args.pass.now, c.requires.rests, c.requires.sits, c.requires.serves)
+loop-init g c = (Drains.over, onward_none c.args.key.now c.args.pass.now, c.requires.rests, c.requires.sits, c.requires.serves, c.requires.spots)
 
 -- the first of the queue, with the word that the list says is kept of it
 pub put-requires : goal.put-requires
@@ -32,7 +32,7 @@ put-requires g c =
               batch = sits.batch;
               queue = (out.book.1 ∙ sits.queue.0, subst (λ (n : Name). AreToldIn n.store l.pass.seen left.keys.held) (sym out.book.1) told.1);
             },
-            ((Rest [] [], values_of queue, rests, inr (refl, out.first)), ((out.book.0 ∙ sits.queue.0, out.its_block), (told.0, l.invariant.4))),
+            ((Rest [] [], values_of queue, rests, inr (refl, out.first)), ((out.book.0 ∙ sits.queue.0, out.its_block), (told.0, (l.invariant.4, l.invariant.5)))),
           ),
         ),
       ),
@@ -48,4 +48,5 @@ loop-preserved g c =
       settles_rest round.full to put.result round.settles,
       put.ensures.sits,
       put.ensures.serves,
+      put.ensures.spots,
     )

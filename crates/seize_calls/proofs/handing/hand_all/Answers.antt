@@ -11,6 +11,7 @@ loop-front-init g c = (
   c.requires.knows,
   c.requires.serves,
   c.requires.told,
+  c.requires.spots,
 )
 
 pub next-value-requires : goal.next-value-requires
@@ -33,7 +34,7 @@ hand_one-next-requires g c =
               l.invariant.2,
               (
                 is_soon key pass values front given (further_in c.args.queue.now) old l.key l.pass l.values (further_in l.queue) l.number had r value rest nexts,
-                (is_last key pass values front given (further_in c.args.queue.now) old l.key l.pass l.values (further_in l.queue) l.number had r value rest nexts, (is_there key pass values front given (further_in c.args.queue.now) old l.key l.pass l.values (further_in l.queue) l.number had r value rest nexts, l.invariant.3)),
+                (is_last key pass values front given (further_in c.args.queue.now) old l.key l.pass l.values (further_in l.queue) l.number had r value rest nexts, (is_there key pass values front given (further_in c.args.queue.now) old l.key l.pass l.values (further_in l.queue) l.number had r value rest nexts, (l.invariant.3, l.invariant.5))),
               ),
             ),
           ),
@@ -61,4 +62,5 @@ loop-front-preserved g c =
       hand.ensures.knows,
       hand.ensures.serves,
       hand.ensures.told,
+      hand.ensures.spots,
     )

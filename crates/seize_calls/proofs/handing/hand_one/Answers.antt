@@ -11,8 +11,9 @@ use Rattle.seize_book.specs.Passes.{LooksOn}
 use Rattle.seize_book.specs.Values.{values_of}
 use Rattle.seize_book.specs.declared.book.pass.Pass.{Pass}
 use Rattle.seize_book.specs.declared.book.slot_key.SlotKey.{SlotKey}
-use Rattle.seize_store.specs.Named.{name_of}
-use Rattle.seize_words.proofs.Chunked.{named_seen}
+use Rattle.seize_store.specs.Named.{bare_value, name_of}
+use Rattle.seize_store.specs.declared.known.Title.{Title}
+use Rattle.seize_words.proofs.Chunked.{named_seen, settles_hollow, takes_block}
 use Rattle.seize_words.proofs.Facts.{all_told_later, handing_named, joined_told, knows_still, looks_twice, none_new, put_told, same_key, seen_grows, settles_after, unchanged_last, unchanged_value}
 use Rattle.seize_words.specs.Chunks.{IsLentAs}
 use Rattle.seize_book.specs.Kept.{AreToldIn, kept_in, kepts_of}
@@ -103,6 +104,20 @@ returns-clause-told g c =
     (joined_told queue.keys.name.store pass'.seen queue.keys.held put.keys.held all.keys.held c.append.ensures.all c.append.ensures.kept
     (all_told_later queue.keys.name.store c.args.pass.now.seen pass'.seen queue.keys.held on c.requires.told)
     (subst (λ (n : Name). AreToldIn n.store pass'.seen put.keys.held) same (all_told_later put.keys.name.store hand.new.pass.seen pass'.seen put.keys.held c.settle.ensures.looks.grows its)))
+
+-- once the key is settled, the chunk may be laid into a list
+pub lay_into-requires : goal.lay_into-requires
+lay_into-requires g c =
+    let blocks = c.args.blocks.now in let redeemed = c.redeem-block in let taken = c.take-content in let settled = c.settle in let v = value_of c.note-note.new.self in
+    let left = takes_block _ blocks (bare_value redeemed.result) redeemed.new.key redeemed.result taken.result.1 taken.ensures.hollow redeemed.ensures.block.0 in
+    let hollow = settles_hollow v blocks redeemed.new.key settled.new.self taken.result.1 settled.new.pass left settled.ensures.follows settled.ensures.next in
+    (lit< tt, (hollow.book, (hollow.next.1, ((hollow.lay, hollow.store), c.requires.spots))))
+
+-- its chunk, by the number by which the block was had back
+pub returns-clause-laid : goal.returns-clause-laid
+returns-clause-laid g c =
+    let taken = c.take-content in
+    record { hollow = taken.result.1; its = ap (λ (t : Title). t.number) taken.ensures.hollow ∙ c.redeem-block.ensures.block.1; last = c.lay_into.ensures.last }
 
 pub returns-clause-handed : goal.returns-clause-handed
 returns-clause-handed g c =

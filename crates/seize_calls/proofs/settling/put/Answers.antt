@@ -57,7 +57,7 @@ settle-requires g c =
               (knows_noted key two pass c.put.new.pass (private pass (Put (number_of key))) c.put.ensures.noted) c.requires.told,
           (
             put_marks key two pass c.put.new.pass v queue c.requires.next c.put.ensures.noted (omega (arith, long, many, c.if-batch-size.false, c.requires.size)) (omega (arith, push, longer)),
-            c.requires.serves,
+            (c.requires.serves, c.requires.spots),
           ),
         ),
       ),

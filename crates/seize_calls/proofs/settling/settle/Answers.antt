@@ -13,7 +13,7 @@ hand_all-requires g c =
     let e = c.in-GivenUp.ensures in let a = stand c.args.key.now c.args.pass.now c.args.batch.now c.args.queue.now (g.R.Reclaim.had c.args.reclaimer.now) in let sits = c.requires.sits in let m = c.requires.marking in
     let given = given_now a m c.attempt.new.key c.attempt.new.pass c.attempt.new.batch.values _ e.book.1 (e.book.0 ∙ e.book.1.0 ∙ sym sits.its, e.book.2) (e.ends m.0) refl c.attempt.new.batch.first c.attempt.new.batch.front
     (has_values a m sits.its sits.knows) sits.batch in
-    (lit< tt, ((e.book.0, c.requires.words.1 ∙ sym e.book.1.0), (sits.queue.0 ∙ sym e.book.1.0, (all_told_later a.queue.keys.name.store a.pass.seen c.attempt.new.pass.seen a.queue.keys.held (e.ends m.0).grows sits.queue.1, (e.knows, (given, c.requires.serves))))))
+    (lit< tt, ((e.book.0, c.requires.words.1 ∙ sym e.book.1.0), (sits.queue.0 ∙ sym e.book.1.0, (all_told_later a.queue.keys.name.store a.pass.seen c.attempt.new.pass.seen a.queue.keys.held (e.ends m.0).grows sits.queue.1, (e.knows, (given, (c.requires.serves, c.requires.spots)))))))
 
 -- it has no values any more
 pub invariant_of-batch : goal.invariant_of-batch

@@ -21,6 +21,7 @@ loop-values-init g c =
       subst (λ (p : Pass). IsEmpty c.new-values.result p) same c.new-values.ensures.0,
       c.requires.serves,
       subst (λ (p : Pass). AreTold (further_in c.args.queue.now) p) same c.requires.told,
+      c.requires.spots,
     )
 
 pub walk-requires : goal.walk-requires
@@ -57,7 +58,7 @@ hand_all-requires g c =
               (
                 given_now c.args.key.now c.args.word c.requires.at c.new-values.new.pass (further_in c.args.queue.now) (g.R.Reclaim.had c.args.reclaimer.now) l.key l.pass l.leads (further_in l.queue) (g.R.Reclaim.had l.reclaimer) r c.walk.new.key
                     c.walk.new.pass c.walk.new.values c.in-GivesUp.front c.in-GivesUp.rest w c.walk.ensures.book c.walk.ensures.knows (ap (λ (n : Name). is_some n.store) (sym (c.requires.book.1 ∙ sym (w.goes_on.0.same.0 ∙ same))) ∙ ap is_some c.args.blocks.now.stands),
-                l.invariant.4,
+                (l.invariant.4, l.invariant.6),
               ),
             ),
           ),
@@ -90,4 +91,5 @@ loop-values-preserved g c =
       handed0.none,
       hand.ensures.serves,
       hand.ensures.told,
+      hand.ensures.spots,
     )
