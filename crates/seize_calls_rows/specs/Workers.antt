@@ -7,7 +7,8 @@
 --     CanTake source words             the next slot of the book can be made, and it has a number;  CanMake   and whoever wants has a pass
 --     HasTaken source source' words    one more slot was made, and where there is one more number, so can the slot after it;  HasOneMore
 --                                      and whoever wants has a pass
---     IsBatchOf batch key pass         these are the keys of the slot's batch, of the pass's book
+--     IsBatchOf batch key pass         these are the keys of the slot's batch, of the pass's book, and of each value the list says what
+--                                      is kept of it
 --     Works words slot size batch key pass     the slot is there, and a batch has this size; and these are the keys of the slot's batch
 --     MayWork words worker             so it is with this worker's, and it is outside
 --     Stands words active              so it is with this one's, it is inside, and its activation has begun: each link may be stepped on
@@ -21,9 +22,9 @@ use Rattle.seize_book.specs.Others.{MayRetire, book_of, value_of}
 use Rattle.seize_book.specs.Passes.{IsSame}
 use Rattle.seize_book.specs.Slots.{active_of, slot_of}
 use Rattle.seize_book.specs.Tokens.{many}
-use Rattle.seize_book.specs.Values.{AreOfBook, values_of}
 use Rattle.seize_calls.specs.Batches.{keys_in}
 use Rattle.seize_calls.specs.Calls.{IsInside}
+use Rattle.seize_calls.specs.Settling.{HasBatch}
 use Rattle.seize_words.specs.Joined.{IsHolder, IsInAt, words_book}
 use Rattle.seize_words.specs.Named.{numbers_book}
 use Rattle.seize_words.specs.Reservations.{IsLastOf}
@@ -77,7 +78,7 @@ HasOneMore source source' words =
     (made_by source' ≡ suc (made_by source)) × (made_by source' < all_numbers → CanMake source' words)
 
 abbrev pub IsBatchOf : Batch → SlotKey → Pass → Type 0
-IsBatchOf batch key pass = AreOfBook (keys_in batch) pass × (values_of (keys_in batch) ≡ (slot_of key).batch)
+IsBatchOf batch key pass = HasBatch key pass (keys_in batch)
 
 pub record Works (words : Shared) (slot size : ℕ) (batch : Batch) (key : SlotKey) (pass : Pass) : Type 0 where
   pub links : HasLinks words

@@ -12,7 +12,8 @@ use std::sync::atomic::{AtomicU64, Ordering};
 /// What was had, for clauses alone. It has no bytes.
 pub struct Record {
     marker: PhantomData<()>,
-    /// Of each value the word that was kept of it, its code, and what was put with it, the oldest first.
+    /// Of each value the word that was kept of it, its code, and what was put with it, with the words that are kept of that, the oldest
+    /// first.
     pub ghost had: { Had } by { had_coded },
 }
 
@@ -28,6 +29,7 @@ impl Drop for Record {
 
 impl Record {
     ghost use Rattle.std.specs.Prelude.{◌≡◌, [], ◌∷◌, ◌++◌};
+    ghost use Rattle.seize_book.specs.Kept.{kepts_of};
     ghost use Rattle.seize_book.specs.Values.{values_of};
     ghost use Rattle.seize_calls.specs.Furthers.{further_in};
     ghost use base.Stored.{gnum};
@@ -43,7 +45,7 @@ impl Record {
 
     /// The value was had then, of which this was kept, and these were put with it. It does nothing when the program runs.
     pub fn note(&mut self, kept: u64, value: u64, further: &Further)
-        ensures { self.new.had ≡ self.old.had ++ (kept, gnum value, values_of (further_in further.now)) ∷ [] }
+        ensures { let puts = further_in further.now in self.new.had ≡ self.old.had ++ (kept, gnum value, values_of puts, kepts_of puts) ∷ [] }
     {}
 }
 
@@ -91,13 +93,15 @@ impl<'a> Counting<'a> {
 
 impl Counting<'_> {
     ghost use Rattle.std.specs.Prelude.{◌≡◌, [], ◌∷◌, ◌++◌};
+    ghost use Rattle.seize_book.specs.Kept.{kepts_of};
     ghost use Rattle.seize_book.specs.Values.{values_of};
     ghost use Rattle.seize_calls.specs.Furthers.{further_in};
     ghost use base.Stored.{gnum};
 
     /// It has this value, of which this was kept, and these are put with it.
     pub fn count(&mut self, kept: u64, value: u64, further: &Further)
-        ensures { self.new.told.had ≡ self.old.told.had ++ (kept, gnum value, values_of (further_in further.now)) ∷ [] }
+        ensures { let puts = further_in further.now in
+            self.new.told.had ≡ self.old.told.had ++ (kept, gnum value, values_of puts, kepts_of puts) ∷ [] }
     {
         self.count = self.count.saturating_add(1);
         self.sum = self.sum.wrapping_add(value);
