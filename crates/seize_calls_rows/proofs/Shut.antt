@@ -25,7 +25,9 @@ use Rattle.seize_book.proofs.Lists.{as_legal, reached_after}
 use Rattle.seize_book.proofs.Turns.{turn_alone}
 use Rattle.seize_calls.specs.Calls.{Flushes, Leaves, RetiresOne, Returns}
 use Rattle.seize_calls.specs.Settling.{Drains, Round, Settles, Stand}
-use Rattle.seize_calls.specs.Batches.{kepts_of}
+use Rattle.seize_book.specs.Kept.{kepts_of}
+use Rattle.seize_calls.specs.Batches.{keys_in}
+use Rattle.seize_words.proofs.Facts.{all_told_later}
 use Rattle.seize_calls.specs.Handing.{Had, Handings, HasHad, values_handed}
 use Rattle.seize_calls.specs.Marks.{actives, readings}
 use Rattle.seize_calls_rows.specs.Turns.{AllBack, EmptyBelow, Gave, Holds, IsPartOf, KeepsLinks}
@@ -168,18 +170,18 @@ works_by words slot size batch key pass pass' works same grows legal =
       book = works.book ∙ sym same;
       size_is = works.size_is ∙ ap (λ (n : Name). n.size) (sym same);
       holder = (works.holder.0 ∙ sym same, works.holder.1, subst (λ (n : Name). slot < length (after (start n) pass'.seen).slots) (sym same) less);
-      batch_is = (works.batch_is.0 ∙ sym same, works.batch_is.1);
+      batch_is = (works.batch_is.0 ∙ sym same, works.batch_is.1, all_told_later (keys_in batch).keys.name.store pass.seen pass'.seen (keys_in batch).keys.held grows works.batch_is.2);
     }
 
 pub part_holds : (words : Shared) (holder : Holder) (worker : Worker) (pass' : Pass) → IsPartOf holder worker → MayWork words worker → pass'.name ≡ worker.pass.name → IsPrefix worker.pass.seen pass'.seen → IsLegalList (start pass'.name) pass'.seen
     → Holds words holder pass'
 part_holds words holder worker pass' part may same grows legal =
-    subst (λ (h : Holder). Holds words h pass') (λ j. record { slot = sym part.0 j; size = sym part.1 j; key = sym part.2 j; batch = sym part.3 j })
-    (works_by words worker.slot worker.size worker.batch worker.key worker.pass pass' may.0 same grows legal, may.1)
+    subst (λ (h : Holder). Holds words h pass') (λ j. record { slot = sym part.0 j; size = sym part.1 j; key = sym part.2 j; batch = sym part.3 j; spots = sym part.4 j })
+    (works_by words worker.slot worker.size worker.batch worker.key worker.pass pass' may.0 same grows legal, may.1, may.2)
 
 pub holds_on : (words : Shared) (holder : Holder) (pass pass' : Pass) → Holds words holder pass → GoesOn pass pass' → Holds words holder pass'
 holds_on words holder pass pass' holds goes =
-    (works_on words holder.slot holder.size holder.batch holder.key holder.key pass pass' holds.0 goes refl refl refl, holds.1)
+    (works_on words holder.slot holder.size holder.batch holder.key holder.key pass pass' holds.0 goes refl refl refl, holds.1, holds.2)
 
 -- what the porter has seen that took passes back
 pub longer_left : (a b c : List Entry) → Longer a b c → IsPrefix a c

@@ -18,7 +18,7 @@ use Rattle.seize_book.specs.Passes.{IsSame, LooksOn}
 use Rattle.seize_book.specs.Private.{label_of}
 use Rattle.seize_book.specs.Slots.{Moves, NotesAs, active_of, life_of, number_of, own_list, size_of, slot_of, start_of}
 use Rattle.seize_book.specs.Tokens.{Name, Noted, start}
-use Rattle.seize_book.specs.Values.{book_in, values_of}
+use Rattle.seize_book.specs.Values.{book_in}
 use Rattle.seize_book.specs.declared.book.pass.Pass.{Pass}
 use Rattle.seize_book.specs.declared.book.slot_key.SlotKey.{SlotKey}
 use Rattle.seize_calls.specs.Batches.{keys_in}
@@ -31,10 +31,14 @@ use Rattle.seize_words.specs.Named.{slot_book}
 use Rattle.seize_words.specs.Reservations.{IsActivationOf, IsLastOf, beginning}
 use Rattle.seize_words.specs.Totals.{slots_seen}
 use Rattle.seize_words.specs.Walks.{Knows}
+use Rattle.seize_store.specs.declared.spot.Spots.{Spots}
 use Rattle.seize_words.specs.declared.activation.Activation.{Activation}
+use Rattle.seize_words.specs.declared.chunk.Header.{Header}
+use Rattle.seize_words.specs.declared.chunk.Part.{Part}
 use Rattle.seize_words.specs.declared.link.Link.{Link}
 use Rattle.seize_words.proofs.Facts.{more_seen, more_slots, moved, seen_grows}
-use Rattle.seize_calls_rows.specs.Workers.{GoesOn, MayWork, Shared, Stands, Works}
+use Rattle.seize_words.proofs.Facts.{all_told_later}
+use Rattle.seize_calls_rows.specs.Workers.{IsBatchOf, AreSpotsOf, GoesOn, MayWork, Shared, Stands, Works}
 use Rattle.seize_calls_rows.specs.declared.worker.Active.{Active}
 use Rattle.seize_calls_rows.specs.declared.worker.Worker.{Worker}
 
@@ -134,19 +138,25 @@ holder_kept key key' pass pass' s goes book number its =
 
 -- What is known of the slot after a call that leaves its batch, or gives it another one.
 works_with : (words : Shared) (slot size : ℕ) (batch batch' : Batch) (key key' : SlotKey) (pass pass' : Pass) → Works words slot size batch key pass → GoesOn pass pass'
-    → slot_book key' ≡ slot_book key → number_of key' ≡ number_of key → book_in (keys_in batch') ≡ pass'.name → values_of (keys_in batch') ≡ (slot_of key').batch → Works words slot size batch' key' pass'
-works_with words slot size batch batch' key key' pass pass' works goes book number of_book values = record {
+    → slot_book key' ≡ slot_book key → number_of key' ≡ number_of key → IsBatchOf batch' key' pass' → Works words slot size batch' key' pass'
+works_with words slot size batch batch' key key' pass pass' works goes book number its = record {
   links = works.links;
   book = works.book ∙ sym goes.same.0;
   size_is = works.size_is ∙ ap (λ (n : Name). n.size) (sym goes.same.0);
   holder = holder_kept key key' pass pass' slot goes book number works.holder;
-  batch_is = (of_book, values);
+  batch_is = its;
 }
 
 pub works_on : (words : Shared) (slot size : ℕ) (batch : Batch) (key key' : SlotKey) (pass pass' : Pass) → Works words slot size batch key pass → GoesOn pass pass'
     → slot_book key' ≡ slot_book key → number_of key' ≡ number_of key → (slot_of key').batch ≡ (slot_of key).batch → Works words slot size batch key' pass'
 works_on words slot size batch key key' pass pass' works goes book number same =
-    works_with words slot size batch batch key key' pass pass' works goes book number (works.batch_is.0 ∙ sym goes.same.0) (works.batch_is.1 ∙ sym same)
+    works_with words slot size batch batch key key' pass pass' works goes book number
+    (let held = (keys_in batch).keys.held in (works.batch_is.0 ∙ sym goes.same.0, works.batch_is.1 ∙ sym same, all_told_later (book_in (keys_in batch)).store pass.seen pass'.seen held goes.seen works.batch_is.2))
+
+-- The batch is the slot's where the pass alone has gone on.
+pub batch_on : (batch : Batch) (key : SlotKey) (pass pass' : Pass) → IsBatchOf batch key pass → GoesOn pass pass' → IsBatchOf batch key pass'
+batch_on batch key pass pass' its goes =
+    let held = (keys_in batch).keys.held in (its.0 ∙ sym goes.same.0, its.1, all_told_later (book_in (keys_in batch)).store pass.seen pass'.seen held goes.seen its.2)
 
 -- The slot has entered.
 module _ (words : Shared) (w : Worker) (may : MayWork words w) (key' : SlotKey) (pass' : Pass) (a : Activation)
@@ -159,7 +169,7 @@ module _ (words : Shared) (w : Worker) (may : MayWork words w) (key' : SlotKey) 
       let n = notes.2.0 in
       entered_so w.key key' n.before n.later n.answer (subst (λ (k : ℕ). Moves w.key key' n.before (Enter k) n.later n.answer) (sym may.0.holder.1) notes.2.1) may.1.0 may.1.1
 
-  pub entered : Stands words (record { slot = w.slot; size = w.size; key = key'; batch = w.batch; pass = pass'; activation = a })
+  pub entered : Stands words (record { slot = w.slot; size = w.size; key = key'; batch = w.batch; spots = w.spots; pass = pass'; activation = a })
   entered =
       let works = works_on words w.slot w.size w.batch w.key key' w.pass pass' may.0 goes_in notes.1.0 notes.1.1 (ap (λ (z : Slot). z.batch) same_record) in
       let many = ap (λ (n : Name). length n.links) (sym works.book) ∙ works.links in
@@ -168,37 +178,46 @@ module _ (words : Shared) (w : Worker) (may : MayWork words w) (key' : SlotKey) 
         inside = (ap is_idle same_record ∙ may.1.0, (λ i. is_active (head_at (after (start (sym is.book i)) (sym is.since i)) (sym is.slot i))) ∙ is.active);
         last = (is.book, is.slot, sym is.its ∙ (λ i. life (is.slot i) (is.since i)));
         begun = λ l less. begun_in key' a pass' l is works.holder.0 notes.1.2 (omega (arith, less, many));
+        spots = may.2;
       }
 
 -- It stands as before where the pass alone has gone on.
 pub stands_on : (words : Shared) (active : Active) (pass' : Pass) → Stands words active → GoesOn active.pass pass'
-    → Stands words (record { slot = active.slot; size = active.size; key = active.key; batch = active.batch; pass = pass'; activation = active.activation })
+    → Stands words (record { slot = active.slot; size = active.size; key = active.key; batch = active.batch; spots = active.spots; pass = pass'; activation = active.activation })
 stands_on words active pass' stands goes = record {
   works = works_on words active.slot active.size active.batch active.key active.key active.pass pass' stands.works goes refl refl refl;
   inside = stands.inside;
   last = stands.last;
   begun = λ l less. in_still active.activation active.pass pass' l goes (stands.begun l less);
+  spots = stands.spots;
 }
+
+-- And where its list has other spots of the store.
+pub with_spots : (words : Shared) (active : Active) (spots' : Spots Header Part ℕ) → AreSpotsOf words spots' → Stands words active
+    → Stands words (record { slot = active.slot; size = active.size; key = active.key; batch = active.batch; spots = spots'; pass = active.pass; activation = active.activation })
+with_spots words active spots' are stands = record { works = stands.works; inside = stands.inside; last = stands.last; begun = stands.begun; spots = are }
 
 -- A call has returned, of a slot that stays active.
 module _ (words : Shared) (active : Active) (stands : Stands words active) (key' : SlotKey) (pass' : Pass) (batch' : Batch) (knows : Knows key' pass') (rests : Rests active.key active.pass key' pass' (keys_in batch')) (on : active_of key' ≡ active_of active.key)
     (life_so : life_of key' ≡ life_of active.key) where
-  pub stands_after : Stands words (record { slot = active.slot; size = active.size; key = key'; batch = batch'; pass = pass'; activation = active.activation })
+  pub stands_after : Stands words (record { slot = active.slot; size = active.size; key = key'; batch = batch'; spots = active.spots; pass = pass'; activation = active.activation })
   stands_after =
       let goes = goes_known key' active.pass pass' rests.same rests.grows knows in
       record {
-        works = works_with words active.slot active.size active.batch batch' active.key key' active.pass pass' stands.works goes rests.its.0 rests.its.1 rests.batch.0 rests.batch.1;
+        works = works_with words active.slot active.size active.batch batch' active.key key' active.pass pass' stands.works goes rests.its.0 rests.its.1 rests.batch;
         inside = (idle_of (slot_of key') (rests.used ∙ used_of (slot_of active.key) stands.inside.0) rests.call, on ∙ stands.inside.1);
         last = last_kept active.key key' rests.its.0 rests.its.1 life_so active.activation stands.last;
         begun = λ l less. in_still active.activation active.pass pass' l goes (stands.begun l less);
+        spots = stands.spots;
       }
 
 -- A call has returned, of a slot that is not active.
 module _ (words : Shared) (w : Worker) (may : MayWork words w) (key' : SlotKey) (pass' : Pass) (batch' : Batch) (knows : Knows key' pass') (rests : Rests w.key w.pass key' pass' (keys_in batch')) (off : active_of key' ≡ active_of w.key) where
-  pub works_after : MayWork words (record { slot = w.slot; size = w.size; key = key'; batch = batch'; pass = pass' })
+  pub works_after : MayWork words (record { slot = w.slot; size = w.size; key = key'; batch = batch'; spots = w.spots; pass = pass' })
   works_after = (
-    works_with words w.slot w.size w.batch batch' w.key key' w.pass pass' may.0 (goes_known key' w.pass pass' rests.same rests.grows knows) rests.its.0 rests.its.1 rests.batch.0 rests.batch.1,
+    works_with words w.slot w.size w.batch batch' w.key key' w.pass pass' may.0 (goes_known key' w.pass pass' rests.same rests.grows knows) rests.its.0 rests.its.1 rests.batch,
     (idle_of (slot_of key') (rests.used ∙ used_of (slot_of w.key) may.1.0) rests.call, off ∙ may.1.1),
+    may.2,
   )
 
 -- It leaves, or refreshes, after a look at the list.
@@ -211,4 +230,4 @@ module _ (words : Shared) (slot size : ℕ) (batch : Batch) (key : SlotKey) (pas
   idle_out = idle_of (slot_of key') (rests.used ∙ used_of (slot_of key) idle) rests.call
 
   pub works_out : Works words slot size batch' key' pass'
-  works_out = works_with words slot size batch batch' key key' pass pass' works goes_out rests.its.0 rests.its.1 rests.batch.0 rests.batch.1
+  works_out = works_with words slot size batch batch' key key' pass pass' works goes_out rests.its.0 rests.its.1 rests.batch

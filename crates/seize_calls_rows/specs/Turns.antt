@@ -3,7 +3,7 @@
 --     IsSlotAfter source worker source' words     the worker has the slot that came next, and so may the slot after it be made
 --     IsOneMoreOut porter porter'      one more pass is out
 --     IsPartOf holder worker           it is what the worker has beside its pass
---     StandsAs words slot size batch key activation pass     as `Stands`, of each by itself;  Holds words holder pass   as `MayWork`
+--     StandsAs words spots slot size batch key activation pass     as `Stands`, of each by itself;  Holds words holder pass   as `MayWork`
 --     KeepsLinks pass pass'            each link holds what it held
 --     TakesOut l pass pass'            but link l, which holds nothing
 --     EmptyBelow n pass                the links below this number hold nothing
@@ -26,9 +26,12 @@ use Rattle.seize_book.specs.declared.book.porter.Porter.{Porter}
 use Rattle.seize_book.specs.declared.book.slot_key.SlotKey.{SlotKey}
 use Rattle.seize_calls.specs.Handing.{Had, Handings, HasHad, values_handed}
 use Rattle.seize_calls.specs.declared.batch.Batch.{Batch}
+use Rattle.seize_store.specs.declared.spot.Spots.{Spots}
 use Rattle.seize_words.specs.Joined.{words_book}
 use Rattle.seize_words.specs.declared.activation.Activation.{Activation}
-use Rattle.seize_calls_rows.specs.Workers.{CanTake, HasTaken, IsOutside, Shared, Stands, Works, made_by}
+use Rattle.seize_words.specs.declared.chunk.Header.{Header}
+use Rattle.seize_words.specs.declared.chunk.Part.{Part}
+use Rattle.seize_calls_rows.specs.Workers.{AreSpotsOf, CanTake, HasTaken, IsOutside, Shared, Stands, Works, made_by}
 use Rattle.seize_calls_rows.specs.declared.turns.Holder.{Holder}
 use Rattle.seize_calls_rows.specs.declared.worker.Source.{Source}
 use Rattle.seize_calls_rows.specs.declared.worker.Worker.{Worker}
@@ -45,13 +48,15 @@ IsOneMoreOut porter porter' = (porter'.name ≡ porter.name) × (porter'.out ≡
 abbrev pub IsPartOf : Holder → Worker → Type 0
 IsPartOf holder worker =
     (holder.slot ≡ worker.slot) × (holder.size ≡ worker.size) × (holder.key ≡ worker.key) × (holder.batch ≡ worker.batch)
+    × (holder.spots ≡ worker.spots)
 
-abbrev pub StandsAs : Shared → ℕ → ℕ → Batch → SlotKey → Activation → Pass → Type 0
-StandsAs words slot size batch key activation pass =
-    Stands words (record { slot = slot; size = size; key = key; batch = batch; pass = pass; activation = activation })
+abbrev pub StandsAs : Shared → Spots Header Part ℕ → ℕ → ℕ → Batch → SlotKey → Activation → Pass → Type 0
+StandsAs words spots slot size batch key activation pass =
+    Stands words (record { slot = slot; size = size; key = key; batch = batch; spots = spots; pass = pass; activation = activation })
 
 abbrev pub Holds : Shared → Holder → Pass → Type 0
-Holds words holder pass = Works words holder.slot holder.size holder.batch holder.key pass × IsOutside holder.key
+Holds words holder pass =
+    Works words holder.slot holder.size holder.batch holder.key pass × IsOutside holder.key × AreSpotsOf words holder.spots
 
 abbrev pub KeepsLinks : Pass → Pass → Type 0
 KeepsLinks pass pass' = (l : ℕ) → link_at (state_seen pass') l ≡ link_at (state_seen pass) l

@@ -9,9 +9,11 @@
 --                                      and whoever wants has a pass
 --     IsBatchOf batch key pass         these are the keys of the slot's batch, of the pass's book, and of each value the list says what
 --                                      is kept of it
+--     AreSpotsOf words spots           the list is of spots of the store of their blocks
 --     Works words slot size batch key pass     the slot is there, and a batch has this size; and these are the keys of the slot's batch
---     MayWork words worker             so it is with this worker's, and it is outside
---     Stands words active              so it is with this one's, it is inside, and its activation has begun: each link may be stepped on
+--     MayWork words worker             so it is with this worker's, it is outside, and its spots are of the store
+--     Stands words active              so it is with this one's, it is inside, and its activation has begun: each link may be stepped on;
+--                                      and its spots are of the store
 --     IsOut words out                  the value may be retired, as its key knows, and its block has this number
 use Rattle.std.specs.Prelude.{◌≡◌, ℕ, suc, ◌<◌, ◌≤◌, true, false, length}
 use mathlib.Core.List.{IsPrefix}
@@ -25,6 +27,8 @@ use Rattle.seize_book.specs.Tokens.{many}
 use Rattle.seize_calls.specs.Batches.{keys_in}
 use Rattle.seize_calls.specs.Calls.{IsInside}
 use Rattle.seize_calls.specs.Settling.{HasBatch}
+use Rattle.seize_store.specs.declared.spot.Spots.{Spots}
+use Rattle.seize_words.specs.Chunks.{AreSpotsIn}
 use Rattle.seize_words.specs.Joined.{IsHolder, IsInAt, words_book}
 use Rattle.seize_words.specs.Named.{numbers_book}
 use Rattle.seize_words.specs.Reservations.{IsLastOf}
@@ -33,6 +37,8 @@ use Rattle.seize_words.specs.Totals.{made_of, slots_seen}
 use Rattle.seize_book.specs.declared.book.pass.Pass.{Pass}
 use Rattle.seize_book.specs.declared.book.slot_key.SlotKey.{SlotKey}
 use Rattle.seize_calls.specs.declared.batch.Batch.{Batch}
+use Rattle.seize_words.specs.declared.chunk.Header.{Header}
+use Rattle.seize_words.specs.declared.chunk.Part.{Part}
 use Rattle.seize_words.specs.declared.words.Words.{Words}
 use Rattle.seize_calls_rows.specs.declared.worker.Active.{Active}
 use Rattle.seize_calls_rows.specs.declared.worker.Out.{Out}
@@ -80,6 +86,9 @@ HasOneMore source source' words =
 abbrev pub IsBatchOf : Batch → SlotKey → Pass → Type 0
 IsBatchOf batch key pass = HasBatch key pass (keys_in batch)
 
+abbrev pub AreSpotsOf : Shared → Spots Header Part ℕ → Type 0
+AreSpotsOf words spots = AreSpotsIn words.blocks spots
+
 pub record Works (words : Shared) (slot size : ℕ) (batch : Batch) (key : SlotKey) (pass : Pass) : Type 0 where
   pub links : HasLinks words
   pub book : words_book words ≡ pass.name
@@ -88,13 +97,15 @@ pub record Works (words : Shared) (slot size : ℕ) (batch : Batch) (key : SlotK
   pub batch_is : IsBatchOf batch key pass
 
 abbrev pub MayWork : Shared → Worker → Type 0
-MayWork words worker = Works words worker.slot worker.size worker.batch worker.key worker.pass × IsOutside worker.key
+MayWork words worker =
+    Works words worker.slot worker.size worker.batch worker.key worker.pass × IsOutside worker.key × AreSpotsOf words worker.spots
 
 pub record Stands (words : Shared) (active : Active) : Type 0 where
   pub works : Works words active.slot active.size active.batch active.key active.pass
   pub inside : IsInside active.key
   pub last : IsLastOf active.key active.activation
   pub begun : (l : ℕ) → l < 1024 → IsInAt active.activation active.pass l
+  pub spots : AreSpotsOf words active.spots
 
 abbrev pub IsOut : Shared → Out → Type 0
 IsOut words out =

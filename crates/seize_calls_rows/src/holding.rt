@@ -90,6 +90,7 @@ impl Active {
             size,
             key,
             batch,
+            spots,
             mut pass,
             activation,
         } = self;
@@ -102,6 +103,7 @@ impl Active {
             size,
             key,
             batch,
+            spots,
             pass,
             activation,
         };

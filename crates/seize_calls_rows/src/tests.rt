@@ -40,7 +40,8 @@ fn told(marks: &[AtomicU64]) -> (u64, u64) {
     (none, more)
 }
 
-// A batch of two is full while its slot is active: both values wait for the slot, and it hands them when it leaves, in their order.
+// A batch of two is full while its slot is active: both values wait for the slot, and it hands them when it leaves, in their order. Their
+// blocks are in its list then, of which its next one is made.
 #[test]
 fn a_full_batch_waits_for_its_own_slot(rt: HostRuntime) {
     let Ok(marks) = marks(rt.alloc(), 10) else {
@@ -79,7 +80,11 @@ fn a_full_batch_waits_for_its_own_slot(rt: HostRuntime) {
     );
     assert_eq!(rt; counting.weighed, 5 * 70 + 6 * 7);
     assert_eq!(rt; told(marks.as_slice()), (8, 0));
-    drop(worker);
+    assert_eq!(rt; worker.spots.len(), 2);
+    let (active, put) = worker.enter(&words).swap_in(&words, 1, 8);
+    assert!(rt; put.is_some_and(|out| out.is_none()));
+    assert_eq!(rt; active.spots.len(), 1);
+    drop(active);
 }
 
 // A batch of one value stays where two slots are active, also with a flush; where one is, a flush retires it. The slot hands it when it
@@ -126,7 +131,8 @@ fn a_short_batch_stays_while_more_slots_are_active(rt: HostRuntime) {
 // How many values stand in a chain.
 const CHAIN: u64 = 10_000;
 
-// Each value of a chain is put by the reclaimer of the one before. A batch has one value, and no slot is active: all go in one call.
+// Each value of a chain is put by the reclaimer of the one before. A batch has one value, and no slot is active: all go in one call. Their
+// blocks go to the slot's list, of which 64 go back into the store whenever it has 128.
 #[test]
 fn a_chain_of_values_ends_in_one_call(rt: HostRuntime) {
     let Ok(marks) = marks(rt.alloc(), CHAIN) else {
@@ -146,6 +152,7 @@ fn a_chain_of_values_ends_in_one_call(rt: HostRuntime) {
     let (worker, retired) = worker.retire(&words, first, 7, &mut putting, &rt);
     assert!(rt; retired);
     assert_eq!(rt; (worker.batch.len(), putting.ready.len()), (0, 0));
+    assert_eq!(rt; worker.spots.len(), 80);
     let counting = &putting.counting;
     assert_eq!(rt;
         (counting.count, counting.last, counting.kept),

@@ -12,8 +12,10 @@ use crate::counting::Counting;
 use crate::worker::{ROW, Source, Worker};
 use seize_calls::batch::Batch;
 use seize_calls::calls;
+use seize_store::Spots;
 use seize_words::activation::Activation;
 use seize_words::book::{Pass, Porter, SlotKey};
+use seize_words::chunk::{Header, Part};
 use seize_words::link::MaybeKey;
 use seize_words::words::Words;
 use std::alloc::Global;
@@ -26,6 +28,7 @@ pub struct Holder {
     pub size: usize,
     pub key: SlotKey,
     pub batch: Batch,
+    pub spots: Spots<Header, Part, u64>,
 }
 
 /// The words of a new book whose passes come from the porter, and what its slots are made with. A batch has `size` values. Nothing comes
@@ -41,6 +44,7 @@ pub fn open_in_turns(alloc: Global, size: usize) -> Option<(Words<u64>, Porter, 
         next,
         made: 0,
         size,
+        alloc,
     };
     Some((words, porter, source))
 }
@@ -74,6 +78,7 @@ fn part(worker: Worker, porter: &mut Porter) -> Holder
         size,
         key,
         batch,
+        spots,
         pass,
     } = worker;
     porter.lay(pass);
@@ -82,12 +87,14 @@ fn part(worker: Worker, porter: &mut Porter) -> Holder
         size,
         key,
         batch,
+        spots,
     }
 }
 
 // Takes out what the link holds, and retires it.
 fn take_out(
     words: &Words<u64>,
+    spots: &mut Spots<Header, Part, u64>,
     link: usize,
     slot: usize,
     size: usize,
@@ -98,10 +105,10 @@ fn take_out(
     pass: &mut Pass,
     rt: &impl Wait,
 )
-    requires stands { StandsAs words.now slot size batch.old key.old activation.now pass.old }
+    requires stands { StandsAs words.now spots.old slot size batch.old key.old activation.now pass.old }
     requires turn { HasTurn pass.old }
     requires link { link < 1024 }
-    ensures stands { StandsAs words.now slot size batch.new key.new activation.now pass.new }
+    ensures stands { StandsAs words.now spots.new slot size batch.new key.new activation.now pass.new }
     ensures goes_on { GoesOn pass.old pass.new }
     ensures out { TakesOut link pass.old pass.new }
     ensures gave { Gave pass.old pass.new counting.old.told.had counting.new.told.had }
@@ -116,6 +123,7 @@ fn take_out(
     calls::retire(
         slots,
         blocks,
+        spots,
         batch,
         size,
         old - 1,
@@ -131,6 +139,7 @@ fn take_out(
 // Flushes, and leaves.
 fn flush_and_leave(
     words: &Words<u64>,
+    spots: Spots<Header, Part, u64>,
     slot: usize,
     size: usize,
     activation: Activation,
@@ -140,27 +149,28 @@ fn flush_and_leave(
     pass: &mut Pass,
     rt: &impl Wait,
 ) -> Holder
-    requires stands { StandsAs words.now slot size batch key activation pass.old }
+    requires stands { StandsAs words.now spots slot size batch key activation pass.old }
     requires turn { HasTurn pass.old }
     ensures holds { Holds words.now result pass.new × (result.slot ≡ slot) }
     ensures goes_on { GoesOn pass.old pass.new }
     ensures keeps { KeepsLinks pass.old pass.new }
     ensures gave { Gave pass.old pass.new counting.old.told.had counting.new.told.had }
 {
-    let (mut batch, mut key) = (batch, key);
+    let (mut spots, mut batch, mut key) = (spots, batch, key);
     let (slots, blocks) = (&words.slots, &words.blocks);
     calls::flush(
-        slots, blocks, &mut batch, size, &mut key, counting, pass, rt,
+        slots, blocks, &mut spots, &mut batch, size, &mut key, counting, pass, rt,
     );
     let head = words.slots.head(slot, pass);
     calls::leave(
-        slots, head, blocks, &mut batch, size, activation, &mut key, counting, pass, rt,
+        slots, head, blocks, &mut spots, &mut batch, size, activation, &mut key, counting, pass, rt,
     );
     Holder {
         slot,
         size,
         key,
         batch,
+        spots,
     }
 }
 
@@ -183,10 +193,11 @@ fn clear(
         size,
         mut key,
         batch,
+        spots,
     } = holder;
     let activation = words.enter_head(slot, &mut key, pass);
     flush_and_leave(
-        words, slot, size, activation, batch, key, counting, pass, rt,
+        words, spots, slot, size, activation, batch, key, counting, pass, rt,
     )
 }
 
@@ -210,11 +221,13 @@ fn empty(
         size,
         mut key,
         mut batch,
+        mut spots,
     } = holder;
     let activation = words.enter_head(slot, &mut key, pass);
     for link in 0..ROW {
         take_out(
             words,
+            &mut spots,
             link,
             slot,
             size,
@@ -227,7 +240,7 @@ fn empty(
         );
     }
     flush_and_leave(
-        words, slot, size, activation, batch, key, counting, pass, rt,
+        words, spots, slot, size, activation, batch, key, counting, pass, rt,
     )
 }
 

@@ -2,7 +2,7 @@
 //! any events meanwhile.
 ghost use Rattle.std.specs.Prelude.{◌≡◌, ◌<◌, IfErr, IfOk, IfSome};
 ghost use Rattle.seize_calls_rows.specs.Workers.{CanMake, CanTake, HasOneMore, HasTaken, made_by, size_in};
-ghost use Rattle.seize_calls_rows.specs.Workers.{GoesOn, IsOut, MayWork, Stands, Works};
+ghost use Rattle.seize_calls_rows.specs.Workers.{AreSpotsOf, GoesOn, IsOut, MayWork, Stands, Works};
 ghost use Rattle.seize_calls.specs.Calls.{IsInside};
 ghost use Rattle.seize_words.specs.Joined.{IsInAt, words_book};
 ghost use Rattle.seize_words.specs.Reservations.{IsLastOf};
@@ -11,8 +11,10 @@ use crate::counting::Counting;
 use seize_calls::batch::Batch;
 use seize_calls::calls;
 use seize_calls::handing::Reclaim;
+use seize_store::Spots;
 use seize_words::activation::Activation;
 use seize_words::book::{NumbersKey, Pass, SlotKey, ValueKey};
+use seize_words::chunk::{Header, Part};
 use seize_words::link::MaybeKey;
 use seize_words::slots::NextSlot;
 use seize_words::words::Words;
@@ -32,6 +34,7 @@ pub struct Source {
     pub next: NextSlot,
     pub made: usize,
     pub size: usize,
+    pub alloc: Global,
 }
 
 /// What the holder of a slot has beside the slot's key and its batch.
@@ -41,6 +44,7 @@ pub struct Worker {
     pub size: usize,
     pub key: SlotKey,
     pub batch: Batch,
+    pub spots: Spots<Header, Part, u64>,
     pub pass: Pass,
 }
 
@@ -51,6 +55,7 @@ pub struct Active {
     pub size: usize,
     pub key: SlotKey,
     pub batch: Batch,
+    pub spots: Spots<Header, Part, u64>,
     pub pass: Pass,
     pub activation: Activation,
 }
@@ -74,12 +79,13 @@ pub fn open(alloc: Global, size: usize) -> Option<(Words<u64>, Source)>
         next,
         made: 0,
         size,
+        alloc,
     };
     Some((words, source))
 }
 
 impl Source {
-    /// Makes the next slot. Nothing comes where the growth of the table was refused.
+    /// Makes the next slot. Nothing comes where the growth of the table, or the room of the slot's list of spots, was refused.
     pub fn make(self, words: &Words<u64>) -> Option<(Worker, Source)>
         requires can { CanMake self words.now }
         ensures may { IfSome result (λ made. MayWork words.now made.0) }
@@ -89,7 +95,7 @@ impl Source {
         self.make_with(words, pass).ok()
     }
 
-    /// The same with this pass, which comes back where the growth was refused.
+    /// The same with this pass, which comes back where that memory was refused.
     pub fn make_with(self, words: &Words<u64>, pass: Pass) -> Result<(Worker, Source), Pass>
         requires can { CanTake self words.now }
         requires book { pass.name ≡ words_book words.now }
@@ -102,7 +108,11 @@ impl Source {
             next,
             made,
             size,
+            alloc,
         } = self;
+        let Ok(spots) = words.blocks.spots(alloc) else {
+            return Err(pass);
+        };
         let mut pass = pass;
         let Ok((key, next)) = words.make_slot(next, &mut numbers, &mut pass) else {
             return Err(pass);
@@ -113,6 +123,7 @@ impl Source {
             size,
             key,
             batch,
+            spots,
             pass,
         };
         let source = Source {
@@ -120,6 +131,7 @@ impl Source {
             next,
             made: made + 1,
             size,
+            alloc,
         };
         Ok((worker, source))
     }
@@ -136,6 +148,7 @@ impl Worker {
             size,
             mut key,
             batch,
+            spots,
             mut pass,
         } = self;
         let activation = words.enter_head(slot, &mut key, &mut pass);
@@ -144,6 +157,7 @@ impl Worker {
             size,
             key,
             batch,
+            spots,
             pass,
             activation,
         }
@@ -171,19 +185,21 @@ impl Worker {
             size,
             mut key,
             mut batch,
+            mut spots,
             mut pass,
         } = self;
         let Out { number, value } = out;
         let (slots, blocks) = (&words.slots, &words.blocks);
         let retired = calls::retire(
-            slots, blocks, &mut batch, size, number, kept, value, &mut key, reclaimer, &mut pass,
-            rt,
+            slots, blocks, &mut spots, &mut batch, size, number, kept, value, &mut key, reclaimer,
+            &mut pass, rt,
         );
         let worker = Worker {
             slot,
             size,
             key,
             batch,
+            spots,
             pass,
         };
         (worker, retired)
@@ -202,6 +218,7 @@ impl Active {
             size,
             key,
             batch,
+            spots,
             mut pass,
             activation,
         } = self;
@@ -211,6 +228,7 @@ impl Active {
             size,
             key,
             batch,
+            spots,
             pass,
             activation,
         };
@@ -235,15 +253,17 @@ impl Active {
             size,
             key,
             batch,
+            mut spots,
             mut pass,
             activation,
         } = self;
-        let out = put(words, link, value, &activation, &mut pass);
+        let out = put(words, &mut spots, link, value, &activation, &mut pass);
         let active = Active {
             slot,
             size,
             key,
             batch,
+            spots,
             pass,
             activation,
         };
@@ -270,20 +290,22 @@ impl Active {
             size,
             mut key,
             mut batch,
+            mut spots,
             mut pass,
             activation,
         } = self;
         let Out { number, value } = out;
         let (slots, blocks) = (&words.slots, &words.blocks);
         let retired = calls::retire(
-            slots, blocks, &mut batch, size, number, kept, value, &mut key, reclaimer, &mut pass,
-            rt,
+            slots, blocks, &mut spots, &mut batch, size, number, kept, value, &mut key, reclaimer,
+            &mut pass, rt,
         );
         let active = Active {
             slot,
             size,
             key,
             batch,
+            spots,
             pass,
             activation,
         };
@@ -307,18 +329,20 @@ impl Active {
             size,
             mut key,
             mut batch,
+            mut spots,
             mut pass,
             activation,
         } = self;
         let (slots, blocks) = (&words.slots, &words.blocks);
         let retired = calls::flush(
-            slots, blocks, &mut batch, size, &mut key, reclaimer, &mut pass, rt,
+            slots, blocks, &mut spots, &mut batch, size, &mut key, reclaimer, &mut pass, rt,
         );
         let active = Active {
             slot,
             size,
             key,
             batch,
+            spots,
             pass,
             activation,
         };
@@ -340,6 +364,7 @@ impl Active {
             size,
             mut key,
             mut batch,
+            mut spots,
             mut pass,
             mut activation,
         } = self;
@@ -348,6 +373,7 @@ impl Active {
             &words.slots,
             head,
             &words.blocks,
+            &mut spots,
             &mut batch,
             size,
             &mut activation,
@@ -358,7 +384,7 @@ impl Active {
         );
         let count = counting.count;
         let worker = leave(
-            words, slot, size, activation, key, batch, counting, pass, rt,
+            words, spots, slot, size, activation, key, batch, counting, pass, rt,
         );
         (worker, count)
     }
@@ -380,11 +406,12 @@ impl Active {
             size,
             key,
             batch,
+            spots,
             pass,
             activation,
         } = self;
         leave(
-            words, slot, size, activation, key, batch, reclaimer, pass, rt,
+            words, spots, slot, size, activation, key, batch, reclaimer, pass, rt,
         )
     }
 }
@@ -392,6 +419,7 @@ impl Active {
 // The slot leaves by its head.
 fn leave<R: Reclaim<u64>>(
     words: &Words<u64>,
+    spots: Spots<Header, Part, u64>,
     slot: usize,
     size: usize,
     activation: Activation,
@@ -404,15 +432,17 @@ fn leave<R: Reclaim<u64>>(
     requires works { Works words.now slot size batch key pass }
     requires inside { IsInside key × IsLastOf key activation }
     requires serves { R.serves reclaimer.old (words_book words.now) }
+    requires spots { AreSpotsOf words.now spots }
     ensures may { MayWork words.now result }
     ensures serves { R.serves reclaimer.new (words_book words.now) }
 {
-    let (mut key, mut batch, mut pass) = (key, batch, pass);
+    let (mut key, mut batch, mut spots, mut pass) = (key, batch, spots, pass);
     let head = words.slots.head(slot, &mut pass);
     calls::leave(
         &words.slots,
         head,
         &words.blocks,
+        &mut spots,
         &mut batch,
         size,
         activation,
@@ -426,6 +456,7 @@ fn leave<R: Reclaim<u64>>(
         size,
         key,
         batch,
+        spots,
         pass,
     }
 }
@@ -433,16 +464,19 @@ fn leave<R: Reclaim<u64>>(
 // Swaps the value of a new block into the link, as `Active::swap_in`.
 fn put(
     words: &Words<u64>,
+    spots: &mut Spots<Header, Part, u64>,
     link: usize,
     value: u64,
     activation: &Activation,
     pass: &mut Pass,
 ) -> Option<Option<Out>>
     requires within { (words_book words.now ≡ pass.old.name) × IsInAt activation.now pass.old link }
+    requires spots { AreSpotsOf words.now spots.old }
     ensures goes_on { GoesOn pass.old pass.new }
+    ensures spots { AreSpotsOf words.now spots.new }
     ensures out { IfSome result (λ swapped. IfSome swapped (λ out. IsOut words.now out)) }
 {
-    let Ok((mut key, block)) = words.blocks.add(value, pass) else {
+    let Ok((mut key, block)) = words.blocks.add_from(spots, value, pass) else {
         return None;
     };
     let number = block.number() as u64;

@@ -1,7 +1,13 @@
 use Rattle.std.proofs.Common.{refl}
 use Rattle.seize_calls_rows.proofs.Links.{one_gone}
+use Rattle.seize_calls_rows.proofs.Workers.{entered}
 use Rattle.seize_calls_rows.proofs.Shut.{gave_none, gave_twice, has_turn}
 use Rattle.seize_calls_rows.proofs.turns.clear.Goals as goal
+
+pub flush_and_leave-requires-clause-stands : goal.flush_and_leave-requires-clause-stands
+flush_and_leave-requires-clause-stands g c =
+    let h = c.args.holder in let one = c.enter_head-activation in
+    entered c.args.words.now (record { slot = h.slot; size = h.size; key = h.key; batch = h.batch; spots = h.spots; pass = c.args.pass.now }) c.requires.holds one.new.key one.new.pass one.result one.ensures.noted one.ensures.activation
 
 pub returns-clause-gave : goal.returns-clause-gave
 returns-clause-gave g c =

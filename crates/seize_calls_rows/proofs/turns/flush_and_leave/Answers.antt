@@ -18,6 +18,7 @@ returns-clause-holds g c =
       (
         works_out a.words.now a.slot a.size one.new.batch one.new.key one.new.pass works idle two.new.pass two.ensures.looks three.new.key three.new.pass three.new.batch leaves.rests three.ensures.knows,
         (idle_out a.words.now a.slot a.size one.new.batch one.new.key one.new.pass works idle two.new.pass two.ensures.looks three.new.key three.new.pass three.new.batch leaves.rests three.ensures.knows, leaves.active),
+        three.ensures.spots,
       ),
       refl,
     )

@@ -1,16 +1,19 @@
-use Rattle.std.proofs.Common.{◌≡◌, ℕ, None, sym, ap, ◌∙◌, subst, refl}
+use Rattle.std.proofs.Common.{lit<, ◌-◌, inr, arith, ◌≡◌, ℕ, None, sym, ap, ◌∙◌, subst, refl}
 use Rattle.seize_machine.specs.Machine.Event.{ExchangeLink}
 use Rattle.seize_machine.specs.declared.machine.event.Exchange.TheVariants.{Swap}
 use Rattle.seize_machine.specs.Machine.State.{link_at}
 use Rattle.seize_book.specs.Homesteads.{state_seen}
-use Rattle.seize_book.specs.Others.{value_of}
+use Rattle.seize_book.specs.Blocks.{block_of}
+use Rattle.seize_book.specs.Others.{MayBegin, MayRetire, state_of, value_of}
+use Rattle.seize_book.specs.Private.{label_of}
+use Rattle.seize_book.specs.declared.book.keys.Keys.{Keys}
 use Rattle.seize_book.specs.Tokens.{IsSole}
 use Rattle.seize_book.specs.declared.book.pass.Pass.{Pass}
-use Rattle.seize_words.specs.LinkWords.{holds, number}
+use Rattle.seize_words.specs.LinkWords.{held_before, holds, number}
 use Rattle.seize_words.specs.Links.{value_in}
 use Rattle.seize_calls_rows.proofs.Links.{one_gone, sole_still, takes_out}
 use Rattle.seize_calls_rows.proofs.Shut.{gave_none, gave_twice, has_turn, retired_did}
-use Rattle.seize_calls_rows.proofs.Workers.{goes_known, goes_noted, goes_same, goes_twice, stands_after, stands_on}
+use Rattle.seize_calls_rows.proofs.Workers.{batch_on, goes_known, goes_noted, goes_same, goes_twice, label_is, stands_after, stands_on, with_spots, word_of_some}
 use Rattle.seize_calls_rows.proofs.turns.take_out.Goals as goal
 
 pub returns-then-old-eq0-clause-stands : goal.returns-then-old-eq0-clause-stands
@@ -18,11 +21,26 @@ returns-then-old-eq0-clause-stands g c =
     let one = c.none-value in let two = c.swap_link-old in let takes = two.ensures.swaps.2.0 in
     stands_on c.args.words.now _ two.new.pass c.requires.stands (goes_same c.args.pass.now one.new.pass two.new.pass one.ensures.1 (goes_noted one.new.pass two.new.pass _ takes.same takes.noted))
 
+pub retire-requires : goal.retire-requires
+retire-requires g c =
+    let one = c.none-value in let two = c.swap_link-old in let takes = two.ensures.swaps.2.0 in
+    let goes = goes_same c.args.pass.now one.new.pass two.new.pass one.ensures.1 (goes_noted one.new.pass two.new.pass _ takes.same takes.noted) in
+    let batch = batch_on c.args.batch.now c.args.key.now c.args.pass.now two.new.pass c.requires.stands.works.batch_is goes in let stands = c.requires.stands in
+    let swaps = two.ensures.swaps.2 in let key' = two.new.value in let out = c.value-value.result in
+    let old = word_of_some (held_before swaps.0) two.result swaps.0.found c.if-old-eq0.false in let v : ℕ = old.0 in
+    let same : key'.keys ≡ out.keys = c.value-value.ensures in let holds = swaps.2 ∙ old.1 in let word = old.2 in
+    let its : v ≡ label_of out.keys.held = sym (label_is key'.keys.held v holds) ∙ ap (λ (k : Keys). label_of k.held) same in
+    let may : MayRetire out = subst (λ (t : ℕ × Keys). MayBegin out.keys.name t.0 (state_of t.1)) (λ j. (its j, same j)) (inr (swaps.3 v holds)) in
+    let number : block_of (value_of out) ≡ two.result - 1 = ap block_of (sym its) ∙ omega (arith, word) in
+    (lit< tt, (search, (stands.inside.0, ((ap (λ (k : Keys). k.name) (sym same) ∙ swaps.1 ∙ one.ensures.0.0 ∙ sym goes.same.0, may, number), (search, (batch, (tt, stands.spots)))))))
+
 pub returns-clause-stands : goal.returns-clause-stands
 returns-clause-stands g c =
     let one = c.none-value in let two = c.swap_link-old in let takes = two.ensures.swaps.2.0 in let three = c.retire in
     let stands = stands_on c.args.words.now _ two.new.pass c.requires.stands (goes_same c.args.pass.now one.new.pass two.new.pass one.ensures.1 (goes_noted one.new.pass two.new.pass _ takes.same takes.noted)) in
-    let r = three.ensures.retires in stands_after c.args.words.now _ stands three.new.key three.new.pass three.new.batch three.ensures.knows r.rests r.active r.life
+    let r = three.ensures.retires in
+    with_spots c.args.words.now _ three.new.spots three.ensures.spots
+    (stands_after c.args.words.now _ stands three.new.key three.new.pass three.new.batch three.ensures.knows r.rests r.active r.life)
 
 pub returns-clause-goes_on : goal.returns-clause-goes_on
 returns-clause-goes_on g c =

@@ -14,12 +14,12 @@ value-requires c =
 
 pub returns-then-old-eq0-clause-goes_on : goal.returns-then-old-eq0-clause-goes_on
 returns-then-old-eq0-clause-goes_on c =
-    let one = c.add in let two = c.swap_link-old in let takes = two.ensures.swaps.2.0 in
+    let one = c.add_from in let two = c.swap_link-old in let takes = two.ensures.swaps.2.0 in
     goes_same c.args.pass.now one.new.pass two.new.pass one.ensures.pass (goes_noted one.new.pass two.new.pass _ takes.same takes.noted)
 
 pub returns-clause-goes_on : goal.returns-clause-goes_on
 returns-clause-goes_on c =
-    let one = c.add in let two = c.swap_link-old in let takes = two.ensures.swaps.2.0 in
+    let one = c.add_from in let two = c.swap_link-old in let takes = two.ensures.swaps.2.0 in
     goes_same c.args.pass.now one.new.pass two.new.pass one.ensures.pass (goes_noted one.new.pass two.new.pass _ takes.same takes.noted)
 
 pub returns-clause-out : goal.returns-clause-out

@@ -1,5 +1,12 @@
-use Rattle.seize_calls_rows.proofs.Workers.{idle_out, works_out}
+use Rattle.std.proofs.Common.{lit<}
+use Rattle.seize_calls_rows.proofs.Workers.{batch_on, goes_looked, idle_out, works_out}
 use Rattle.seize_calls_rows.proofs.worker.Active.refresh_and_leave.Goals as goal
+
+-- the batch is the slot's still
+pub refresh-requires : goal.refresh-requires
+refresh-requires g c =
+    let a = c.args.self in let one = c.head-head in let batch = batch_on a.batch a.key a.pass one.new.pass c.requires.stands.works.batch_is (goes_looked a.pass one.new.pass one.ensures.looks) in let stands = c.requires.stands in
+    (lit< tt, (search, (search, (stands.inside, (stands.last, (search, (batch, (tt, stands.spots))))))))
 
 pub leave-worker-requires-clause-works : goal.leave-worker-requires-clause-works
 leave-worker-requires-clause-works g c =
