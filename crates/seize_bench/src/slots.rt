@@ -1,14 +1,16 @@
 //! Works that threads do by slots of their own, over links that they share: they read, put values of new blocks in, and retire what came
 //! out, or what was never in a link.
 ghost use Rattle.std.specs.Prelude.{◌≡◌, ◌<◌, IfOk, IfSome};
-ghost use Rattle.seize_calls_rows.specs.Workers.{CanMake, IsOut, MayWork, Stands, made_by};
+ghost use Rattle.seize_calls_rows.specs.Workers.{AreSpotsOf, CanMake, IsOut, MayWork, Stands, made_by};
 ghost use Rattle.seize_words.specs.Joined.{words_book};
 
 use crate::clock::{RUNS, Samples, Span};
 use crate::dropping::Dropping;
 use crate::team::Team;
 use seize_calls_rows::worker::{Active, Out, ROW, Source, Worker, open};
+use seize_store::Spots;
 use seize_words::book::Pass;
+use seize_words::chunk::{Header, Part};
 use seize_words::words::Words;
 use std::alloc::Global;
 use std::io::ErrorKind;
@@ -74,12 +76,19 @@ impl Job {
 }
 
 // The value of a new block, which is lent and was never in a link. Nothing comes where a growth of the store was refused.
-fn new_value(words: &Words<u64>, value: u64, pass: &mut Pass) -> Option<Out>
+fn new_value(
+    words: &Words<u64>,
+    spots: &mut Spots<Header, Part, u64>,
+    value: u64,
+    pass: &mut Pass,
+) -> Option<Out>
     requires book { words_book words.now ≡ pass.old.name }
+    requires spots { AreSpotsOf words.now spots.old }
     ensures pass { pass.new ≡ pass.old }
+    ensures spots { AreSpotsOf words.now spots.new }
     ensures out { IfSome result (λ out. IsOut words.now out) }
 {
-    let Ok((mut key, block)) = words.blocks.add(value, pass) else {
+    let Ok((mut key, block)) = words.blocks.add_from(spots, value, pass) else {
         return None;
     };
     let number = block.number() as u64;
@@ -103,15 +112,17 @@ fn retire_new(
         size,
         key,
         batch,
+        mut spots,
         mut pass,
         activation,
     } = active;
-    let out = new_value(words, value, &mut pass)?;
+    let out = new_value(words, &mut spots, value, &mut pass)?;
     let active = Active {
         slot,
         size,
         key,
         batch,
+        spots,
         pass,
         activation,
     };
