@@ -11,6 +11,7 @@ use Rattle.seize_machine.specs.declared.machine.event.Answer.TheVariants.{Done, 
 use Rattle.seize_machine.specs.declared.machine.event.Job.TheVariants.{Retire, Leave}
 use Rattle.seize_machine.specs.declared.machine.event.Try.TheVariants.{Won}
 use Rattle.seize_machine.proofs.Facts.{Step, step_of}
+use Rattle.seize_book.specs.Adding.{telling}
 use Rattle.seize_book.specs.Blocks.{Plan, block_in, block_of, list_word, no_plan}
 use Rattle.seize_book.specs.Book.{after}
 use Rattle.seize_book.specs.Chains.{served}
@@ -20,7 +21,7 @@ use Rattle.seize_book.specs.Homesteads.{state_seen}
 use Rattle.seize_book.specs.Loans.{place_of}
 use Rattle.seize_book.specs.Others.{MayRetire, value_of}
 use Rattle.seize_book.specs.Passes.{LooksOn}
-use Rattle.seize_book.specs.Slots.{Looks, Notes, number_of}
+use Rattle.seize_book.specs.Slots.{Looks, NotesAs, number_of}
 use Rattle.seize_book.specs.Tokens.{IsSole, Name, start}
 use Rattle.seize_book.specs.Entry.{Entry}
 use Rattle.seize_book.specs.declared.book.pass.Pass.{Pass}
@@ -56,8 +57,9 @@ fresh_by size st _ _ _ (Step.begun_retire s v idle (inl new)) none = new
 fresh_by size st _ _ _ (Step.begun_retire s v idle (inr loose)) none = absurd (cc)
 fresh_by size st _ _ _ (Step.begun_other s (Retire v) place idle at begins) none = absurd (let no_place : None ≡ Some place = begins.1 in cc)
 
-pub fresh_now : (n : Name) (key key' : SlotKey) (pass pass' : Pass) (v : ℕ) (stage : Stage) → Notes key pass key' pass' (Begin (number_of key) (Retire v)) → Sees n pass stage → stage.state.loose ≡ [] → has v stage.state.named ≡ false
-fresh_now n key key' pass pass' v stage notes sees none =
+pub fresh_now : (n : Name) (key key' : SlotKey) (pass pass' : Pass) (v kept : ℕ) (stage : Stage) → NotesAs key pass key' pass' (telling pass (Begin (number_of key) (Retire v)) (kept ∷ [])) → Sees n pass stage → stage.state.loose ≡ []
+    → has v stage.state.named ≡ false
+fresh_now n key key' pass pass' v kept stage notes sees none =
     let noted = notes.2.0 in let event = Begin (number_of key) (Retire v) in
     let now : after (start pass.name) noted.before ≡ stage.state =
     ap (after (start pass.name)) (noted.alone (subst (λ (m : Name). IsSole m.gate pass.id) (sym sees.book) sees.alone)) ∙ (ap (λ (m : Name). after (start m) pass.seen) sees.book ∙ sees.leads.state) in

@@ -11,6 +11,7 @@ use Rattle.seize_machine.specs.declared.machine.event.Answer.TheVariants.{Count}
 use Rattle.seize_book.specs.Blocks.{Plan, block_in, block_of, front_of, list_word, no_plan, plans}
 use Rattle.seize_book.specs.Values.{AreLast, book_in, values_of}
 use Rattle.seize_words.specs.Counts.{values_in}
+use Rattle.seize_book.specs.Kept.{AreTold}
 use Rattle.seize_book.specs.Ledger.{renewed}
 use Rattle.seize_book.specs.Slots.{Looks, hands_next, number_of, own_list, start_of}
 use Rattle.seize_book.specs.Tokens.{Name}
@@ -59,6 +60,7 @@ pub record Counted (n : Name) (before : Option (Bor Pair)) (ps : List Two) (p : 
   pub values : values_of values' ≡ both p
   pub knows : values'.keys.held ≡ renewed values'.keys.held pass'.seen
   pub last : AreLast values' pass'
+  pub told : AreTold values' pass'
   pub word : rest ≡ word_over (listed before)
 
 pub counted_so : (n : Name) (before : Option (Bor Pair)) (ps : List Two) → IsFew ps → (p : Two) (done : List Two) → AreAllIn (listed before) ps → (key key' : SlotKey) (pass pass' : Pass) (word rest : ℕ) (ended : Bool) (values' : ValueKeys)
@@ -80,6 +82,7 @@ counted_so n before ps few p done are key key' pass pass' word rest ended values
           ∙ (ap (values_in key) batch ∙ (values_are n key 0 (length ps) stage knows ∙ ap (λ (plan : Plan). plan.values) (plan_last ps few p done))));
       knows = d.takes.1;
       last = d.takes.3;
+      told = d.takes.5;
       word =
           d.leads
           ∙ (ap (λ (w : List ℕ). list_word (λ b. block_in (slice_index_or (plans (start_of key') (own_list key')) b no_plan) (number_of key')) w) walk
@@ -132,7 +135,7 @@ module _ (n : Name) (before : Option (Bor Pair)) (pair : Pair) (done : List Two)
   -- the keys are ready, and the first value is that of the pair's first block
   pub are_ready : Walks.Knows key pass → AreReady values key pass
   are_ready seen = let counted = g.counted in
-      record { since = pass; book = counted.book; same = refl; its = counted.leads.1.book ∙ sym counted.leads.0.book; seen = seen; knows = counted.knows; last = counted.last }
+      record { since = pass; book = counted.book; same = refl; its = counted.leads.1.book ∙ sym counted.leads.0.book; seen = seen; knows = counted.knows; last = counted.last; told = counted.told }
 
   abbrev pub first_next : IsNextAt values number key
   first_next = record {

@@ -9,10 +9,11 @@ use Rattle.seize_machine.specs.declared.machine.event.Answer.{Answer}
 use Rattle.seize_machine.specs.declared.machine.event.Answer.TheVariants.{Done}
 use Rattle.seize_machine.specs.declared.machine.event.Job.TheVariants.{Flush, Retire}
 use Rattle.seize_machine.proofs.Facts.{Stands, Step, after_put, and_true, beginning, next_of, some_is, step_of, step_put}
+use Rattle.seize_book.specs.Adding.{telling}
 use Rattle.seize_book.specs.Book.{after}
 use Rattle.seize_book.specs.Entry.{Entry}
 use Rattle.seize_book.specs.Private.{puts_next}
-use Rattle.seize_book.specs.Slots.{IsOf, Moves, Notes, active_of, number_of, own_list, size_of, slot_of, start_of}
+use Rattle.seize_book.specs.Slots.{IsOf, Moves, Notes, NotesAs, active_of, number_of, own_list, size_of, slot_of, start_of}
 use Rattle.seize_book.specs.Tokens.{Name}
 use Rattle.seize_book.specs.declared.book.pass.Pass.{Pass}
 use Rattle.seize_book.specs.declared.book.slot_key.SlotKey.{SlotKey}
@@ -104,7 +105,7 @@ module _ (key key' : SlotKey) (log : List Entry) (later : State) (answer : Answe
       )
 
 -- A value is retired, which doesn't fill the batch.
-module _ (key one : SlotKey) (pass pass1 : Pass) (v : ℕ) (first : Notes key pass one pass1 (Begin (number_of key) (Retire v))) (inside : IsInside key) where
+module _ (key one : SlotKey) (pass pass1 : Pass) (v kept : ℕ) (first : NotesAs key pass one pass1 (telling pass (Begin (number_of key) (Retire v)) (kept ∷ []))) (inside : IsInside key) where
   begins : (slot_of one ≡ begun_at (slot_of key) (Append v)) × (active_of one ≡ active_of key)
   begins = let n = first.2 in begun_retire_so key one n.0.before n.0.later n.0.answer v n.1 inside.0
 

@@ -20,3 +20,4 @@ pub mod Shared
 pub mod Lent
 pub mod Puts
 pub mod Reclaimed
+pub mod Told

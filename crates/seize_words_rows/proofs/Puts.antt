@@ -8,17 +8,18 @@ use Rattle.seize_machine.specs.Machine.Next.{are_fresh, next, set_slot}
 use Rattle.seize_machine.specs.declared.machine.event.Answer.{Answer}
 use Rattle.seize_machine.specs.declared.machine.event.Answer.TheVariants.{Count, Done, Handed, Head as HeadRead}
 use Rattle.seize_machine.proofs.Facts.{Stands, Step, after_put, eq_true, is_true, next_of, step_of, step_put}
-use Rattle.seize_book.specs.Adding.{private}
-use Rattle.seize_book.specs.Book.{after}
+use Rattle.seize_book.specs.Adding.{private, telling}
+use Rattle.seize_book.specs.Book.{after, mine}
 use Rattle.seize_book.specs.Blocks.{block_of}
 use Rattle.seize_words.specs.Counts.{home}
-use Rattle.seize_book.specs.Entry.{Entry, Made}
+use Rattle.seize_book.specs.Entry.{Deed, Entry, Made}
 use Rattle.seize_book.specs.Homes.{home_of}
+use Rattle.seize_book.specs.Kept.{kepts_of}
 use Rattle.seize_book.specs.Ledger.{Held, renewed}
-use Rattle.seize_book.specs.Passes.{mine_of}
+use Rattle.seize_book.specs.Passes.{IsSame, mine_of}
 use Rattle.seize_book.specs.Private.{label_of, next_at, puts_next}
-use Rattle.seize_book.specs.Slots.{Moves, Notes, number_of, size_of, slot_of, start_of}
-use Rattle.seize_book.specs.Tokens.{Name}
+use Rattle.seize_book.specs.Slots.{Moves, Notes, NotesAs, number_of, size_of, slot_of, start_of}
+use Rattle.seize_book.specs.Tokens.{Name, Noted, start}
 use Rattle.seize_book.specs.Values.{Keep, book_in, values_of}
 use Rattle.seize_book.specs.declared.book.pass.Pass.{Pass}
 use Rattle.seize_book.specs.declared.book.slot_key.SlotKey.{SlotKey}
@@ -90,11 +91,20 @@ pub some_first : (vs : List ℕ) → vs ≢ [] → (u : ℕ) × (us : List ℕ) 
 some_first [] some = absurd (some refl)
 some_first (u ∷ us) some = (u, us, refl)
 
+-- what was made with a pass has grown by one event, whatever it says of values
+made_grew : (pass pass' : Pass) (d : Deed) → IsSame pass pass' → (noted : Noted pass.name pass.id pass.seen pass'.seen (Made d)) → mine_of pass' ≡ mine_of pass ++ (Made d, noted.answer) ∷ []
+made_grew pass pass' d same noted =
+    ap (λ (n : Name). mine (start n) pass'.id pass'.seen) same.0 ∙ ap (λ (p : ℕ). mine (start pass.name) p pass'.seen) same.1 ∙ noted.made
+
+-- the values of these keys are handed on, and it is said what is kept of each
+abbrev pub HandsOn : SlotKey → Pass → SlotKey → Pass → ValueKeys → Type 0
+HandsOn key pass mid between values = NotesAs key pass mid between (telling pass (Hand (number_of key) (values_of values)) (kepts_of values))
+
 -- both events, and what was made with the pass
-pub puts_first : (key mid key' : SlotKey) (pass between pass' : Pass) (values values' : ValueKeys) → HandsLast key → values_of values ≢ [] → Notes key pass mid between (Hand (number_of key) (values_of values)) → Keep values between values'
+pub puts_first : (key mid key' : SlotKey) (pass between pass' : Pass) (values values' : ValueKeys) → HandsLast key → values_of values ≢ [] → HandsOn key pass mid between values → Keep values between values'
     → Notes mid between key' pass' (Put (number_of mid)) → PutsFirst key pass values key' pass' values'
 puts_first key mid key' pass between pass' values values' last some one keep two =
-    let s = number_of key in let t = number_of mid in let vs : List ℕ = values_of values in let some_ = some_first vs some in
+    let s = number_of key in let t = number_of mid in let vs : List ℕ = values_of values in let hands : Deed = telling pass (Hand s vs) (kepts_of values) in let some_ = some_first vs some in
     let first = one.2 in let second = two.2 in
     let handed = handed_so key mid first.0.before vs first.0.later first.0.answer first.1 last.0 last.1 in
     let stands : (slot_of mid).call ≡ Some (record { place = Rest [] []; queue = some_.0 ∷ some_.1 }) =
@@ -116,14 +126,14 @@ puts_first key mid key' pass between pass' values values' last some one keep two
       queue = ap (λ (z : Slot). z.call) put.0.1;
       made =
           grew between pass' (Put t) two.0 second.0
-          ∙ ap (λ l. l ++ (Made (private between (Put t)), second.0.answer) ∷ []) (grew pass between (Hand s vs) one.0 first.0)
+          ∙ ap (λ l. l ++ (Made (private between (Put t)), second.0.answer) ∷ []) (made_grew pass between hands one.0 first.0)
           ∙ append_assoc (mine_of pass) _ _
-          ∙ ap (λ e. mine_of pass ++ (Made (private pass (Hand s vs)), first.0.answer) ∷ (Made e, second.0.answer) ∷ []) same
-          ∙ ap (λ a. mine_of pass ++ (Made (private pass (Hand s vs)), a) ∷ (Made (private pass (Put s)), second.0.answer) ∷ []) handed.1
-          ∙ ap (λ a. mine_of pass ++ (Made (private pass (Hand s vs)), Handed last.0) ∷ (Made (private pass (Put s)), a) ∷ []) put.1;
+          ∙ ap (λ e. mine_of pass ++ (Made hands, first.0.answer) ∷ (Made e, second.0.answer) ∷ []) same
+          ∙ ap (λ a. mine_of pass ++ (Made hands, a) ∷ (Made (private pass (Put s)), second.0.answer) ∷ []) handed.1
+          ∙ ap (λ a. mine_of pass ++ (Made hands, Handed last.0) ∷ (Made (private pass (Put s)), a) ∷ []) put.1;
     }
 
-pub puts_next_is : (key mid : SlotKey) (pass between : Pass) (values : ValueKeys) → HandsLast key → values_of values ≢ [] → Notes key pass mid between (Hand (number_of key) (values_of values)) → is_some (puts_next (slot_of mid)) ≡ true
+pub puts_next_is : (key mid : SlotKey) (pass between : Pass) (values : ValueKeys) → HandsLast key → values_of values ≢ [] → HandsOn key pass mid between values → is_some (puts_next (slot_of mid)) ≡ true
 puts_next_is key mid pass between values last some one =
     let vs : List ℕ = values_of values in let some_ = some_first vs some in let first = one.2 in
     let handed = handed_so key mid first.0.before vs first.0.later first.0.answer first.1 last.0 last.1 in

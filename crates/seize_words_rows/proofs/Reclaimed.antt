@@ -2,11 +2,14 @@
 use Rattle.std.proofs.Common.{◌≡◌, ℕ, zero, suc, ◌+◌, ◌-◌, Bool, true, if◌then◌else◌, List, [], ◌∷◌, ◌++◌, arith, refl, sym, ap, ◌∙◌, subst}
 use Rattle.std.specs.List.{Contains}
 use Rattle.std.specs.Prelude.{slice_index_or}
+use base.Growing.{prefix_trans}
+use mathlib.Core.List.{IsPrefix}
 use Rattle.seize_machine.specs.Machine.Event.{Event, Hand}
 use Rattle.seize_machine.specs.declared.machine.event.Answer.{Answer}
-use Rattle.seize_book.specs.Adding.{private}
+use Rattle.seize_book.specs.Adding.{private, telling}
 use Rattle.seize_book.specs.Book.{after}
-use Rattle.seize_book.specs.Entry.{Entry}
+use Rattle.seize_book.specs.Entry.{Deed, Entry}
+use Rattle.seize_book.specs.Kept.{AreTold}
 use Rattle.seize_book.specs.Ledger.{Held, renewed}
 use Rattle.seize_book.specs.Linked.{next_in}
 use Rattle.seize_book.specs.Notes.{IsStored}
@@ -27,6 +30,7 @@ use Rattle.seize_words_rows.specs.Reclaiming.{AreReady, IsFirstAt, Reclaims}
 use Rattle.seize_words_rows.specs.Stages as stages
 use Rattle.seize_words_rows.specs.Stages.{Goes, IsAt, Leads, Sees, Stage}
 use Rattle.seize_words_rows.proofs.Stages.{looks_on, steps}
+use Rattle.seize_words_rows.proofs.Told.{noted_grows, rest_told, told_on}
 
 -- Keys without the first.
 
@@ -52,8 +56,8 @@ module _ (values : ValueKeys) (slot : SlotKey) (pass : Pass) (ready : AreReady v
       subst (λ (t : Name × List Entry). IsLastIn v (after (start t.0) t.1)) (λ i. (sym (nexts.1 ∙ ready.book) i, sym (own_is key.keys.held rest.keys.held ready.since.seen key.one whole) i)) (ready.last v its)
 
   -- the others are as ready
-  pub rest_ready : (slot' : SlotKey) (pass' : Pass) → pass'.name ≡ pass.name → IsOf slot' pass' → Knows slot' pass' → AreReady rest slot' pass'
-  rest_ready slot' pass' name its seen = record {
+  pub rest_ready : (slot' : SlotKey) (pass' : Pass) → pass'.name ≡ pass.name → IsOf slot' pass' → Knows slot' pass' → IsPrefix pass.seen pass'.seen → AreReady rest slot' pass'
+  rest_ready slot' pass' name its seen grows = record {
     since = ready.since;
     book = nexts.0 ∙ ready.book;
     same = ready.same ∙ sym name;
@@ -61,6 +65,7 @@ module _ (values : ValueKeys) (slot : SlotKey) (pass : Pass) (ready : AreReady v
     seen = seen;
     knows = others_know key.keys.held rest.keys.held ready.since.seen key.one whole;
     last = λ v there. ready.last v (among v there);
+    told = told_on rest pass pass' grows (rest_told values key rest pass nexts ready.told);
   }
 
 -- a block's number by its word
@@ -72,16 +77,18 @@ pub next_noted : (values : ValueKeys) (key : ValueKey) (rest : ValueKeys) (note 
 next_noted values key rest note stored nexts noted v vs are = sym (ap next_in noted ∙ leads_next values key rest v vs stored nexts are)
 
 -- what is known of slot and pass after it
-pub reclaimed_by : (key key' : SlotKey) (pass pass' : Pass) (puts : List ℕ) → Reclaims key pass key' pass' puts → IsOf key pass → (pass'.name ≡ pass.name) × IsOf key' pass' × Knows key' pass'
-reclaimed_by key key' pass pass' puts r its =
+pub reclaimed_by : (key key' : SlotKey) (pass pass' : Pass) (puts kepts : List ℕ) → Reclaims key pass key' pass' puts kepts → IsOf key pass → (pass'.name ≡ pass.name) × IsOf key' pass' × Knows key' pass' × IsPrefix pass.seen pass'.seen
+reclaimed_by key key' pass pass' puts kepts r its =
+    let hands : Deed = telling r.looked (Hand (number_of key) puts) kepts in
     let name : pass'.name ≡ pass.name = r.looks_after.same.0 ∙ (r.notes.0.0 ∙ r.looks.same.0) in (
       name,
       r.notes.1.0 ∙ (its ∙ sym name),
-      knows_still key' r.handed pass' (knows_noted key key' r.looked r.handed (private r.looked (Hand (number_of key) puts)) r.notes) r.looks_after,
+      knows_still key' r.handed pass' (knows_noted key key' r.looked r.handed hands r.notes) r.looks_after,
+      prefix_trans pass.seen r.handed.seen pass'.seen (prefix_trans pass.seen r.looked.seen r.handed.seen r.looks.grows (noted_grows key key' r.looked r.handed hands r.notes)) r.looks_after.grows,
     )
 
 -- A pass that is alone sees where it leads.
-pub reclaims : (n : Name) (key key' : SlotKey) (pass pass' : Pass) (s : ℕ) (from to : Stage) (answer : Answer) → Reclaims key pass key' pass' [] → Sees n pass from → stages.Knows n key s from → Goes from (Hand s []) to answer → Leads n pass' key' s to
+pub reclaims : (n : Name) (key key' : SlotKey) (pass pass' : Pass) (s : ℕ) (from to : Stage) (answer : Answer) → Reclaims key pass key' pass' [] [] → Sees n pass from → stages.Knows n key s from → Goes from (Hand s []) to answer → Leads n pass' key' s to
 reclaims n key key' pass pass' s from to answer r sees knows goes =
     let now = looks_on n key key pass r.looked s from r.looks refl sees knows in
     let handed = steps n key key' r.looked r.handed s 0 (λ k. Hand k []) from from to answer r.notes now.0 now.1 goes in
@@ -93,8 +100,8 @@ twice_renewed : (held : List (Held Entry)) (seen : List Entry) → renewed (rene
 twice_renewed [] seen = refl
 twice_renewed (h ∷ held) seen = ap (λ (hs : List (Held Entry)). record { kind = h.kind; key = h.key; own = seen; label = h.label; note = h.note } ∷ hs) (twice_renewed held seen)
 
-pub left_ready : (values values' : ValueKeys) (key key' : SlotKey) (pass pass' : Pass) (event : Event) (ended : Bool) → ended ≡ true → Leaves values pass' values' ended → Notes key pass key' pass' event → IsOf key' pass' → AreReady values' key' pass'
-left_ready values values' key key' pass pass' event ended is leaves notes its =
+pub left_ready : (values values' : ValueKeys) (key key' : SlotKey) (pass pass' : Pass) (event : Event) (ended : Bool) → ended ≡ true → Leaves values pass' values' ended → Notes key pass key' pass' event → IsOf key' pass' → AreTold values' pass' → AreReady values' key' pass'
+left_ready values values' key key' pass pass' event ended is leaves notes its told =
     let held : values'.keys.held ≡ renewed values.keys.held pass'.seen = leaves.1 ∙ ap (λ (b : Bool). renewed (if b then values.keys.held else []) pass'.seen) is in
     record {
       since = pass';
@@ -104,4 +111,5 @@ left_ready values values' key key' pass pass' event ended is leaves notes its =
       seen = knows_noted key key' pass pass' (private pass event) notes;
       knows = held ∙ (sym (twice_renewed values.keys.held pass'.seen) ∙ ap (λ (hs : List (Held Entry)). renewed hs pass'.seen) (sym held));
       last = leaves.2;
+      told = told;
     }

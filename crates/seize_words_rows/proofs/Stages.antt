@@ -9,7 +9,7 @@ use Rattle.seize_machine.specs.Machine.History.{first_of}
 use Rattle.seize_machine.specs.declared.machine.event.Answer.{Answer}
 use Rattle.seize_machine.specs.declared.machine.event.Answer.TheVariants.{Done}
 use Rattle.seize_machine.proofs.Facts.{some_is}
-use Rattle.seize_book.specs.Adding.{private}
+use Rattle.seize_book.specs.Adding.{private, telling}
 use Rattle.seize_book.specs.Blocks.{Plan, block_in, front_of, head_word, no_plan, planned_by, plans, word_of}
 use Rattle.seize_book.specs.Book.{after}
 use Rattle.seize_words.specs.Counts.{Leaves, values_in}
@@ -71,10 +71,10 @@ passes n pass pass' e from to answer same noted size sees goes =
     subst (λ (m : Name). Sees m pass' to) sees.book (goes_on pass pass' e from to answer same noted size (subst (λ (m : Name). Sees m pass from) (sym sees.book) sees) goes)
 
 -- and of the slot's key
-pub steps : (n : Name) (key key' : SlotKey) (pass pass' : Pass) (s life : ℕ) (event : ℕ → Event) (from known to : Stage) (answer : Answer) → NotesAs key pass key' pass' (beginning pass life (event (number_of key)))
-    → Sees n pass from → Knows n key s known → Goes from (event s) to answer → Leads n pass' key' s to
-steps n key key' pass pass' s life event from known to answer notes sees knows goes =
-    let now = passes n pass pass' (beginning pass life (event (number_of key))) from to answer notes.0 notes.2.0 refl sees (subst (λ (k : ℕ). Goes from (event k) to answer) (sym knows.number) goes) in (
+steps_by : (n : Name) (key key' : SlotKey) (pass pass' : Pass) (s : ℕ) (e : Deed) (from known to : Stage) (answer : Answer) → NotesAs key pass key' pass' e → e.size ≡ pass.name.size → Sees n pass from → Knows n key s known → Goes from e.event to answer
+    → Leads n pass' key' s to
+steps_by n key key' pass pass' s e from known to answer notes size sees knows goes =
+    let now = passes n pass pass' e from to answer notes.0 notes.2.0 size sees goes in (
       now,
       record {
         book = notes.1.0 ∙ knows.book;
@@ -82,6 +82,17 @@ steps n key key' pass pass' s life event from known to answer notes sees knows g
         leads = subst (λ (log : List Entry). IsAt n log to) (sym notes.1.2) now.leads;
       },
     )
+
+pub steps : (n : Name) (key key' : SlotKey) (pass pass' : Pass) (s life : ℕ) (event : ℕ → Event) (from known to : Stage) (answer : Answer) → NotesAs key pass key' pass' (beginning pass life (event (number_of key)))
+    → Sees n pass from → Knows n key s known → Goes from (event s) to answer → Leads n pass' key' s to
+steps n key key' pass pass' s life event from known to answer notes sees knows goes =
+    steps_by n key key' pass pass' s (beginning pass life (event (number_of key))) from known to answer notes refl sees knows (subst (λ (k : ℕ). Goes from (event k) to answer) (sym knows.number) goes)
+
+-- so it is where the event says what is kept of values
+pub tells : (n : Name) (key key' : SlotKey) (pass pass' : Pass) (s : ℕ) (kepts : List ℕ) (event : ℕ → Event) (from known to : Stage) (answer : Answer) → NotesAs key pass key' pass' (telling pass (event (number_of key)) kepts)
+    → Sees n pass from → Knows n key s known → Goes from (event s) to answer → Leads n pass' key' s to
+tells n key key' pass pass' s kepts event from known to answer notes sees knows goes =
+    steps_by n key key' pass pass' s (telling pass (event (number_of key)) kepts) from known to answer notes refl sees knows (subst (λ (k : ℕ). Goes from (event k) to answer) (sym knows.number) goes)
 
 -- A use of a field leaves what is known, and the slot's key knows it too.
 pub uses_field : (n : Name) (key key' : SlotKey) (pass pass' : Pass) (s f v : ℕ) (now known : Stage) → Uses key pass key' pass' f v → Sees n pass now → Knows n key s known → Leads n pass' key' s now

@@ -10,7 +10,7 @@
 --     Rests n key s       it is the key of slot s of the book, of which no call is under way
 --     StandsAt run pairs pass now     there are batches with these blocks, and the pass has seen this stage of them
 --     StandsWith run pairs batch pass now key last     the same with one more batch, of which these are the keys; and slot 1 made its last
---                         event at the other stage
+--                         event at the other stage. Of each value of the batch the list says what is noted to be kept
 --     Walks run pairs pass reader word     the reader's call walks the batches with these blocks, after others that it counted down, and
 --                         this word leads to them
 --     opened .. over      the stages, in order
@@ -20,6 +20,7 @@ use denote.Builtin.{u64}
 use Rattle.seize_machine.specs.Machine.State.{Slot, Head, slot_at, Inactive, Active, Batch, Append, Mark, Look, Try, Add, Out, Rest}
 use Rattle.seize_book.specs.Blocks.{Plan, block_of}
 use Rattle.seize_book.specs.Books.{IsNextIn}
+use Rattle.seize_book.specs.Kept.{AreTold}
 use Rattle.seize_words.specs.Chunks.{IsLentAs}
 use Rattle.seize_words.specs.Chunks as chunks
 use Rattle.seize_book.specs.Others as others
@@ -90,7 +91,7 @@ StandsWith run pairs batch pass now key last =
     let n = book_of run in
     (ps : List Two) × (p : Two) × AreWords run × AreAllIn pairs ps × AreIn batch.pair p
     × ((values.book_in batch.values ≡ n) × (values.values_of batch.values ≡ both p) × values.AreClosed batch.values)
-    × Sees n pass (now ps p) × Knows n key 1 (last ps p)
+    × Sees n pass (now ps p) × Knows n key 1 (last ps p) × AreTold batch.values pass
 
 -- The stages.
 

@@ -7,14 +7,17 @@
 --     AreNew n three one two last, AreKeys n three one two last     these keys are for the first values of the blocks;  for their values
 --     values_of one two last    which these are
 --     HoldsKeys n three t keys      the values are in these blocks, and these are their keys, which are closed
---     LeadsNext key key' word       it is the same key, but that this word is noted of its block
+--     LeadsNext key key' word       it is the same key, but that this word is noted of its block, and that 0 is kept
+--     AreRetired one two last pass  the list says that 0 is kept of the value of each of these keys, as the pass has seen
+--     AreAsTold one two last keys   where it says so, it says of these keys what is noted
 --     EndsAt run pass key the run is over
 --     StandsWith run three keys pass key now     there are values in these blocks, with these keys, and slot 0 has come to this stage of
---                         them
+--                         them; of each the list says what is noted to be kept
 --     opened .. over      the stages, in order
 use Rattle.std.specs.Prelude.{◌≡◌, ℕ, pos, true, List, [], ◌∷◌, None}
 use Rattle.seize_machine.specs.Machine.State.{Slot, Batch, Head, Inactive, Append, Mark, Add, Rest}
 use Rattle.seize_book.specs.Blocks.{Plan}
+use Rattle.seize_book.specs.Kept.{AreTold, IsTold, kept_in}
 use Rattle.seize_book.specs.Linked.{next_in}
 use Rattle.seize_book.specs.Notes.{noted_in}
 use Rattle.seize_book.specs.Others as others
@@ -69,11 +72,20 @@ abbrev pub HoldsKeys : Name → Three → Values → ValueKeys → Type 0
 HoldsKeys n three t keys = AreIn three t × (values.book_in keys ≡ n) × (values.values_of keys ≡ all t) × values.AreClosed keys
 
 abbrev pub StandsWith : Run → Three → ValueKeys → Pass → SlotKey → (Values → Stage) → Type 0
-StandsWith run three keys pass key now = (t : Values) × HoldsKeys (book_of run) three t keys × Stands run pass key (now t)
+StandsWith run three keys pass key now =
+    (t : Values) × HoldsKeys (book_of run) three t keys × Stands run pass key (now t) × AreTold keys pass
 
 abbrev pub LeadsNext : ValueKey → ValueKey → ℕ → Type 0
 LeadsNext key key' word =
     (next_in (noted_in key') ≡ word) × (others.book_of key' ≡ others.book_of key) × (others.value_of key' ≡ others.value_of key)
+    × (kept_in (noted_in key') ≡ 0)
+
+abbrev pub AreRetired : ValueKey → ValueKey → ValueKey → Pass → Type 0
+AreRetired one two last pass =
+    IsTold pass.seen (others.value_of one) 0 × IsTold pass.seen (others.value_of two) 0 × IsTold pass.seen (others.value_of last) 0
+
+abbrev pub AreAsTold : ValueKey → ValueKey → ValueKey → ValueKeys → Type 0
+AreAsTold one two last keys = (pass : Pass) → AreRetired one two last pass → AreTold keys pass
 
 -- The stages.
 

@@ -1,8 +1,10 @@
 -- The stages of the worked run by numbers are those of `Runs`.
 --     value_in retired        the value that is retired
 --     IsOne n retired         it is lent so, and its key is the only one, of book n, and leads on to none
---     StandsAt words retired pass now key s last     so it is, the pass has seen the one stage, and slot s made its last event at the other
+--     StandsAt words retired pass now key s last     so it is, the pass has seen the one stage, and slot s made its last event at the
+--                             other; the list says what is noted to be kept of the value
 use Rattle.std.specs.Prelude.{◌≡◌, ℕ, [], ◌∷◌}
+use Rattle.seize_book.specs.Kept.{AreTold}
 use Rattle.seize_book.specs.Tokens.{Name}
 use Rattle.seize_book.specs.Values.{AreClosed, book_in, values_of}
 use Rattle.seize_book.specs.declared.book.pass.Pass.{Pass}
@@ -25,4 +27,5 @@ pub record IsOne (n : Name) (retired : Retired) : Type 0 where
 
 abbrev pub StandsAt : Shared → Retired → Pass → (ℕ → Stage) → SlotKey → ℕ → (ℕ → Stage) → Type 0
 StandsAt words retired pass now key s last =
-    let n = words_book words in let v = value_in retired in IsOne n retired × Sees n pass (now v) × Knows n key s (last v)
+    let n = words_book words in let v = value_in retired in
+    IsOne n retired × Sees n pass (now v) × Knows n key s (last v) × AreTold retired.values pass

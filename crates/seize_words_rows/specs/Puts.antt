@@ -1,8 +1,8 @@
 -- Further values.
 --     HandsLast key       the slot's call is to hand one value more, and has nothing else to do
 --     PutsFirst key pass values key' pass' values'     it was handed, and its reclaimer put these values; the first went to the slot's
---                         batch, and the others are the call's queue. These two events were made with the pass, and the keys of the values
---                         are the same
+--                         batch, and the others are the call's queue. These two events were made with the pass; the first says what is kept
+--                         of the values, whose keys are the same
 -- The worked run goes on with a further value w, which the reclaimer of its value v puts.
 --     put_in further      the further value
 --     IsPut n further     its key is alone, and its count stands with its block, which has number 6; all are of the book
@@ -13,11 +13,12 @@ use Rattle.std.specs.Prelude.{◌≡◌, ℕ, pos, true, List, [], ◌∷◌, �
 use Rattle.seize_machine.specs.Machine.State.{Add, Batch, Inactive, Mark, Place, Rest, Slot}
 use Rattle.seize_machine.specs.Machine.Event.{Hand, Put}
 use Rattle.seize_machine.specs.declared.machine.event.Answer.TheVariants.{Done, Handed}
-use Rattle.seize_book.specs.Adding.{private}
+use Rattle.seize_book.specs.Adding.{private, telling}
 use Rattle.seize_book.specs.Blocks.{Plan, block_of}
 use Rattle.seize_words.specs.Counts.{home}
 use Rattle.seize_book.specs.Entry.{Made}
 use Rattle.seize_book.specs.Homes.{home_of}
+use Rattle.seize_book.specs.Kept.{kepts_of}
 use Rattle.seize_words.specs.Named.{count_book, first_value, slot_book}
 use Rattle.seize_book.specs.Passes.{mine_of}
 use Rattle.seize_book.specs.Slots.{number_of, slot_of}
@@ -48,7 +49,7 @@ pub record PutsFirst (key : SlotKey) (pass : Pass) (values : ValueKeys) (key' : 
   pub made
       : mine_of pass'
       ≡ mine_of pass
-      ++ (Made (private pass (Hand (number_of key) (values_of values))), Handed handed)
+      ++ (Made (telling pass (Hand (number_of key) (values_of values)) (kepts_of values)), Handed handed)
       ∷ (Made (private pass (Put (number_of key))), Done) ∷ []
 
 abbrev pub put_in : Further → ℕ

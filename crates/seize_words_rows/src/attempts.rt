@@ -2,6 +2,7 @@
 //! count. Others may step on all these words meanwhile, and add any events.
 ghost use Rattle.std.specs.Prelude.{◌≡◌, ◌+◌, ◌<◌, ◌^◌, Some};
 ghost use Rattle.seize_book.specs.Chains.{first_field, next_field};
+ghost use Rattle.seize_book.specs.Kept.{AreTold};
 ghost use Rattle.seize_book.specs.Values.{AreOfBook as IsInBook};
 ghost use Rattle.seize_words.specs.Counts.{IsOfBook as IsCountIn};
 ghost use Rattle.seize_words.specs.Headers.{IsOfBook as IsFieldIn, Stores, number};
@@ -48,7 +49,8 @@ pub fn prepare(
 
 /// Stores what leads on from the block, inserts the batch with it if the head's word is still what was seen, and then adds the insertions
 /// won and this one. It gives nothing where the insertion was lost, and else whether the count is 0 then: the batch is given up to the
-/// slot's call. The keys of the batch's values go to the count, unless the insertion was lost or the count is 0.
+/// slot's call. The keys of the batch's values go to the count, unless the insertion was lost or the count is 0; of each value the list
+/// says what is noted to be kept of it.
 pub fn insert_last(
     head: &Head,
     next: &Field,
@@ -63,6 +65,7 @@ pub fn insert_last(
     requires fields { IsFieldIn next.now pass.old × IsFieldIn first.now pass.old }
     requires values { IsInBook values.old pass.old }
     requires tries { TriesWith key.old head.now next.now first.now count.now attempt values.old }
+    requires told { AreTold values.old pass.old }
     requires few { attempt.won + 1 < 2 ^ 64 }
     ensures book { IsOf key.new pass.new }
     ensures values { KeepsValues values.old pass.new values.new result }

@@ -145,7 +145,7 @@ pub fn take(
     Some((Pair { first, second }, one_key, other_key))
 }
 
-// What is noted of a block that this word follows.
+// What is noted of a block that this word follows: 0 is kept.
 fn note_of(next: u64) -> Note
     ensures { result ≡ record { next = next; slot = 0; kept = 0 } }
 {
@@ -175,11 +175,11 @@ pub fn retire(
 {
     let mut one = one;
     let mut other = other;
-    retirer.begin_retire(&mut one, pass);
+    retirer.begin_retire(&mut one, 0, pass);
     retirer.put(pass);
     retirer.finish(pass);
     run.blocks.set_note(pair.first.number, note_of(pair.second.number + 1), &mut one);
-    retirer.begin_retire(&mut other, pass);
+    retirer.begin_retire(&mut other, 0, pass);
     retirer.put(pass);
     run.blocks
         .set_note(pair.second.number, note_of(0), &mut other);

@@ -29,7 +29,7 @@ pub fn retire(key: &mut SlotKey, value: &mut ValueKey, pass: &mut Pass)
     ensures inside { IsInside key.new }
     ensures batch { (slot_of key.new).batch ≡ (slot_of key.old).batch ++ value_of value.old ∷ [] }
 {
-    key.begin_retire(value, pass);
+    key.begin_retire(value, 0, pass);
     key.put(pass);
     key.finish(pass);
 }

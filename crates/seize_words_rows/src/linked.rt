@@ -113,7 +113,7 @@ pub fn retire(linked: Linked, value: ValueKey, retirer: &mut SlotKey, pass: &mut
     ensures stands { StandsAt result pass.new put retirer.new 1 put }
 {
     let mut value = value;
-    retirer.begin_retire(&mut value, pass);
+    retirer.begin_retire(&mut value, 0, pass);
     retirer.put(pass);
     let Linked {
         heads,

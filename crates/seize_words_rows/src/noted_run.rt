@@ -4,7 +4,7 @@ ghost use Rattle.std.specs.Prelude.{◌≡◌, IfSome, true};
 ghost use Rattle.seize_words.specs.Chunks.{book_in as blocks_book};
 ghost use Rattle.seize_words_rows.specs.BlockRuns.{IsNew};
 ghost use Rattle.seize_words_rows.specs.Making.{CanMake, made_by, name_by};
-ghost use Rattle.seize_words_rows.specs.NotedRuns.{AreKeys, AreNew, AreWords, EndsAt, HoldsKeys, LeadsNext, Stands, StandsWith, book_of, full, given, made, opened, values_of};
+ghost use Rattle.seize_words_rows.specs.NotedRuns.{AreAsTold, AreKeys, AreNew, AreRetired, AreWords, EndsAt, HoldsKeys, LeadsNext, Stands, StandsWith, book_of, full, given, made, opened, values_of};
 ghost use Rattle.seize_words_rows.specs.Reclaiming.{AreReady};
 ghost use Rattle.seize_words_rows.specs.Stages.{Knows, Sees};
 ghost use Rattle.seize_book.specs.Blocks.{block_of};
@@ -107,7 +107,8 @@ pub fn take(
     Some((three, one, two, last))
 }
 
-// The three calls by which the values are retired. With the last the batch is full, so that call is to read the heads.
+// The three calls by which the values are retired, each with the word that is noted then. With the last the batch is full, so that call is
+// to read the heads.
 fn retire(
     run: &Run,
     _three: Three,
@@ -121,18 +122,19 @@ fn retire(
     requires new { AreNew (book_of run.now) _three one.old two.old last.old }
     ensures stands { Stands run.now pass.new key.new (full (values_of one.new two.new last.new)) }
     ensures keys { AreKeys (book_of run.now) _three one.new two.new last.new }
+    ensures retired { AreRetired one.new two.new last.new pass.new }
 {
-    key.begin_retire(one, pass);
+    key.begin_retire(one, 0, pass);
     key.put(pass);
     key.finish(pass);
-    key.begin_retire(two, pass);
+    key.begin_retire(two, 0, pass);
     key.put(pass);
     key.finish(pass);
-    key.begin_retire(last, pass);
+    key.begin_retire(last, 0, pass);
     key.put(pass);
 }
 
-// Notes of the block that this word follows.
+// Notes of the block that this word follows, and that 0 is kept.
 fn note_next(blocks: &Blocks<u64>, lent: Lent, next: u64, key: &mut ValueKey)
     requires book { value_book key.old ≡ blocks_book blocks.now }
     requires number { block_of (value_of key.old) ≡ lent.number }
@@ -151,6 +153,7 @@ fn link(run: &Run, three: Three, one: ValueKey, two: ValueKey, last: ValueKey) -
     requires words { AreWords run.now }
     requires keys { AreKeys (book_of run.now) three one two last }
     ensures keys { HoldsKeys (book_of run.now) three (values_of one two last) result }
+    ensures told { AreAsTold one two last result }
 {
     let mut one = one;
     let mut two = two;

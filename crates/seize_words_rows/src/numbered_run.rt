@@ -91,7 +91,7 @@ pub fn retire(
         return None;
     };
     let lent = lend(&words.blocks, &mut key, block);
-    retirer.begin_retire(&mut key, pass);
+    retirer.begin_retire(&mut key, 0, pass);
     retirer.put(pass);
     let last = Note {
         next: 0,

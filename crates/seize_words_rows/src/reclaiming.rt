@@ -3,6 +3,7 @@
 //! any events meanwhile.
 ghost use Rattle.std.specs.Prelude.{◌≡◌, [], Some};
 ghost use Rattle.seize_book.specs.Blocks.{block_of};
+ghost use Rattle.seize_book.specs.Kept.{kepts_of};
 ghost use Rattle.seize_book.specs.Lending.{IsLentKey};
 ghost use Rattle.seize_book.specs.Others.{IsLast, IsValueOf, value_of};
 ghost use Rattle.seize_book.specs.Slots.{IsOf, hands_next, slot_of};
@@ -30,7 +31,7 @@ pub fn reclaim<T: Drop>(
     requires last { IsLast key }
     requires lent { IsLentKey key × (block_of (value_of key) ≡ number) }
     ensures code { IsLentAs (value_of key) (T.row.coded.code result) }
-    ensures reclaims { Reclaims slot.old pass.old slot.new pass.new (values_of further.old) }
+    ensures reclaims { Reclaims slot.old pass.old slot.new pass.new (values_of further.old) (kepts_of further.old) }
 {
     let mut key = key;
     let block = blocks.redeem(number, &mut key, slot, pass);
@@ -53,7 +54,7 @@ pub fn reclaim_next<T: Drop>(
     ensures code { (is : IsNextAt values.old number slot.old) → IsLentAs is.value (T.row.coded.code result.0) }
     ensures left { LeavesOut values.old values.new × IsFirstAt values.new result.1 }
     ensures ready { AreReady values.new slot.new pass.new × (book_in blocks.now ≡ pass.new.name) }
-    ensures reclaims { Reclaims slot.old pass.old slot.new pass.new [] }
+    ensures reclaims { Reclaims slot.old pass.old slot.new pass.new [] [] }
 {
     let mut key = values.next();
     let note = blocks.note(number, &mut key);

@@ -32,7 +32,7 @@ pub fn retire(words: &mut Words, retirer: &mut SlotKey, pass: &mut Pass)
     ensures stands { GoesOn words.new pass.new put_on retirer.new }
 {
     let mut value = words.block.values.next();
-    retirer.begin_retire(&mut value, pass);
+    retirer.begin_retire(&mut value, 0, pass);
     words.block.values = ValueKeys::of(value);
     retirer.put(pass);
 }

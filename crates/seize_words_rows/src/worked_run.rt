@@ -120,7 +120,7 @@ pub fn retire(heads: &Heads, retirer: &mut SlotKey, block: &mut Block, pass: &mu
     ensures leads { Leads (book_in heads.now) pass.new retirer.new 1 (put (value_in block.new)) }
 {
     let mut value = block.values.next();
-    retirer.begin_retire(&mut value, pass);
+    retirer.begin_retire(&mut value, 0, pass);
     block.values.push(value);
     retirer.put(pass);
 }

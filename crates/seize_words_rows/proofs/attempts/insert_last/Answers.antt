@@ -19,6 +19,7 @@ use Rattle.seize_words_rows.specs.Attempts.{IsLastTry}
 use Rattle.seize_words_rows.specs.declared.attempts.Attempt.{Attempt}
 use Rattle.seize_words_rows.proofs.Both.{last_try_both, may_insert, plan_both, same_both}
 use Rattle.seize_words_rows.proofs.Insertions.{lost_call, won_call}
+use Rattle.seize_words_rows.proofs.Told.{told_noted, told_used}
 use Rattle.seize_words_rows.proofs.attempts.insert_last.Goals as goal
 
 ends_won : (seen v : ℕ) → v ≡ seen → found_end seen v ≡ Won
@@ -72,6 +73,12 @@ add-requires-clause-adds c =
       c.requires.tries.1 ∙ sym (ap (λ (p : Plan). p.values) planned),
       c.requires.tries.2,
     )
+
+pub add-requires-clause-told : goal.add-requires-clause-told
+add-requires-clause-told c =
+    let values = c.args.values.now in let one = c.prepare in let two = c.insert in
+    told_noted values one.new.key two.new.key one.new.pass two.new.pass _ two.ensures.noted
+    (told_used values c.args.key.now one.new.key c.args.pass.now one.new.pass _ _ _ _ one.ensures.uses c.requires.told)
 
 pub returns-clause-ends : goal.returns-clause-ends
 returns-clause-ends c =

@@ -6,6 +6,7 @@ use Rattle.seize_machine.specs.declared.machine.event.Answer.TheVariants.{Count,
 use Rattle.seize_words_rows.specs.BlockRuns.{added, book_of, inserted, listed, named_in, rests}
 use Rattle.seize_words_rows.proofs.BlockRuns.{adds, all_push, few_before, has_among, header_at, its_values, returns_second}
 use Rattle.seize_words_rows.proofs.Stages.{front_is, record_is, steps, values_are}
+use Rattle.seize_words_rows.proofs.Told.{told_looked}
 use Rattle.seize_words_rows.proofs.block_run.add.Goals as goal
 
 pub add-zero-requires-clause-adds : goal.add-zero-requires-clause-adds
@@ -24,6 +25,9 @@ add-zero-requires-clause-adds c =
       stands.5.1 ∙ sym (values_are n key 1 (length ps) (inserted ps p) stands.7 ∙ its_values ps few p),
       stands.5.2,
     )
+
+pub add-zero-requires-clause-told : goal.add-zero-requires-clause-told
+add-zero-requires-clause-told c = told_looked c.args.batch.values c.args.pass.now c.header-header.new.pass c.header-header.ensures.looks c.requires.stands.8
 
 pub returns-clause-stands : goal.returns-clause-stands
 returns-clause-stands c =

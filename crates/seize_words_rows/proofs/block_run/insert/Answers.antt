@@ -12,6 +12,7 @@ use Rattle.seize_words_rows.proofs.BlockRuns.{few_before, has_among, header_at, 
 use Rattle.seize_words_rows.proofs.BlockTries.{is_won, last_try, stores}
 use Rattle.seize_words_rows.proofs.Both.{may_insert}
 use Rattle.seize_words_rows.proofs.Stages.{found, steps, uses_both}
+use Rattle.seize_words_rows.proofs.Told.{told_looked, told_noted, told_used}
 use Rattle.seize_words_rows.proofs.block_run.insert.Goals as goal
 
 pub prepare-requires-clause-stores : goal.prepare-requires-clause-stores
@@ -47,4 +48,7 @@ returns-clause-stands c =
     let won = is_won seen two.result (word ∙ (word_looked c.args.before ps p stands.3 ∙ sym c.requires.seen)) in
     let goes = subst (λ (m : ℕ). Goes (looked ps p) (Insert 1 m (found_end seen two.result)) (inserted ps p) Done) (sym stands.2.0.1) (subst (λ (t : Try). Goes (looked ps p) (Insert 1 0 t) (inserted ps p) Done) (sym won) (inserts ps few p)) in
     let last = steps n one.new.key two.new.key one.new.pass two.new.pass 1 0 (λ s. Insert s (slot head) (found_end seen two.result)) (looked ps p) (looked ps p) (inserted ps p) Done two.ensures.noted after.0 after.1 goes in
-    (ps, p, stands.2, stands.3, stands.4, stands.5, last.0, last.1)
+    let values = c.args.batch.now.values in let found_header = c.header-header in
+    let here = told_looked values c.args.pass.now found_header.new.pass found_header.ensures.looks stands.8 in
+    let told = told_noted values one.new.key two.new.key one.new.pass two.new.pass _ two.ensures.noted (told_used values key one.new.key found_header.new.pass one.new.pass _ _ _ _ one.ensures.uses here) in
+    (ps, p, stands.2, stands.3, stands.4, stands.5, last.0, last.1, told)

@@ -15,6 +15,7 @@ use Rattle.seize_words_rows.specs.declared.further.Further.{Further}
 use Rattle.seize_words_rows.specs.declared.worked_run.Words.{Words}
 use Rattle.seize_words_rows.proofs.Puts.{detaches_on, gives_both, runs_on}
 use Rattle.seize_words_rows.proofs.Stages.{came_to_zero, front_is, keys_stay, record_is, steps, values_are}
+use Rattle.seize_words_rows.proofs.Told.{told_anywhere}
 use Rattle.seize_words_rows.proofs.further.count_up.Goals as goal
 
 -- the batch is detached
@@ -44,6 +45,9 @@ add-requires-clause-adds c =
       put.4 ∙ sym (values_are (book_of words) one.new.self 1 1 (detached_on (value_of words) (put_in further)) now.1),
       closed_anywhere further.values (ap (λ (n : Name). n.store) put.3 ∙ stands.0.0.1.5),
     )
+
+pub add-requires-clause-told : goal.add-requires-clause-told
+add-requires-clause-told c = let stands = c.requires.stands.0 in told_anywhere c.args.further.now.values c.detach.new.pass (ap (λ (n : Name). n.store) stands.1.3 ∙ stands.0.1.5)
 
 pub returns-clause-zero : goal.returns-clause-zero
 returns-clause-zero c =

@@ -1,12 +1,14 @@
-use Rattle.std.proofs.Common.{negsuc, refl}
+use Rattle.std.proofs.Common.{negsuc, refl, sym, subst}
 use Rattle.seize_machine.specs.Machine.Event.{Return, SubCount}
 use Rattle.seize_machine.specs.declared.machine.event.Answer.TheVariants.{Count, Done}
+use Rattle.seize_book.specs.Kept.{AreTold}
 use Rattle.seize_words.specs.Joined.{words_book}
 use Rattle.seize_words_rows.specs.NumberedRuns.{value_in}
 use Rattle.seize_words_rows.specs.Runs.{counted_down, left, reader_over}
 use Rattle.seize_words_rows.proofs.NumberedRuns.{looked_at}
 use Rattle.seize_words_rows.proofs.Runs.{counts_down, returns_reader}
 use Rattle.seize_words_rows.proofs.Stages.{looks_on, sees_still, steps}
+use Rattle.seize_words_rows.proofs.Told.{told_looked, told_noted}
 use Rattle.seize_words_rows.proofs.numbered_run.count_down.Goals as goal
 
 pub returns-clause-stands : goal.returns-clause-stands
@@ -18,4 +20,8 @@ returns-clause-stands c =
     let mid = looks_on n one.new.key one.new.key one.new.pass header.new.pass 0 (counted_down v) header.ensures.looks refl first.0 first.1 in
     let later = looks_on n one.new.key one.new.key header.new.pass load.new.pass 0 (counted_down v) load.ensures.looks refl mid.0 mid.1 in
     let last = steps n one.new.key two.new.self load.new.pass two.new.pass 0 0 (λ s. Return s) (counted_down v) (counted_down v) (reader_over v) Done two.ensures.noted later.0 later.1 (returns_reader v) in
-    (stands.0, last.0, last.1)
+    let values = c.args.retired.now.values in
+    let at_look = told_looked values c.args.pass.now look.new.pass look.ensures.looked.on stands.3 in
+    let counted = told_noted values look.new.self one.new.key pass one.new.pass _ one.ensures.counts.0 (subst (AreTold values) (sym c.new-values.ensures.1) at_look) in
+    let loaded = told_looked values header.new.pass load.new.pass load.ensures.looks (told_looked values one.new.pass header.new.pass header.ensures.looks counted) in
+    (stands.0, last.0, last.1, told_noted values one.new.key two.new.self load.new.pass two.new.pass _ two.ensures.noted loaded)

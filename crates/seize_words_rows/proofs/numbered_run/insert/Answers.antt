@@ -12,6 +12,7 @@ use Rattle.seize_words_rows.proofs.BlockRuns.{has_among, header_at}
 use Rattle.seize_words_rows.proofs.NumberedRuns.{is_of, is_there, stores, tries}
 use Rattle.seize_words_rows.proofs.Runs.{inserts}
 use Rattle.seize_words_rows.proofs.Stages.{found, steps, uses_both}
+use Rattle.seize_words_rows.proofs.Told.{told_looked, told_noted, told_used}
 use Rattle.seize_words_rows.proofs.numbered_run.insert.Goals as goal
 
 pub prepare-requires-clause-stores : goal.prepare-requires-clause-stores
@@ -46,4 +47,6 @@ returns-clause-stands c =
     let word = found n head.0 one.new.pass two.new.pass _ 0 two.result (looked v) head.1.0 head.1.1 two.ensures.noted.2.0 after.0 head.2 in
     let goes = subst (λ (w : ℕ). Goes (looked v) (Insert 1 0 (found_end 1 w)) (inserted v) Done) (sym word) (inserts v) in
     let last = steps n one.new.key two.new.key one.new.pass two.new.pass 1 0 (λ s. Insert s 0 (found_end 1 two.result)) (looked v) (looked v) (inserted v) Done two.ensures.noted after.0 after.1 goes in
-    (stands.0, last.0, last.1)
+    let here = told_looked retired.values c.args.pass.now c.header-header.new.pass c.header-header.ensures.looks stands.3 in
+    let told = told_noted retired.values one.new.key two.new.key one.new.pass two.new.pass _ two.ensures.noted (told_used retired.values key one.new.key c.header-header.new.pass one.new.pass _ _ _ _ one.ensures.uses here) in
+    (stands.0, last.0, last.1, told)

@@ -9,6 +9,7 @@ use Rattle.seize_words_rows.proofs.NumberedRuns.{holder}
 use Rattle.seize_words_rows.proofs.Runs.{begins_leave, leaves}
 use Rattle.seize_words_rows.proofs.Shared.{last_still}
 use Rattle.seize_words_rows.proofs.Stages.{found, record_is, steps}
+use Rattle.seize_words_rows.proofs.Told.{told_noted}
 use Rattle.seize_words_rows.proofs.numbered_run.leave.Goals as goal
 
 pub swap_out-requires : goal.swap_out-requires
@@ -30,4 +31,6 @@ returns-clause-stands c =
     let n = words_book c.args.words.now in let v = value_in c.args.retired.now in let one = c.begin_leave in let two = c.swap_out in let stands = c.requires.stands in
     let first = steps n c.args.reader.now one.new.self c.args.pass.now one.new.pass 0 0 (λ s. Begin s Leave) (inserted v) entered (leaving v) Done one.ensures.noted stands.1 stands.2 (begins_leave v) in
     let last = steps n one.new.self two.new.key one.new.pass two.new.pass 0 0 (λ s. SwapOut 0) (leaving v) (leaving v) (left v) Done two.ensures.noted first.0 first.1 (leaves v) in
-    (stands.0, last.0, last.1)
+    let values = c.args.retired.now.values in
+    let told = told_noted values one.new.self two.new.key one.new.pass two.new.pass _ two.ensures.noted (told_noted values c.args.reader.now one.new.self c.args.pass.now one.new.pass _ one.ensures.noted stands.3) in
+    (stands.0, last.0, last.1, told)

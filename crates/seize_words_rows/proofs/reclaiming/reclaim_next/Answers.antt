@@ -1,5 +1,6 @@
 use Rattle.std.proofs.Common.{◌≡◌, ℕ, Some, List, [], arith, ap, sym, subst, ◌∙◌}
 use Rattle.seize_book.specs.Blocks.{block_of}
+use Rattle.seize_book.specs.Kept.{kepts_in, kepts_of}
 use Rattle.seize_book.specs.Loans.{CarriesNone}
 use Rattle.seize_book.specs.Notes.{IsStored}
 use Rattle.seize_book.specs.Others.{value_of}
@@ -64,10 +65,11 @@ pub returns-clause-reclaims : goal.returns-clause-reclaims
 returns-clause-reclaims g c =
     let slot = c.args.slot.now in let slot' = c.reclaim-value.new.slot in let pass' = c.reclaim-value.new.pass in let none = c.new-none in
     let puts : values_of none.result ≡ [] = ap labels_of none.ensures.0.1 in
-    (subst (λ (t : Pass × List ℕ). Reclaims slot t.0 slot' pass' t.1) (λ j. (none.ensures.1 j, puts j)) c.reclaim-value.ensures.reclaims)
+    let kepts : kepts_of none.result ≡ [] = ap kepts_in none.ensures.0.1 in
+    subst (λ (t : Pass × (List ℕ × List ℕ)). Reclaims slot t.0 slot' pass' t.1.0 t.1.1) (λ j. (none.ensures.1 j, (puts j, kepts j))) c.reclaim-value.ensures.reclaims
 
 pub returns-clause-ready : goal.returns-clause-ready
 returns-clause-ready g c =
     let ready = c.requires.ready in let slot = c.args.slot.now in let pass = c.args.pass.now in let slot' = c.reclaim-value.new.slot in let pass' = c.reclaim-value.new.pass in
-    let by = reclaimed_by slot slot' pass pass' [] (returns-clause-reclaims g c) ready.0.its in
-    (rest_ready c.args.values.now slot pass ready.0 c.next-key.result c.next-key.new.self c.next-key.ensures slot' pass' by.0 by.1 by.2, ready.1 ∙ sym by.0)
+    let by = reclaimed_by slot slot' pass pass' [] [] (returns-clause-reclaims g c) ready.0.its in
+    (rest_ready c.args.values.now slot pass ready.0 c.next-key.result c.next-key.new.self c.next-key.ensures slot' pass' by.0 by.1 by.2 by.3, ready.1 ∙ sym by.0)

@@ -16,6 +16,7 @@ use Rattle.seize_words_rows.specs.declared.worked_run.Words.{Words}
 use Rattle.seize_words_rows.proofs.Puts.{detaches_on, gives_both}
 use Rattle.seize_words_rows.proofs.Stages.{came_to_zero, front_is, keys_stay, record_is, steps, values_are}
 use Rattle.seize_words_rows.proofs.Successors.{goes_on}
+use Rattle.seize_words_rows.proofs.Told.{told_anywhere}
 use Rattle.seize_words_rows.proofs.second_value.count_up.Goals as goal
 
 -- the batch is detached
@@ -44,6 +45,9 @@ add-requires-clause-adds c =
       stands.0.1.4.1 ∙ sym (values_are (book_of words) one.new.self 1 1 (detached_on v (value_of words)) now.1),
       closed_anywhere words.block.values (ap (λ (n : Name). n.store) stands.0.1.4.0 ∙ stands.0.1.5),
     )
+
+pub add-requires-clause-told : goal.add-requires-clause-told
+add-requires-clause-told c = let laid = c.requires.stands.0.1 in told_anywhere c.args.words.now.block.values c.detach.new.pass (ap (λ (n : Name). n.store) laid.4.0 ∙ laid.5)
 
 pub returns-clause-stands : goal.returns-clause-stands
 returns-clause-stands c =

@@ -18,6 +18,7 @@ use Rattle.seize_words_rows.specs.Stages.{Knows, Sees}
 use Rattle.seize_words_rows.specs.declared.worked_run.Words.{Words}
 use Rattle.seize_words_rows.proofs.Runs.{counts_up}
 use Rattle.seize_words_rows.proofs.Stages.{came_to_zero, front_is, keys_stay, record_is, state_known, steps, values_are}
+use Rattle.seize_words_rows.proofs.Told.{told_anywhere}
 use Rattle.seize_words_rows.proofs.worked_run.count_up.Goals as goal
 
 -- the slot's call is about to add to this count
@@ -40,6 +41,9 @@ add-requires-clause-adds c =
       stands.0.1.4.1 ∙ sym (values_are (book_of words) key 1 0 (inserted (value_of words)) stands.2),
       closed_anywhere words.block.values (ap (λ (n : Name). n.store) stands.0.1.4.0 ∙ stands.0.1.5),
     )
+
+pub add-requires-clause-told : goal.add-requires-clause-told
+add-requires-clause-told c = let laid = c.requires.stands.0.1 in told_anywhere c.args.words.now.block.values c.args.pass.now (ap (λ (n : Name). n.store) laid.4.0 ∙ laid.5)
 
 pub returns-clause-keys : goal.returns-clause-keys
 returns-clause-keys c =
