@@ -1,5 +1,5 @@
 -- Where a call has come to that attempted, and handed what was given up.
-use Rattle.std.proofs.Common.{◌≡◌, ℕ, ◌≤◌, Bool, true, false, if◌then◌else◌, List, [], ◌∷◌, ◌++◌, length, Some, refl, sym, ap, subst, ◌∙◌, append-nil, inr}
+use Rattle.std.proofs.Common.{◌≡◌, ℕ, ◌≤◌, Bool, true, false, if◌then◌else◌, List, [], ◌∷◌, ◌++◌, length, Some, is_some, refl, sym, ap, subst, ◌∙◌, append-nil, inr}
 use base.Growing.{prefix_trans}
 use Rattle.seize_machine.specs.Machine.State.{Rest}
 use Rattle.seize_machine.specs.Machine.Event.{AddCount, Detach}
@@ -20,11 +20,11 @@ use Rattle.seize_book.specs.Private.{labels_of}
 use Rattle.seize_book.specs.declared.book.pass.Pass.{Pass}
 use Rattle.seize_book.specs.declared.book.slot_key.SlotKey.{SlotKey}
 use Rattle.seize_book.specs.declared.book.value_keys.ValueKeys.{ValueKeys}
-use Rattle.seize_words.proofs.Facts.{alike_told, all_told_later, all_told_renewed, none_told, own_reached}
+use Rattle.seize_words.proofs.Facts.{alike_told, all_of_told, all_told_grow, all_told_later, all_told_renewed, none_told, own_reached}
 use Rattle.seize_calls.specs.Attempts.{Retires}
-use Rattle.seize_book.specs.Kept.{AreTold, AreToldIn, kepts_of}
+use Rattle.seize_book.specs.Kept.{AllTold, AreTold, AreToldIn, kepts_of}
 use Rattle.seize_calls.specs.Batches.{AreRemarked}
-use Rattle.seize_calls.specs.Handing.{Had, HasHad, values_put}
+use Rattle.seize_calls.specs.Handing.{Had, HasHad, values_handed, values_put}
 use Rattle.seize_calls.specs.Inserts.{turns_at}
 use Rattle.seize_calls.specs.Marks.{BeginsToMark, Ends, actives, readings}
 use Rattle.seize_calls.specs.Settling.{Goes, HasBatch, Marking, Sits, Stand, Stays, done}
@@ -89,6 +89,7 @@ module _ (a : Stand) (m : Marking a.key a.queue) where
           none = (r.keys.0, r.keys.1 ∙ ap (λ (z : Bool). renewed (if z then r.marked.keys.held else []) pass1.seen) off);
           queued = queues_none a.queue;
           has_had = subst (λ (z : Bool). HasHad [] (if z then kepts_of a.batch else []) a.had a.had) (sym none) (had_none a.had);
+          told = subst (λ (z : Bool). AllTold pass1.seen [] (if z then kepts_of a.batch else [])) (sym none) tt;
         }
 
     -- or its values are given up to the call
@@ -131,9 +132,9 @@ module _ (a : Stand) (m : Marking a.key a.queue) where
             told = still_told;
           }
 
-      pub has_handed : (key2 : SlotKey) (pass2 : Pass) (values2 queue2 : ValueKeys) (had2 : Had) → (all_of : HandsAll given_now a.queue key2 pass2 values2 queue2) → HasHad all_of.handed (kepts_of values1) a.had had2
+      pub has_handed : is_some pass1.name.store ≡ true → (key2 : SlotKey) (pass2 : Pass) (values2 queue2 : ValueKeys) (had2 : Had) → (all_of : HandsAll given_now a.queue key2 pass2 values2 queue2) → HasHad all_of.handed (kepts_of values1) a.had had2
           → Goes a (record { key = key2; pass = pass2; batch = values2; queue = queue2; had = had2 })
-      has_handed key2 pass2 values2 queue2 had2 handed theirs =
+      has_handed store key2 pass2 values2 queue2 had2 handed theirs =
           let keeps = handed.goes_on.0 in let all = sym r.is_count ∙ on in
           record {
             on = record {
@@ -157,6 +158,10 @@ module _ (a : Stand) (m : Marking a.key a.queue) where
                 ∙ ap (λ (log : List (Deed × Answer)). before ++ log) (same_hands a.pass pass1 same (number_of key1) handed.handed ∙ ap (λ (k : ℕ). hands a.pass k handed.handed) its.1);
             none = handed.none;
             queued = handed.queued;
+            told = subst (λ (ks : List ℕ). AllTold pass2.seen (values_handed handed.handed) ks) (same_kepts ∙ ap (λ (z : Bool). if z then kepts_of a.batch else []) (sym all))
+                (subst (λ (vs : List ℕ). AllTold pass2.seen vs (kepts_of values1)) (sym handed.which)
+                (all_told_grow pass1.seen pass2.seen (values_of values1) (kepts_of values1) keeps.grows
+                (all_of_told values1.keys.name.store pass1.seen values1.keys.held (ap (λ (n : Name). is_some n.store) r.keys.0 ∙ store) still_told)));
             has_had = subst (λ (ks : List ℕ). HasHad handed.handed ks a.had had2) (same_kepts ∙ ap (λ (z : Bool). if z then kepts_of a.batch else []) (sym all)) theirs;
           }
 

@@ -12,7 +12,8 @@
 --     Stays a b              the batch stays: the heads were read, and one slot more was active than it has values, or none was read. The
 --                            keys are as they were, with all that is noted but the slots, and the reclaimer had nothing more
 --     Goes a b               the batch was retired: an attempt with these events, and each value of the batch handed if the count came
---                            to 0, which the reclaimer had, each with what was kept of it (HasHad); what was put came to the queue, last
+--                            to 0, which the reclaimer had, each with what was kept of it (HasHad), as the list says; what was put came
+--                            to the queue, last
 --     Settles a b retired    one or the other
 --     Puts key pass v key' pass'     the call put v to the slot's batch
 --     Round a v kept b retired       it put v, of which this is kept, and then it settled with v as the last. Where the batch wasn't full
@@ -36,7 +37,7 @@ use Rattle.seize_book.specs.declared.book.slot_key.SlotKey.{SlotKey}
 use Rattle.seize_book.specs.declared.book.value_keys.ValueKeys.{ValueKeys}
 use Rattle.seize_words.specs.Walks.{Knows}
 use Rattle.seize_calls.specs.Alone.{AddsAlone}
-use Rattle.seize_book.specs.Kept.{AreTold, kepts_of}
+use Rattle.seize_book.specs.Kept.{AllTold, AreTold, kepts_of}
 use Rattle.seize_calls.specs.Batches.{AreRemarked, IsPushed, keys_in}
 use Rattle.seize_calls.specs.Furthers.{further_in}
 use Rattle.seize_calls.specs.Handing.{Had, Handings, HasHad, Queues, TakesFirst, values_handed, values_put, words_put}
@@ -116,6 +117,7 @@ pub record Goes (a b : Stand) : Type 0 where
   pub none : IsEmpty b.batch b.pass
   pub queued : Queues a.queue (values_put handed) (words_put handed) b.queue
   pub has_had : HasHad handed (if is_zero count then kepts_of a.batch else []) a.had b.had
+  pub told : AllTold b.pass.seen (values_handed handed) (if is_zero count then kepts_of a.batch else [])
 
 -- a batch that is not attempted stays as well, and then no head was read
 abbrev pub Settles : Stand → Stand → Bool → Type 0

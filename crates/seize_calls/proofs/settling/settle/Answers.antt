@@ -1,5 +1,6 @@
-use Rattle.std.proofs.Common.{◌≡◌, ℕ, true, List, [], lit<, refl, sym, ap, subst, ◌∙◌}
+use Rattle.std.proofs.Common.{is_some, ◌≡◌, ℕ, true, List, [], lit<, refl, sym, ap, subst, ◌∙◌}
 use Rattle.seize_book.specs.Private.{labels_of}
+use Rattle.seize_book.specs.Tokens.{Name}
 use Rattle.seize_words.proofs.Facts.{all_told_later, none_closed}
 use Rattle.seize_calls.specs.Furthers.{further_in}
 use Rattle.seize_calls.specs.Batches.{keys_in}
@@ -56,7 +57,7 @@ returns-in-GivenUp-clause-settles g c =
     let e = c.in-GivenUp.ensures in let a = stand c.args.key.now c.args.pass.now c.args.batch.now c.args.queue.now (g.R.Reclaim.had c.args.reclaimer.now) in let sits = c.requires.sits in let m = c.requires.marking in
     let same = e.book.1 in let full = has_values a m sits.its sits.knows in let hand = c.hand_all in
     let given = given_now a m c.attempt.new.key c.attempt.new.pass c.attempt.new.batch.values _ same (e.book.0 ∙ same.0 ∙ sym sits.its, e.book.2) (e.ends m.0) refl c.attempt.new.batch.first c.attempt.new.batch.front full sits.batch in
-    has_handed a m c.attempt.new.key c.attempt.new.pass c.attempt.new.batch.values _ same (e.book.0 ∙ same.0 ∙ sym sits.its, e.book.2) (e.ends m.0) refl c.attempt.new.batch.first c.attempt.new.batch.front full sits.batch
+    has_handed a m c.attempt.new.key c.attempt.new.pass c.attempt.new.batch.values _ same (e.book.0 ∙ same.0 ∙ sym sits.its, e.book.2) (e.ends m.0) refl c.attempt.new.batch.first c.attempt.new.batch.front full sits.batch (ap (λ (n : Name). is_some n.store) (sym (c.requires.words.1 ∙ sym e.book.1.0)) ∙ ap is_some c.args.blocks.now.stands)
     hand.new.key hand.new.pass hand.new.values (further_in hand.new.queue) (g.R.Reclaim.had hand.new.reclaimer) (hand.ensures.handed given).0 (hand.ensures.handed given).1
 
 pub returns-in-GivenUp-clause-sits : goal.returns-in-GivenUp-clause-sits
@@ -65,5 +66,5 @@ returns-in-GivenUp-clause-sits g c =
     let same = e.book.1 in let full = has_values a m sits.its sits.knows in let hand = c.hand_all in
     let given = given_now a m c.attempt.new.key c.attempt.new.pass c.attempt.new.batch.values _ same (e.book.0 ∙ same.0 ∙ sym sits.its, e.book.2) (e.ends m.0) refl c.attempt.new.batch.first c.attempt.new.batch.front full sits.batch in
     goes_sits a (record { key = hand.new.key; pass = hand.new.pass; batch = hand.new.values; queue = further_in hand.new.queue; had = g.R.Reclaim.had hand.new.reclaimer })
-    (has_handed a m c.attempt.new.key c.attempt.new.pass c.attempt.new.batch.values _ same (e.book.0 ∙ same.0 ∙ sym sits.its, e.book.2) (e.ends m.0) refl c.attempt.new.batch.first c.attempt.new.batch.front full sits.batch
+    (has_handed a m c.attempt.new.key c.attempt.new.pass c.attempt.new.batch.values _ same (e.book.0 ∙ same.0 ∙ sym sits.its, e.book.2) (e.ends m.0) refl c.attempt.new.batch.first c.attempt.new.batch.front full sits.batch (ap (λ (n : Name). is_some n.store) (sym (c.requires.words.1 ∙ sym e.book.1.0)) ∙ ap is_some c.args.blocks.now.stands)
     hand.new.key hand.new.pass hand.new.values (further_in hand.new.queue) (g.R.Reclaim.had hand.new.reclaimer) (hand.ensures.handed given).0 (hand.ensures.handed given).1) sits hand.ensures.knows hand.ensures.told
