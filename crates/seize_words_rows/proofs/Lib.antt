@@ -17,6 +17,7 @@ pub mod Stages
 pub mod Tries
 pub mod Runs
 pub mod Shared
+pub mod SharedNumbers
 pub mod Lent
 pub mod Puts
 pub mod Reclaimed

@@ -23,6 +23,7 @@ pub mod reads;
 pub mod reclaiming;
 pub mod row;
 pub mod second_value;
+pub mod shared_numbers;
 pub mod spotted;
 #[cfg(test)]
 mod tests;

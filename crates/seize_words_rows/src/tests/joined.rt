@@ -2,7 +2,7 @@
 ghost use Rattle.seize_words_rows.specs.Entrants.{HasLinks, MayEnter, MayRead, MayReadAll};
 
 use crate::entrants::{Entered, Entrant, LINKS, meet, open, read_under};
-use crate::{joined_run, numbered_run};
+use crate::{joined_run, numbered_run, shared_numbers};
 use seize_words::note::Note;
 use seize_words::words::Words;
 use std::sync::Wait;
@@ -70,6 +70,31 @@ fn a_batch_is_counted_by_the_number_of_its_block(rt: HostRuntime) {
     assert!(rt; numbered_run::count_up(&words, &mut retired, &mut retirer, &mut pass));
     let value = numbered_run::hand(&words, retired, &mut retirer, &mut pass);
     assert_eq!(rt; value, 70);
+}
+
+// Where many may append, the number of the first of two slots goes back, and is taken again as the least that is not in use. So the third
+// slot that is made has the number after both.
+#[test]
+fn a_number_goes_back_and_is_taken_again(rt: HostRuntime) {
+    let Some((words, mut pass, mut numbers, next)) = shared_numbers::begin(rt.alloc()) else {
+        panic!(rt; "no memory");
+    };
+    let Some((mut first, second, next)) = shared_numbers::make_two(
+        &words,
+        &mut numbers,
+        next,
+        &mut pass,
+    ) else {
+        panic!(rt; "no memory");
+    };
+    assert_eq!(rt; (first.number, second.number, next.number()), (0, 1, 2));
+    shared_numbers::give(&words, &mut numbers, &mut first, &mut pass);
+    shared_numbers::take_again(&words, &mut numbers, &mut first, &mut pass);
+    let Some((third, next)) = shared_numbers::make_third(&words, &mut numbers, next, &mut pass)
+    else {
+        panic!(rt; "no memory");
+    };
+    assert_eq!(rt; (third.number, next.number()), (2, 3));
 }
 
 // A block is noted while a reader sees its value: the value comes out of the link meanwhile, and is what it was.
