@@ -45,7 +45,8 @@ impl Record {
 
     /// The value was had then, of which this was kept, and these were put with it. It does nothing when the program runs.
     pub fn note(&mut self, kept: u64, value: u64, further: &Further)
-        ensures { let puts = further_in further.now in self.new.had ≡ self.old.had ++ (kept, gnum value, values_of puts, kepts_of puts) ∷ [] }
+        ensures { let puts = further_in further.now in
+            self.new.had ≡ self.old.had ++ (kept, gnum value, values_of puts, kepts_of puts) ∷ [] }
     {}
 }
 
