@@ -49,7 +49,7 @@ either (x ∷ xs) ys v h = go (x == v) (either xs ys v) h
     go true rest h = inl refl
     go false rest h = rest h
 
-in_second : (xs ys : List ℕ) (v : ℕ) → has v ys ≡ true → has v (xs ++ ys) ≡ true
+pub in_second : (xs ys : List ℕ) (v : ℕ) → has v ys ≡ true → has v (xs ++ ys) ≡ true
 in_second [] ys v h = h
 in_second (x ∷ xs) ys v h = or_right (x == v) _ (in_second xs ys v h)
 
@@ -178,7 +178,7 @@ some_of : (o : Option ℕ) → is_some o ≡ true → (v : ℕ) × (o ≡ Some v
 some_of None h = absurd (cc)
 some_of (Some v) h = (v, refl)
 
-unnamed : (named vs : List ℕ) (v : ℕ) → list_all (λ u. not (has u named)) vs ≡ true → has v vs ≡ true → has v named ≡ false
+pub unnamed : (named vs : List ℕ) (v : ℕ) → list_all (λ u. not (has u named)) vs ≡ true → has v vs ≡ true → has v named ≡ false
 unnamed named [] v all h = absurd (cc)
 unnamed named (x ∷ vs) v all h = go (x == v) refl (unnamed named vs v (and_true _ _ all).1) h
   where

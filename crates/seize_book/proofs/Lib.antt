@@ -44,6 +44,7 @@ pub mod Values
 pub mod Kept
 pub mod Apart
 pub mod Further
+pub mod Once
 pub mod Meets
 pub mod Turns
 pub mod Sent

@@ -101,7 +101,7 @@ has_not v (x ∷ xs) = go (x == v) refl (has_not v xs)
     go true e h = h
     go false e h = ap (λ (c : Bool). c || has v (filter (λ y. not (y == v)) xs)) e ∙ h
 
-spends : (size : ℕ) (st : State) (v : ℕ) (event : Event) (d : State × Answer) → Step size st event d → begins_retiring v event ≡ true → IsSpent v d.0
+pub spends : (size : ℕ) (st : State) (v : ℕ) (event : Event) (d : State × Answer) → Step size st event d → begins_retiring v event ≡ true → IsSpent v d.0
 spends size st v event _ (Step.begun_retire s w idle may) h =
     subst (λ (z : ℕ). IsSpent z (begun (retiring st w) s (Append w))) (eq_true w v h) (has_named w st.named, has_not w st.loose)
 spends size st v event _ (Step.begun_other s job place idle which from) h = other job h from.1

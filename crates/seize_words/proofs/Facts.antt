@@ -53,6 +53,8 @@ pub use Rattle.seize_book.proofs.Firsts.{noted_one, one_label, others_closed, ot
 pub use Rattle.seize_book.proofs.Values.{labels_append}
 -- what the list says is kept of values: of keys that are put together or apart, and of those that were retired or put
 pub use Rattle.seize_book.proofs.Kept.{alike_told, all_of_told, all_told_append, all_told_grow, all_told_later, all_told_renewed, both_told, first_told, joined_told, none_told, pushed_told, put_told, retired_told, told_apart, told_later}
+-- and there is but one such word of a value in a legal list
+pub use Rattle.seize_book.proofs.Once.{told_once}
 -- the blocks of a store have cells for notes, and what was noted there is what is read
 pub use Rattle.seize_words.proofs.Noted.{blocks_stored, noted_back, same_note}
 -- with a value that was named something is lent, if the blocks of its book lie in a store
