@@ -77,8 +77,8 @@ pub fn flush<T: Drop, R: Reclaim<T>>(
 
 /// Retires the value of this key, which lies in the block of this number: it joins the slot's batch, which is this one, and comes last.
 /// What its owner keeps of it is noted of its block, and the list says it for good: whoever is given the value hands it to its reclaimer
-/// with this word. Where the batch has `size` values or more, which is the size of the book, it is
-/// attempted. It says whether the batch was retired, with the values that it had then.
+/// with this word. Where the batch has `size` values or more, which is the size of the book, it is attempted. It says whether the batch was
+/// retired, with the values that it had then.
 ///
 /// What reclaimers put meanwhile is retired then, one after the other: the batch may have some of these values afterwards. It takes no
 /// memory, but for what the reclaimer does, and ends where reclaimers come to put no more. An insertion is tried again as often as others

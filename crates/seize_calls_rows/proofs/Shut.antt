@@ -3,7 +3,7 @@ use Rattle.std.proofs.Common.{◌≡◌, ℕ, zero, suc, ◌+◌, ◌-◌, ◌^�
 use Rattle.std.specs.Prelude.{slice_index_or}
 use Rattle.std.specs.List.{list_all}
 use native.Mathlib.Decide.{ℕ_discrete}
-use base.Growing.{prefix_refl}
+use base.Growing.{prefix_refl, prefix_trans}
 use mathlib.Core.List.{IsPrefix}
 use Rattle.seize_machine.proofs.Facts.{and_true, heads_length, law_quiet}
 use Rattle.seize_machine.specs.Machine.History.{Reclaimed, Retired, answers_of}
@@ -25,9 +25,9 @@ use Rattle.seize_book.proofs.Lists.{as_legal, reached_after}
 use Rattle.seize_book.proofs.Turns.{turn_alone}
 use Rattle.seize_calls.specs.Calls.{Flushes, Leaves, RetiresOne, Returns}
 use Rattle.seize_calls.specs.Settling.{Drains, Round, Settles, Stand}
-use Rattle.seize_book.specs.Kept.{kepts_of}
+use Rattle.seize_book.specs.Kept.{AllTold, kepts_of}
 use Rattle.seize_calls.specs.Batches.{keys_in}
-use Rattle.seize_words.proofs.Facts.{all_told_later}
+use Rattle.seize_words.proofs.Facts.{all_told_append, all_told_grow, all_told_later}
 use Rattle.seize_calls.specs.Handing.{Had, Handings, HasHad, values_handed}
 use Rattle.seize_calls.specs.Marks.{actives, readings}
 use Rattle.seize_calls_rows.specs.Turns.{AllBack, EmptyBelow, Gave, Holds, IsPartOf, KeepsLinks}
@@ -52,16 +52,24 @@ turn_still pass pass' same turn = subst (λ (t : Name × ℕ). Rattle.seize_book
 
 -- The values that are gone since went to the reclaimer, in this order.
 
-pub gave_none : (pass pass' : Pass) (had : Had) → (state_seen pass').gone ≡ (state_seen pass).gone → Gave pass pass' had had
-gave_none pass pass' had same = record { handed = []; kepts = []; gone = same ∙ sym (append-nil (state_seen pass).gone); has_had = had_none had }
+pub gave_none : (pass pass' : Pass) (had : Had) → IsPrefix pass.seen pass'.seen → (state_seen pass').gone ≡ (state_seen pass).gone → Gave pass pass' had had
+gave_none pass pass' had grows same = record { grows = grows; handed = []; kepts = []; gone = same ∙ sym (append-nil (state_seen pass).gone); has_had = had_none had; told = tt }
+
+-- of what was handed first, and of what was handed then, a longer list says it all
+both_words : (a b : List Entry) (one two : Handings) (k l : List ℕ) → IsPrefix a b → AllTold a (values_handed one) k → AllTold b (values_handed two) l → AllTold b (values_handed (one ++ two)) (k ++ l)
+both_words a b one two k l grows first second =
+    subst (λ (vs : List ℕ). AllTold b vs (k ++ l)) (sym (handed_append one two))
+    (all_told_append b (values_handed one) k (values_handed two) l (all_told_grow a b (values_handed one) k grows first) second)
 
 pub gave_twice : (a b c : Pass) (had had1 had2 : Had) → Gave a b had had1 → Gave b c had1 had2 → Gave a c had had2
 gave_twice a b c had had1 had2 one two = record {
+  grows = prefix_trans a.seen b.seen c.seen one.grows two.grows;
   handed = one.handed ++ two.handed;
   kepts = one.kepts ++ two.kepts;
   gone = two.gone ∙ ap (λ (gone : List ℕ). gone ++ values_handed two.handed) one.gone ∙ append_assoc (state_seen a).gone (values_handed one.handed) (values_handed two.handed)
       ∙ ap (λ (vs : List ℕ). (state_seen a).gone ++ vs) (sym (handed_append one.handed two.handed));
   has_had = had_more one.handed two.handed one.kepts two.kepts had had1 had2 one.has_had two.has_had;
+  told = both_words b.seen c.seen one.handed two.handed one.kepts two.kepts two.grows one.told two.told;
 }
 
 -- What a call does that makes these events: it leaves the links as they were, and the reclaimer had what is gone.
@@ -69,29 +77,31 @@ abbrev pub Did : Pass → Pass → Had → Had → Type 0
 Did pass pass' had had' = KeepsLinks pass pass' × Gave pass pass' had had'
 
 -- These events were made meanwhile, none of them on a link; and what was handed by them the reclaimer had.
-pub record Makes (was now : List (Deed × Answer)) (had had' : Had) : Type 0 where
+pub record Makes (was now : List (Deed × Answer)) (seen : List Entry) (had had' : Had) : Type 0 where
   pub handed : Handings
   pub kepts : List ℕ
   pub since : Since was now (values_handed handed)
   pub has_had : HasHad handed kepts had had'
+  pub told : AllTold seen (values_handed handed) kepts
 
-makes_twice : (a b c : List (Deed × Answer)) (had had1 had2 : Had) → Makes a b had had1 → Makes b c had1 had2 → Makes a c had had2
-makes_twice a b c had had1 had2 one two = record {
+makes_twice : (a b c : List (Deed × Answer)) (seen seen' : List Entry) (had had1 had2 : Had) → IsPrefix seen seen' → Makes a b seen had had1 → Makes b c seen' had1 had2 → Makes a c seen' had had2
+makes_twice a b c seen seen' had had1 had2 grows one two = record {
   handed = one.handed ++ two.handed;
   kepts = one.kepts ++ two.kepts;
   since = subst (Since a c) (sym (handed_append one.handed two.handed)) (since_twice a b c (values_handed one.handed) (values_handed two.handed) one.since two.since);
   has_had = had_more one.handed two.handed one.kepts two.kepts had had1 had2 one.has_had two.has_had;
+  told = both_words seen seen' one.handed two.handed one.kepts two.kepts grows one.told two.told;
 }
 
 -- nothing is handed by one event
-makes_one : (was now : List (Deed × Answer)) (d : Deed) (had had' : Had) → now ≡ was ++ (d, Done) ∷ [] → IsNone d.event → had' ≡ had → Makes was now had had'
-makes_one was now d had had' made none same = record { handed = []; kepts = []; since = (_, made, (none, tt), refl); has_had = subst (HasHad [] [] had) (sym same) (had_none had) }
+makes_one : (was now : List (Deed × Answer)) (seen : List Entry) (d : Deed) (had had' : Had) → now ≡ was ++ (d, Done) ∷ [] → IsNone d.event → had' ≡ had → Makes was now seen had had'
+makes_one was now seen d had had' made none same = record { handed = []; kepts = []; since = (_, made, (none, tt), refl); has_had = subst (HasHad [] [] had) (sym same) (had_none had); told = tt }
 
-did_by : (pass pass' : Pass) (had had' : Had) → IsSame pass pass' → AddsAlone pass pass' → IsSole pass.name.gate pass.id → Makes (events_by pass) (events_by pass') had had' → Did pass pass' had had'
-did_by pass pass' had had' same adds sole m =
-    (none_changed pass pass' same adds (values_handed m.handed) sole m.since, record { handed = m.handed; kepts = m.kepts; gone = gone_since pass pass' same adds (values_handed m.handed) sole m.since; has_had = m.has_had })
+did_by : (pass pass' : Pass) (had had' : Had) → IsSame pass pass' → IsPrefix pass.seen pass'.seen → AddsAlone pass pass' → IsSole pass.name.gate pass.id → Makes (events_by pass) (events_by pass') pass'.seen had had' → Did pass pass' had had'
+did_by pass pass' had had' same grows adds sole m =
+    (none_changed pass pass' same adds (values_handed m.handed) sole m.since, record { grows = grows; told = m.told; handed = m.handed; kepts = m.kepts; gone = gone_since pass pass' same adds (values_handed m.handed) sole m.since; has_had = m.has_had })
 
-settles_makes : (a b : Stand) (retired : Bool) → Settles a b retired → Makes (events_by a.pass) (events_by b.pass) a.had b.had
+settles_makes : (a b : Stand) (retired : Bool) → Settles a b retired → Makes (events_by a.pass) (events_by b.pass) b.pass.seen a.had b.had
 settles_makes a b false s =
     let e = events_by a.pass in let k = number_of a.key in
     record {
@@ -99,6 +109,7 @@ settles_makes a b false s =
       kepts = [];
       since = subst (λ (x : List (Deed × Answer)). Since e x []) (sym s.made) (on_since e e (readings a.pass k 0 s.finds) [] (at_first e) (none_read a.pass k 0 s.finds) (handed_read a.pass k 0 s.finds));
       has_had = subst (HasHad [] [] a.had) (sym s.had_none) (had_none a.had);
+      told = tt;
     }
 settles_makes a b true s =
     let e = events_by a.pass in let k = number_of a.key in let vs = values_handed s.handed in
@@ -109,46 +120,68 @@ settles_makes a b true s =
       kepts = if is_zero s.count then kepts_of a.batch else [];
       since = subst (λ (x : List (Deed × Answer)). Since e x vs) (sym s.made) (more_since e _ _ [] vs (on_since e _ _ [] turns ((λ l. refl), tt) refl) (none_handed a.pass k s.handed) (handed_hands a.pass k s.handed));
       has_had = s.has_had;
+      told = s.told;
     }
 
-round_makes : (a b : Stand) (v kept : ℕ) (retired : Bool) → Round a v kept b retired → Makes (events_by a.pass) (events_by b.pass) a.had b.had
-round_makes a b v kept retired r =
-    makes_twice (events_by a.pass) (events_by r.full.pass) (events_by b.pass) a.had r.full.had b.had (makes_one _ _ _ a.had r.full.had r.puts.made (λ l. refl) r.same.1) (settles_makes r.full b retired r.settles)
+settles_grow : (a b : Stand) (retired : Bool) → Settles a b retired → IsPrefix a.pass.seen b.pass.seen
+settles_grow a b false s = s.on.grows
+settles_grow a b true s = s.on.grows
 
-drains_makes : (a b : Stand) → Drains a b → Makes (events_by a.pass) (events_by b.pass) a.had b.had
-drains_makes a _ Drains.over = record { handed = []; kepts = []; since = at_first (events_by a.pass); has_had = had_none a.had }
+round_makes : (a b : Stand) (v kept : ℕ) (retired : Bool) → Round a v kept b retired → Makes (events_by a.pass) (events_by b.pass) b.pass.seen a.had b.had
+round_makes a b v kept retired r =
+    makes_twice (events_by a.pass) (events_by r.full.pass) (events_by b.pass) r.full.pass.seen b.pass.seen a.had r.full.had b.had (settles_grow r.full b retired r.settles)
+    (makes_one _ _ _ _ a.had r.full.had r.puts.made (λ l. refl) r.same.1) (settles_makes r.full b retired r.settles)
+
+round_grows : (a b : Stand) (v kept : ℕ) (retired : Bool) → Round a v kept b retired → IsPrefix a.pass.seen b.pass.seen
+round_grows a b v kept retired r = prefix_trans a.pass.seen r.full.pass.seen b.pass.seen r.puts.on.grows (settles_grow r.full b retired r.settles)
+
+drains_makes : (a b : Stand) → Drains a b → Makes (events_by a.pass) (events_by b.pass) b.pass.seen a.had b.had
+drains_makes a _ Drains.over = record { handed = []; kepts = []; since = at_first (events_by a.pass); has_had = had_none a.had; told = tt }
 drains_makes a _ (Drains.round b c queue v kept retired drains takes round) =
-    makes_twice (events_by a.pass) (events_by b.pass) (events_by c.pass) a.had b.had c.had (drains_makes a b drains)
+    makes_twice (events_by a.pass) (events_by b.pass) (events_by c.pass) b.pass.seen c.pass.seen a.had b.had c.had
+    (round_grows (record { key = b.key; pass = b.pass; batch = b.batch; queue = queue; had = b.had }) c v kept retired round) (drains_makes a b drains)
     (round_makes (record { key = b.key; pass = b.pass; batch = b.batch; queue = queue; had = b.had }) c v kept retired round)
 
+drains_grow : (a b : Stand) → Drains a b → IsPrefix a.pass.seen b.pass.seen
+drains_grow a _ Drains.over = prefix_refl a.pass.seen
+drains_grow a _ (Drains.round b c queue v kept retired drains takes round) =
+    prefix_trans a.pass.seen b.pass.seen c.pass.seen (drains_grow a b drains) (round_grows (record { key = b.key; pass = b.pass; batch = b.batch; queue = queue; had = b.had }) c v kept retired round)
+
 -- it drained its queue, and returned
-ends_makes : (a b : Stand) (key' : SlotKey) (pass' : Pass) (values' : ValueKeys) (had' : Had) → Drains a b → Returns b key' pass' values' had' → Makes (events_by a.pass) (events_by pass') a.had had'
+ends_makes : (a b : Stand) (key' : SlotKey) (pass' : Pass) (values' : ValueKeys) (had' : Had) → Drains a b → Returns b key' pass' values' had' → Makes (events_by a.pass) (events_by pass') pass'.seen a.had had'
 ends_makes a b key' pass' values' had' drains returns =
-    makes_twice (events_by a.pass) (events_by b.pass) (events_by pass') a.had b.had had' (drains_makes a b drains) (makes_one _ _ _ b.had had' returns.made (λ l. refl) returns.had_none)
+    makes_twice (events_by a.pass) (events_by b.pass) (events_by pass') b.pass.seen pass'.seen a.had b.had had' returns.keeps.grows (drains_makes a b drains) (makes_one _ _ _ _ b.had had' returns.made (λ l. refl) returns.had_none)
+
+ends_grow : (a b : Stand) (key' : SlotKey) (pass' : Pass) (values' : ValueKeys) (had' : Had) → Drains a b → Returns b key' pass' values' had' → IsPrefix a.pass.seen pass'.seen
+ends_grow a b key' pass' values' had' drains returns = prefix_trans a.pass.seen b.pass.seen pass'.seen (drains_grow a b drains) returns.keeps.grows
 
 module _ (key : SlotKey) (pass : Pass) (values : ValueKeys) (had : Had) (key' : SlotKey) (pass' : Pass) (values' : ValueKeys) (had' : Had) (b : Bool) where
   pub retired_did : (v kept : ℕ) → RetiresOne key pass v kept values had key' pass' values' had' b → IsSole pass.name.gate pass.id → Did pass pass' had had'
   retired_did v kept r sole =
       let e = events_by in
-      did_by pass pass' had had' r.rests.same r.rests.alone sole
-      (makes_twice (e pass) (e r.begun.pass) (e pass') had r.begun.had had' (makes_one _ _ _ had r.begun.had r.begins.begins.made (λ l. refl) r.begins.had_none)
-      (makes_twice (e r.begun.pass) (e r.settled.pass) (e pass') r.begun.had r.settled.had had' (round_makes r.begun r.settled v kept b r.round) (ends_makes r.settled r.drained key' pass' values' had' r.drains r.returns)))
+      let end = ends_grow r.settled r.drained key' pass' values' had' r.drains r.returns in
+      did_by pass pass' had had' r.rests.same r.rests.grows r.rests.alone sole
+      (makes_twice (e pass) (e r.begun.pass) (e pass') r.begun.pass.seen pass'.seen had r.begun.had had' (prefix_trans r.begun.pass.seen r.settled.pass.seen pass'.seen (round_grows r.begun r.settled v kept b r.round) end)
+      (makes_one _ _ _ _ had r.begun.had r.begins.begins.made (λ l. refl) r.begins.had_none)
+      (makes_twice (e r.begun.pass) (e r.settled.pass) (e pass') r.settled.pass.seen pass'.seen r.begun.had r.settled.had had' end (round_makes r.begun r.settled v kept b r.round) (ends_makes r.settled r.drained key' pass' values' had' r.drains r.returns)))
 
   pub flushed_did : Flushes key pass values had key' pass' values' had' b → IsSole pass.name.gate pass.id → Did pass pass' had had'
   flushed_did f sole =
       let e = events_by in
-      did_by pass pass' had had' f.rests.same f.rests.alone sole
-      (makes_twice (e pass) (e f.begun.pass) (e pass') had f.begun.had had' (makes_one _ _ _ had f.begun.had f.begins.begins.made (λ l. refl) f.begins.had_none)
-      (makes_twice (e f.begun.pass) (e f.settled.pass) (e pass') f.begun.had f.settled.had had' (settles_makes f.begun f.settled b f.settles) (ends_makes f.settled f.drained key' pass' values' had' f.drains f.returns)))
+      let end = ends_grow f.settled f.drained key' pass' values' had' f.drains f.returns in
+      did_by pass pass' had had' f.rests.same f.rests.grows f.rests.alone sole
+      (makes_twice (e pass) (e f.begun.pass) (e pass') f.begun.pass.seen pass'.seen had f.begun.had had' (prefix_trans f.begun.pass.seen f.settled.pass.seen pass'.seen (settles_grow f.begun f.settled b f.settles) end)
+      (makes_one _ _ _ _ had f.begun.had f.begins.begins.made (λ l. refl) f.begins.had_none)
+      (makes_twice (e f.begun.pass) (e f.settled.pass) (e pass') f.settled.pass.seen pass'.seen f.begun.had f.settled.had had' end (settles_makes f.begun f.settled b f.settles) (ends_makes f.settled f.drained key' pass' values' had' f.drains f.returns)))
 
 pub left_did : (job : Job) (stays : Bool) (swap : Deed) (key : SlotKey) (pass : Pass) (values : ValueKeys) (had : Had) (key' : SlotKey) (pass' : Pass) (values' : ValueKeys) (had' : Had)
     → Leaves job stays swap key pass values had key' pass' values' had' → IsNone swap.event → IsSole pass.name.gate pass.id → Did pass pass' had had'
 left_did job stays swap key pass values had key' pass' values' had' l none sole =
     let e = events_by pass in let k = number_of key in let vs = values_handed (handed_in l.walked) in
     let out = on_since e _ _ [] (on_since e e _ [] (at_first e) ((λ l. refl), tt) refl) (none, tt) refl in
-    did_by pass pass' had had' l.rests.same l.rests.alone sole
-    (makes_twice e (events_by l.behind.pass) (events_by pass') had l.behind.had had'
-    (record { handed = handed_in l.walked; kepts = l.kepts; since = subst (λ (x : List (Deed × Answer)). Since e x vs) (sym l.made) (more_since e _ _ [] vs out (none_walked pass k l.walked) (handed_walked pass k l.walked)); has_had = l.has_had })
+    did_by pass pass' had had' l.rests.same l.rests.grows l.rests.alone sole
+    (makes_twice e (events_by l.behind.pass) (events_by pass') l.behind.pass.seen pass'.seen had l.behind.had had' (ends_grow l.behind l.drained key' pass' values' had' l.drains l.returns)
+    (record { handed = handed_in l.walked; kepts = l.kepts; since = subst (λ (x : List (Deed × Answer)). Since e x vs) (sym l.made) (more_since e _ _ [] vs out (none_walked pass k l.walked) (handed_walked pass k l.walked)); has_had = l.has_had; told = l.told })
     (ends_makes l.behind l.drained key' pass' values' had' l.drains l.returns))
 
 -- One link more is empty.

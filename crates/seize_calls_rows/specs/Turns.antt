@@ -7,7 +7,8 @@
 --     KeepsLinks pass pass'            each link holds what it held
 --     TakesOut l pass pass'            but link l, which holds nothing
 --     EmptyBelow n pass                the links below this number hold nothing
---     Gave pass pass' had had'         the values that are gone since went to the reclaimer (HasHad), in order
+--     Gave pass pass' had had'         the values that are gone since went to the reclaimer (HasHad), in order, each with the word that the
+--                                      list says is kept of it; the pass has seen what it had seen
 --     IsShutBy porter first second shut     it is the pass of the gate that was shut, and has seen what the two workers had
 --     Regains shut pass had had'       so did all that are gone since this pass had seen the whole list, and all contents are back
 --     AllBack pass                     the pass has seen the whole list, and nobody else can add to it. In it no link holds anything, no
@@ -20,6 +21,7 @@ use Rattle.seize_machine.specs.Machine.Laws.{is_quiet}
 use Rattle.seize_machine.specs.Machine.State.{link_at, slot_at}
 use Rattle.seize_book.specs.Book.{moments}
 use Rattle.seize_book.specs.Homesteads.{state_seen}
+use Rattle.seize_book.specs.Kept.{AllTold}
 use Rattle.seize_book.specs.Tokens.{IsSole, start}
 use Rattle.seize_book.specs.declared.book.pass.Pass.{Pass}
 use Rattle.seize_book.specs.declared.book.porter.Porter.{Porter}
@@ -69,10 +71,12 @@ abbrev pub EmptyBelow : ℕ → Pass → Type 0
 EmptyBelow n pass = (l : ℕ) → l < n → link_at (state_seen pass) l ≡ None
 
 pub record Gave (pass pass' : Pass) (had had' : Had) : Type 0 where
+  pub grows : IsPrefix pass.seen pass'.seen
   pub handed : Handings
   pub kepts : List ℕ
   pub gone : (state_seen pass').gone ≡ (state_seen pass).gone ++ values_handed handed
   pub has_had : HasHad handed kepts had had'
+  pub told : AllTold pass'.seen (values_handed handed) kepts
 
 pub record AllBack (pass : Pass) : Type 0 where
   pub alone : IsSole pass.name.gate pass.id

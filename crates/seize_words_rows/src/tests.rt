@@ -511,7 +511,8 @@ fn two_slots_enter_and_leave(rt: HostRuntime) {
 }
 
 // One thread makes slots, whose heads go into the table, while another flushes its batch again and again: each flush reads the heads of as
-// many slots as there are by then, and gives up. It goes on until it has seen all of them.
+// many slots as there are by then, and gives up. It goes on until it has seen all of them: a flush takes so little time that the thread which
+// makes them may not have run at all after 10,000,000, where the machine has other work.
 #[test]
 fn slots_are_made_while_others_mark(rt: HostRuntime) {
     let Some((slots, growth, flusher)) = flushing::begin(rt.alloc()) else {
@@ -525,7 +526,7 @@ fn slots_are_made_while_others_mark(rt: HostRuntime) {
         { growth.grow(shared, MADE) },
         move || -> bool
             requires { MayFlush shared.now flusher }
-        { flusher.flush_until(shared, MADE + 2, TURNS) },
+        { flusher.flush_until(shared, MADE + 2, 100 * TURNS) },
     );
     assert_eq!(rt; (made, saw), (MADE, true));
     let mut pass = slots.book.pass();

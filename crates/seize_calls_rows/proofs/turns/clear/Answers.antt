@@ -1,6 +1,6 @@
 use Rattle.std.proofs.Common.{refl}
 use Rattle.seize_calls_rows.proofs.Links.{one_gone}
-use Rattle.seize_calls_rows.proofs.Workers.{entered}
+use Rattle.seize_calls_rows.proofs.Workers.{entered, goes_noted}
 use Rattle.seize_calls_rows.proofs.Shut.{gave_none, gave_twice, has_turn}
 use Rattle.seize_calls_rows.proofs.turns.clear.Goals as goal
 
@@ -13,4 +13,4 @@ pub returns-clause-gave : goal.returns-clause-gave
 returns-clause-gave g c =
     let one = c.enter_head-activation in let two = c.flush_and_leave in let pass = c.args.pass.now in
     gave_twice pass one.new.pass two.new.pass _ _ _
-    (gave_none pass one.new.pass _ (one_gone pass one.new.pass _ one.ensures.noted.0 one.ensures.noted.2.0 (has_turn pass c.requires.turn) refl)) two.ensures.gave
+    (gave_none pass one.new.pass _ (goes_noted pass one.new.pass _ one.ensures.noted.0 one.ensures.noted.2.0).seen (one_gone pass one.new.pass _ one.ensures.noted.0 one.ensures.noted.2.0 (has_turn pass c.requires.turn) refl)) two.ensures.gave

@@ -13,7 +13,7 @@ loop-link-init g c =
       turn_still pass one.new.pass one.ensures.noted.0 c.requires.turn,
       goes_noted pass one.new.pass _ one.ensures.noted.0 one.ensures.noted.2.0,
       (λ l less. absurd (omega (arith, less))),
-      gave_none pass one.new.pass _ (one_gone pass one.new.pass _ one.ensures.noted.0 one.ensures.noted.2.0 (has_turn pass c.requires.turn) refl),
+      gave_none pass one.new.pass _ (goes_noted pass one.new.pass _ one.ensures.noted.0 one.ensures.noted.2.0).seen (one_gone pass one.new.pass _ one.ensures.noted.0 one.ensures.noted.2.0 (has_turn pass c.requires.turn) refl),
     )
 
 pub take_out-requires-clause-stands : goal.take_out-requires-clause-stands

@@ -43,5 +43,5 @@ returns-clause-gave g c =
     let one = c.flush in let two = c.head-head in let three = c.leave in let a = c.args in let f = one.ensures.flushes in
     let sole = has_turn a.pass.now c.requires.turn in let mid = sole_still a.pass.now one.new.pass f.rests.same sole in
     gave_twice a.pass.now one.new.pass three.new.pass _ _ _ (flushed_did a.key a.pass.now _ _ one.new.key one.new.pass _ _ one.result f sole).1
-    (gave_twice one.new.pass two.new.pass three.new.pass _ _ _ (gave_none one.new.pass two.new.pass _ (ap (λ (s : State). s.gone) (look_keeps one.new.pass two.new.pass two.ensures.looks mid)))
+    (gave_twice one.new.pass two.new.pass three.new.pass _ _ _ (gave_none one.new.pass two.new.pass _ two.ensures.looks.grows (ap (λ (s : State). s.gone) (look_keeps one.new.pass two.new.pass two.ensures.looks mid)))
     (left_did _ _ _ one.new.key two.new.pass _ _ three.new.key three.new.pass _ _ three.ensures.leaves (λ l. refl) (sole_still one.new.pass two.new.pass two.ensures.looks.same mid)).1)

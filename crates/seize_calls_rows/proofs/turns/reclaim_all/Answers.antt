@@ -48,7 +48,7 @@ returns g c =
     let two : LeavesNothing (state_seen p4) 1 =
     left_by b.key c.look-2.new.self p3 p4 1 second (hb.0.0.holder.0 ∙ sym (first.on.same.0 ∙ c.empty-first.ensures.goes_on.same.0)) (hb.0.0.holder.1 ∙ c.if-second_slot-ne1.false) hb.0.1.0 hb.0.1.1 nb in
     let gave = gave_twice p0 p1 p5 _ _ _ c.clear-second.ensures.gave
-    (gave_twice p1 p2 p5 _ _ _ c.empty-first.ensures.gave (gave_none p2 p5 _ (ap (λ (st : State). st.gone) (e5 ∙ e4 ∙ e3)))) in
+    (gave_twice p1 p2 p5 _ _ _ c.empty-first.ensures.gave (gave_none p2 p5 _ (prefix_trans p2.seen p3.seen p5.seen first.on.grows (prefix_trans p3.seen p4.seen p5.seen second.on.grows load.looks.grows)) (ap (λ (st : State). st.gone) (e5 ∙ e4 ∙ e3)))) in
     let grows = prefix_trans p0.seen p1.seen p5.seen c.clear-second.ensures.goes_on.seen (prefix_trans p1.seen p2.seen p5.seen c.empty-first.ensures.goes_on.seen
     (prefix_trans p2.seen p3.seen p5.seen first.on.grows (prefix_trans p3.seen p4.seen p5.seen second.on.grows load.looks.grows))) in
     let porter = c.part-second.new.porter in let one_porter = c.part-first.new.porter in let back1 = c.part-first.ensures.back in let back2 = c.part-second.ensures.back in let shut = c.shut-pass.ensures in

@@ -64,12 +64,12 @@ pub returns-then-old-eq0-clause-gave : goal.returns-then-old-eq0-clause-gave
 returns-then-old-eq0-clause-gave g c =
     let one = c.none-value in let two = c.swap_link-old in let takes = two.ensures.swaps.2.0 in
     let sole = subst (λ (p : Pass). IsSole p.name.gate p.id) (sym one.ensures.1) (has_turn c.args.pass.now c.requires.turn) in
-    gave_none c.args.pass.now two.new.pass _ (one_gone one.new.pass two.new.pass _ takes.same takes.noted sole refl ∙ ap (λ (p : Pass). (state_seen p).gone) one.ensures.1)
+    gave_none c.args.pass.now two.new.pass _ (goes_same c.args.pass.now one.new.pass two.new.pass one.ensures.1 (goes_noted one.new.pass two.new.pass _ takes.same takes.noted)).seen (one_gone one.new.pass two.new.pass _ takes.same takes.noted sole refl ∙ ap (λ (p : Pass). (state_seen p).gone) one.ensures.1)
 
 pub returns-clause-gave : goal.returns-clause-gave
 returns-clause-gave g c =
     let one = c.none-value in let two = c.swap_link-old in let takes = two.ensures.swaps.2.0 in let three = c.retire in let v : ℕ = value_of c.value-value.result in
     let sole = subst (λ (p : Pass). IsSole p.name.gate p.id) (sym one.ensures.1) (has_turn c.args.pass.now c.requires.turn) in
     gave_twice c.args.pass.now two.new.pass three.new.pass _ _ _
-    (gave_none c.args.pass.now two.new.pass _ (one_gone one.new.pass two.new.pass _ takes.same takes.noted sole refl ∙ ap (λ (p : Pass). (state_seen p).gone) one.ensures.1))
+    (gave_none c.args.pass.now two.new.pass _ (goes_same c.args.pass.now one.new.pass two.new.pass one.ensures.1 (goes_noted one.new.pass two.new.pass _ takes.same takes.noted)).seen (one_gone one.new.pass two.new.pass _ takes.same takes.noted sole refl ∙ ap (λ (p : Pass). (state_seen p).gone) one.ensures.1))
     (retired_did c.args.key.now two.new.pass _ _ three.new.key three.new.pass _ _ three.result v 0 three.ensures.retires (sole_still one.new.pass two.new.pass takes.same sole)).1
