@@ -1,5 +1,6 @@
 //! Whole calls of a slot, each from its begin to its return. They make their own events with the pass, in the order of the scheme, beside
-//! whatever others add. What reclaimers put meanwhile is retired in the same call, when it has nothing else to do.
+//! whatever others add. What reclaimers put meanwhile is retired in the same call, when it has nothing else to do. The blocks of values
+//! that are handed go to the slot's list of spots.
 ghost use Rattle.std.specs.Prelude.{◌≡◌, false, true};
 ghost use Rattle.seize_machine.specs.declared.machine.event.Job.TheVariants.{Leave, Refresh};
 ghost use Rattle.seize_machine.specs.Machine.Event.{SwapOut};
