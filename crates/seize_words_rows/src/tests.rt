@@ -511,8 +511,8 @@ fn two_slots_enter_and_leave(rt: HostRuntime) {
 }
 
 // One thread makes slots, whose heads go into the table, while another flushes its batch again and again: each flush reads the heads of as
-// many slots as there are by then, and gives up. It goes on until it has seen all of them: a flush takes so little time that the thread which
-// makes them may not have run at all after 10,000,000, where the machine has other work.
+// many slots as there are by then, and gives up. It goes on until it has seen all of them: a flush takes so little time that the thread
+// which makes them may not have run at all after 10,000,000, where the machine has other work.
 #[test]
 fn slots_are_made_while_others_mark(rt: HostRuntime) {
     let Some((slots, growth, flusher)) = flushing::begin(rt.alloc()) else {

@@ -91,9 +91,10 @@ impl SlotKey {
 
     /// The event `Begin` of the retirement of a value, which came out of a link, or was never named. In the second case something is lent
     /// with it, if the blocks of its book lie in a store. Its key knows then that no call may begin to retire it, and that all others that
-    /// lay in its block were reclaimed. The list says from then on that this
-    /// word is kept of it, by which its reclaimer is found. It says so and no more: who adds the value's key to a count has to have noted the
-    /// same word of its block before (`Count::add`).
+    /// lay in its block were reclaimed.
+    ///
+    /// The list says from then on that this word is kept of it, by which its reclaimer is found. It says so and no more: who adds the
+    /// value's key to a count has to have noted the same word of its block before (`Count::add`).
     pub fn begin_retire(&mut self, value: &mut ValueKey, kept: u64, pass: &mut Pass)
         requires book { IsOf self.old pass.old × IsValueOf value.old pass.old }
         requires idle { is_idle (slot_of self.old) ≡ true }
