@@ -12,8 +12,9 @@
 --     RetiresOne key pass v kept values had key' pass' values' had' retired     a retirement: it began, v was put, of which this is
 --                        kept, and then it settled with v as the last, drained its queue, and returned
 --     Leaves job stays swap key pass values had key' pass' values' had'     a leave or a refresh: it began, the head was swapped out by
---                        this entry, each batch that came out was counted down once, what was given up was handed before the next, it
---                        drained its queue, and returned. The slot is active afterwards or not. The reclaimer had what was handed (HasHad)
+--                        this entry, batches that came out were counted down, one after the other (each once, as `WalksAll` says), what
+--                        was given up was handed before the next, it drained its queue, and returned. The slot is active afterwards or
+--                        not. The reclaimer had what was handed (HasHad), each value with the word that the list says is kept of it
 use Rattle.std.specs.Prelude.{◌≡◌, ℕ, ℤ, Bool, true, List, [], ◌∷◌, ◌++◌, None}
 use mathlib.Core.List.{IsPrefix}
 use Rattle.seize_machine.specs.Machine.Event.{Begin, Return}
