@@ -11,16 +11,16 @@ use Rattle.seize_machine.specs.declared.machine.event.Answer.TheVariants.{Done}
 use Rattle.seize_machine.specs.declared.machine.event.Job.{Job}
 use Rattle.seize_machine.proofs.Facts.{Step, some_is, step_of}
 use Rattle.seize_book.specs.Blocks.{block_for, list_word}
-use Rattle.seize_book.specs.Book.{after, mine}
-use Rattle.seize_book.specs.Entry.{Deed, Entry, Made, Used}
-use Rattle.seize_book.specs.Passes.{IsSame, events_by, events_in, mine_of}
+use Rattle.seize_book.specs.Book.{after}
+use Rattle.seize_book.specs.Entry.{Deed, Entry, Made}
+use Rattle.seize_book.specs.Passes.{IsSame, events_by}
 use Rattle.seize_words.specs.Reservations.{WalksOn, beginning, slot}
 use Rattle.seize_book.specs.Slots.{Notes, NotesAs, active_of, number_of, own_list, size_of, slot_of, start_of}
-use Rattle.seize_book.specs.Tokens.{Name, start}
+use Rattle.seize_book.specs.Tokens.{Name}
 use Rattle.seize_book.specs.declared.book.pass.Pass.{Pass}
 use Rattle.seize_book.specs.declared.book.slot_key.SlotKey.{SlotKey}
 use Rattle.seize_words.specs.declared.reservation.Head.{Head as Word}
-use Rattle.seize_words.proofs.Facts.{all_told_later, seen_grows}
+use Rattle.seize_words.proofs.Facts.{all_told_later, deeds_grew, seen_grows}
 use Rattle.seize_calls.proofs.Alone.{alone_noted, alone_twice}
 use Rattle.seize_book.specs.Slots.{IsOf}
 use mathlib.Core.List.{IsPrefix}
@@ -39,17 +39,6 @@ use Rattle.seize_calls.proofs.Events.{keeps_returned}
 use Rattle.seize_calls.proofs.Whole.{returned, whole_rests}
 use Rattle.seize_calls.proofs.Marks.{within}
 use Rattle.seize_calls.proofs.Strolls.{same_steps}
-
-events_append : (xs ys : List (Entry × Answer)) → events_in (xs ++ ys) ≡ events_in xs ++ events_in ys
-events_append [] ys = refl
-events_append ((Made d, answer) ∷ xs) ys = ap (λ (made : List (Deed × Answer)). (d, answer) ∷ made) (events_append xs ys)
-events_append ((Used u, answer) ∷ xs) ys = events_append xs ys
-
--- the events made with a pass have grown by this one
-events_deed : (key key' : SlotKey) (pass pass' : Pass) (d : Deed) (notes : NotesAs key pass key' pass' d) → events_by pass' ≡ events_by pass ++ (d, notes.2.0.answer) ∷ []
-events_deed key key' pass pass' d notes =
-    ap (λ (n : Name). events_in (mine (start n) pass'.id pass'.seen)) notes.0.0 ∙ ap (λ (p : ℕ). events_in (mine (start pass.name) p pass'.seen)) notes.0.1
-    ∙ ap events_in notes.2.0.made ∙ events_append (mine_of pass) ((Made d, notes.2.0.answer) ∷ [])
 
 pub same_beginning : (pass pass' : Pass) → IsSame pass pass' → (life : ℕ) (event : Event) → beginning pass' life event ≡ beginning pass life event
 same_beginning pass pass' same life event =
@@ -110,7 +99,7 @@ module _ (key one two : SlotKey) (pass pass1 pass2 : Pass) (job : Job) (stays : 
 
   made_two : events_by pass2 ≡ (events_by pass ++ done pass (Begin s job)) ++ (swap, Done) ∷ []
   made_two =
-      events_deed one two pass1 pass2 (beginning pass1 life (SwapOut (number_of one))) notes
+      deeds_grew pass1 pass2 (beginning pass1 life (SwapOut (number_of one))) notes.0 notes.2.0
       ∙ ap (λ (log : List (Deed × Answer)). log ++ (beginning pass1 life (SwapOut (number_of one)), notes.2.0.answer) ∷ []) begins.made
       ∙ ap (λ (a : Answer). (events_by pass ++ done pass (Begin s job)) ++ (beginning pass1 life (SwapOut (number_of one)), a) ∷ []) so.3
       ∙ ap (λ (x : Deed). (events_by pass ++ done pass (Begin s job)) ++ (x, Done) ∷ []) (same_beginning pass pass1 begins.keeps.same life (SwapOut (number_of one)) ∙ ap (λ (k : ℕ). beginning pass life (SwapOut k)) begins.keeps.its.1)
