@@ -1,8 +1,8 @@
 -- A cell whose value stays what it is known for, in clauses.
 --     SteadyName                       what the cell is: its name, which nothing else has, and the label of its value
 --     keeps label sound n x            the value x has this label, and is sound
---     MayWork R label sound may cell token     the work may be done on any sound value of the cell's label and of the code that the token says
---     Worked R label sound gave cell token token'    it was done on such a value, and the token says the code of the one that is there since
+--     MayWork R label sound may cell token          the work may be done on any sound value of the cell's label that has the token's code
+--     Worked R label sound gave cell token token'    it was done on such a value, and the token says the code of what is there since
 use Rattle.core.specs.Prelude.{◌≡◌, ℕ}
 use Rattle.std.specs.Coded.{code_by}
 use mathlib.Core.Path.{refl}
