@@ -8,8 +8,8 @@
 --     EmptyBelow n pass                the links below this number hold nothing
 --     Gave pass pass' had had'         the values that are gone since went to the reclaimer (HasHad), in order, each with the word that the
 --                                      list says is kept of it; the pass has seen what it had seen
---     IsShut porter shut               it is the pass of the gate that was shut;  IsShutBy porter first second shut    and has seen what the
---                                      passes of the two seats had
+--     IsShut porter shut               it is the pass of the gate that was shut
+--     IsShutBy porter first second shut     and has seen what the passes of the two seats had
 --     Regains shut pass had had'       so did all that are gone since this pass had seen the whole list, and all contents are back
 --     AllBack pass                     the pass has seen the whole list, and nobody else can add to it. In it no link holds anything, no
 --                                      call is under way, no slot is active and none has a batch. So each value that was ever retired went

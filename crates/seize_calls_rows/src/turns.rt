@@ -1,6 +1,6 @@
 //! A book whose gate is open to several holders of slots, in turns, and then shut to one caller, who has all contents come back. Each
-//! holder makes its calls with a pass that a porter gave out. When they have laid their passes back, the gate is shut: the list that the
-//! first pass has seen is the whole list from then on, and each slot leaves nothing behind.
+//! holder makes its calls with a pass that a porter gave out. When these passes are laid back, by the holders or by whoever has what was
+//! lent to them, the gate is shut: the list that the first pass has seen is the whole list from then on, and each slot leaves nothing behind.
 ghost use Rattle.std.specs.Prelude.{◌≡◌, ◌<◌, IfSome};
 ghost use Rattle.seize_book.specs.Turns.{HasTurn, TakesBack};
 ghost use Rattle.seize_calls_rows.specs.Turns.{CanMakeIn, IsOneMoreOut, IsShutBy, IsSlotAfter, Regains};
@@ -299,9 +299,8 @@ fn gather(
     Some(pass)
 }
 
-/// Shuts the gate, once the holders of the two slots have laid their passes back, and has all contents come back. A slot that is active
-/// flushes and leaves first: its holder was forgotten. Nothing comes where a batch stays, or where these are not the seats of all slots that
-/// there are.
+/// Lays the passes of both seats back, shuts the gate, and has all contents come back. A slot that is active flushes and leaves first: its
+/// holder was forgotten. Nothing comes where a batch stays, or where these are not the seats of all slots that there are.
 pub fn reclaim_all(
     words: &Words<u64>,
     porter: Porter,

@@ -39,8 +39,8 @@ fn turn_both<R: Threads + Wait + Sync>(
     )
 }
 
-// Each of two slots is active still when its holder is forgotten, so no value has ended: each waits in a batch, in the lists of both slots, or
-// in a link. Then one caller has all back by the posts alone, and each value ends once.
+// Each of two slots is active still when its holder is forgotten, so no value has ended: each stands in a batch or in a link. Then one
+// caller has all back by the posts alone, and each value ends once.
 #[test]
 fn what_forgotten_holders_had_comes_back(rt: HostRuntime) {
     let Ok(marks) = marks(rt.alloc(), 2 * TURNS) else {
