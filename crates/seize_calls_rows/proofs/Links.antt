@@ -252,3 +252,13 @@ takes_out pass pass' d s n is same noted sole = (
       ∙ link_frame l d.size (after (start pass.name) noted.before) d.event (noted.later, noted.answer) (step_of d.size _ d.event _ noted.does) (ap (changes_link l) is ∙ unequal n l (λ e. other (sym e)))
       ∙ ap (λ (log : List Entry). link_at (after (start pass.name) log) l) (noted.alone sole),
 )
+
+-- after one event that is none on a link
+pub event_keeps : (pass pass' : Pass) (d : Deed) → IsSame pass pass' → Noted pass.name pass.id pass.seen pass'.seen (Made d) → IsSole pass.name.gate pass.id → IsNone d.event → KeepsLinks pass pass'
+event_keeps pass pass' d same noted sole none l =
+    let st : State = start pass.name in
+    ap (λ (n : Name). link_at (after (start n) pass'.seen) l) same.0
+    ∙ ap (λ (log : List Entry). link_at (after st log) l) noted.appended
+    ∙ ap (λ (s : State). link_at s l) (after_both st noted.before (Made d ∷ []))
+    ∙ one_kept (after st noted.before) d l (none l)
+    ∙ ap (λ (log : List Entry). link_at (after st log) l) (noted.alone sole)

@@ -1,10 +1,10 @@
 -- Seats: at which words they sit, and with a pass that has seen no less.
 use Rattle.std.proofs.Common.{◌≡◌, ℕ, length, Option, None, Some, refl, sym, ap, ◌∙◌, subst}
-use Rattle.std.specs.Prelude.{IfSome}
+use Rattle.std.specs.Prelude.{IfErr, IfOk, Result, Ok, Err}
 use base.Growing.{prefix_trans}
 use mathlib.Core.List.{IsPrefix}
-use Rattle.seize_table.specs.Pairs.{left_of, of_family}
-use Rattle.seize_table.proofs.Pairs.{left_pair}
+use Rattle.seize_table.specs.Pairs.{left_of, of_family, right_of}
+use Rattle.seize_table.proofs.Pairs.{left_pair, right_pair}
 use Rattle.seize_book.specs.Book.{IsLegalList}
 use Rattle.seize_book.specs.Tokens.{Name, start}
 use Rattle.seize_book.specs.declared.book.pass.Pass.{Pass}
@@ -16,7 +16,7 @@ use Rattle.seize_words.specs.Links.{IsWithin}
 use Rattle.seize_words.specs.declared.activation.Activation.{Activation}
 use Rattle.seize_words.specs.declared.chunk.Header.{Header}
 use Rattle.seize_words.specs.declared.chunk.Part.{Part}
-use Rattle.seize_calls_rows.specs.Seats.{IsOfBook, SitsAt, SitsBy, SitsWith, post_label}
+use Rattle.seize_calls_rows.specs.Seats.{IsOfBook, SitsAt, SitsBy, SitsWith, post_at, post_label}
 use Rattle.seize_calls_rows.specs.Workers.{AreSpotsOf, GoesOn, Shared, Works}
 use Rattle.seize_calls_rows.specs.declared.seat.Holder.{Holder}
 use Rattle.seize_calls_rows.specs.declared.seat.Seat.{Seat}
@@ -94,7 +94,17 @@ sits_on words holder o pass pass' goes sits = on_by words holder o pass pass' go
 pub family_of : (words : Shared) (seat : Seat) (n : ℕ) → n ≡ post_label (record { seat = Some seat }) → of_family (words_book words).family n → IsOfBook seat words
 family_of words seat n is of = sym (left_pair seat.pass.name.family seat.holder.slot) ∙ ap left_of (sym is) ∙ of
 
--- What follows from what is so of the value, if there is one.
-pub some_then : {X : Type 0} {P Q : X → Type 0} (o : Option X) → ((x : X) → P x → Q x) → IfSome o P → IfSome o Q
-some_then None f p = p
-some_then (Some x) f p = f x p
+-- and its label says which slot it is of
+pub slot_of_post : (words : Shared) (seat : Seat) (n slot : ℕ) → n ≡ post_label (record { seat = Some seat }) → n ≡ post_at words slot → seat.holder.slot ≡ slot
+slot_of_post words seat n slot is at =
+    sym (right_pair seat.pass.name.family seat.holder.slot) ∙ ap right_of (sym is ∙ at) ∙ right_pair (words_book words).family slot
+
+-- What follows from what is so of what a call gives, or of its error.
+
+pub ok_then : {X E : Type 0} {P Q : X → Type 0} (r : Result X E) → ((x : X) → P x → Q x) → IfOk r P → IfOk r Q
+ok_then (Ok x) f p = f x p
+ok_then (Err e) f p = p
+
+pub err_then : {X E : Type 0} {P Q : E → Type 0} (r : Result X E) → ((e : E) → P e → Q e) → IfErr r P → IfErr r Q
+err_then (Ok x) f p = p
+err_then (Err e) f p = f e p

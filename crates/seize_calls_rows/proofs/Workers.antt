@@ -1,6 +1,6 @@
 -- What a worker knows after each call of its slot.
 use Rattle.std.proofs.Common.{◌≡◌, ◌≢◌, ℕ, ◌+◌, ◌<◌, ◌≤◌, true, false, ◌&&◌, not, List, [], ◌∷◌, length, Option, None, Some, is_some, append-nil, refl, sym, ap, ◌∙◌, subst, arith}
-use base.Growing.{prefix_trans}
+use base.Growing.{prefix_refl, prefix_trans}
 use mathlib.Core.List.{IsPrefix}
 use Rattle.seize_machine.proofs.Facts.{Step, and_true, next_of, some_is}
 use Rattle.seize_machine.specs.Machine.Event.{Enter}
@@ -64,6 +64,9 @@ goes_twice one two three first last =
       seen = prefix_trans one.seen two.seen three.seen first.seen last.seen;
       slots = omega (arith, many, more);
     }
+
+pub goes_none : (pass : Pass) → GoesOn pass pass
+goes_none pass = record { same = (refl, refl); seen = prefix_refl pass.seen; slots = omega arith }
 
 pub goes_same : (one two three : Pass) → two ≡ one → GoesOn two three → GoesOn one three
 goes_same one two three same goes = subst (λ (p : Pass). GoesOn p three) same goes

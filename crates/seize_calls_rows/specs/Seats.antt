@@ -5,7 +5,7 @@
 --     IsOfBook seat words          their book has its family
 --     post_label post              which slot of which book it is of, by the book's family
 --     IsSound post                 there is a seat in it
---     IsPostOf words post          the cell is of a slot of the words' book, by its label
+--     post_at words slot           the label of the cell of this slot of the words' book;  IsPostOf words post     the cell is of some such slot
 use Rattle.std.specs.Prelude.{◌≡◌, ℕ, Option, None, Some}
 use Rattle.seize_book.specs.Tokens.{label_at}
 use Rattle.seize_content.specs.Steady.{SteadyName}
@@ -57,6 +57,10 @@ IsThere (Some seat) = IsSeat seat
 
 abbrev pub IsSound : Post → Type 0
 IsSound post = IsThere post.seat
+
+-- the label of the post of this slot of the words' book
+abbrev pub post_at : Shared → ℕ → ℕ
+post_at words slot = label_at (words_book words) slot
 
 -- what lies there is of the words' book
 abbrev pub IsPostOf : Shared → SteadyName → Type 0

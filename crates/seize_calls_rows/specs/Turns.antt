@@ -3,6 +3,7 @@
 --     IsSlotAfter source worker source' words     the worker has the slot that came next, and so may the slot after it be made
 --     IsOneMoreOut porter porter'      one more pass is out
 --     StandsAs words spots slot size batch key activation pass     as `Stands`, of each by itself;  Holds words holder pass   as `MayWork`
+--     HasNone holder                   its slot has no batch, as its key knows
 --     KeepsLinks pass pass'            each link holds what it held
 --     TakesOut l pass pass'            but link l, which holds nothing
 --     EmptyBelow n pass                the links below this number hold nothing
@@ -11,6 +12,8 @@
 --     IsShut porter shut               it is the pass of the gate that was shut
 --     IsShutBy porter first second shut     and has seen what the passes of the two seats had
 --     Regains shut pass had had'       so did all that are gone since this pass had seen the whole list, and all contents are back
+--     AreAll first second pass         these are the holders of all slots that there are
+--     LeavesOthers first second shut pass had had'     they are not; what is gone went to the reclaimer, and the pass is alone still
 --     AllBack pass                     the pass has seen the whole list, and nobody else can add to it. In it no link holds anything, no
 --                                      call is under way, no slot is active and none has a batch. So each value that was ever retired went
 --                                      to its reclaimer
@@ -29,7 +32,9 @@ use Rattle.seize_book.specs.declared.book.slot_key.SlotKey.{SlotKey}
 use Rattle.seize_calls.specs.Handing.{Had, Handings, HasHad, values_handed}
 use Rattle.seize_calls.specs.declared.batch.Batch.{Batch}
 use Rattle.seize_store.specs.declared.spot.Spots.{Spots}
+use Rattle.seize_book.specs.Slots.{slot_of}
 use Rattle.seize_words.specs.Joined.{words_book}
+use Rattle.seize_words.specs.Totals.{slots_seen}
 use Rattle.seize_words.specs.declared.activation.Activation.{Activation}
 use Rattle.seize_words.specs.declared.chunk.Header.{Header}
 use Rattle.seize_words.specs.declared.chunk.Part.{Part}
@@ -55,6 +60,9 @@ StandsAs words spots slot size batch key activation pass =
 abbrev pub Holds : Shared → Holder → Pass → Type 0
 Holds words holder pass =
     Works words holder.slot holder.size holder.batch holder.key pass × IsOutside holder.key × AreSpotsOf words holder.spots
+
+abbrev pub HasNone : Holder → Type 0
+HasNone holder = (slot_of holder.key).batch ≡ []
 
 abbrev pub KeepsLinks : Pass → Pass → Type 0
 KeepsLinks pass pass' = (l : ℕ) → link_at (state_seen pass') l ≡ link_at (state_seen pass) l
@@ -86,6 +94,15 @@ pub record Regains (shut pass : Pass) (had had' : Had) : Type 0 where
   pub gave : Gave shut pass had had'
   pub grows : IsPrefix shut.seen pass.seen
   pub all : AllBack pass
+
+-- of slots 0 and 1, and there are no others, as the pass has seen
+abbrev pub AreAll : Holder → Holder → Pass → Type 0
+AreAll first second pass = (first.slot ≡ 0) × (second.slot ≡ 1) × (slots_seen pass ≡ 2)
+
+pub record LeavesOthers (first second : Holder) (shut pass : Pass) (had had' : Had) : Type 0 where
+  pub gave : Gave shut pass had had'
+  pub alone : IsSole pass.name.gate pass.id
+  pub others : AreAll first second pass → ⊥
 
 -- it is the pass of the gate that was shut
 abbrev pub IsShut : Porter → Pass → Type 0

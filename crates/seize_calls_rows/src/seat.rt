@@ -3,7 +3,7 @@
 //! activation in which it read.
 ghost use Rattle.std.specs.Prelude.{◌≡◌, ◌<◌, Some};
 ghost use Rattle.seize_book.specs.Tokens.{label_at};
-ghost use Rattle.seize_calls_rows.specs.Seats.{IsOfBook, IsPostOf, IsSeat, IsSound, SitsAt, post_label};
+ghost use Rattle.seize_calls_rows.specs.Seats.{IsOfBook, IsPostOf, IsSeat, IsSound, SitsAt, post_at, post_label};
 ghost use Rattle.seize_calls_rows.specs.Workers.{MayWork, Stands};
 ghost use Rattle.seize_table.specs.Pairs.{of_family};
 ghost use Rattle.seize_words.specs.Joined.{words_book};
@@ -225,7 +225,7 @@ impl Worker {
     /// What it has is only lent from then on, to whoever has the token.
     pub fn lend(self, words: &Words<u64>) -> (SteadyCell<Post>, CellToken)
         requires may { MayWork words.now self }
-        ensures post { IsPostOf words.now result.0 }
+        ensures post { IsPostOf words.now result.0 × (result.0.label ≡ post_at words.now self.slot) }
         ensures token { result.1.name ≡ result.0.name }
     {
         SteadyCell::new(Post::new(self.sit(words)))

@@ -2,13 +2,15 @@
 //! holder makes its calls with a pass that a porter gave out. When these passes are laid back, by the holders or by whoever has what was
 //! lent to them, the gate is shut: the list that the first pass has seen is the whole list from then on, and each slot leaves nothing
 //! behind.
-ghost use Rattle.std.specs.Prelude.{◌≡◌, ◌<◌, IfSome};
+ghost use Rattle.std.specs.Prelude.{◌≡◌, ◌<◌, ◌↔◌, IfErr, IfOk, IfSome, true};
 ghost use Rattle.seize_book.specs.Turns.{HasTurn, TakesBack};
 ghost use Rattle.seize_calls_rows.specs.Turns.{CanMakeIn, IsOneMoreOut, IsShutBy, IsSlotAfter, Regains};
-ghost use Rattle.seize_calls_rows.specs.Seats.{IsPostOf, SitsAt, SitsWith};
-ghost use Rattle.seize_calls_rows.specs.Turns.{EmptyBelow, Gave, Holds, IsShut, KeepsLinks, StandsAs, TakesOut};
+ghost use Rattle.seize_calls_rows.specs.Seats.{SitsAt, SitsWith, post_at};
+ghost use Rattle.seize_calls_rows.specs.Turns.{EmptyBelow, Gave, HasNone, Holds, IsShut, KeepsLinks, LeavesOthers, StandsAs, TakesOut};
 ghost use Rattle.seize_calls_rows.specs.Workers.{GoesOn, MayWork, made_by};
 ghost use Rattle.seize_words.specs.Joined.{words_book};
+ghost use Rattle.seize_words.specs.Totals.{slots_seen};
+ghost use Rattle.seize_book.specs.Tokens.{IsSole};
 
 use crate::counting::Counting;
 use crate::seat::{Holder, Post, Seat};
@@ -201,6 +203,7 @@ fn clear(
     requires turn { HasTurn pass.old }
     ensures holds { Holds words.now result pass.new × (result.slot ≡ holder.slot) }
     ensures goes_on { GoesOn pass.old pass.new }
+    ensures keeps { KeepsLinks pass.old pass.new }
     ensures gave { Gave pass.old pass.new counting.old.told.had counting.new.told.had }
 {
     let Holder {
@@ -259,8 +262,44 @@ fn empty(
     )
 }
 
-// All contents come back, those in links and those in batches: each slot enters, flushes and leaves; the first one takes out what the links
-// hold before, and retires it. Nothing comes where a batch stays, or where these are not the holders of all slots that there are.
+// The slots enter, flush and leave, one after the other, until neither has a batch.
+fn clear_all(
+    words: &Words<u64>,
+    first: Holder,
+    second: Holder,
+    counting: &mut Counting<'_>,
+    pass: &mut Pass,
+    rt: &impl Wait,
+) -> (Holder, Holder)
+    requires holds { Holds words.now first pass.old × Holds words.now second pass.old }
+    requires turn { HasTurn pass.old }
+    ensures holds { Holds words.now result.0 pass.new × Holds words.now result.1 pass.new }
+    ensures slots { (result.0.slot ≡ first.slot) × (result.1.slot ≡ second.slot) }
+    ensures bare { HasNone result.0 × HasNone result.1 }
+    ensures goes_on { GoesOn pass.old pass.new }
+    ensures keeps { KeepsLinks pass.old pass.new }
+    ensures gave { Gave pass.old pass.new counting.old.told.had counting.new.told.had }
+{
+    let (mut first, mut second) = (first, second);
+    for _ in rt.forever() {
+        if first.batch.len() == 0 && second.batch.len() == 0 {
+            return (first, second);
+        }
+        second = clear(words, second, counting, pass, rt);
+        first = clear(words, first, counting, pass, rt);
+    }
+    unreachable!()
+}
+
+// The slots with these two numbers are all of so many.
+fn are_all(first: usize, second: usize, many: usize) -> bool
+    ensures { result ≡ true ↔ ((first ≡ 0) × (second ≡ 1) × (many ≡ 2)) }
+{
+    first == 0 && second == 1 && many == 2
+}
+
+// All contents come back, those in links and those in batches. The first slot enters, takes out what the links hold, and retires it, flushes
+// and leaves; then both slots are cleared. Where there are other slots than these two, the pass comes as an error.
 fn gather(
     words: &Words<u64>,
     first: Holder,
@@ -268,40 +307,41 @@ fn gather(
     counting: &mut Counting<'_>,
     pass: Pass,
     rt: &impl Wait,
-) -> Option<Pass>
+) -> Result<Pass, Pass>
     requires holds { Holds words.now first pass × Holds words.now second pass }
     requires turn { HasTurn pass }
-    ensures back { IfSome result (λ last. Regains pass last counting.old.told.had counting.new.told.had) }
+    ensures back { IfOk result (λ last. Regains pass last counting.old.told.had counting.new.told.had) }
+    ensures others { IfErr result (λ last. LeavesOthers first second pass last counting.old.told.had counting.new.told.had) }
 {
     let mut pass = pass;
-    let second = clear(words, second, counting, &mut pass, rt);
     let first = empty(words, first, counting, &mut pass, rt);
+    let (first, second) = clear_all(words, first, second, counting, &mut pass, rt);
     let Holder {
         slot: first_slot,
         key: mut first_key,
-        batch: first_batch,
         ..
     } = first;
     let Holder {
         slot: second_slot,
         key: mut second_key,
-        batch: second_batch,
         ..
     } = second;
     first_key.look(&mut pass);
     second_key.look(&mut pass);
     let (many, _) = words.slots.load(&mut pass);
-    if first_slot != 0 || second_slot != 1 || many != 2 {
-        return None;
+    if are_all(first_slot, second_slot, many) {
+        Ok(pass)
+    } else {
+        Err(pass)
     }
-    if first_batch.len() != 0 || second_batch.len() != 0 {
-        return None;
-    }
-    Some(pass)
 }
 
 /// Lays the passes of both seats back, shuts the gate, and has all contents come back. A slot that is active flushes and leaves first: its
-/// holder was forgotten. Nothing comes where a batch stays, or where these are not the seats of all slots that there are.
+/// holder was forgotten. It goes on until no slot has a batch, as often as what reclaimers put asks for, and there may be no end of that.
+///
+/// # Errors
+///
+/// The pass, where these are not the seats of all slots that there are.
 pub fn reclaim_all(
     words: &Words<u64>,
     porter: Porter,
@@ -309,11 +349,13 @@ pub fn reclaim_all(
     second: Seat,
     counting: &mut Counting<'_>,
     rt: &impl Wait,
-) -> Option<Pass>
+) -> Result<Pass, Pass>
     requires seats { SitsAt words.now first × SitsAt words.now second }
     requires porter { (porter.name ≡ words_book words.now) × (porter.out ≡ 2) }
-    ensures back { IfSome result (λ pass. (shut : Pass) × IsShutBy porter first second shut
+    ensures back { IfOk result (λ pass. (shut : Pass) × IsShutBy porter first second shut
         × Regains shut pass counting.old.told.had counting.new.told.had) }
+    ensures others { IfErr result (λ pass. (shut : Pass) × IsShutBy porter first second shut
+        × LeavesOthers first.holder second.holder shut pass counting.old.told.had counting.new.told.had) }
 {
     let mut porter = porter;
     let (first, one) = part(first, &mut porter);
@@ -325,6 +367,10 @@ pub fn reclaim_all(
 }
 
 /// The same with the posts where the two seats were lent, whatever became of their holders.
+///
+/// # Errors
+///
+/// The pass, where these are not the posts of all slots that there are.
 pub fn reclaim_lent(
     words: &Words<u64>,
     porter: Porter,
@@ -332,11 +378,12 @@ pub fn reclaim_lent(
     second: SteadyCell<Post>,
     counting: &mut Counting<'_>,
     rt: &impl Wait,
-) -> Option<Pass>
-    requires posts { IsPostOf words.now first × IsPostOf words.now second }
+) -> Result<Pass, Pass>
+    requires posts { (first.label ≡ post_at words.now 0) × (second.label ≡ post_at words.now 1) }
     requires porter { (porter.name ≡ words_book words.now) × (porter.out ≡ 2) }
-    ensures back { IfSome result (λ pass. (shut : Pass) × IsShut porter shut
+    ensures back { IfOk result (λ pass. (shut : Pass) × IsShut porter shut
         × Regains shut pass counting.old.told.had counting.new.told.had) }
+    ensures others { IfErr result (λ pass. IsSole pass.name.gate pass.id × (slots_seen pass ≡ 2 → ⊥)) }
 {
     let first = first.into_value().into_seat().known(words);
     let second = second.into_value().into_seat().known(words);

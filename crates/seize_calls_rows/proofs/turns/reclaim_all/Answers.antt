@@ -1,11 +1,11 @@
-use Rattle.std.proofs.Common.{sym, subst, ◌∙◌, Option}
+use Rattle.std.proofs.Common.{sym, ap, subst, ◌∙◌, Option}
 use base.Growing.{prefix_trans}
 use Rattle.seize_words.specs.declared.activation.Activation.{Activation}
 use Rattle.seize_book.specs.declared.book.pass.Pass.{Pass}
 use Rattle.seize_calls_rows.specs.Seats.{SitsWith}
-use Rattle.seize_calls_rows.specs.Turns.{Regains}
+use Rattle.seize_calls_rows.specs.Turns.{LeavesOthers, Regains}
 use Rattle.seize_calls_rows.specs.declared.seat.Holder.{Holder}
-use Rattle.seize_calls_rows.proofs.Seats.{sits_book, sits_later, sits_on, some_then}
+use Rattle.seize_calls_rows.proofs.Seats.{sits_book, sits_later, sits_on, err_then, ok_then}
 use Rattle.seize_calls_rows.proofs.Shut.{gave_twice, holds_on, longer_left, longer_right}
 use Rattle.seize_calls_rows.proofs.turns.reclaim_all.Goals as goal
 
@@ -35,24 +35,43 @@ gather-requires-clause-holds g c =
     let one = c.stand_up-first in let two = c.stand_up-second in
     (holds_on c.args.words.now one.result one.new.pass two.new.pass one.ensures.holds.0 two.ensures.goes_on, two.ensures.holds.0)
 
-pub returns : goal.returns
-returns g c =
+pub returns-clause-back : goal.returns-clause-back
+returns-clause-back g c =
     let p0 = c.shut-pass.result in let shut = c.shut-pass.ensures in let one = c.stand_up-first in let two = c.stand_up-second in let p1 = one.new.pass in let p2 = two.new.pass in
     let porter = c.part-second.new.porter in let one_porter = c.part-first.new.porter in let back1 = c.part-first.ensures.back in let back2 = c.part-second.ensures.back in
     let first = c.args.first.pass.seen in let second = c.args.second.pass.seen in
     let seen2 = prefix_trans second porter.seen p0.seen (longer_right one_porter.seen second porter.seen back2.2) shut.grows in
     let seen1 = prefix_trans first one_porter.seen p0.seen (longer_right c.args.porter.seen first one_porter.seen back1.2)
-    (prefix_trans one_porter.seen porter.seen p0.seen (longer_left one_porter.seen second porter.seen back2.2) shut.grows) in
-    record {
-      back = some_then c.gather.result
-          (λ (pass : Pass) (regains : Regains p2 pass _ _). (
-            p0,
-            ((shut.book ∙ back2.0 ∙ back1.0, shut.alone), seen1, seen2),
-            record {
-              gave = gave_twice p0 p1 pass _ _ _ one.ensures.gave (gave_twice p1 p2 pass _ _ _ two.ensures.gave regains.gave);
-              grows = prefix_trans p0.seen p1.seen pass.seen one.ensures.goes_on.seen (prefix_trans p1.seen p2.seen pass.seen two.ensures.goes_on.seen regains.grows);
-              all = regains.all;
-            },
-          ))
-          c.gather.ensures.back;
-    }
+        (prefix_trans one_porter.seen porter.seen p0.seen (longer_left one_porter.seen second porter.seen back2.2) shut.grows) in
+    ok_then c.gather.result
+    (λ (pass : Pass) (regains : Regains p2 pass _ _). (
+      p0,
+      ((shut.book ∙ back2.0 ∙ back1.0, shut.alone), seen1, seen2),
+      record {
+        gave = gave_twice p0 p1 pass _ _ _ one.ensures.gave (gave_twice p1 p2 pass _ _ _ two.ensures.gave regains.gave);
+        grows = prefix_trans p0.seen p1.seen pass.seen one.ensures.goes_on.seen (prefix_trans p1.seen p2.seen pass.seen two.ensures.goes_on.seen regains.grows);
+        all = regains.all;
+      },
+    ))
+    c.gather.ensures.back
+
+pub returns-clause-others : goal.returns-clause-others
+returns-clause-others g c =
+    let p0 = c.shut-pass.result in let shut = c.shut-pass.ensures in let one = c.stand_up-first in let two = c.stand_up-second in let p1 = one.new.pass in let p2 = two.new.pass in
+    let porter = c.part-second.new.porter in let one_porter = c.part-first.new.porter in let back1 = c.part-first.ensures.back in let back2 = c.part-second.ensures.back in
+    let first = c.args.first.pass.seen in let second = c.args.second.pass.seen in
+    let seen2 = prefix_trans second porter.seen p0.seen (longer_right one_porter.seen second porter.seen back2.2) shut.grows in
+    let seen1 = prefix_trans first one_porter.seen p0.seen (longer_right c.args.porter.seen first one_porter.seen back1.2)
+        (prefix_trans one_porter.seen porter.seen p0.seen (longer_left one_porter.seen second porter.seen back2.2) shut.grows) in
+    let is1 = one.ensures.holds.1 ∙ ap (λ (h : Holder). h.slot) c.part-first.ensures.part.0 in let is2 = two.ensures.holds.1 ∙ ap (λ (h : Holder). h.slot) c.part-second.ensures.part.0 in
+    err_then c.gather.result
+    (λ (pass : Pass) (leaves : LeavesOthers one.result two.result p2 pass _ _). (
+      p0,
+      ((shut.book ∙ back2.0 ∙ back1.0, shut.alone), seen1, seen2),
+      record {
+        gave = gave_twice p0 p1 pass _ _ _ one.ensures.gave (gave_twice p1 p2 pass _ _ _ two.ensures.gave leaves.gave);
+        alone = leaves.alone;
+        others = λ all. leaves.others (is1 ∙ all.0, is2 ∙ all.1, all.2);
+      },
+    ))
+    c.gather.ensures.others
