@@ -1,6 +1,5 @@
 -- Seats: at which words they sit, and with a pass that has seen no less.
 use Rattle.std.proofs.Common.{◌≡◌, ℕ, length, Option, None, Some, refl, sym, ap, ◌∙◌, subst}
-use Rattle.std.specs.Prelude.{IfErr, IfOk, Result, Ok, Err}
 use base.Growing.{prefix_trans}
 use mathlib.Core.List.{IsPrefix}
 use Rattle.seize_table.specs.Pairs.{left_of, of_family, right_of}
@@ -98,13 +97,3 @@ family_of words seat n is of = sym (left_pair seat.pass.name.family seat.holder.
 pub slot_of_post : (words : Shared) (seat : Seat) (n slot : ℕ) → n ≡ post_label (record { seat = Some seat }) → n ≡ post_at words slot → seat.holder.slot ≡ slot
 slot_of_post words seat n slot is at =
     sym (right_pair seat.pass.name.family seat.holder.slot) ∙ ap right_of (sym is ∙ at) ∙ right_pair (words_book words).family slot
-
--- What follows from what is so of what a call gives, or of its error.
-
-pub ok_then : {X E : Type 0} {P Q : X → Type 0} (r : Result X E) → ((x : X) → P x → Q x) → IfOk r P → IfOk r Q
-ok_then (Ok x) f p = f x p
-ok_then (Err e) f p = p
-
-pub err_then : {X E : Type 0} {P Q : E → Type 0} (r : Result X E) → ((e : E) → P e → Q e) → IfErr r P → IfErr r Q
-err_then (Ok x) f p = p
-err_then (Err e) f p = f e p

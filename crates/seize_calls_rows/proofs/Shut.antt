@@ -30,7 +30,7 @@ use Rattle.seize_calls.specs.Batches.{keys_in}
 use Rattle.seize_words.proofs.Facts.{all_told_append, all_told_grow, all_told_later}
 use Rattle.seize_calls.specs.Handing.{Had, Handings, HasHad, values_handed}
 use Rattle.seize_calls.specs.Marks.{actives, readings}
-use Rattle.seize_calls_rows.specs.Turns.{AllBack, EmptyBelow, Gave, Holds, KeepsLinks}
+use Rattle.seize_calls_rows.specs.Turns.{AllBack, EmptyBelow, Gave, HasNone, Holds, KeepsLinks, LeavesNothing}
 use Rattle.seize_calls_rows.specs.Workers.{GoesOn, Shared, Works}
 use Rattle.seize_calls_rows.specs.declared.seat.Holder.{Holder}
 use Rattle.seize_calls.specs.declared.batch.Batch.{Batch}
@@ -220,17 +220,12 @@ longer_right a b c (inr t) = subst (IsPrefix b) (sym t.1) t.0
 
 -- What two slots leave behind.
 
-pub record LeavesNothing (st : State) (s : ℕ) : Type 0 where
-  pub call : is_some (slot_at st s).call ≡ false
-  pub off : is_active (head_at st s) ≡ false
-  pub batch : (slot_at st s).batch ≡ []
-
 not_so : (b : Bool) → not b ≡ true → b ≡ false
 not_so true h = absurd (let e : false ≡ true = h in cc)
 not_so false h = refl
 
 pub left_by : (key key' : SlotKey) (pass pass' : Pass) (s : ℕ) → Looks key pass key' pass' → key.keys.name ≡ pass.name → number_of key ≡ s → is_idle (slot_of key) ≡ true → active_of key ≡ false → (slot_of key).batch ≡ []
-    → LeavesNothing (state_seen pass') s
+    → LeavesNothing pass' s
 left_by key key' pass pass' s looks book is idle off none =
     let name : pass'.name ≡ key.keys.name = looks.on.same.0 ∙ sym book in
     let slot : slot_at (state_seen pass') s ≡ slot_of key = (λ j. slot_at (after (start (name j)) pass'.seen) (sym is j)) ∙ looks.slot in
@@ -262,7 +257,7 @@ no_batch (a ∷ []) two one more s = absurd (omega (arith, two))
 no_batch (a ∷ b ∷ z ∷ slots) two one more s = absurd (omega (arith, two))
 
 pub all_back : (pass : Pass) → IsSole pass.name.gate pass.id → EmptyBelow 1024 pass → IsLegalList (start pass.name) pass.seen → are_distinct (linked pass.name.links) ≡ true → length (state_seen pass).slots ≡ 2
-    → LeavesNothing (state_seen pass) 0 → LeavesNothing (state_seen pass) 1 → AllBack pass
+    → LeavesNothing pass 0 → LeavesNothing pass 1 → AllBack pass
 all_back pass sole links legal distinct two first second = record { alone = sole; links = links; quiet = quiet; batches = none; reclaimed = gone }
   where
     st : State
@@ -284,3 +279,11 @@ all_back pass sole links legal distinct two first second = record { alone = sole
 pub no_values : (xs : List ℕ) (k : ℕ) → k ≡ min (length xs) (2 ^ 64 - 1) → k ≡ 0 → xs ≡ []
 no_values [] k is none = refl
 no_values (x ∷ xs) k is none = absurd (omega (arith, is, none))
+
+-- what is so of a slot in one state is so in another list that leads there
+pub nothing_still : (pass pass' : Pass) (s : ℕ) → state_seen pass' ≡ state_seen pass → LeavesNothing pass s → LeavesNothing pass' s
+nothing_still pass pass' s same l = record {
+  call = ap (λ (st : State). is_some (slot_at st s).call) same ∙ l.call;
+  off = ap (λ (st : State). is_active (head_at st s)) same ∙ l.off;
+  batch = ap (λ (st : State). (slot_at st s).batch) same ∙ l.batch;
+}

@@ -1,10 +1,11 @@
 -- What is known of the seats of slots' holders, and of the posts where they are lent.
 --     worker_in seat, active_in seat a     what sits there as a worker;  and where its slot is in this activation
 --     SitsAt words seat            it may work, or stands;  SitsWith words holder activation pass     the same, of each by itself
+--     IsLeft words left pass       so it is of what is left of a seat, with this pass
 --     IsSeat seat                  it sits at words of some book
---     IsOfBook seat words          their book has its family
+--     IsOfBook seat words          the book of its pass has the family of the words' book
 --     post_label post              which slot of which book it is of, by the book's family
---     IsSound post                 there is a seat in it
+--     IsSound post                 there is a seat in it, which sits at words of some book
 --     post_at words slot           the label of the cell of this slot of the words' book;  IsPostOf words post     the cell is of some such slot
 use Rattle.std.specs.Prelude.{◌≡◌, ℕ, Option, None, Some}
 use Rattle.seize_book.specs.Tokens.{label_at}
@@ -15,6 +16,7 @@ use Rattle.seize_words.specs.declared.activation.Activation.{Activation}
 use Rattle.seize_calls_rows.specs.Workers.{MayWork, Shared, Stands}
 use Rattle.seize_book.specs.declared.book.pass.Pass.{Pass}
 use Rattle.seize_calls_rows.specs.declared.seat.Holder.{Holder}
+use Rattle.seize_calls_rows.specs.declared.seat.Left.{Left}
 use Rattle.seize_calls_rows.specs.declared.seat.Post.{Post}
 use Rattle.seize_calls_rows.specs.declared.seat.Seat.{Seat}
 use Rattle.seize_calls_rows.specs.declared.worker.Active.{Active}
@@ -37,6 +39,9 @@ SitsAt words seat = SitsBy words seat seat.activation
 
 abbrev pub SitsWith : Shared → Holder → Option Activation → Pass → Type 0
 SitsWith words holder activation pass = SitsAt words (record { holder = holder; pass = pass; activation = activation })
+
+abbrev pub IsLeft : Shared → Left → Pass → Type 0
+IsLeft words left pass = SitsWith words left.holder left.activation pass
 
 abbrev pub IsSeat : Seat → Type 0
 IsSeat seat = (words : Shared) × SitsAt words seat

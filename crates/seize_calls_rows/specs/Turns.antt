@@ -11,17 +11,17 @@
 --                                      list says is kept of it; the pass has seen what it had seen
 --     IsShut porter shut               it is the pass of the gate that was shut
 --     IsShutBy porter first second shut     and has seen what the passes of the two seats had
---     Regains shut pass had had'       so did all that are gone since this pass had seen the whole list, and all contents are back
+--     Regains shut pass had had'       all that are gone since the gate was shut went so to the reclaimer, and no link holds anything
+--     LeavesNothing pass s             slot s has no call, is not active, and has no batch, as the pass has seen
 --     AreAll first second pass         these are the holders of all slots that there are
---     LeavesOthers first second shut pass had had'     they are not; what is gone went to the reclaimer, and the pass is alone still
 --     AllBack pass                     the pass has seen the whole list, and nobody else can add to it. In it no link holds anything, no
 --                                      call is under way, no slot is active and none has a batch. So each value that was ever retired went
 --                                      to its reclaimer
-use Rattle.std.specs.Prelude.{◌≡◌, ℕ, ◌+◌, ◌<◌, true, List, [], ◌++◌, None}
+use Rattle.std.specs.Prelude.{◌≡◌, ℕ, ◌+◌, ◌<◌, true, false, List, [], ◌++◌, None, is_some}
 use mathlib.Core.List.{IsPrefix}
 use Rattle.seize_machine.specs.Machine.History.{Reclaimed, Retired}
 use Rattle.seize_machine.specs.Machine.Laws.{is_quiet}
-use Rattle.seize_machine.specs.Machine.State.{link_at, slot_at}
+use Rattle.seize_machine.specs.Machine.State.{head_at, is_active, link_at, slot_at}
 use Rattle.seize_book.specs.Book.{moments}
 use Rattle.seize_book.specs.Homesteads.{state_seen}
 use Rattle.seize_book.specs.Kept.{AllTold}
@@ -32,7 +32,9 @@ use Rattle.seize_book.specs.declared.book.slot_key.SlotKey.{SlotKey}
 use Rattle.seize_calls.specs.Handing.{Had, Handings, HasHad, values_handed}
 use Rattle.seize_calls.specs.declared.batch.Batch.{Batch}
 use Rattle.seize_store.specs.declared.spot.Spots.{Spots}
+use Rattle.seize_book.specs.Passes.{IsSame}
 use Rattle.seize_book.specs.Slots.{slot_of}
+use Rattle.seize_book.specs.Turns.{HasTurn}
 use Rattle.seize_words.specs.Joined.{words_book}
 use Rattle.seize_words.specs.Totals.{slots_seen}
 use Rattle.seize_words.specs.declared.activation.Activation.{Activation}
@@ -91,22 +93,23 @@ pub record AllBack (pass : Pass) : Type 0 where
       Retired ms v q → (c : ℕ) × Reclaimed ms v c
 
 pub record Regains (shut pass : Pass) (had had' : Had) : Type 0 where
+  pub same : IsSame shut pass
   pub gave : Gave shut pass had had'
-  pub grows : IsPrefix shut.seen pass.seen
-  pub all : AllBack pass
+  pub links : EmptyBelow 1024 pass
+
+-- the slot has no call, is not active and has no batch
+pub record LeavesNothing (pass : Pass) (s : ℕ) : Type 0 where
+  pub call : is_some (slot_at (state_seen pass) s).call ≡ false
+  pub off : is_active (head_at (state_seen pass) s) ≡ false
+  pub batch : (slot_at (state_seen pass) s).batch ≡ []
 
 -- of slots 0 and 1, and there are no others, as the pass has seen
 abbrev pub AreAll : Holder → Holder → Pass → Type 0
 AreAll first second pass = (first.slot ≡ 0) × (second.slot ≡ 1) × (slots_seen pass ≡ 2)
 
-pub record LeavesOthers (first second : Holder) (shut pass : Pass) (had had' : Had) : Type 0 where
-  pub gave : Gave shut pass had had'
-  pub alone : IsSole pass.name.gate pass.id
-  pub others : AreAll first second pass → ⊥
-
 -- it is the pass of the gate that was shut
 abbrev pub IsShut : Porter → Pass → Type 0
-IsShut porter shut = (shut.name ≡ porter.name) × IsSole shut.name.gate shut.id
+IsShut porter shut = (shut.name ≡ porter.name) × HasTurn shut × IsSole shut.name.gate shut.id
 
 abbrev pub IsShutBy : Porter → Seat → Seat → Pass → Type 0
 IsShutBy porter first second shut = IsShut porter shut × IsPrefix first.pass.seen shut.seen × IsPrefix second.pass.seen shut.seen

@@ -39,7 +39,14 @@ pub struct Seat {
     pub activation: Option<Activation>,
 }
 
-/// A seat that is only lent. There is none in it while the slot makes a turn, and never else.
+/// What is left of a seat when its pass was laid back.
+#[derive(Drop)]
+pub struct Left {
+    pub holder: Holder,
+    pub activation: Option<Activation>,
+}
+
+/// A seat that is only lent. It is empty only while the slot makes a turn.
 #[derive(Drop)]
 pub struct Post {
     pub seat: Option<Seat>,

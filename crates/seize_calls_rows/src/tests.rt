@@ -8,7 +8,7 @@ mod holding;
 use crate::counting::Counting;
 use crate::putting::{Putting, make};
 use crate::running::Tally;
-use crate::turns::{open_in_turns, reclaim_all};
+use crate::turns::{open_in_turns, reclaim_all, shut_turns};
 use crate::worker::{LINKS, Worker, open};
 use seize_words::words::Words;
 use std::alloc::{AllocError, Global};
@@ -386,8 +386,9 @@ fn all_values_come_back_at_a_shut_gate(rt: HostRuntime) {
     assert_eq!(rt; told(marks.as_slice()), (left.wrapping_add(LINKS), 0));
     let mut counting = Counting::new(marks.as_slice());
     let (a, b) = (a.sit(&words), b.sit(&words));
-    let pass = reclaim_all(&words, porter, a, b, &mut counting, &rt);
-    assert!(rt; pass.is_some());
+    let (mut pass, a, b) = shut_turns(&words, porter, a, b);
+    let (_, _, all) = reclaim_all(&words, a, b, &mut counting, &mut pass, &rt);
+    assert!(rt; all);
     assert_eq!(rt; counting.count, left.wrapping_add(LINKS));
     assert_eq!(rt; told(marks.as_slice()), (0, 0));
 }

@@ -2,18 +2,17 @@
 //! holder makes its calls with a pass that a porter gave out. When these passes are laid back, by the holders or by whoever has what was
 //! lent to them, the gate is shut: the list that the first pass has seen is the whole list from then on, and each slot leaves nothing
 //! behind.
-ghost use Rattle.std.specs.Prelude.{◌≡◌, ◌<◌, ◌↔◌, IfErr, IfOk, IfSome, true};
+ghost use Rattle.std.specs.Prelude.{◌≡◌, ◌<◌, ◌↔◌, IfSome, true};
+ghost use Rattle.seize_book.specs.Passes.{LooksOn};
 ghost use Rattle.seize_book.specs.Turns.{HasTurn, TakesBack};
-ghost use Rattle.seize_calls_rows.specs.Turns.{CanMakeIn, IsOneMoreOut, IsShutBy, IsSlotAfter, Regains};
-ghost use Rattle.seize_calls_rows.specs.Seats.{SitsAt, SitsWith, post_at};
-ghost use Rattle.seize_calls_rows.specs.Turns.{EmptyBelow, Gave, HasNone, Holds, IsShut, KeepsLinks, LeavesOthers, StandsAs, TakesOut};
+ghost use Rattle.seize_calls_rows.specs.Turns.{AllBack, AreAll, CanMakeIn, IsOneMoreOut, IsShutBy, IsSlotAfter, Regains};
+ghost use Rattle.seize_calls_rows.specs.Seats.{IsLeft, SitsAt, post_at};
+ghost use Rattle.seize_calls_rows.specs.Turns.{EmptyBelow, Gave, HasNone, Holds, IsShut, KeepsLinks, LeavesNothing, StandsAs, TakesOut};
 ghost use Rattle.seize_calls_rows.specs.Workers.{GoesOn, MayWork, made_by};
 ghost use Rattle.seize_words.specs.Joined.{words_book};
-ghost use Rattle.seize_words.specs.Totals.{slots_seen};
-ghost use Rattle.seize_book.specs.Tokens.{IsSole};
 
 use crate::counting::Counting;
-use crate::seat::{Holder, Post, Seat};
+use crate::seat::{Holder, Left, Post, Seat};
 use crate::worker::{ROW, Source, Worker};
 use seize_calls::batch::Batch;
 use seize_calls::calls;
@@ -64,10 +63,10 @@ impl Source {
 }
 
 // Its pass is laid back to the porter.
-fn part(seat: Seat, porter: &mut Porter) -> (Holder, Option<Activation>)
+fn part(seat: Seat, porter: &mut Porter) -> Left
     requires book { seat.pass.name ≡ porter.old.name }
     ensures back { TakesBack porter.old seat.pass porter.new }
-    ensures part { (result.0 ≡ seat.holder) × (result.1 ≡ seat.activation) }
+    ensures part { (result.holder ≡ seat.holder) × (result.activation ≡ seat.activation) }
 {
     let Seat {
         holder,
@@ -75,7 +74,7 @@ fn part(seat: Seat, porter: &mut Porter) -> (Holder, Option<Activation>)
         activation,
     } = seat;
     porter.lay(pass);
-    (holder, activation)
+    Left { holder, activation }
 }
 
 // Takes out what the link holds, and retires it.
@@ -164,18 +163,18 @@ fn flush_and_leave(
 // The slot flushes and leaves, if it is active.
 fn stand_up(
     words: &Words<u64>,
-    holder: Holder,
-    activation: Option<Activation>,
+    left: Left,
     counting: &mut Counting<'_>,
     pass: &mut Pass,
     rt: &impl Wait,
 ) -> Holder
-    requires sits { SitsWith words.now holder activation pass.old }
+    requires left { IsLeft words.now left pass.old }
     requires turn { HasTurn pass.old }
-    ensures holds { Holds words.now result pass.new × (result.slot ≡ holder.slot) }
+    ensures holds { Holds words.now result pass.new × (result.slot ≡ left.holder.slot) }
     ensures goes_on { GoesOn pass.old pass.new }
     ensures gave { Gave pass.old pass.new counting.old.told.had counting.new.told.had }
 {
+    let Left { holder, activation } = left;
     let Some(activation) = activation else {
         return holder;
     };
@@ -291,6 +290,63 @@ fn clear_all(
     unreachable!()
 }
 
+// A look at the list, in which the slot leaves nothing behind.
+fn look(words: &Words<u64>, holder: Holder, pass: &mut Pass) -> Holder
+    requires holds { Holds words.now holder pass.old × HasNone holder }
+    requires turn { HasTurn pass.old }
+    ensures holds { Holds words.now result pass.new × HasNone result × (result.slot ≡ holder.slot) }
+    ensures nothing { LeavesNothing pass.new holder.slot }
+    ensures looks { LooksOn pass.old pass.new }
+{
+    let Holder {
+        slot,
+        size,
+        mut key,
+        batch,
+        spots,
+    } = holder;
+    key.look(pass);
+    Holder {
+        slot,
+        size,
+        key,
+        batch,
+        spots,
+    }
+}
+
+/// Lays the passes of both seats back, and shuts the gate.
+pub fn shut_turns(words: &Words<u64>, porter: Porter, first: Seat, second: Seat) -> (Pass, Left, Left)
+    requires seats { SitsAt words.now first × SitsAt words.now second }
+    requires porter { (porter.name ≡ words_book words.now) × (porter.out ≡ 2) }
+    ensures shut { IsShutBy porter first second result.0 }
+    ensures left { IsLeft words.now result.1 result.0 × IsLeft words.now result.2 result.0 }
+    ensures holders { (result.1.holder ≡ first.holder) × (result.2.holder ≡ second.holder) }
+{
+    let mut porter = porter;
+    let first = part(first, &mut porter);
+    let second = part(second, &mut porter);
+    (porter.shut(), first, second)
+}
+
+/// The same with the posts where the seats of slots 0 and 1 were lent, whatever became of their holders.
+pub fn shut_lent(
+    words: &Words<u64>,
+    porter: Porter,
+    first: SteadyCell<Post>,
+    second: SteadyCell<Post>,
+) -> (Pass, Left, Left)
+    requires posts { (first.label ≡ post_at words.now 0) × (second.label ≡ post_at words.now 1) }
+    requires porter { (porter.name ≡ words_book words.now) × (porter.out ≡ 2) }
+    ensures shut { IsShut porter result.0 }
+    ensures left { IsLeft words.now result.1 result.0 × IsLeft words.now result.2 result.0 }
+    ensures slots { (result.1.holder.slot ≡ 0) × (result.2.holder.slot ≡ 1) }
+{
+    let first = first.into_value().into_seat().known(words);
+    let second = second.into_value().into_seat().known(words);
+    shut_turns(words, porter, first, second)
+}
+
 // The slots with these two numbers are all of so many.
 fn are_all(first: usize, second: usize, many: usize) -> bool
     ensures { result ≡ true ↔ ((first ≡ 0) × (second ≡ 1) × (many ≡ 2)) }
@@ -298,94 +354,32 @@ fn are_all(first: usize, second: usize, many: usize) -> bool
     first == 0 && second == 1 && many == 2
 }
 
-// All contents come back, those in links and those in batches. The first slot enters, takes out what the links hold, and retires it, flushes
-// and leaves; then both slots are cleared. Where there are other slots than these two, the pass comes as an error.
-fn gather(
-    words: &Words<u64>,
-    first: Holder,
-    second: Holder,
-    counting: &mut Counting<'_>,
-    pass: Pass,
-    rt: &impl Wait,
-) -> Result<Pass, Pass>
-    requires holds { Holds words.now first pass × Holds words.now second pass }
-    requires turn { HasTurn pass }
-    ensures back { IfOk result (λ last. Regains pass last counting.old.told.had counting.new.told.had) }
-    ensures others { IfErr result (λ last. LeavesOthers first second pass last counting.old.told.had counting.new.told.had) }
-{
-    let mut pass = pass;
-    let first = empty(words, first, counting, &mut pass, rt);
-    let (first, second) = clear_all(words, first, second, counting, &mut pass, rt);
-    let Holder {
-        slot: first_slot,
-        key: mut first_key,
-        ..
-    } = first;
-    let Holder {
-        slot: second_slot,
-        key: mut second_key,
-        ..
-    } = second;
-    first_key.look(&mut pass);
-    second_key.look(&mut pass);
-    let (many, _) = words.slots.load(&mut pass);
-    if are_all(first_slot, second_slot, many) {
-        Ok(pass)
-    } else {
-        Err(pass)
-    }
-}
-
-/// Lays the passes of both seats back, shuts the gate, and has all contents come back. A slot that is active flushes and leaves first: its
-/// holder was forgotten. It goes on until no slot has a batch, as often as what reclaimers put asks for, and there may be no end of that.
-///
-/// # Errors
-///
-/// The pass, where these are not the seats of all slots that there are.
+/// Has all contents come back, with the pass of the shut gate. A slot that is active flushes and leaves first: its holder was forgotten. Then
+/// the first one takes out what the links hold, and retires it, and both are cleared, until neither has a batch: as often as what reclaimers
+/// put asks for, and there may be no end of that. It gives the holders back, and says whether there are no other slots.
 pub fn reclaim_all(
     words: &Words<u64>,
-    porter: Porter,
-    first: Seat,
-    second: Seat,
+    first: Left,
+    second: Left,
     counting: &mut Counting<'_>,
+    pass: &mut Pass,
     rt: &impl Wait,
-) -> Result<Pass, Pass>
-    requires seats { SitsAt words.now first × SitsAt words.now second }
-    requires porter { (porter.name ≡ words_book words.now) × (porter.out ≡ 2) }
-    ensures back { IfOk result (λ pass. (shut : Pass) × IsShutBy porter first second shut
-        × Regains shut pass counting.old.told.had counting.new.told.had) }
-    ensures others { IfErr result (λ pass. (shut : Pass) × IsShutBy porter first second shut
-        × LeavesOthers first.holder second.holder shut pass counting.old.told.had counting.new.told.had) }
+) -> (Holder, Holder, bool)
+    requires left { IsLeft words.now first pass.old × IsLeft words.now second pass.old }
+    requires turn { HasTurn pass.old }
+    ensures regains { Regains pass.old pass.new counting.old.told.had counting.new.told.had }
+    ensures first { Holds words.now result.0 pass.new × HasNone result.0 × (result.0.slot ≡ first.holder.slot) }
+    ensures second { Holds words.now result.1 pass.new × HasNone result.1 × (result.1.slot ≡ second.holder.slot) }
+    ensures all { result.2 ≡ true ↔ AreAll first.holder second.holder pass.new }
+    ensures back { result.2 ≡ true → AllBack pass.new }
 {
-    let mut porter = porter;
-    let (first, one) = part(first, &mut porter);
-    let (second, two) = part(second, &mut porter);
-    let mut pass = porter.shut();
-    let first = stand_up(words, first, one, counting, &mut pass, rt);
-    let second = stand_up(words, second, two, counting, &mut pass, rt);
-    gather(words, first, second, counting, pass, rt)
-}
-
-/// The same with the posts where the two seats were lent, whatever became of their holders.
-///
-/// # Errors
-///
-/// The pass, where these are not the posts of all slots that there are.
-pub fn reclaim_lent(
-    words: &Words<u64>,
-    porter: Porter,
-    first: SteadyCell<Post>,
-    second: SteadyCell<Post>,
-    counting: &mut Counting<'_>,
-    rt: &impl Wait,
-) -> Result<Pass, Pass>
-    requires posts { (first.label ≡ post_at words.now 0) × (second.label ≡ post_at words.now 1) }
-    requires porter { (porter.name ≡ words_book words.now) × (porter.out ≡ 2) }
-    ensures back { IfOk result (λ pass. (shut : Pass) × IsShut porter shut
-        × Regains shut pass counting.old.told.had counting.new.told.had) }
-    ensures others { IfErr result (λ pass. IsSole pass.name.gate pass.id × (slots_seen pass ≡ 2 → ⊥)) }
-{
-    let first = first.into_value().into_seat().known(words);
-    let second = second.into_value().into_seat().known(words);
-    reclaim_all(words, porter, first, second, counting, rt)
+    let first = stand_up(words, first, counting, pass, rt);
+    let second = stand_up(words, second, counting, pass, rt);
+    let first = empty(words, first, counting, pass, rt);
+    let (first, second) = clear_all(words, first, second, counting, pass, rt);
+    let first = look(words, first, pass);
+    let second = look(words, second, pass);
+    let (many, _) = words.slots.load(pass);
+    let all = are_all(first.slot, second.slot, many);
+    (first, second, all)
 }

@@ -5,7 +5,7 @@ ghost use Rattle.seize_calls_rows.specs.Seats.{IsPostOf};
 use super::{TURNS, marks, told};
 use crate::counting::Counting;
 use crate::seat::{Post, turn_and_forget};
-use crate::turns::{open_in_turns, reclaim_lent};
+use crate::turns::{open_in_turns, reclaim_all, shut_lent};
 use crate::worker::LINKS;
 use seize_content::{CellToken, SteadyCell};
 use seize_words::words::Words;
@@ -61,8 +61,9 @@ fn what_forgotten_holders_had_comes_back(rt: HostRuntime) {
     assert_eq!(rt; done, (true, true));
     assert_eq!(rt; told(marks.as_slice()), (2 * TURNS, 0));
     let mut counting = Counting::new(marks.as_slice());
-    let pass = reclaim_lent(&words, porter, first, second, &mut counting, &rt);
-    assert!(rt; pass.is_some());
+    let (mut pass, first, second) = shut_lent(&words, porter, first, second);
+    let (_, _, all) = reclaim_all(&words, first, second, &mut counting, &mut pass, &rt);
+    assert!(rt; all);
     assert_eq!(rt; counting.count, 2 * TURNS);
     assert_eq!(rt; told(marks.as_slice()), (0, 0));
 }
@@ -88,8 +89,9 @@ fn a_holder_that_did_nothing_is_forgotten(rt: HostRuntime) {
     assert!(rt; turn_and_forget(&words, &second, two, 0, LINKS, marks.as_slice(), &rt));
     assert_eq!(rt; told(marks.as_slice()), (LINKS, 0));
     let mut counting = Counting::new(marks.as_slice());
-    let pass = reclaim_lent(&words, porter, first, second, &mut counting, &rt);
-    assert!(rt; pass.is_some());
+    let (mut pass, first, second) = shut_lent(&words, porter, first, second);
+    let (_, _, all) = reclaim_all(&words, first, second, &mut counting, &mut pass, &rt);
+    assert!(rt; all);
     assert_eq!(rt; counting.count, LINKS);
     assert_eq!(rt; told(marks.as_slice()), (0, 0));
 }

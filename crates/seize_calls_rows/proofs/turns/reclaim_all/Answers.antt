@@ -1,77 +1,66 @@
-use Rattle.std.proofs.Common.{sym, ap, subst, ◌∙◌, Option}
+use Rattle.std.proofs.Common.{◌≡◌, ℕ, ◌<◌, length, true, sym, ap, subst, ◌∙◌}
 use base.Growing.{prefix_trans}
-use Rattle.seize_words.specs.declared.activation.Activation.{Activation}
-use Rattle.seize_book.specs.declared.book.pass.Pass.{Pass}
-use Rattle.seize_calls_rows.specs.Seats.{SitsWith}
-use Rattle.seize_calls_rows.specs.Turns.{LeavesOthers, Regains}
-use Rattle.seize_calls_rows.specs.declared.seat.Holder.{Holder}
-use Rattle.seize_calls_rows.proofs.Seats.{sits_book, sits_later, sits_on, err_then, ok_then}
-use Rattle.seize_calls_rows.proofs.Shut.{gave_twice, holds_on, longer_left, longer_right}
+use Rattle.seize_machine.specs.Machine.State.{State, are_distinct, link_at, linked}
+use Rattle.seize_book.specs.Book.{IsLegalList}
+use Rattle.seize_book.specs.Homesteads.{state_seen}
+use Rattle.seize_book.specs.Tokens.{Name, start}
+use Rattle.seize_words.specs.Totals.{slots_seen}
+use Rattle.seize_calls_rows.specs.Turns.{LeavesNothing}
+use Rattle.seize_calls_rows.proofs.Links.{look_keeps, sole_still}
+use Rattle.seize_calls_rows.proofs.Seats.{sits_on}
+use Rattle.seize_calls_rows.proofs.Shut.{all_back, gave_none, gave_twice, has_turn, holds_on, nothing_still, turn_still}
+use Rattle.seize_calls_rows.proofs.Workers.{goes_looked, goes_twice}
 use Rattle.seize_calls_rows.proofs.turns.reclaim_all.Goals as goal
 
-pub stand_up-first-requires-clause-sits : goal.stand_up-first-requires-clause-sits
-stand_up-first-requires-clause-sits g c =
-    let words = c.args.words.now in let seat = c.args.first in let one = c.part-first in let two = c.part-second in let pass = c.shut-pass.result in let shut = c.shut-pass.ensures in let porter = two.new.porter in let is = one.ensures.part in
-    subst (λ (t : Holder × Option Activation). SitsWith words t.0 t.1 pass) (λ i. (sym is.0 i, sym is.1 i))
-    (sits_later words seat.holder seat.activation seat.pass pass
-    (shut.book ∙ two.ensures.back.0 ∙ one.ensures.back.0 ∙ c.requires.porter.0 ∙ sits_book words seat c.requires.seats.0)
-    (prefix_trans seat.pass.seen one.new.porter.seen pass.seen (longer_right c.args.porter.seen seat.pass.seen one.new.porter.seen one.ensures.back.2)
-    (prefix_trans one.new.porter.seen porter.seen pass.seen (longer_left one.new.porter.seen c.args.second.pass.seen porter.seen two.ensures.back.2) shut.grows))
-    shut.legal c.requires.seats.0)
+pub stand_up-second-requires-clause-left : goal.stand_up-second-requires-clause-left
+stand_up-second-requires-clause-left g c =
+    let one = c.stand_up-first in let left = c.args.second in sits_on c.args.words.now left.holder left.activation c.args.pass.now one.new.pass one.ensures.goes_on c.requires.left.1
 
-pub stand_up-second-requires-clause-sits : goal.stand_up-second-requires-clause-sits
-stand_up-second-requires-clause-sits g c =
-    let words = c.args.words.now in let seat = c.args.second in let one = c.part-first in let two = c.part-second in let pass = c.shut-pass.result in let shut = c.shut-pass.ensures in let porter = two.new.porter in let is = two.ensures.part in
-    let first = c.stand_up-first in
-    subst (λ (t : Holder × Option Activation). SitsWith words t.0 t.1 first.new.pass) (λ i. (sym is.0 i, sym is.1 i))
-    (sits_on words seat.holder seat.activation pass first.new.pass first.ensures.goes_on
-    (sits_later words seat.holder seat.activation seat.pass pass
-    (shut.book ∙ two.ensures.back.0 ∙ one.ensures.back.0 ∙ c.requires.porter.0 ∙ sits_book words seat c.requires.seats.1)
-    (prefix_trans seat.pass.seen porter.seen pass.seen (longer_right one.new.porter.seen seat.pass.seen porter.seen two.ensures.back.2) shut.grows)
-    shut.legal c.requires.seats.1))
+pub empty-first-requires-clause-holds : goal.empty-first-requires-clause-holds
+empty-first-requires-clause-holds g c =
+    let one = c.stand_up-first in let two = c.stand_up-second in holds_on c.args.words.now one.result one.new.pass two.new.pass one.ensures.holds.0 two.ensures.goes_on
 
-pub gather-requires-clause-holds : goal.gather-requires-clause-holds
-gather-requires-clause-holds g c =
-    let one = c.stand_up-first in let two = c.stand_up-second in
-    (holds_on c.args.words.now one.result one.new.pass two.new.pass one.ensures.holds.0 two.ensures.goes_on, two.ensures.holds.0)
+pub clear_all-first-requires-clause-holds : goal.clear_all-first-requires-clause-holds
+clear_all-first-requires-clause-holds g c =
+    let two = c.stand_up-second in let one = c.empty-first in (one.ensures.holds.0, holds_on c.args.words.now two.result two.new.pass one.new.pass two.ensures.holds.0 one.ensures.goes_on)
+
+pub returns-clause-regains : goal.returns-clause-regains
+returns-clause-regains g c =
+    let p0 = c.args.pass.now in let p1 = c.stand_up-first.new.pass in let p2 = c.stand_up-second.new.pass in let p3 = c.empty-first.new.pass in let p4 = c.clear_all-first.new.pass in
+    let p5 = c.look-first.new.pass in let p6 = c.look-second.new.pass in let p7 = c.load-many.new.pass in
+    let one = c.stand_up-first.ensures in let two = c.stand_up-second.ensures in let empty = c.empty-first.ensures in let clear = c.clear_all-first.ensures in
+    let first = c.look-first.ensures in let second = c.look-second.ensures in let load = c.load-many.ensures in
+    let looked = goes_twice p4 p5 p7 (goes_looked p4 p5 first.looks) (goes_twice p5 p6 p7 (goes_looked p5 p6 second.looks) (goes_looked p6 p7 load.looks)) in
+    let goes = goes_twice p0 p1 p7 one.goes_on (goes_twice p1 p2 p7 two.goes_on (goes_twice p2 p3 p7 empty.goes_on (goes_twice p3 p4 p7 clear.goes_on looked))) in
+    let sole4 = has_turn p4 (turn_still p3 p4 clear.goes_on.same (turn_still p2 p3 empty.goes_on.same (turn_still p1 p2 two.goes_on.same (turn_still p0 p1 one.goes_on.same c.requires.turn)))) in
+    let sole5 = sole_still p4 p5 first.looks.same sole4 in let sole6 = sole_still p5 p6 second.looks.same sole5 in
+    let e5 : state_seen p5 ≡ state_seen p4 = look_keeps p4 p5 first.looks sole4 in let e6 : state_seen p6 ≡ state_seen p5 = look_keeps p5 p6 second.looks sole5 in
+    let e7 : state_seen p7 ≡ state_seen p6 = look_keeps p6 p7 load.looks sole6 in
+    let links = λ (l : ℕ) (less : l < 1024). ap (λ (st : State). link_at st l) (e7 ∙ e6 ∙ e5) ∙ clear.keeps l ∙ empty.links l less in
+    record {
+      same = goes.same;
+      gave = gave_twice p0 p1 p7 _ _ _ one.gave (gave_twice p1 p2 p7 _ _ _ two.gave (gave_twice p2 p3 p7 _ _ _ empty.gave (gave_twice p3 p4 p7 _ _ _ clear.gave
+          (gave_none p4 p7 _ looked.seen (ap (λ (st : State). st.gone) (e7 ∙ e6 ∙ e5))))));
+      links = links;
+    }
 
 pub returns-clause-back : goal.returns-clause-back
 returns-clause-back g c =
-    let p0 = c.shut-pass.result in let shut = c.shut-pass.ensures in let one = c.stand_up-first in let two = c.stand_up-second in let p1 = one.new.pass in let p2 = two.new.pass in
-    let porter = c.part-second.new.porter in let one_porter = c.part-first.new.porter in let back1 = c.part-first.ensures.back in let back2 = c.part-second.ensures.back in
-    let first = c.args.first.pass.seen in let second = c.args.second.pass.seen in
-    let seen2 = prefix_trans second porter.seen p0.seen (longer_right one_porter.seen second porter.seen back2.2) shut.grows in
-    let seen1 = prefix_trans first one_porter.seen p0.seen (longer_right c.args.porter.seen first one_porter.seen back1.2)
-        (prefix_trans one_porter.seen porter.seen p0.seen (longer_left one_porter.seen second porter.seen back2.2) shut.grows) in
-    ok_then c.gather.result
-    (λ (pass : Pass) (regains : Regains p2 pass _ _). (
-      p0,
-      ((shut.book ∙ back2.0 ∙ back1.0, shut.alone), seen1, seen2),
-      record {
-        gave = gave_twice p0 p1 pass _ _ _ one.ensures.gave (gave_twice p1 p2 pass _ _ _ two.ensures.gave regains.gave);
-        grows = prefix_trans p0.seen p1.seen pass.seen one.ensures.goes_on.seen (prefix_trans p1.seen p2.seen pass.seen two.ensures.goes_on.seen regains.grows);
-        all = regains.all;
-      },
-    ))
-    c.gather.ensures.back
-
-pub returns-clause-others : goal.returns-clause-others
-returns-clause-others g c =
-    let p0 = c.shut-pass.result in let shut = c.shut-pass.ensures in let one = c.stand_up-first in let two = c.stand_up-second in let p1 = one.new.pass in let p2 = two.new.pass in
-    let porter = c.part-second.new.porter in let one_porter = c.part-first.new.porter in let back1 = c.part-first.ensures.back in let back2 = c.part-second.ensures.back in
-    let first = c.args.first.pass.seen in let second = c.args.second.pass.seen in
-    let seen2 = prefix_trans second porter.seen p0.seen (longer_right one_porter.seen second porter.seen back2.2) shut.grows in
-    let seen1 = prefix_trans first one_porter.seen p0.seen (longer_right c.args.porter.seen first one_porter.seen back1.2)
-        (prefix_trans one_porter.seen porter.seen p0.seen (longer_left one_porter.seen second porter.seen back2.2) shut.grows) in
-    let is1 = one.ensures.holds.1 ∙ ap (λ (h : Holder). h.slot) c.part-first.ensures.part.0 in let is2 = two.ensures.holds.1 ∙ ap (λ (h : Holder). h.slot) c.part-second.ensures.part.0 in
-    err_then c.gather.result
-    (λ (pass : Pass) (leaves : LeavesOthers one.result two.result p2 pass _ _). (
-      p0,
-      ((shut.book ∙ back2.0 ∙ back1.0, shut.alone), seen1, seen2),
-      record {
-        gave = gave_twice p0 p1 pass _ _ _ one.ensures.gave (gave_twice p1 p2 pass _ _ _ two.ensures.gave leaves.gave);
-        alone = leaves.alone;
-        others = λ all. leaves.others (is1 ∙ all.0, is2 ∙ all.1, all.2);
-      },
-    ))
-    c.gather.ensures.others
+    let p0 = c.args.pass.now in let p1 = c.stand_up-first.new.pass in let p2 = c.stand_up-second.new.pass in let p3 = c.empty-first.new.pass in let p4 = c.clear_all-first.new.pass in
+    let p5 = c.look-first.new.pass in let p6 = c.look-second.new.pass in let p7 = c.load-many.new.pass in
+    let one = c.stand_up-first.ensures in let two = c.stand_up-second.ensures in let empty = c.empty-first.ensures in let clear = c.clear_all-first.ensures in
+    let first = c.look-first.ensures in let second = c.look-second.ensures in let load = c.load-many.ensures in
+    let looked = goes_twice p4 p5 p7 (goes_looked p4 p5 first.looks) (goes_twice p5 p6 p7 (goes_looked p5 p6 second.looks) (goes_looked p6 p7 load.looks)) in
+    let goes = goes_twice p0 p1 p7 one.goes_on (goes_twice p1 p2 p7 two.goes_on (goes_twice p2 p3 p7 empty.goes_on (goes_twice p3 p4 p7 clear.goes_on looked))) in
+    let sole4 = has_turn p4 (turn_still p3 p4 clear.goes_on.same (turn_still p2 p3 empty.goes_on.same (turn_still p1 p2 two.goes_on.same (turn_still p0 p1 one.goes_on.same c.requires.turn)))) in
+    let sole5 = sole_still p4 p5 first.looks.same sole4 in let sole6 = sole_still p5 p6 second.looks.same sole5 in
+    let e5 : state_seen p5 ≡ state_seen p4 = look_keeps p4 p5 first.looks sole4 in let e6 : state_seen p6 ≡ state_seen p5 = look_keeps p5 p6 second.looks sole5 in
+    let e7 : state_seen p7 ≡ state_seen p6 = look_keeps p6 p7 load.looks sole6 in
+    let links = λ (l : ℕ) (less : l < 1024). ap (λ (st : State). link_at st l) (e7 ∙ e6 ∙ e5) ∙ clear.keeps l ∙ empty.links l less in
+    let mid = load.count.0 in let em : state_seen mid ≡ state_seen p6 = look_keeps p6 mid load.count.1 sole6 in
+    λ yes. let are = c.are_all-all.ensures.0 yes in
+    all_back p7 (sole_still p6 p7 load.looks.same sole6) links
+    (subst (λ (n : Name). IsLegalList (start n) p7.seen) (sym load.looks.same.0) load.looks.legal) (subst (λ (n : Name). are_distinct (linked n.links) ≡ true) (sym load.looks.same.0) load.looks.distinct)
+    (ap (λ (st : State). length st.slots) (e7 ∙ sym em) ∙ sym load.count.3 ∙ are.2)
+    (nothing_still p5 p7 0 (e7 ∙ e6) (subst (LeavesNothing p5) (sym first.holds.2 ∙ are.0) first.nothing))
+    (nothing_still p6 p7 1 e7 (subst (LeavesNothing p6) (sym second.holds.2 ∙ are.1) second.nothing))
