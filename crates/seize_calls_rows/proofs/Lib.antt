@@ -1,5 +1,6 @@
 pub mod Readied
 pub mod Workers
 pub mod Links
+pub mod Loose
 pub mod Shut
 pub mod Seats
