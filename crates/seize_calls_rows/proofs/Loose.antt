@@ -1,10 +1,7 @@
 -- Values that came out of links, and that no call began to retire yet.
-use Rattle.std.proofs.Common.{◌≡◌, ℕ, ◌==◌, ◌||◌, Bool, true, false, not, List, [], ◌∷◌, ◌++◌, filter, Option, None, Some, refl, sym, ap, ◌∙◌, subst, arith}
-use Rattle.seize_machine.proofs.Facts.{Step, some_is, step_of}
-use Rattle.seize_machine.specs.Machine.Event.{Begin, Event}
-use Rattle.seize_machine.specs.Machine.Frames.{changes_link}
-use Rattle.seize_machine.specs.Machine.History.{or_illegal}
-use Rattle.seize_machine.specs.Machine.Next.{Outcome, next}
+use Rattle.std.proofs.Common.{◌≡◌, ℕ, ◌==◌, true, false, not, List, [], ◌∷◌, filter, refl, subst, arith}
+use Rattle.seize_machine.proofs.Facts.{Step, some_is}
+use Rattle.seize_machine.specs.Machine.Event.{Event}
 use Rattle.seize_machine.specs.Machine.State.{State, has}
 use Rattle.seize_machine.specs.declared.machine.event.Answer.{Answer}
 use Rattle.seize_calls_rows.proofs.Links.{IsNone}

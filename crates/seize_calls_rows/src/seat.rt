@@ -24,31 +24,42 @@ use std::sync::atomic::AtomicU64;
 /// What the holder of a slot has beside a pass.
 #[derive(Drop)]
 pub struct Holder {
+    /// The slot's number.
     pub slot: usize,
+    /// The book's size of a batch.
     pub size: usize,
+    /// The right to the slot's calls.
     pub key: SlotKey,
+    /// The values that it retired, and that wait.
     pub batch: Batch,
+    /// Where blocks of values gone lie, for its next ones.
     pub spots: Spots<Header, Part, u64>,
 }
 
 /// What the holder has with its pass, and its slot's activation, where that has entered.
 #[derive(Drop)]
 pub struct Seat {
+    /// What it has beside the pass.
     pub holder: Holder,
+    /// What the slot's events are made with.
     pub pass: Pass,
+    /// The slot is active where there is one.
     pub activation: Option<Activation>,
 }
 
 /// What is left of a seat when its pass was laid back.
 #[derive(Drop)]
 pub struct Left {
+    /// What its holder had beside the pass.
     pub holder: Holder,
+    /// The slot is active still where there is one.
     pub activation: Option<Activation>,
 }
 
 /// A seat that is only lent. It is empty only while the slot makes a turn.
 #[derive(Drop)]
 pub struct Post {
+    /// The seat; a post without one is not sound.
     pub seat: Option<Seat>,
 }
 
@@ -242,10 +253,15 @@ impl Worker {
 /// A turn of the slot whose seat it is: it swaps the value into the link, see [`Seat::turn`].
 #[derive(Drop)]
 pub struct Turn<'a, W> {
+    /// The words of the slot's book.
     pub words: &'a Words<u64>,
+    /// Which link, below 1024.
     pub link: usize,
+    /// What is swapped in; it is the number of its mark too.
     pub value: u64,
+    /// Where the reclaimer counts.
     pub marks: &'a [AtomicU64],
+    /// What a call waits with.
     pub rt: &'a W,
 }
 
