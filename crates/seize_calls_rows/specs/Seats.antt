@@ -6,7 +6,7 @@
 --     IsOfBook seat words          the book of its pass has the family of the words' book
 --     post_label post              which slot of which book it is of, by the book's family
 --     IsSound post                 there is a seat in it, which sits at words of some book
---     post_at words slot           the label of the cell of this slot of the words' book;  IsPostOf words post     the cell is of some such slot
+--     post_at words slot           the label of the cell of this slot of the words' book;  IsPostOf words post     it is some slot's cell
 use Rattle.std.specs.Prelude.{◌≡◌, ℕ, Option, None, Some}
 use Rattle.seize_book.specs.Tokens.{label_at}
 use Rattle.seize_content.specs.Steady.{SteadyName}

@@ -359,9 +359,9 @@ fn are_all(first: usize, second: usize, many: usize) -> bool
     first == 0 && second == 1 && many == 2
 }
 
-/// Has all contents come back, with the pass of the shut gate. A slot that is active flushes and leaves first: its holder was forgotten. Then
-/// the first one takes out what the links hold, and retires it, and both are cleared, until neither has a batch: as often as what reclaimers
-/// put asks for, and there may be no end of that. It gives the holders back, and says whether there are no other slots.
+/// Has all contents come back, with the pass of the shut gate. A slot that is active flushes and leaves first: its holder was forgotten.
+/// Then the first one takes out what the links hold, and retires it, and both are cleared, until neither has a batch: as often as what
+/// reclaimers put asks for, and there may be no end of that. It gives the holders back, and says whether there are no other slots.
 pub fn reclaim_all(
     words: &Words<u64>,
     first: Left,
