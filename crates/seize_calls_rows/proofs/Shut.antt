@@ -30,12 +30,13 @@ use Rattle.seize_calls.specs.Batches.{keys_in}
 use Rattle.seize_words.proofs.Facts.{all_told_append, all_told_grow, all_told_later}
 use Rattle.seize_calls.specs.Handing.{Had, Handings, HasHad, values_handed}
 use Rattle.seize_calls.specs.Marks.{actives, readings}
-use Rattle.seize_calls_rows.specs.Turns.{AllBack, EmptyBelow, Gave, HasNone, Holds, KeepsLinks, LeavesNothing}
+use Rattle.seize_calls_rows.specs.Turns.{AllBack, EmptyBelow, Gave, HasNone, Holds, KeepsLinks, LeavesNothing, NoneLost}
 use Rattle.seize_calls_rows.specs.Workers.{GoesOn, Shared, Works}
 use Rattle.seize_calls_rows.specs.declared.seat.Holder.{Holder}
 use Rattle.seize_calls.specs.declared.batch.Batch.{Batch}
 use Rattle.seize_words.proofs.Facts.{more_slots}
 use Rattle.seize_calls_rows.proofs.Links.{IsNone, Since, at_first, gone_since, handed_hands, handed_read, handed_turns, handed_walked, more_since, none_changed, none_handed, none_read, none_turns, none_walked, on_since, since_twice}
+use Rattle.seize_calls_rows.proofs.Loose.{none_lost_by}
 use Rattle.seize_machine.specs.declared.machine.event.Answer.{Answer}
 use Rattle.seize_machine.specs.declared.machine.event.Answer.TheVariants.{Done}
 use Rattle.seize_calls.proofs.Handed.{had_more, had_none, handed_append}
@@ -71,9 +72,9 @@ gave_twice a b c had had1 had2 one two = record {
   told = both_words b.seen c.seen one.handed two.handed one.kepts two.kepts two.grows one.told two.told;
 }
 
--- What a call does that makes these events: it leaves the links as they were, and the reclaimer had what is gone.
+-- What a call does that makes these events: it leaves the links as they were, the reclaimer had what is gone, and nothing was lost.
 abbrev pub Did : Pass → Pass → Had → Had → Type 0
-Did pass pass' had had' = KeepsLinks pass pass' × Gave pass pass' had had'
+Did pass pass' had had' = KeepsLinks pass pass' × Gave pass pass' had had' × NoneLost pass pass'
 
 -- These events were made meanwhile, none of them on a link; and what was handed by them the reclaimer had.
 pub record Makes (was now : List (Deed × Answer)) (seen : List Entry) (had had' : Had) : Type 0 where
@@ -98,7 +99,11 @@ makes_one was now seen d had had' made none same = record { handed = []; kepts =
 
 did_by : (pass pass' : Pass) (had had' : Had) → IsSame pass pass' → IsPrefix pass.seen pass'.seen → AddsAlone pass pass' → IsSole pass.name.gate pass.id → Makes (events_by pass) (events_by pass') pass'.seen had had' → Did pass pass' had had'
 did_by pass pass' had had' same grows adds sole m =
-    (none_changed pass pass' same adds (values_handed m.handed) sole m.since, record { grows = grows; told = m.told; handed = m.handed; kepts = m.kepts; gone = gone_since pass pass' same adds (values_handed m.handed) sole m.since; has_had = m.has_had })
+    let vs = values_handed m.handed in (
+      none_changed pass pass' same adds vs sole m.since,
+      record { grows = grows; told = m.told; handed = m.handed; kepts = m.kepts; gone = gone_since pass pass' same adds vs sole m.since; has_had = m.has_had },
+      none_lost_by pass pass' same adds vs sole m.since,
+    )
 
 settles_makes : (a b : Stand) (retired : Bool) → Settles a b retired → Makes (events_by a.pass) (events_by b.pass) b.pass.seen a.had b.had
 settles_makes a b false s =

@@ -7,7 +7,7 @@ ghost use Rattle.seize_book.specs.Passes.{LooksOn};
 ghost use Rattle.seize_book.specs.Turns.{HasTurn, TakesBack};
 ghost use Rattle.seize_calls_rows.specs.Turns.{AllBack, AreAll, CanMakeIn, IsOneMoreOut, IsShutBy, IsSlotAfter, Regains};
 ghost use Rattle.seize_calls_rows.specs.Seats.{IsLeft, SitsAt, post_at};
-ghost use Rattle.seize_calls_rows.specs.Turns.{EmptyBelow, Gave, HasNone, Holds, IsShut, KeepsLinks, LeavesNothing, StandsAs, TakesOut};
+ghost use Rattle.seize_calls_rows.specs.Turns.{EmptyBelow, Gave, HasNone, Holds, IsShut, KeepsLinks, LeavesNothing, NoneLost, StandsAs, TakesOut};
 ghost use Rattle.seize_calls_rows.specs.Workers.{GoesOn, MayWork, made_by};
 ghost use Rattle.seize_words.specs.Joined.{words_book};
 
@@ -141,6 +141,7 @@ fn flush_and_leave(
     ensures goes_on { GoesOn pass.old pass.new }
     ensures keeps { KeepsLinks pass.old pass.new }
     ensures gave { Gave pass.old pass.new counting.old.told.had counting.new.told.had }
+    ensures lost { NoneLost pass.old pass.new }
 {
     let (mut spots, mut batch, mut key) = (spots, batch, key);
     let (slots, blocks) = (&words.slots, &words.blocks);
