@@ -174,6 +174,7 @@ fn stand_up(
     ensures holds { Holds words.now result pass.new × (result.slot ≡ left.holder.slot) }
     ensures goes_on { GoesOn pass.old pass.new }
     ensures gave { Gave pass.old pass.new counting.old.told.had counting.new.told.had }
+    ensures lost { NoneLost pass.old pass.new }
 {
     let Left { holder, activation } = left;
     let Some(activation) = activation else {
@@ -205,6 +206,7 @@ fn clear(
     ensures goes_on { GoesOn pass.old pass.new }
     ensures keeps { KeepsLinks pass.old pass.new }
     ensures gave { Gave pass.old pass.new counting.old.told.had counting.new.told.had }
+    ensures lost { NoneLost pass.old pass.new }
 {
     let Holder {
         slot,
@@ -279,6 +281,7 @@ fn clear_all(
     ensures goes_on { GoesOn pass.old pass.new }
     ensures keeps { KeepsLinks pass.old pass.new }
     ensures gave { Gave pass.old pass.new counting.old.told.had counting.new.told.had }
+    ensures lost { NoneLost pass.old pass.new }
 {
     let (mut first, mut second) = (first, second);
     for _ in rt.forever() {
