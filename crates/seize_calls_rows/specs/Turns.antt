@@ -101,6 +101,7 @@ pub record Regains (shut pass : Pass) (had had' : Had) : Type 0 where
   pub same : IsSame shut pass
   pub gave : Gave shut pass had had'
   pub links : EmptyBelow 1024 pass
+  pub lost : NoneLost shut pass
 
 -- the slot has no call, is not active and has no batch
 pub record LeavesNothing (pass : Pass) (s : ℕ) : Type 0 where

@@ -98,6 +98,7 @@ fn take_out(
     ensures goes_on { GoesOn pass.old pass.new }
     ensures out { TakesOut link pass.old pass.new }
     ensures gave { Gave pass.old pass.new counting.old.told.had counting.new.told.had }
+    ensures lost { NoneLost pass.old pass.new }
 {
     let mut value = MaybeKey::none(pass);
     let old = words.swap_link(link, 0, &mut value, activation, pass);
@@ -235,6 +236,7 @@ fn empty(
     ensures goes_on { GoesOn pass.old pass.new }
     ensures links { EmptyBelow 1024 pass.new }
     ensures gave { Gave pass.old pass.new counting.old.told.had counting.new.told.had }
+    ensures lost { NoneLost pass.old pass.new }
 {
     let Holder {
         slot,
