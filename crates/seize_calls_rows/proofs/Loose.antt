@@ -3,10 +3,9 @@ use Rattle.std.proofs.Common.{◌≡◌, ℕ, ◌==◌, ◌||◌, ◌&&◌, ◌�
 use Rattle.std.specs.Prelude.{option_to_list}
 use Rattle.seize_machine.proofs.Facts.{Step, if_some, some_is, step_of}
 use Rattle.seize_machine.specs.Machine.Event.{Begin, Event, ExchangeLink}
-use Rattle.seize_machine.specs.Machine.Frames.{changes_link}
 use Rattle.seize_machine.specs.Machine.History.{done_by, or_illegal}
 use Rattle.seize_machine.specs.Machine.Next.{Outcome, begun, can_link, is_none_or_fresh, next, retiring, scheme, swapped}
-use Rattle.seize_machine.specs.Machine.State.{Append, State, has, head_at, is_active, is_idle, link_at, slot_at}
+use Rattle.seize_machine.specs.Machine.State.{Append, State, has, is_idle, link_at, slot_at}
 use Rattle.seize_machine.specs.declared.machine.event.Answer.{Answer}
 use Rattle.seize_machine.specs.declared.machine.event.Answer.TheVariants.{Done, Illegal, Link}
 use Rattle.seize_machine.specs.declared.machine.event.Exchange.TheVariants.{Swap}
@@ -14,13 +13,13 @@ use Rattle.seize_machine.specs.declared.machine.event.Job.TheVariants.{Retire}
 use Rattle.seize_book.specs.Book.{after, answered}
 use Rattle.seize_book.specs.Entry.{Deed, Entry, Made, Used, timed}
 use Rattle.seize_book.specs.Homesteads.{state_seen}
-use Rattle.seize_book.specs.Passes.{IsSame, LooksOn, events_by, events_in}
+use Rattle.seize_book.specs.Passes.{IsSame, events_by, events_in}
 use Rattle.seize_book.specs.Tokens.{IsSole, Name, Noted, start}
 use Rattle.seize_book.specs.declared.book.pass.Pass.{Pass}
 use Rattle.seize_calls.proofs.Alone.{made_there}
 use Rattle.seize_calls.specs.Alone.{AddsAlone}
 use Rattle.seize_calls_rows.specs.Turns.{NoneLost}
-use Rattle.seize_calls_rows.proofs.Links.{IsNone, NoneOf, Since, after_both, deeds_in, look_keeps}
+use Rattle.seize_calls_rows.proofs.Links.{IsNone, NoneOf, Since, after_both, deeds_in}
 
 -- a list without some of its values has no others
 has_kept : (v w : ℕ) (xs : List ℕ) → has v (filter (λ x. not (x == w)) xs) ≡ true → has v xs ≡ true

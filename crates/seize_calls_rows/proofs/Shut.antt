@@ -30,7 +30,7 @@ use Rattle.seize_calls.specs.Batches.{keys_in}
 use Rattle.seize_words.proofs.Facts.{all_told_append, all_told_grow, all_told_later}
 use Rattle.seize_calls.specs.Handing.{Had, Handings, HasHad, values_handed}
 use Rattle.seize_calls.specs.Marks.{actives, readings}
-use Rattle.seize_calls_rows.specs.Turns.{AllBack, EmptyBelow, Gave, HasNone, Holds, KeepsLinks, LeavesNothing, NoneLost}
+use Rattle.seize_calls_rows.specs.Turns.{AllBack, EmptyBelow, Gave, Holds, KeepsLinks, LeavesNothing, NoneLost}
 use Rattle.seize_calls_rows.specs.Workers.{GoesOn, Shared, Works}
 use Rattle.seize_calls_rows.specs.declared.seat.Holder.{Holder}
 use Rattle.seize_calls.specs.declared.batch.Batch.{Batch}

@@ -1,4 +1,4 @@
-use Rattle.std.proofs.Common.{◌≡◌, Bool, refl, ap, ◌∙◌}
+use Rattle.std.proofs.Common.{◌≡◌, refl, ap, ◌∙◌}
 use Rattle.seize_machine.specs.Machine.State.{Slot, head_at, is_active, is_idle, slot_at}
 use Rattle.seize_book.specs.Book.{after}
 use Rattle.seize_book.specs.Slots.{active_of, slot_of}

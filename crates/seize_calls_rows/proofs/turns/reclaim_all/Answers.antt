@@ -1,10 +1,8 @@
 use Rattle.std.proofs.Common.{◌≡◌, ℕ, ◌<◌, length, true, sym, ap, subst, ◌∙◌}
-use base.Growing.{prefix_trans}
 use Rattle.seize_machine.specs.Machine.State.{State, are_distinct, link_at, linked}
 use Rattle.seize_book.specs.Book.{IsLegalList}
 use Rattle.seize_book.specs.Homesteads.{state_seen}
 use Rattle.seize_book.specs.Tokens.{Name, start}
-use Rattle.seize_words.specs.Totals.{slots_seen}
 use Rattle.seize_calls_rows.specs.Turns.{LeavesNothing}
 use Rattle.seize_calls_rows.proofs.Links.{look_keeps, sole_still}
 use Rattle.seize_calls_rows.proofs.Loose.{lost_same, lost_twice}
