@@ -35,7 +35,7 @@ abbrev pub NoneOf : List Deed → Type 0
 NoneOf [] = Unit {0}
 NoneOf (d ∷ ds) = IsNone d.event × NoneOf ds
 
-abbrev deeds_in : List (Deed × Answer) → List Deed
+abbrev pub deeds_in : List (Deed × Answer) → List Deed
 deeds_in made = map (λ a. a.0) made
 
 none_both : (a b : List (Deed × Answer)) → NoneOf (deeds_in a) → NoneOf (deeds_in b) → NoneOf (deeds_in (a ++ b))
@@ -148,7 +148,7 @@ links_kept st [] l none = refl
 links_kept st (Made d ∷ log) l none = links_kept (done_by next st (timed d)).0 log l none.1 ∙ one_kept st d l (none.0 l)
 links_kept st (Used u ∷ log) l none = links_kept st log l none
 
-after_both : (st : State) (a b : List Entry) → after st (a ++ b) ≡ after (after st a) b
+pub after_both : (st : State) (a b : List Entry) → after st (a ++ b) ≡ after (after st a) b
 after_both st [] b = refl
 after_both st (Made d ∷ a) b = after_both (done_by next st (timed d)).0 a b
 after_both st (Used u ∷ a) b = after_both st a b

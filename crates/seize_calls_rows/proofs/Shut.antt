@@ -9,7 +9,7 @@ use Rattle.seize_machine.proofs.Facts.{and_true, heads_length, law_quiet}
 use Rattle.seize_machine.specs.Machine.History.{Reclaimed, Retired, answers_of}
 use Rattle.seize_machine.specs.Machine.Laws.{is_quiet}
 use Rattle.seize_machine.specs.Machine.Next.{is_zero}
-use Rattle.seize_machine.specs.Machine.State.{Head, Inactive, Slot, State, are_distinct, head_at, is_active, is_idle, link_at, linked, no_slot, slot_at}
+use Rattle.seize_machine.specs.Machine.State.{Head, Inactive, Slot, State, are_distinct, has, head_at, is_active, is_idle, link_at, linked, no_slot, slot_at}
 use Rattle.seize_machine.specs.declared.machine.event.Job.{Job}
 use Rattle.seize_book.specs.Book.{IsLegalList, after, moments}
 use Rattle.seize_book.specs.Entry.{Deed, Entry, events_of}
@@ -30,12 +30,13 @@ use Rattle.seize_calls.specs.Batches.{keys_in}
 use Rattle.seize_words.proofs.Facts.{all_told_append, all_told_grow, all_told_later}
 use Rattle.seize_calls.specs.Handing.{Had, Handings, HasHad, values_handed}
 use Rattle.seize_calls.specs.Marks.{actives, readings}
-use Rattle.seize_calls_rows.specs.Turns.{AllBack, EmptyBelow, Gave, Holds, KeepsLinks, LeavesNothing}
+use Rattle.seize_calls_rows.specs.Turns.{AllBack, EmptyBelow, Gave, Holds, KeepsLinks, LeavesNothing, NoneLost}
 use Rattle.seize_calls_rows.specs.Workers.{GoesOn, Shared, Works}
 use Rattle.seize_calls_rows.specs.declared.seat.Holder.{Holder}
 use Rattle.seize_calls.specs.declared.batch.Batch.{Batch}
 use Rattle.seize_words.proofs.Facts.{more_slots}
 use Rattle.seize_calls_rows.proofs.Links.{IsNone, Since, at_first, gone_since, handed_hands, handed_read, handed_turns, handed_walked, more_since, none_changed, none_handed, none_read, none_turns, none_walked, on_since, since_twice}
+use Rattle.seize_calls_rows.proofs.Loose.{none_lost_by, retired_since}
 use Rattle.seize_machine.specs.declared.machine.event.Answer.{Answer}
 use Rattle.seize_machine.specs.declared.machine.event.Answer.TheVariants.{Done}
 use Rattle.seize_calls.proofs.Handed.{had_more, had_none, handed_append}
@@ -71,9 +72,9 @@ gave_twice a b c had had1 had2 one two = record {
   told = both_words b.seen c.seen one.handed two.handed one.kepts two.kepts two.grows one.told two.told;
 }
 
--- What a call does that makes these events: it leaves the links as they were, and the reclaimer had what is gone.
+-- What a call does that makes these events: it leaves the links as they were, the reclaimer had what is gone, and nothing was lost.
 abbrev pub Did : Pass → Pass → Had → Had → Type 0
-Did pass pass' had had' = KeepsLinks pass pass' × Gave pass pass' had had'
+Did pass pass' had had' = KeepsLinks pass pass' × Gave pass pass' had had' × NoneLost pass pass'
 
 -- These events were made meanwhile, none of them on a link; and what was handed by them the reclaimer had.
 pub record Makes (was now : List (Deed × Answer)) (seen : List Entry) (had had' : Had) : Type 0 where
@@ -98,7 +99,11 @@ makes_one was now seen d had had' made none same = record { handed = []; kepts =
 
 did_by : (pass pass' : Pass) (had had' : Had) → IsSame pass pass' → IsPrefix pass.seen pass'.seen → AddsAlone pass pass' → IsSole pass.name.gate pass.id → Makes (events_by pass) (events_by pass') pass'.seen had had' → Did pass pass' had had'
 did_by pass pass' had had' same grows adds sole m =
-    (none_changed pass pass' same adds (values_handed m.handed) sole m.since, record { grows = grows; told = m.told; handed = m.handed; kepts = m.kepts; gone = gone_since pass pass' same adds (values_handed m.handed) sole m.since; has_had = m.has_had })
+    let vs = values_handed m.handed in (
+      none_changed pass pass' same adds vs sole m.since,
+      record { grows = grows; told = m.told; handed = m.handed; kepts = m.kepts; gone = gone_since pass pass' same adds vs sole m.since; has_had = m.has_had },
+      none_lost_by pass pass' same adds vs sole m.since,
+    )
 
 settles_makes : (a b : Stand) (retired : Bool) → Settles a b retired → Makes (events_by a.pass) (events_by b.pass) b.pass.seen a.had b.had
 settles_makes a b false s =
@@ -155,14 +160,27 @@ ends_grow : (a b : Stand) (key' : SlotKey) (pass' : Pass) (values' : ValueKeys) 
 ends_grow a b key' pass' values' had' drains returns = prefix_trans a.pass.seen b.pass.seen pass'.seen (drains_grow a b drains) returns.keeps.grows
 
 module _ (key : SlotKey) (pass : Pass) (values : ValueKeys) (had : Had) (key' : SlotKey) (pass' : Pass) (values' : ValueKeys) (had' : Had) (b : Bool) where
+  -- all that it makes after its beginning
+  rest_of : (v kept : ℕ) (r : RetiresOne key pass v kept values had key' pass' values' had' b) → Makes (events_by r.begun.pass) (events_by pass') pass'.seen r.begun.had had'
+  rest_of v kept r =
+      makes_twice (events_by r.begun.pass) (events_by r.settled.pass) (events_by pass') r.settled.pass.seen pass'.seen r.begun.had r.settled.had had'
+      (ends_grow r.settled r.drained key' pass' values' had' r.drains r.returns) (round_makes r.begun r.settled v kept b r.round)
+      (ends_makes r.settled r.drained key' pass' values' had' r.drains r.returns)
+
   pub retired_did : (v kept : ℕ) → RetiresOne key pass v kept values had key' pass' values' had' b → IsSole pass.name.gate pass.id → Did pass pass' had had'
   retired_did v kept r sole =
       let e = events_by in
       let end = ends_grow r.settled r.drained key' pass' values' had' r.drains r.returns in
       did_by pass pass' had had' r.rests.same r.rests.grows r.rests.alone sole
       (makes_twice (e pass) (e r.begun.pass) (e pass') r.begun.pass.seen pass'.seen had r.begun.had had' (prefix_trans r.begun.pass.seen r.settled.pass.seen pass'.seen (round_grows r.begun r.settled v kept b r.round) end)
-      (makes_one _ _ _ _ had r.begun.had r.begins.begins.made (λ l. refl) r.begins.had_none)
-      (makes_twice (e r.begun.pass) (e r.settled.pass) (e pass') r.settled.pass.seen pass'.seen r.begun.had r.settled.had had' end (round_makes r.begun r.settled v kept b r.round) (ends_makes r.settled r.drained key' pass' values' had' r.drains r.returns)))
+      (makes_one _ _ _ _ had r.begun.had r.begins.begins.made (λ l. refl) r.begins.had_none) (rest_of v kept r))
+
+  -- its value is no longer between a link and its retirement
+  pub retired_out : (v kept : ℕ) → RetiresOne key pass v kept values had key' pass' values' had' b → IsSole pass.name.gate pass.id → has v (state_seen pass').loose ≡ false
+  retired_out v kept r sole =
+      let rest = (rest_of v kept r).since in
+      retired_since pass pass' _ (number_of key) v rest.0 r.rests.same r.rests.alone sole refl
+      (rest.1 ∙ ap (λ (made : List (Deed × Answer)). made ++ rest.0) r.begins.begins.made ∙ append_assoc (events_by pass) _ rest.0) rest.2
 
   pub flushed_did : Flushes key pass values had key' pass' values' had' b → IsSole pass.name.gate pass.id → Did pass pass' had had'
   flushed_did f sole =

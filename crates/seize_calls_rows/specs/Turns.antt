@@ -6,12 +6,14 @@
 --     HasNone holder                   its slot has no batch, as its key knows
 --     KeepsLinks pass pass'            each link holds what it held
 --     TakesOut l pass pass'            but link l, which holds nothing
+--     NoneLost pass pass'              no value came out of a link, since, without a call that began to retire it
 --     EmptyBelow n pass                the links below this number hold nothing
 --     Gave pass pass' had had'         the values that are gone since went to the reclaimer (HasHad), in order, each with the word that the
 --                                      list says is kept of it; the pass has seen what it had seen
 --     IsShut porter shut               it is the pass of the gate that was shut
 --     IsShutBy porter first second shut     and has seen what the passes of the two seats had
---     Regains shut pass had had'       all that are gone since the gate was shut went so to the reclaimer, and no link holds anything
+--     Regains shut pass had had'       all that are gone since the gate was shut went so to the reclaimer, no link holds anything, and of what
+--                                      came out of a link nothing was lost
 --     LeavesNothing pass s             slot s has no call, is not active, and has no batch, as the pass has seen
 --     AreAll first second pass         these are the holders of all slots that there are
 --     AllBack pass                     the pass has seen the whole list, and nobody else can add to it. In it no link holds anything, no
@@ -21,7 +23,7 @@ use Rattle.std.specs.Prelude.{◌≡◌, ℕ, ◌+◌, ◌<◌, true, false, Lis
 use mathlib.Core.List.{IsPrefix}
 use Rattle.seize_machine.specs.Machine.History.{Reclaimed, Retired}
 use Rattle.seize_machine.specs.Machine.Laws.{is_quiet}
-use Rattle.seize_machine.specs.Machine.State.{head_at, is_active, link_at, slot_at}
+use Rattle.seize_machine.specs.Machine.State.{has, head_at, is_active, link_at, slot_at}
 use Rattle.seize_book.specs.Book.{moments}
 use Rattle.seize_book.specs.Homesteads.{state_seen}
 use Rattle.seize_book.specs.Kept.{AllTold}
@@ -73,6 +75,9 @@ abbrev pub TakesOut : ℕ → Pass → Pass → Type 0
 TakesOut n pass pass' =
     (link_at (state_seen pass') n ≡ None) × ((l : ℕ) → ¬ (l ≡ n) → link_at (state_seen pass') l ≡ link_at (state_seen pass) l)
 
+abbrev pub NoneLost : Pass → Pass → Type 0
+NoneLost pass pass' = (v : ℕ) → has v (state_seen pass').loose ≡ true → has v (state_seen pass).loose ≡ true
+
 abbrev pub EmptyBelow : ℕ → Pass → Type 0
 EmptyBelow n pass = (l : ℕ) → l < n → link_at (state_seen pass) l ≡ None
 
@@ -96,6 +101,7 @@ pub record Regains (shut pass : Pass) (had had' : Had) : Type 0 where
   pub same : IsSame shut pass
   pub gave : Gave shut pass had had'
   pub links : EmptyBelow 1024 pass
+  pub lost : NoneLost shut pass
 
 -- the slot has no call, is not active and has no batch
 pub record LeavesNothing (pass : Pass) (s : ℕ) : Type 0 where

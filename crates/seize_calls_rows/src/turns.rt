@@ -7,7 +7,7 @@ ghost use Rattle.seize_book.specs.Passes.{LooksOn};
 ghost use Rattle.seize_book.specs.Turns.{HasTurn, TakesBack};
 ghost use Rattle.seize_calls_rows.specs.Turns.{AllBack, AreAll, CanMakeIn, IsOneMoreOut, IsShutBy, IsSlotAfter, Regains};
 ghost use Rattle.seize_calls_rows.specs.Seats.{IsLeft, SitsAt, post_at};
-ghost use Rattle.seize_calls_rows.specs.Turns.{EmptyBelow, Gave, HasNone, Holds, IsShut, KeepsLinks, LeavesNothing, StandsAs, TakesOut};
+ghost use Rattle.seize_calls_rows.specs.Turns.{EmptyBelow, Gave, HasNone, Holds, IsShut, KeepsLinks, LeavesNothing, NoneLost, StandsAs, TakesOut};
 ghost use Rattle.seize_calls_rows.specs.Workers.{GoesOn, MayWork, made_by};
 ghost use Rattle.seize_words.specs.Joined.{words_book};
 
@@ -98,6 +98,7 @@ fn take_out(
     ensures goes_on { GoesOn pass.old pass.new }
     ensures out { TakesOut link pass.old pass.new }
     ensures gave { Gave pass.old pass.new counting.old.told.had counting.new.told.had }
+    ensures lost { NoneLost pass.old pass.new }
 {
     let mut value = MaybeKey::none(pass);
     let old = words.swap_link(link, 0, &mut value, activation, pass);
@@ -141,6 +142,7 @@ fn flush_and_leave(
     ensures goes_on { GoesOn pass.old pass.new }
     ensures keeps { KeepsLinks pass.old pass.new }
     ensures gave { Gave pass.old pass.new counting.old.told.had counting.new.told.had }
+    ensures lost { NoneLost pass.old pass.new }
 {
     let (mut spots, mut batch, mut key) = (spots, batch, key);
     let (slots, blocks) = (&words.slots, &words.blocks);
@@ -173,6 +175,7 @@ fn stand_up(
     ensures holds { Holds words.now result pass.new × (result.slot ≡ left.holder.slot) }
     ensures goes_on { GoesOn pass.old pass.new }
     ensures gave { Gave pass.old pass.new counting.old.told.had counting.new.told.had }
+    ensures lost { NoneLost pass.old pass.new }
 {
     let Left { holder, activation } = left;
     let Some(activation) = activation else {
@@ -204,6 +207,7 @@ fn clear(
     ensures goes_on { GoesOn pass.old pass.new }
     ensures keeps { KeepsLinks pass.old pass.new }
     ensures gave { Gave pass.old pass.new counting.old.told.had counting.new.told.had }
+    ensures lost { NoneLost pass.old pass.new }
 {
     let Holder {
         slot,
@@ -232,6 +236,7 @@ fn empty(
     ensures goes_on { GoesOn pass.old pass.new }
     ensures links { EmptyBelow 1024 pass.new }
     ensures gave { Gave pass.old pass.new counting.old.told.had counting.new.told.had }
+    ensures lost { NoneLost pass.old pass.new }
 {
     let Holder {
         slot,
@@ -278,6 +283,7 @@ fn clear_all(
     ensures goes_on { GoesOn pass.old pass.new }
     ensures keeps { KeepsLinks pass.old pass.new }
     ensures gave { Gave pass.old pass.new counting.old.told.had counting.new.told.had }
+    ensures lost { NoneLost pass.old pass.new }
 {
     let (mut first, mut second) = (first, second);
     for _ in rt.forever() {

@@ -3,6 +3,7 @@ use base.Growing.{prefix_refl}
 use Rattle.seize_book.specs.Values.{values_of}
 use Rattle.seize_calls.specs.Batches.{keys_in}
 use Rattle.seize_calls_rows.proofs.Links.{kept_twice}
+use Rattle.seize_calls_rows.proofs.Loose.{lost_twice}
 use Rattle.seize_calls_rows.proofs.Shut.{gave_none, gave_twice, holds_on, no_values, turn_still}
 use Rattle.seize_calls_rows.proofs.Workers.{goes_none, goes_twice}
 use Rattle.seize_calls_rows.proofs.turns.clear_all.Goals as goal
@@ -10,7 +11,7 @@ use Rattle.seize_calls_rows.proofs.turns.clear_all.Goals as goal
 pub loop-init : goal.loop-init
 loop-init g c =
     let pass = c.args.pass.now in
-    (c.requires.holds.0, c.requires.holds.1, c.requires.turn, refl, refl, goes_none pass, (λ l. refl), gave_none pass pass _ (prefix_refl pass.seen) refl)
+    (c.requires.holds.0, c.requires.holds.1, c.requires.turn, refl, refl, goes_none pass, (λ l. refl), gave_none pass pass _ (prefix_refl pass.seen) refl, λ v h. h)
 
 pub returns-then-len-eq0-2-clause-holds : goal.returns-then-len-eq0-2-clause-holds
 returns-then-len-eq0-2-clause-holds g c = let i = c.loop.invariant in (i.0, i.1)
@@ -33,6 +34,9 @@ returns-then-len-eq0-2-clause-keeps g c = c.loop.invariant.6
 
 pub returns-then-len-eq0-2-clause-gave : goal.returns-then-len-eq0-2-clause-gave
 returns-then-len-eq0-2-clause-gave g c = c.loop.invariant.7
+
+pub returns-then-len-eq0-2-clause-lost : goal.returns-then-len-eq0-2-clause-lost
+returns-then-len-eq0-2-clause-lost g c = c.loop.invariant.8
 
 pub clear-second-requires-clause-holds : goal.clear-second-requires-clause-holds
 clear-second-requires-clause-holds g c = c.loop.invariant.1
@@ -58,4 +62,5 @@ loop-preserved g c =
       goes_twice pass was now i.5 (goes_twice was mid now two.ensures.goes_on one.ensures.goes_on),
       kept_twice pass was now i.6 (kept_twice was mid now two.ensures.keeps one.ensures.keeps),
       gave_twice pass was now _ _ _ i.7 (gave_twice was mid now _ _ _ two.ensures.gave one.ensures.gave),
+      lost_twice pass was now i.8 (lost_twice was mid now two.ensures.lost one.ensures.lost),
     )

@@ -1,5 +1,6 @@
 use Rattle.seize_calls_rows.proofs.Links.{one_gone}
 use Rattle.std.proofs.Common.{◌∙◌, arith, refl}
+use Rattle.seize_calls_rows.proofs.Loose.{event_lost, lost_twice}
 use Rattle.seize_calls_rows.proofs.Shut.{one_emptier, turn_still, gave_none, gave_twice, has_turn}
 use Rattle.seize_calls_rows.proofs.Workers.{entered, goes_noted, goes_twice}
 use Rattle.seize_calls_rows.specs.declared.worker.Worker.{Worker}
@@ -14,6 +15,7 @@ loop-link-init g c =
       goes_noted pass one.new.pass _ one.ensures.noted.0 one.ensures.noted.2.0,
       (λ l less. absurd (omega (arith, less))),
       gave_none pass one.new.pass _ (goes_noted pass one.new.pass _ one.ensures.noted.0 one.ensures.noted.2.0).seen (one_gone pass one.new.pass _ one.ensures.noted.0 one.ensures.noted.2.0 (has_turn pass c.requires.turn) refl),
+      event_lost pass one.new.pass _ one.ensures.noted.0 one.ensures.noted.2.0 (has_turn pass c.requires.turn) (λ l. refl),
     )
 
 pub take_out-requires-clause-stands : goal.take_out-requires-clause-stands
@@ -30,6 +32,7 @@ loop-link-preserved g c =
       goes_twice c.args.pass.now was one.new.pass i.2 one.ensures.goes_on,
       one_emptier c.loop-link.link was one.new.pass i.3 one.ensures.out,
       gave_twice c.args.pass.now was one.new.pass _ _ _ i.4 one.ensures.gave,
+      lost_twice c.args.pass.now was one.new.pass i.5 one.ensures.lost,
     )
 
 pub flush_and_leave-requires-clause-stands : goal.flush_and_leave-requires-clause-stands
@@ -49,3 +52,7 @@ returns-clause-links g c =
 pub returns-clause-gave : goal.returns-clause-gave
 returns-clause-gave g c =
     let one = c.flush_and_leave in gave_twice c.args.pass.now c.loop-link.pass one.new.pass _ _ _ c.loop-link.invariant.4 one.ensures.gave
+
+pub returns-clause-lost : goal.returns-clause-lost
+returns-clause-lost g c =
+    let one = c.flush_and_leave in lost_twice c.args.pass.now c.loop-link.pass one.new.pass c.loop-link.invariant.5 one.ensures.lost

@@ -5,6 +5,7 @@ use Rattle.seize_book.specs.Homesteads.{state_seen}
 use Rattle.seize_book.specs.Tokens.{Name, start}
 use Rattle.seize_calls_rows.specs.Turns.{LeavesNothing}
 use Rattle.seize_calls_rows.proofs.Links.{look_keeps, sole_still}
+use Rattle.seize_calls_rows.proofs.Loose.{lost_same, lost_twice}
 use Rattle.seize_calls_rows.proofs.Seats.{sits_on}
 use Rattle.seize_calls_rows.proofs.Shut.{all_back, gave_none, gave_twice, has_turn, holds_on, nothing_still, turn_still}
 use Rattle.seize_calls_rows.proofs.Workers.{goes_looked, goes_twice}
@@ -40,6 +41,7 @@ returns-clause-regains g c =
       gave = gave_twice p0 p1 p7 _ _ _ one.gave (gave_twice p1 p2 p7 _ _ _ two.gave (gave_twice p2 p3 p7 _ _ _ empty.gave (gave_twice p3 p4 p7 _ _ _ clear.gave
           (gave_none p4 p7 _ looked.seen (ap (λ (st : State). st.gone) (e7 ∙ e6 ∙ e5))))));
       links = links;
+      lost = lost_twice p0 p1 p7 one.lost (lost_twice p1 p2 p7 two.lost (lost_twice p2 p3 p7 empty.lost (lost_twice p3 p4 p7 clear.lost (lost_same p4 p7 (e7 ∙ e6 ∙ e5)))));
     }
 
 pub returns-clause-back : goal.returns-clause-back

@@ -5,3 +5,6 @@ use Rattle.seize_calls_rows.proofs.turns.stand_up.Goals as goal
 
 pub returns-in_default-clause-gave : goal.returns-in_default-clause-gave
 returns-in_default-clause-gave g c = let pass = c.args.pass.now in gave_none pass pass _ (prefix_refl pass.seen) refl
+
+pub returns-in_default-clause-lost : goal.returns-in_default-clause-lost
+returns-in_default-clause-lost g c = λ v h. h

@@ -1,18 +1,20 @@
-use Rattle.std.proofs.Common.{lit<, ◌-◌, inr, arith, ◌≡◌, ℕ, None, sym, ap, ◌∙◌, subst, refl}
+use Rattle.std.proofs.Common.{lit<, ◌-◌, inr, ⊎_elim, arith, ◌≡◌, ◌+◌, ℕ, true, false, None, sym, ap, ◌∙◌, subst, refl}
 use Rattle.seize_machine.specs.Machine.Event.{ExchangeLink}
 use Rattle.seize_machine.specs.declared.machine.event.Exchange.TheVariants.{Swap}
-use Rattle.seize_machine.specs.Machine.State.{link_at}
+use Rattle.seize_machine.specs.Machine.State.{has, link_at}
 use Rattle.seize_book.specs.Homesteads.{state_seen}
-use Rattle.seize_book.specs.Blocks.{block_of}
+use Rattle.seize_book.specs.Blocks.{block_of, link_word}
+use Rattle.seize_book.specs.Book.{after}
 use Rattle.seize_book.specs.Others.{MayBegin, MayRetire, state_of, value_of}
 use Rattle.seize_book.specs.Private.{label_of}
 use Rattle.seize_book.specs.declared.book.keys.Keys.{Keys}
-use Rattle.seize_book.specs.Tokens.{IsSole}
+use Rattle.seize_book.specs.Tokens.{IsSole, start}
 use Rattle.seize_book.specs.declared.book.pass.Pass.{Pass}
 use Rattle.seize_words.specs.LinkWords.{held_before, holds, number}
 use Rattle.seize_words.specs.Links.{value_in}
 use Rattle.seize_calls_rows.proofs.Links.{one_gone, sole_still, takes_out}
-use Rattle.seize_calls_rows.proofs.Shut.{gave_none, gave_twice, has_turn, retired_did}
+use Rattle.seize_calls_rows.proofs.Loose.{came_out}
+use Rattle.seize_calls_rows.proofs.Shut.{gave_none, gave_twice, has_turn, retired_did, retired_out}
 use Rattle.seize_calls_rows.proofs.Workers.{batch_on, goes_known, goes_noted, goes_same, goes_twice, label_is, stands_after, stands_on, with_spots, word_of_some}
 use Rattle.seize_calls_rows.proofs.turns.take_out.Goals as goal
 
@@ -73,3 +75,32 @@ returns-clause-gave g c =
     gave_twice c.args.pass.now two.new.pass three.new.pass _ _ _
     (gave_none c.args.pass.now two.new.pass _ (goes_same c.args.pass.now one.new.pass two.new.pass one.ensures.1 (goes_noted one.new.pass two.new.pass _ takes.same takes.noted)).seen (one_gone one.new.pass two.new.pass _ takes.same takes.noted sole refl ∙ ap (λ (p : Pass). (state_seen p).gone) one.ensures.1))
     (retired_did c.args.key.now two.new.pass _ _ three.new.key three.new.pass _ _ three.result v 0 three.ensures.retires (sole_still one.new.pass two.new.pass takes.same sole)).1
+
+-- nothing came out
+pub returns-then-old-eq0-clause-lost : goal.returns-then-old-eq0-clause-lost
+returns-then-old-eq0-clause-lost g c =
+    let one = c.none-value in let two = c.swap_link-old in let swaps = two.ensures.swaps in let takes = swaps.2.0 in let slot = c.args.activation.now.slot in
+    let sole = subst (λ (p : Pass). IsSole p.name.gate p.id) (sym one.ensures.1) (has_turn c.args.pass.now c.requires.turn) in
+    let is : ExchangeLink slot (number swaps.0) (Swap (holds one.result)) ≡ ExchangeLink slot c.args.link (Swap None) = λ j. ExchangeLink slot (swaps.1.1 j) (Swap (value_in (one.ensures.0.1 j))) in
+    let held : held_before takes ≡ link_at (after (start one.new.pass.name) takes.noted.before) c.args.link = λ j. link_at (after (start one.new.pass.name) (sym takes.is_before j)) (swaps.1.1 j) in
+    λ u loose. ⊎_elim (λ was. subst (λ (p : Pass). has u (state_seen p).loose ≡ true) one.ensures.1 was)
+    (λ out. absurd (let word : two.result ≡ block_of u + 1 = takes.found ∙ ap link_word (held ∙ out) in let zero = c.if-old-eq0.true in omega (arith, word, zero)))
+    (came_out one.new.pass two.new.pass _ slot c.args.link is takes.same takes.noted sole u loose)
+
+-- what came out was retired
+pub returns-clause-lost : goal.returns-clause-lost
+returns-clause-lost g c =
+    let one = c.none-value in let two = c.swap_link-old in let swaps = two.ensures.swaps in let takes = swaps.2.0 in let three = c.retire in let slot = c.args.activation.now.slot in
+    let sole = subst (λ (p : Pass). IsSole p.name.gate p.id) (sym one.ensures.1) (has_turn c.args.pass.now c.requires.turn) in
+    let is : ExchangeLink slot (number swaps.0) (Swap (holds one.result)) ≡ ExchangeLink slot c.args.link (Swap None) = λ j. ExchangeLink slot (swaps.1.1 j) (Swap (value_in (one.ensures.0.1 j))) in
+    let held : held_before takes ≡ link_at (after (start one.new.pass.name) takes.noted.before) c.args.link = λ j. link_at (after (start one.new.pass.name) (sym takes.is_before j)) (swaps.1.1 j) in
+    let v : ℕ = value_of c.value-value.result in let key' = two.new.value in let mid = sole_still one.new.pass two.new.pass takes.same sole in let r = three.ensures.retires in
+    let lost = (retired_did c.args.key.now two.new.pass _ _ three.new.key three.new.pass _ _ three.result v 0 r mid).2 in
+    let none = retired_out c.args.key.now two.new.pass _ _ three.new.key three.new.pass _ _ three.result v 0 r mid in
+    λ u loose. ⊎_elim (λ was. subst (λ (p : Pass). has u (state_seen p).loose ≡ true) one.ensures.1 was)
+    (λ out. absurd (
+    let its : v ≡ u = ap (λ (k : Keys). label_of k.held) (sym c.value-value.ensures) ∙ label_is key'.keys.held u (swaps.2.2 ∙ held ∙ out) in
+    let e : true ≡ false = sym loose ∙ ap (λ (x : ℕ). has x (state_seen three.new.pass).loose) (sym its) ∙ none in
+    cc
+    ))
+    (came_out one.new.pass two.new.pass _ slot c.args.link is takes.same takes.noted sole u (lost u loose))
