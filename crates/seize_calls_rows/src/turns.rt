@@ -322,7 +322,12 @@ fn look(words: &Words<u64>, holder: Holder, pass: &mut Pass) -> Holder
 }
 
 /// Lays the passes of both seats back, and shuts the gate.
-pub fn shut_turns(words: &Words<u64>, porter: Porter, first: Seat, second: Seat) -> (Pass, Left, Left)
+pub fn shut_turns(
+    words: &Words<u64>,
+    porter: Porter,
+    first: Seat,
+    second: Seat,
+) -> (Pass, Left, Left)
     requires seats { SitsAt words.now first × SitsAt words.now second }
     requires porter { (porter.name ≡ words_book words.now) × (porter.out ≡ 2) }
     ensures shut { IsShutBy porter first second result.0 }

@@ -13,7 +13,7 @@ returns c =
     let porter = two.new.porter in let book = shut.book ∙ two.ensures.back.0 ∙ one.ensures.back.0 ∙ c.requires.porter.0 in
     let seen2 = prefix_trans second.pass.seen porter.seen pass.seen (longer_right one.new.porter.seen second.pass.seen porter.seen two.ensures.back.2) shut.grows in
     let seen1 = prefix_trans first.pass.seen one.new.porter.seen pass.seen (longer_right c.args.porter.seen first.pass.seen one.new.porter.seen one.ensures.back.2)
-        (prefix_trans one.new.porter.seen porter.seen pass.seen (longer_left one.new.porter.seen second.pass.seen porter.seen two.ensures.back.2) shut.grows) in
+    (prefix_trans one.new.porter.seen porter.seen pass.seen (longer_left one.new.porter.seen second.pass.seen porter.seen two.ensures.back.2) shut.grows) in
     record {
       shut = ((shut.book ∙ two.ensures.back.0 ∙ one.ensures.back.0, shut.turn, shut.alone), seen1, seen2);
       left = (
