@@ -12,8 +12,8 @@
 --                                      list says is kept of it; the pass has seen what it had seen
 --     IsShut porter shut               it is the pass of the gate that was shut
 --     IsShutBy porter first second shut     and has seen what the passes of the two seats had
---     Regains shut pass had had'       all that are gone since the gate was shut went so to the reclaimer, no link holds anything, and of what
---                                      came out of a link nothing was lost
+--     Regains shut pass had had'       all that are gone since the gate was shut went so to the reclaimer, no link holds anything, and of
+--                                      what came out of a link nothing was lost
 --     LeavesNothing pass s             slot s has no call, is not active, and has no batch, as the pass has seen
 --     AreAll first second pass         these are the holders of all slots that there are
 --     AllBack pass                     the pass has seen the whole list, and nobody else can add to it. In it no link holds anything, no

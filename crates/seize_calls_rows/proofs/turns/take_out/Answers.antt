@@ -76,7 +76,7 @@ returns-clause-gave g c =
     (gave_none c.args.pass.now two.new.pass _ (goes_same c.args.pass.now one.new.pass two.new.pass one.ensures.1 (goes_noted one.new.pass two.new.pass _ takes.same takes.noted)).seen (one_gone one.new.pass two.new.pass _ takes.same takes.noted sole refl ∙ ap (λ (p : Pass). (state_seen p).gone) one.ensures.1))
     (retired_did c.args.key.now two.new.pass _ _ three.new.key three.new.pass _ _ three.result v 0 three.ensures.retires (sole_still one.new.pass two.new.pass takes.same sole)).1
 
--- nothing came out
+-- Nothing came out. The word is searched for and not named by its branch, so that a wrong branch is refused for what it says.
 pub returns-then-old-eq0-clause-lost : goal.returns-then-old-eq0-clause-lost
 returns-then-old-eq0-clause-lost g c =
     let one = c.none-value in let two = c.swap_link-old in let swaps = two.ensures.swaps in let takes = swaps.2.0 in let slot = c.args.activation.now.slot in
@@ -84,7 +84,7 @@ returns-then-old-eq0-clause-lost g c =
     let is : ExchangeLink slot (number swaps.0) (Swap (holds one.result)) ≡ ExchangeLink slot c.args.link (Swap None) = λ j. ExchangeLink slot (swaps.1.1 j) (Swap (value_in (one.ensures.0.1 j))) in
     let held : held_before takes ≡ link_at (after (start one.new.pass.name) takes.noted.before) c.args.link = λ j. link_at (after (start one.new.pass.name) (sym takes.is_before j)) (swaps.1.1 j) in
     λ u loose. ⊎_elim (λ was. subst (λ (p : Pass). has u (state_seen p).loose ≡ true) one.ensures.1 was)
-    (λ out. absurd (let word : two.result ≡ block_of u + 1 = takes.found ∙ ap link_word (held ∙ out) in let zero = c.if-old-eq0.true in omega (arith, word, zero)))
+    (λ out. absurd (let word : two.result ≡ block_of u + 1 = takes.found ∙ ap link_word (held ∙ out) in let zero : two.result ≡ 0 = search in omega (arith, word, zero)))
     (came_out one.new.pass two.new.pass _ slot c.args.link is takes.same takes.noted sole u loose)
 
 -- what came out was retired
