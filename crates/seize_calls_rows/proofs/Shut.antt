@@ -30,10 +30,9 @@ use Rattle.seize_calls.specs.Batches.{keys_in}
 use Rattle.seize_words.proofs.Facts.{all_told_append, all_told_grow, all_told_later}
 use Rattle.seize_calls.specs.Handing.{Had, Handings, HasHad, values_handed}
 use Rattle.seize_calls.specs.Marks.{actives, readings}
-use Rattle.seize_calls_rows.specs.Turns.{AllBack, EmptyBelow, Gave, Holds, IsPartOf, KeepsLinks}
-use Rattle.seize_calls_rows.specs.Workers.{GoesOn, MayWork, Shared, Works}
-use Rattle.seize_calls_rows.specs.declared.turns.Holder.{Holder}
-use Rattle.seize_calls_rows.specs.declared.worker.Worker.{Worker}
+use Rattle.seize_calls_rows.specs.Turns.{AllBack, EmptyBelow, Gave, Holds, KeepsLinks}
+use Rattle.seize_calls_rows.specs.Workers.{GoesOn, Shared, Works}
+use Rattle.seize_calls_rows.specs.declared.seat.Holder.{Holder}
 use Rattle.seize_calls.specs.declared.batch.Batch.{Batch}
 use Rattle.seize_words.proofs.Facts.{more_slots}
 use Rattle.seize_calls_rows.proofs.Links.{IsNone, Since, at_first, gone_since, handed_hands, handed_read, handed_turns, handed_walked, more_since, none_changed, none_handed, none_read, none_turns, none_walked, on_since, since_twice}
@@ -205,12 +204,6 @@ works_by words slot size batch key pass pass' works same grows legal =
       holder = (works.holder.0 ∙ sym same, works.holder.1, subst (λ (n : Name). slot < length (after (start n) pass'.seen).slots) (sym same) less);
       batch_is = (works.batch_is.0 ∙ sym same, works.batch_is.1, all_told_later (keys_in batch).keys.name.store pass.seen pass'.seen (keys_in batch).keys.held grows works.batch_is.2);
     }
-
-pub part_holds : (words : Shared) (holder : Holder) (worker : Worker) (pass' : Pass) → IsPartOf holder worker → MayWork words worker → pass'.name ≡ worker.pass.name → IsPrefix worker.pass.seen pass'.seen → IsLegalList (start pass'.name) pass'.seen
-    → Holds words holder pass'
-part_holds words holder worker pass' part may same grows legal =
-    subst (λ (h : Holder). Holds words h pass') (λ j. record { slot = sym part.0 j; size = sym part.1 j; key = sym part.2 j; batch = sym part.3 j; spots = sym part.4 j })
-    (works_by words worker.slot worker.size worker.batch worker.key worker.pass pass' may.0 same grows legal, may.1, may.2)
 
 pub holds_on : (words : Shared) (holder : Holder) (pass pass' : Pass) → Holds words holder pass → GoesOn pass pass' → Holds words holder pass'
 holds_on words holder pass pass' holds goes =

@@ -1,3 +1,4 @@
 pub mod Putting
 pub mod Workers
 pub mod Turns
+pub mod Seats

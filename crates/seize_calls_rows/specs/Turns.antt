@@ -2,14 +2,14 @@
 --     CanMakeIn source words porter    the next slot can be made, and its holder has a pass of the porter's
 --     IsSlotAfter source worker source' words     the worker has the slot that came next, and so may the slot after it be made
 --     IsOneMoreOut porter porter'      one more pass is out
---     IsPartOf holder worker           it is what the worker has beside its pass
 --     StandsAs words spots slot size batch key activation pass     as `Stands`, of each by itself;  Holds words holder pass   as `MayWork`
 --     KeepsLinks pass pass'            each link holds what it held
 --     TakesOut l pass pass'            but link l, which holds nothing
 --     EmptyBelow n pass                the links below this number hold nothing
 --     Gave pass pass' had had'         the values that are gone since went to the reclaimer (HasHad), in order, each with the word that the
 --                                      list says is kept of it; the pass has seen what it had seen
---     IsShutBy porter first second shut     it is the pass of the gate that was shut, and has seen what the two workers had
+--     IsShut porter shut               it is the pass of the gate that was shut
+--     IsShutBy porter first second shut     and has seen what the passes of the two seats had
 --     Regains shut pass had had'       so did all that are gone since this pass had seen the whole list, and all contents are back
 --     AllBack pass                     the pass has seen the whole list, and nobody else can add to it. In it no link holds anything, no
 --                                      call is under way, no slot is active and none has a batch. So each value that was ever retired went
@@ -34,7 +34,8 @@ use Rattle.seize_words.specs.declared.activation.Activation.{Activation}
 use Rattle.seize_words.specs.declared.chunk.Header.{Header}
 use Rattle.seize_words.specs.declared.chunk.Part.{Part}
 use Rattle.seize_calls_rows.specs.Workers.{AreSpotsOf, CanTake, HasTaken, IsOutside, Shared, Stands, Works, made_by}
-use Rattle.seize_calls_rows.specs.declared.turns.Holder.{Holder}
+use Rattle.seize_calls_rows.specs.declared.seat.Holder.{Holder}
+use Rattle.seize_calls_rows.specs.declared.seat.Seat.{Seat}
 use Rattle.seize_calls_rows.specs.declared.worker.Source.{Source}
 use Rattle.seize_calls_rows.specs.declared.worker.Worker.{Worker}
 
@@ -46,11 +47,6 @@ IsSlotAfter source worker source' words = (worker.slot ≡ made_by source) × Ha
 
 abbrev pub IsOneMoreOut : Porter → Porter → Type 0
 IsOneMoreOut porter porter' = (porter'.name ≡ porter.name) × (porter'.out ≡ porter.out + 1)
-
-abbrev pub IsPartOf : Holder → Worker → Type 0
-IsPartOf holder worker =
-    (holder.slot ≡ worker.slot) × (holder.size ≡ worker.size) × (holder.key ≡ worker.key) × (holder.batch ≡ worker.batch)
-    × (holder.spots ≡ worker.spots)
 
 abbrev pub StandsAs : Shared → Spots Header Part ℕ → ℕ → ℕ → Batch → SlotKey → Activation → Pass → Type 0
 StandsAs words spots slot size batch key activation pass =
@@ -91,6 +87,9 @@ pub record Regains (shut pass : Pass) (had had' : Had) : Type 0 where
   pub grows : IsPrefix shut.seen pass.seen
   pub all : AllBack pass
 
-abbrev pub IsShutBy : Porter → Worker → Worker → Pass → Type 0
-IsShutBy porter first second shut =
-    (shut.name ≡ porter.name) × IsSole shut.name.gate shut.id × IsPrefix first.pass.seen shut.seen × IsPrefix second.pass.seen shut.seen
+-- it is the pass of the gate that was shut
+abbrev pub IsShut : Porter → Pass → Type 0
+IsShut porter shut = (shut.name ≡ porter.name) × IsSole shut.name.gate shut.id
+
+abbrev pub IsShutBy : Porter → Seat → Seat → Pass → Type 0
+IsShutBy porter first second shut = IsShut porter shut × IsPrefix first.pass.seen shut.seen × IsPrefix second.pass.seen shut.seen

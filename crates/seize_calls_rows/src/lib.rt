@@ -7,6 +7,7 @@ pub mod counting;
 pub mod holding;
 pub mod putting;
 pub mod running;
+pub mod seat;
 #[cfg(test)]
 mod tests;
 pub mod turns;

@@ -2,6 +2,7 @@
 ghost use Rattle.std.specs.Prelude.{IfSome};
 ghost use Rattle.seize_calls_rows.specs.Workers.{MayWork};
 
+mod forgetting;
 mod holding;
 
 use crate::counting::Counting;
@@ -384,6 +385,7 @@ fn all_values_come_back_at_a_shut_gate(rt: HostRuntime) {
     let left = one.left.wrapping_add(two.left);
     assert_eq!(rt; told(marks.as_slice()), (left.wrapping_add(LINKS), 0));
     let mut counting = Counting::new(marks.as_slice());
+    let (a, b) = (a.sit(&words), b.sit(&words));
     let pass = reclaim_all(&words, porter, a, b, &mut counting, &rt);
     assert!(rt; pass.is_some());
     assert_eq!(rt; counting.count, left.wrapping_add(LINKS));

@@ -1,17 +1,20 @@
 //! A book whose gate is open to several holders of slots, in turns, and then shut to one caller, who has all contents come back. Each
-//! holder makes its calls with a pass that a porter gave out. When they have laid their passes back, the gate is shut: the list that the
-//! first pass has seen is the whole list from then on, and each slot leaves nothing behind.
+//! holder makes its calls with a pass that a porter gave out. When these passes are laid back, by the holders or by whoever has what was
+//! lent to them, the gate is shut: the list that the first pass has seen is the whole list from then on, and each slot leaves nothing behind.
 ghost use Rattle.std.specs.Prelude.{◌≡◌, ◌<◌, IfSome};
 ghost use Rattle.seize_book.specs.Turns.{HasTurn, TakesBack};
 ghost use Rattle.seize_calls_rows.specs.Turns.{CanMakeIn, IsOneMoreOut, IsShutBy, IsSlotAfter, Regains};
-ghost use Rattle.seize_calls_rows.specs.Turns.{EmptyBelow, Gave, Holds, IsPartOf, KeepsLinks, StandsAs, TakesOut};
+ghost use Rattle.seize_calls_rows.specs.Seats.{IsPostOf, SitsAt, SitsWith};
+ghost use Rattle.seize_calls_rows.specs.Turns.{EmptyBelow, Gave, Holds, IsShut, KeepsLinks, StandsAs, TakesOut};
 ghost use Rattle.seize_calls_rows.specs.Workers.{GoesOn, MayWork, made_by};
 ghost use Rattle.seize_words.specs.Joined.{words_book};
 
 use crate::counting::Counting;
+use crate::seat::{Holder, Post, Seat};
 use crate::worker::{ROW, Source, Worker};
 use seize_calls::batch::Batch;
 use seize_calls::calls;
+use seize_content::SteadyCell;
 use seize_store::Spots;
 use seize_words::activation::Activation;
 use seize_words::book::{Pass, Porter, SlotKey};
@@ -20,16 +23,6 @@ use seize_words::link::MaybeKey;
 use seize_words::words::Words;
 use std::alloc::Global;
 use std::sync::Wait;
-
-/// What the holder of a slot has beside a pass.
-#[derive(Drop)]
-pub struct Holder {
-    pub slot: usize,
-    pub size: usize,
-    pub key: SlotKey,
-    pub batch: Batch,
-    pub spots: Spots<Header, Part, u64>,
-}
 
 /// The words of a new book whose passes come from the porter, and what its slots are made with. A batch has `size` values. Nothing comes
 /// where memory was refused.
@@ -68,27 +61,18 @@ impl Source {
 }
 
 // Its pass is laid back to the porter.
-fn part(worker: Worker, porter: &mut Porter) -> Holder
-    requires book { worker.pass.name ≡ porter.old.name }
-    ensures back { TakesBack porter.old worker.pass porter.new }
-    ensures part { IsPartOf result worker }
+fn part(seat: Seat, porter: &mut Porter) -> (Holder, Option<Activation>)
+    requires book { seat.pass.name ≡ porter.old.name }
+    ensures back { TakesBack porter.old seat.pass porter.new }
+    ensures part { (result.0 ≡ seat.holder) × (result.1 ≡ seat.activation) }
 {
-    let Worker {
-        slot,
-        size,
-        key,
-        batch,
-        spots,
+    let Seat {
+        holder,
         pass,
-    } = worker;
+        activation,
+    } = seat;
     porter.lay(pass);
-    Holder {
-        slot,
-        size,
-        key,
-        batch,
-        spots,
-    }
+    (holder, activation)
 }
 
 // Takes out what the link holds, and retires it.
@@ -174,6 +158,36 @@ fn flush_and_leave(
     }
 }
 
+// The slot flushes and leaves, if it is active.
+fn stand_up(
+    words: &Words<u64>,
+    holder: Holder,
+    activation: Option<Activation>,
+    counting: &mut Counting<'_>,
+    pass: &mut Pass,
+    rt: &impl Wait,
+) -> Holder
+    requires sits { SitsWith words.now holder activation pass.old }
+    requires turn { HasTurn pass.old }
+    ensures holds { Holds words.now result pass.new × (result.slot ≡ holder.slot) }
+    ensures goes_on { GoesOn pass.old pass.new }
+    ensures gave { Gave pass.old pass.new counting.old.told.had counting.new.told.had }
+{
+    let Some(activation) = activation else {
+        return holder;
+    };
+    let Holder {
+        slot,
+        size,
+        key,
+        batch,
+        spots,
+    } = holder;
+    flush_and_leave(
+        words, spots, slot, size, activation, batch, key, counting, pass, rt,
+    )
+}
+
 // The slot enters, flushes and leaves.
 fn clear(
     words: &Words<u64>,
@@ -244,26 +258,21 @@ fn empty(
     )
 }
 
-/// Shuts the gate, once the holders of the two slots have laid their passes back, and has all contents come back: those in links and those
-/// in batches. Each slot enters, flushes and leaves; the first one takes out what the links hold before, and retires it. Nothing
-/// comes where a batch stays, or where these are not the holders of all slots that there are.
-pub fn reclaim_all(
+// All contents come back, those in links and those in batches: each slot enters, flushes and leaves; the first one takes out what the links
+// hold before, and retires it. Nothing comes where a batch stays, or where these are not the holders of all slots that there are.
+fn gather(
     words: &Words<u64>,
-    porter: Porter,
-    first: Worker,
-    second: Worker,
+    first: Holder,
+    second: Holder,
     counting: &mut Counting<'_>,
+    pass: Pass,
     rt: &impl Wait,
 ) -> Option<Pass>
-    requires workers { MayWork words.now first × MayWork words.now second }
-    requires porter { (porter.name ≡ words_book words.now) × (porter.out ≡ 2) }
-    ensures back { IfSome result (λ pass. (shut : Pass) × IsShutBy porter first second shut
-        × Regains shut pass counting.old.told.had counting.new.told.had) }
+    requires holds { Holds words.now first pass × Holds words.now second pass }
+    requires turn { HasTurn pass }
+    ensures back { IfSome result (λ last. Regains pass last counting.old.told.had counting.new.told.had) }
 {
-    let mut porter = porter;
-    let first = part(first, &mut porter);
-    let second = part(second, &mut porter);
-    let mut pass = porter.shut();
+    let mut pass = pass;
     let second = clear(words, second, counting, &mut pass, rt);
     let first = empty(words, first, counting, &mut pass, rt);
     let Holder {
@@ -288,4 +297,47 @@ pub fn reclaim_all(
         return None;
     }
     Some(pass)
+}
+
+/// Lays the passes of both seats back, shuts the gate, and has all contents come back. A slot that is active flushes and leaves first: its
+/// holder was forgotten. Nothing comes where a batch stays, or where these are not the seats of all slots that there are.
+pub fn reclaim_all(
+    words: &Words<u64>,
+    porter: Porter,
+    first: Seat,
+    second: Seat,
+    counting: &mut Counting<'_>,
+    rt: &impl Wait,
+) -> Option<Pass>
+    requires seats { SitsAt words.now first × SitsAt words.now second }
+    requires porter { (porter.name ≡ words_book words.now) × (porter.out ≡ 2) }
+    ensures back { IfSome result (λ pass. (shut : Pass) × IsShutBy porter first second shut
+        × Regains shut pass counting.old.told.had counting.new.told.had) }
+{
+    let mut porter = porter;
+    let (first, one) = part(first, &mut porter);
+    let (second, two) = part(second, &mut porter);
+    let mut pass = porter.shut();
+    let first = stand_up(words, first, one, counting, &mut pass, rt);
+    let second = stand_up(words, second, two, counting, &mut pass, rt);
+    gather(words, first, second, counting, pass, rt)
+}
+
+/// The same with the posts where the two seats were lent, whatever became of their holders.
+pub fn reclaim_lent(
+    words: &Words<u64>,
+    porter: Porter,
+    first: SteadyCell<Post>,
+    second: SteadyCell<Post>,
+    counting: &mut Counting<'_>,
+    rt: &impl Wait,
+) -> Option<Pass>
+    requires posts { IsPostOf words.now first × IsPostOf words.now second }
+    requires porter { (porter.name ≡ words_book words.now) × (porter.out ≡ 2) }
+    ensures back { IfSome result (λ pass. (shut : Pass) × IsShut porter shut
+        × Regains shut pass counting.old.told.had counting.new.told.had) }
+{
+    let first = first.into_value().into_seat().known(words);
+    let second = second.into_value().into_seat().known(words);
+    reclaim_all(words, porter, first, second, counting, rt)
 }

@@ -142,6 +142,7 @@ impl Worker {
     pub fn enter(self, words: &Words<u64>) -> Active
         requires may { MayWork words.now self }
         ensures stands { Stands words.now result }
+        ensures slot { result.slot ≡ self.slot }
     {
         let Worker {
             slot,
@@ -246,6 +247,7 @@ impl Active {
         requires stands { Stands words.now self }
         requires link { link < 1024 }
         ensures stands { Stands words.now result.0 }
+        ensures slot { result.0.slot ≡ self.slot }
         ensures out { IfSome result.1 (λ swapped. IfSome swapped (λ out. IsOut words.now out)) }
     {
         let Active {
@@ -283,6 +285,7 @@ impl Active {
         requires out { IsOut words.now out }
         requires serves { R.serves reclaimer.old (words_book words.now) }
         ensures stands { Stands words.now result.0 }
+        ensures slot { result.0.slot ≡ self.slot }
         ensures serves { R.serves reclaimer.new (words_book words.now) }
     {
         let Active {

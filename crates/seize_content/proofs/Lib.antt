@@ -12,3 +12,4 @@ pub mod Meet
 pub mod Views
 pub mod Readers
 pub mod CellTurns
+pub mod CellSharing

@@ -105,10 +105,10 @@ module _ (R : RattleType) (send : IsSend R) (sync : IsSync R) where
 pub token_sent : (γ : ℕ) (g : Gv) → Keyless (cell_token γ g)
 token_sent γ g = tt
 
-module _ (R : RattleType) (send : IsSend R) (γ b o : ℕ) where
-  lies_sent : (ν : Lft) (t : Turn) → Keyless (lies R γ b o ν t)
+module _ (R : RattleType) (send : IsSend R) (fits : R.Denot → Type 0) (γ b o : ℕ) where
+  lies_sent : (ν : Lft) (t : Turn) → Keyless (lies R fits γ b o ν t)
   lies_sent ν (there g) = λ x. ((λ _. tt), part_keyless R send full_share x b o)
   lies_sent ν (away r) = tt
 
-  pub cell_seen : (κ : Lft) → Keyless (cell_shares R γ (block_ptr b o) κ)
+  pub cell_seen : (κ : Lft) → Keyless (cell_shares R fits γ (block_ptr b o) κ)
   cell_seen κ = λ t. ((λ νs. chain-Keyless νs κ t.0), λ s. (tt, lies_sent t.0 s))

@@ -1,9 +1,11 @@
--- A cell whose value lies in place, and its token. Threads share the cell by `&`; whoever has the token reads and writes the value.
+-- A cell whose value lies in place, and its token. Threads share the cell by `&`; whoever has the token reads and writes the value. Which
+-- values may lie there is the kind of cell's to say (fits).
 --     CellName            what a cell is in a clause: its name, which nothing else has
+--     anything            any value may lie there
 --     Turn                there g: the value lies there and has the code g;  away r: the token's holder has it, and left the share r of the
 --                         sharing's lifetime for it, so that it is back before that lifetime ends
 --     cell_token γ g      the token of the cell γ, whose value has the code g. It knows nothing of the value's type
---     cell_owns R γ f     a cell by value, with the fields f x for the value x of row R;  cell_shares    what a `&` to it is
+--     cell_owns R fits γ f     a cell by value, with the fields f x for the value x of row R;  cell_shares    what a `&` to it is
 use Rattle.core.specs.Prelude.{◌≡◌, ℕ}
 use Rattle.std.specs.Coded.{code_by}
 use mathlib.Core.Logic.{◌⊎◌, inl, inr}
@@ -54,16 +56,20 @@ cell_says γ t = fauth γ (turn_coded.code t)
 abbrev pub cell_token : ℕ → Gv → Fml
 cell_token γ g = token_says γ (there g)
 
-abbrev pub cell_holds : (R : RattleType) → ℕ → (R.Denot → Fml) → R.Denot → Fml
-cell_holds R γ fields x = fsep (fields x) (cell_says γ (there (R.coded.code x)))
+abbrev pub anything : {X : Type 0} → X → Type 0
+anything x = Unit {0}
 
-abbrev pub cell_owns : (R : RattleType) → ℕ → (R.Denot → Fml) → Fml
-cell_owns R γ fields = fex R.Denot (cell_holds R γ fields)
+module _ (R : RattleType) (fits : R.Denot → Type 0) (γ : ℕ) (fields : R.Denot → Fml) where
+  abbrev pub cell_holds : R.Denot → Fml
+  cell_holds x = fsep (fields x) (fsep (fact (fits x)) (cell_says γ (there (R.coded.code x))))
+
+  abbrev pub cell_owns : Fml
+  cell_owns = fex R.Denot cell_holds
 
 -- while it is shared, for the lifetime ν
-module _ (R : RattleType) (γ b o : ℕ) (ν : Lft) where
+module _ (R : RattleType) (fits : R.Denot → Type 0) (γ b o : ℕ) (ν : Lft) where
   abbrev pub lying : Gv → R.Denot → Fml
-  lying g x = fsep (fact (R.coded.code x ≡ g)) (part_at R full_share x b o)
+  lying g x = fsep (fact ((R.coded.code x ≡ g) × fits x)) (part_at R full_share x b o)
 
   abbrev pub lies : Turn → Fml
   lies (there g) = fex R.Denot (lying g)
@@ -75,9 +81,10 @@ module _ (R : RattleType) (γ b o : ℕ) (ν : Lft) where
   abbrev pub turning : Fml
   turning = fex Turn turned
 
-abbrev pub cell_lent : RattleType → ℕ → ℕ → ℕ → Lft → Lft × ℕ → Fml
-cell_lent R γ b o κ t = fsep (before κ t.0) (fnamed t.1 (fbor t.0 (turning R γ b o t.0)))
+module _ (R : RattleType) (fits : R.Denot → Type 0) (γ : ℕ) where
+  abbrev pub cell_lent : ℕ → ℕ → Lft → Lft × ℕ → Fml
+  cell_lent b o κ t = fsep (before κ t.0) (fnamed t.1 (fbor t.0 (turning R fits γ b o t.0)))
 
-abbrev pub cell_shares : RattleType → ℕ → Ptr → Lft → Fml
-cell_shares R γ (block_ptr b o) κ = fex (Lft × ℕ) (cell_lent R γ b o κ)
-cell_shares R γ null_ptr κ = ffalse
+  abbrev pub cell_shares : Ptr → Lft → Fml
+  cell_shares (block_ptr b o) κ = fex (Lft × ℕ) (cell_lent b o κ)
+  cell_shares null_ptr κ = ffalse

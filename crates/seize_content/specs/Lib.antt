@@ -2,6 +2,7 @@ pub mod Stages
 pub mod Goods
 pub mod Contents
 pub mod Cells
+pub mod Steady
 pub mod Lends
 pub mod Loans
 pub mod Memory

@@ -4,7 +4,7 @@ ghost use Rattle.std.specs.Prelude.{◌≡◌, ℕ};
 ghost use base.Stored.{Gv};
 ghost use denote.Sharing.{nothing};
 ghost use denote.Struct.Codes.{itself};
-ghost use Rattle.seize_content.specs.Cells.{CellName, cell_name_coded, cell_owns, cell_shares, cell_token};
+ghost use Rattle.seize_content.specs.Cells.{CellName, anything, cell_name_coded, cell_owns, cell_shares, cell_token};
 
 use std::marker::{Model, Move, Owns, PhantomData};
 
@@ -18,11 +18,11 @@ impl<M> Owns for TokenCell<M> {
 
     ghost coded = { cell_name_coded };
 
-    ghost shr_at = { λ c p κ. cell_shares M.row c.name p κ };
+    ghost shr_at = { λ c p κ. cell_shares M.row anything c.name p κ };
 }
 
 impl<M> Move for TokenCell<M> {
-    ghost own_val = { λ c vs. cell_owns M.row c.name (λ x. Fields.own_val (record { value = x }) vs) };
+    ghost own_val = { λ c vs. cell_owns M.row anything c.name (λ x. Fields.own_val (record { value = x }) vs) };
 }
 
 /// Who has it reads and writes the value of one cell, and knows it. It knows nothing of the value's type.

@@ -1,4 +1,5 @@
 //! Values that count their ends, and values that are copied.
+use seize_content::Steady;
 use std::sync::atomic::{AtomicU64, Ordering};
 
 /// A value with a name of its own, which counts its end.
@@ -12,6 +13,12 @@ impl Drop for Counted<'_> {
         let Counted { ends, name: _ } = self;
         ends.fetch_add(1, Ordering::SeqCst);
     }
+}
+
+impl Steady for Counted<'_> {
+    ghost label = { λ counted. counted.name };
+
+    ghost sound = { λ _. Unit };
 }
 
 /// What the owner of a block has in its header.

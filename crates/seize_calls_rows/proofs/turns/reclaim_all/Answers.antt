@@ -1,73 +1,58 @@
-use Rattle.std.proofs.Common.{◌≡◌, [], length, true, sym, ap, subst, ◌∙◌}
+use Rattle.std.proofs.Common.{sym, subst, ◌∙◌, Option}
 use base.Growing.{prefix_trans}
-use Rattle.seize_machine.specs.Machine.State.{State, are_distinct, link_at, linked}
-use Rattle.seize_book.specs.Book.{IsLegalList}
-use Rattle.seize_book.specs.Tokens.{Name, start}
-use Rattle.seize_book.specs.Homesteads.{state_seen}
-use Rattle.seize_book.specs.Slots.{slot_of}
-use Rattle.seize_book.specs.Values.{values_of}
-use Rattle.seize_calls.specs.Batches.{keys_in}
-use Rattle.seize_calls_rows.proofs.Links.{look_keeps, sole_still}
-use Rattle.seize_calls_rows.proofs.Shut.{LeavesNothing, all_back, has_turn, holds_on, left_by, longer_left, longer_right, no_values, part_holds, turn_still, gave_none, gave_twice}
+use Rattle.seize_words.specs.declared.activation.Activation.{Activation}
+use Rattle.seize_book.specs.declared.book.pass.Pass.{Pass}
+use Rattle.seize_calls_rows.specs.Seats.{SitsWith}
+use Rattle.seize_calls_rows.specs.Turns.{Regains}
+use Rattle.seize_calls_rows.specs.declared.seat.Holder.{Holder}
+use Rattle.seize_calls_rows.proofs.Seats.{sits_book, sits_later, sits_on, some_then}
+use Rattle.seize_calls_rows.proofs.Shut.{gave_twice, holds_on, longer_left, longer_right}
 use Rattle.seize_calls_rows.proofs.turns.reclaim_all.Goals as goal
 
-pub clear-second-requires-clause-holds : goal.clear-second-requires-clause-holds
-clear-second-requires-clause-holds g c =
-    let words = c.args.words.now in let second = c.args.second in let one = c.part-first in let two = c.part-second in let pass = c.shut-pass.result in let shut = c.shut-pass.ensures in
-    let porter = two.new.porter in
-    part_holds words two.result second pass two.ensures.part c.requires.workers.1
-    (shut.book ∙ two.ensures.back.0 ∙ one.ensures.back.0 ∙ c.requires.porter.0 ∙ c.requires.workers.1.0.book)
-    (prefix_trans second.pass.seen porter.seen pass.seen (longer_right one.new.porter.seen second.pass.seen porter.seen two.ensures.back.2) shut.grows)
-    shut.legal
-
-pub empty-first-requires-clause-holds : goal.empty-first-requires-clause-holds
-empty-first-requires-clause-holds g c =
-    let words = c.args.words.now in let first = c.args.first in let one = c.part-first in let two = c.part-second in let pass = c.shut-pass.result in let shut = c.shut-pass.ensures in
-    let porter = two.new.porter in
-    holds_on words one.result pass c.clear-second.new.pass
-    (part_holds words one.result first pass one.ensures.part c.requires.workers.0
-    (shut.book ∙ two.ensures.back.0 ∙ one.ensures.back.0 ∙ c.requires.porter.0 ∙ c.requires.workers.0.0.book)
-    (prefix_trans first.pass.seen one.new.porter.seen pass.seen (longer_right c.args.porter.seen first.pass.seen one.new.porter.seen one.ensures.back.2)
+pub stand_up-first-requires-clause-sits : goal.stand_up-first-requires-clause-sits
+stand_up-first-requires-clause-sits g c =
+    let words = c.args.words.now in let seat = c.args.first in let one = c.part-first in let two = c.part-second in let pass = c.shut-pass.result in let shut = c.shut-pass.ensures in let porter = two.new.porter in let is = one.ensures.part in
+    subst (λ (t : Holder × Option Activation). SitsWith words t.0 t.1 pass) (λ i. (sym is.0 i, sym is.1 i))
+    (sits_later words seat.holder seat.activation seat.pass pass
+    (shut.book ∙ two.ensures.back.0 ∙ one.ensures.back.0 ∙ c.requires.porter.0 ∙ sits_book words seat c.requires.seats.0)
+    (prefix_trans seat.pass.seen one.new.porter.seen pass.seen (longer_right c.args.porter.seen seat.pass.seen one.new.porter.seen one.ensures.back.2)
     (prefix_trans one.new.porter.seen porter.seen pass.seen (longer_left one.new.porter.seen c.args.second.pass.seen porter.seen two.ensures.back.2) shut.grows))
-    shut.legal)
-    c.clear-second.ensures.goes_on
+    shut.legal c.requires.seats.0)
+
+pub stand_up-second-requires-clause-sits : goal.stand_up-second-requires-clause-sits
+stand_up-second-requires-clause-sits g c =
+    let words = c.args.words.now in let seat = c.args.second in let one = c.part-first in let two = c.part-second in let pass = c.shut-pass.result in let shut = c.shut-pass.ensures in let porter = two.new.porter in let is = two.ensures.part in
+    let first = c.stand_up-first in
+    subst (λ (t : Holder × Option Activation). SitsWith words t.0 t.1 first.new.pass) (λ i. (sym is.0 i, sym is.1 i))
+    (sits_on words seat.holder seat.activation pass first.new.pass first.ensures.goes_on
+    (sits_later words seat.holder seat.activation seat.pass pass
+    (shut.book ∙ two.ensures.back.0 ∙ one.ensures.back.0 ∙ c.requires.porter.0 ∙ sits_book words seat c.requires.seats.1)
+    (prefix_trans seat.pass.seen porter.seen pass.seen (longer_right one.new.porter.seen seat.pass.seen porter.seen two.ensures.back.2) shut.grows)
+    shut.legal c.requires.seats.1))
+
+pub gather-requires-clause-holds : goal.gather-requires-clause-holds
+gather-requires-clause-holds g c =
+    let one = c.stand_up-first in let two = c.stand_up-second in
+    (holds_on c.args.words.now one.result one.new.pass two.new.pass one.ensures.holds.0 two.ensures.goes_on, two.ensures.holds.0)
 
 pub returns : goal.returns
 returns g c =
-    let p0 = c.shut-pass.result in let p1 = c.clear-second.new.pass in let p2 = c.empty-first.new.pass in let p3 = c.look.new.pass in let p4 = c.look-2.new.pass in let p5 = c.load-many.new.pass in
-    let load = c.load-many.ensures in let mid = load.count.0 in
-    let turn2 = turn_still p1 p2 c.empty-first.ensures.goes_on.same (turn_still p0 p1 c.clear-second.ensures.goes_on.same c.shut-pass.ensures.turn) in
-    let sole2 = has_turn p2 turn2 in let first = c.look.ensures.looked in let second = c.look-2.ensures.looked in
-    let sole3 = sole_still p2 p3 first.on.same sole2 in let sole4 = sole_still p3 p4 second.on.same sole3 in
-    let e3 : state_seen p3 ≡ state_seen p2 = look_keeps p2 p3 first.on sole2 in let e4 : state_seen p4 ≡ state_seen p3 = look_keeps p3 p4 second.on sole3 in
-    let e5 : state_seen p5 ≡ state_seen p4 = look_keeps p4 p5 load.looks sole4 in let em : state_seen mid ≡ state_seen p4 = look_keeps p4 mid load.count.1 sole4 in
-    let a = c.empty-first.result in let b = c.clear-second.result in let ha = c.empty-first.ensures.holds in let hb = c.clear-second.ensures.holds in
-    let na : (slot_of a.key).batch ≡ [] = sym ha.0.0.batch_is.1 ∙ no_values (values_of (keys_in a.batch)) c.len.result c.len.ensures c.if-len-ne0.false in
-    let nb : (slot_of b.key).batch ≡ [] = sym hb.0.0.batch_is.1 ∙ no_values (values_of (keys_in b.batch)) c.len-else-len-ne0.result c.len-else-len-ne0.ensures c.if-len-ne0-2.false in
-    let one : LeavesNothing (state_seen p3) 0 = left_by a.key c.look.new.self p2 p3 0 first ha.0.0.holder.0 (ha.0.0.holder.1 ∙ c.if-first_slot-ne0.false) ha.0.1.0 ha.0.1.1 na in
-    let two : LeavesNothing (state_seen p4) 1 =
-    left_by b.key c.look-2.new.self p3 p4 1 second (hb.0.0.holder.0 ∙ sym (first.on.same.0 ∙ c.empty-first.ensures.goes_on.same.0)) (hb.0.0.holder.1 ∙ c.if-second_slot-ne1.false) hb.0.1.0 hb.0.1.1 nb in
-    let gave = gave_twice p0 p1 p5 _ _ _ c.clear-second.ensures.gave
-    (gave_twice p1 p2 p5 _ _ _ c.empty-first.ensures.gave (gave_none p2 p5 _ (prefix_trans p2.seen p3.seen p5.seen first.on.grows (prefix_trans p3.seen p4.seen p5.seen second.on.grows load.looks.grows)) (ap (λ (st : State). st.gone) (e5 ∙ e4 ∙ e3)))) in
-    let grows = prefix_trans p0.seen p1.seen p5.seen c.clear-second.ensures.goes_on.seen (prefix_trans p1.seen p2.seen p5.seen c.empty-first.ensures.goes_on.seen
-    (prefix_trans p2.seen p3.seen p5.seen first.on.grows (prefix_trans p3.seen p4.seen p5.seen second.on.grows load.looks.grows))) in
-    let porter = c.part-second.new.porter in let one_porter = c.part-first.new.porter in let back1 = c.part-first.ensures.back in let back2 = c.part-second.ensures.back in let shut = c.shut-pass.ensures in
-    let seen2 = prefix_trans c.args.second.pass.seen porter.seen p0.seen (longer_right one_porter.seen c.args.second.pass.seen porter.seen back2.2) shut.grows in
-    let seen1 = prefix_trans c.args.first.pass.seen one_porter.seen p0.seen (longer_right c.args.porter.seen c.args.first.pass.seen one_porter.seen back1.2)
-    (prefix_trans one_porter.seen porter.seen p0.seen (longer_left one_porter.seen c.args.second.pass.seen porter.seen back2.2) shut.grows) in
+    let p0 = c.shut-pass.result in let shut = c.shut-pass.ensures in let one = c.stand_up-first in let two = c.stand_up-second in let p1 = one.new.pass in let p2 = two.new.pass in
+    let porter = c.part-second.new.porter in let one_porter = c.part-first.new.porter in let back1 = c.part-first.ensures.back in let back2 = c.part-second.ensures.back in
+    let first = c.args.first.pass.seen in let second = c.args.second.pass.seen in
+    let seen2 = prefix_trans second porter.seen p0.seen (longer_right one_porter.seen second porter.seen back2.2) shut.grows in
+    let seen1 = prefix_trans first one_porter.seen p0.seen (longer_right c.args.porter.seen first one_porter.seen back1.2)
+    (prefix_trans one_porter.seen porter.seen p0.seen (longer_left one_porter.seen second porter.seen back2.2) shut.grows) in
     record {
-      back = (
-        p0,
-        (shut.book ∙ back2.0 ∙ back1.0, shut.alone, seen1, seen2),
-        record {
-          gave = gave;
-          grows = grows;
-          all = all_back p5 (sole_still p4 p5 load.looks.same sole4)
-              (λ l less. ap (λ (st : State). link_at st l) (e5 ∙ e4 ∙ e3) ∙ c.empty-first.ensures.links l less)
-              (subst (λ (n : Name). IsLegalList (start n) p5.seen) (sym load.looks.same.0) load.looks.legal) (subst (λ (n : Name). are_distinct (linked n.links) ≡ true) (sym load.looks.same.0) load.looks.distinct)
-              (ap (λ (st : State). length st.slots) (e5 ∙ sym em) ∙ sym load.count.3 ∙ c.if-many-ne2.false)
-              (subst (λ (st : State). LeavesNothing st 0) (sym (e5 ∙ e4)) one)
-              (subst (λ (st : State). LeavesNothing st 1) (sym e5) two);
-        },
-      );
+      back = some_then c.gather.result
+          (λ (pass : Pass) (regains : Regains p2 pass _ _). (
+            p0,
+            ((shut.book ∙ back2.0 ∙ back1.0, shut.alone), seen1, seen2),
+            record {
+              gave = gave_twice p0 p1 pass _ _ _ one.ensures.gave (gave_twice p1 p2 pass _ _ _ two.ensures.gave regains.gave);
+              grows = prefix_trans p0.seen p1.seen pass.seen one.ensures.goes_on.seen (prefix_trans p1.seen p2.seen pass.seen two.ensures.goes_on.seen regains.grows);
+              all = regains.all;
+            },
+          ))
+          c.gather.ensures.back;
     }

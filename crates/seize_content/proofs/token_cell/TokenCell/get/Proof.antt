@@ -12,7 +12,7 @@ use denote.Param.Laws.{copied_laws}
 use denote.Struct.Members.{Member}
 use Rattle.core.proofs.alloc.Shapes.{after}
 use Rattle.core.proofs.cell.Inside.{spread, gather}
-use Rattle.seize_content.specs.Cells.{cell_token}
+use Rattle.seize_content.specs.Cells.{anything, cell_token}
 use Rattle.seize_content.specs.contracts.token_cell.CellToken as right
 use Rattle.seize_content.specs.contracts.token_cell.TokenCell as cell
 use Rattle.seize_content.proofs.CellTurns.{Laid, Shut, takes_out}
@@ -37,20 +37,20 @@ get_spec {M} 𝓤 𝓛 𝓜 𝓡 wired X L copies k dict _ =
     enter ! 𝓣.C 𝓣.Λ fn (vptr rb ro ∷ vptr tb to ∷ []) Post $ alloc_all ! (λ l. pass_all ! refl ((tt, tt), ((tt, tt), tt)) $ let Ev = env fn.locals l in
     move ! (0 ∷ 1 ∷ 4 ∷ []) $ opens ! tt S tb to (λ vs0. move ! (1 ∷ []) $ fsplit ! $ move ! (1 ∷ []) $ rewrite ! 0 (λ (u : ℕ). ‵ (cell_token u g)) asked refl $
     -- [what the token owns; the token; its cell, in four entries; the cell; its lifetime's token; others]
-    move ! (6 ∷ 7 ∷ 0 ∷ []) $ unhide ! $ use3 𝓛 (later (some (λ (x : R.Denot). given (R.coded.code x ≡ g) (‵ (part_at R full_share x rb ro) ⊛ raw (Shut 𝓛 R γ rb ro 𝓜 𝓡 κ q))))) (takes_out 𝓛 R γ rb ro 𝓜 𝓡 κ q g) $
+    move ! (6 ∷ 7 ∷ 0 ∷ []) $ unhide ! $ use3 𝓛 (later (some (λ (x : R.Denot). given ((R.coded.code x ≡ g) × Unit {0}) (‵ (part_at R full_share x rb ro) ⊛ raw (Shut 𝓛 R anything γ rb ro 𝓜 𝓡 κ q))))) (takes_out 𝓛 R anything γ rb ro 𝓜 𝓡 κ q g) $
     await ! tt $ pick ! (λ x. learn ! (λ is. split ! $ spread m ! lawful x rb ro (λ vx fx.
     -- [the value's cell; the value; the way back; the token; its cell, in four entries; others]
     first ! $ blocks ! $ sets ! (addr ! (through ! refl (stop !))) refl (tt, tt) $ sets_last ! (of_opd ! (load ! (through ! refl (stop !)) (look_raw ! 0 refl))) refl fx $
     exec ! 𝓣.C 𝓣.Λ Ev (after 1 fn.body) (at_ret Ev Post) $ sets ! (of_opd ! (get ! refl)) refl fx $
     move ! (1 ∷ []) $ use1 𝓛 (‵ (R.own_val x (vx ∷ [])) ⊛ ‵ (R.own_val x (vx ∷ []))) ((copies.copies M 𝓤 𝓛).twice x (vx ∷ [])) $ split ! $ move ! (2 ∷ 0 ∷ []) $ gather m ! x vx rb ro $
     -- [the value, there; what is given; the way back; the token; its cell, in four entries; others]
-    let there : Gv = R.coded.code x in let W : SProp 𝓤 = Laid 𝓛 R γ rb ro 𝓜 𝓡 κ q x in move ! (2 ∷ []) $ use1 𝓛 (raw W) (all_e 𝓤 (Laid 𝓛 R γ rb ro 𝓜 𝓡 κ q) x) $ move ! (1 ∷ 0 ∷ []) $
+    let there : Gv = R.coded.code x in let W : SProp 𝓤 = Laid 𝓛 R anything γ rb ro 𝓜 𝓡 κ q (x, tt) in move ! (2 ∷ []) $ use1 𝓛 (raw W) (all_e 𝓤 (Laid 𝓛 R anything γ rb ro 𝓜 𝓡 κ q) (x, tt)) $ move ! (1 ∷ 0 ∷ []) $
     use2 𝓛 (later (‵ (cell_token γ there) ⊛ ‵ (flft κ q))) (apply∗ 𝓤 (sem 𝓛 (part_at R full_share x rb ro)) (H.⇛ (sep 𝓤 (sem 𝓛 (cell_token γ there)) (𝓛.A.lft κ q)))) $ await ! tt $ split ! $
     -- [what the token owns; the lifetime's token; what is given; the token; its cell, in four entries; others]
-    rewrite ! 0 (λ (v : Gv). ‵ (cell_token γ v)) is refl $ rewrite ! 0 (λ (u : ℕ). ‵ (cell_token u g)) (sym asked) refl $ move ! (3 ∷ 0 ∷ []) $ fjoin ! $ move ! (3 ∷ 0 ∷ 4 ∷ 5 ∷ 6 ∷ []) $ closes ! tt S t vs0 tb to $
+    rewrite ! 0 (λ (v : Gv). ‵ (cell_token γ v)) is.0 refl $ rewrite ! 0 (λ (u : ℕ). ‵ (cell_token u g)) (sym asked) refl $ move ! (3 ∷ 0 ∷ []) $ fjoin ! $ move ! (3 ∷ 0 ∷ 4 ∷ 5 ∷ 6 ∷ []) $ closes ! tt S t vs0 tb to $
     -- [the token, in two; its lifetime's token; the cell's; what is given; others]
     move ! (2 ∷ 5 ∷ []) $ join ! $ move ! (3 ∷ 0 ∷ []) $ join ! $ nothing ! $ feq_i ! (List Val) (vptr tb to ∷ []) (vptr tb to ∷ []) refl $ move ! (0 ∷ 3 ∷ 4 ∷ []) $ fjoin3 ! $ fjoin ! $ nothing ! $ fjoin ! $
     -- [the parameters; the tokens; what is given]
     let First : Type 0 = (t.name ≡ t.name) × (g ≡ g) in let Second : Type 0 = R.coded.code x ≡ g in
-    use0 𝓛 (raw (fact 𝓤 Second)) (fact_i 𝓤 Second (emp 𝓤) is) $ use0 𝓛 (raw (fact 𝓤 First)) (fact_i 𝓤 First (emp 𝓤) (refl, refl)) $ join ! $
+    use0 𝓛 (raw (fact 𝓤 Second)) (fact_i 𝓤 Second (emp 𝓤) is.0) $ use0 𝓛 (raw (fact 𝓤 First)) (fact_i 𝓤 First (emp 𝓤) (refl, refl)) $ join ! $
     returns ! (look_at ! 0 refl) $ free_all ! refl $ keep ! (2 ∷ 1 ∷ 3 ∷ 0 ∷ []) $ by ! (leaves 𝓛 En hs c z vx x (tt, (t, tt)) (tt, (tt, tt))))))))))

@@ -16,7 +16,7 @@ use denote.Struct.Tuple.{Tuple}
 use Rattle.core.proofs.cell.Inside.{Good, one}
 use Rattle.std_alloc.proofs.Pairs.{pair_val, pair_Typed, pair_of}
 use Rattle.std_alloc.proofs.ResultValues.{and_tt}
-use Rattle.seize_content.specs.Cells.{there, turn_coded, cell_holds}
+use Rattle.seize_content.specs.Cells.{there, anything, turn_coded, cell_holds}
 use Rattle.seize_content.specs.contracts.token_cell.CellToken as right
 use Rattle.seize_content.specs.contracts.token_cell.TokenCell as cell
 use Rattle.seize_content.specs.contracts.token_cell.TokenCell.TheInside as inside
@@ -47,7 +47,7 @@ new_spec 𝓤 𝓛 𝓜 𝓡 wired X L =
     use0 𝓛 (‵ ((Marked unit).own_val (record {}, tt) (token ∷ []))) (marked_made unit 𝓛) $ fjoin ! $
     -- [the token; the cell's half of its name; the value; nothing; the tokens]
     nothing ! $ move ! (3 ∷ 0 ∷ []) $ fjoin ! $ feq_i ! (List Val) (v ∷ []) (v ∷ []) refl $ fjoin ! $ fpack ! (Valss (R ∷ [])) (within D (x, tt) (v ∷ [])) (vx ∷ [], tt) $
-    move ! (0 ∷ 2 ∷ []) $ fjoin ! $ fpack ! X.Denot (cell_holds R γ (λ y. F.own_val (record { value = y }) (v ∷ []))) x $ nothing ! $ fpack ! (Typed F.mir (v ∷ [])) (λ _. ftrue) (typed, tt) $ fjoin ! $
+    move ! (2 ∷ []) $ nothing ! $ fpack ! (Unit {0}) (λ _. ftrue) tt $ fjoin ! $ move ! (1 ∷ 0 ∷ []) $ fjoin ! $ fpack ! X.Denot (cell_holds R anything γ (λ y. F.own_val (record { value = y }) (v ∷ []))) x $ nothing ! $ fpack ! (Typed F.mir (v ∷ [])) (λ _. ftrue) (typed, tt) $ fjoin ! $
     use2 𝓛 (‵ (Two.own_val (r, t) (pair ∷ []))) (pair_of 𝓛 C S r t v token) $
     let Told : Type 0 = (γ ≡ γ) × (g ≡ g) in use0 𝓛 (raw (fact 𝓤 Told)) (fact_i 𝓤 Told (emp 𝓤) (refl, refl)) $ nothing ! $ nothing ! $ fjoin ! $
     returns ! (look_at ! 0 refl) $ free_all ! refl $ keep ! (4 ∷ 0 ∷ 2 ∷ 1 ∷ []) $ by ! (leaves 𝓛 En hs c z pair (r, t) (tt, tt) (tt, tt)))))

@@ -13,7 +13,7 @@ use denote.Param.Laws.{param_laws}
 use denote.Struct.Members.{Member}
 use Rattle.core.proofs.alloc.Shapes.{after}
 use Rattle.core.proofs.cell.Inside.{Good, one, spread, gather}
-use Rattle.seize_content.specs.Cells.{cell_token}
+use Rattle.seize_content.specs.Cells.{anything, cell_token}
 use Rattle.seize_content.specs.contracts.token_cell.CellToken as right
 use Rattle.seize_content.specs.contracts.token_cell.TokenCell as cell
 use Rattle.seize_content.proofs.CellTurns.{Laid, Shut, takes_out}
@@ -41,7 +41,7 @@ replace_spec 𝓤 𝓛 𝓜 𝓡 wired X L =
     enter ! 𝓣.C 𝓣.Λ fn Vs Post $ alloc_all ! (λ l. pass_all ! refl ((tt, tt), ((tt, tt), (fy, tt))) $ let Ev = env fn.locals l in
     move ! (1 ∷ 2 ∷ 5 ∷ []) $ opens ! tt S tb to (λ vs0. move ! (1 ∷ []) $ fsplit ! $ move ! (1 ∷ []) $ rewrite ! 0 (λ (u : ℕ). ‵ (cell_token u g)) asked refl $
     -- [what the token owns; the token; its cell, in four entries; the new value; the cell; its lifetime's token; others]
-    move ! (7 ∷ 8 ∷ 0 ∷ []) $ unhide ! $ use3 𝓛 (later (some (λ (x : R.Denot). given (R.coded.code x ≡ g) (‵ (part_at R full_share x rb ro) ⊛ raw (Shut 𝓛 R γ rb ro 𝓜 𝓡 κ q))))) (takes_out 𝓛 R γ rb ro 𝓜 𝓡 κ q g) $
+    move ! (7 ∷ 8 ∷ 0 ∷ []) $ unhide ! $ use3 𝓛 (later (some (λ (x : R.Denot). given ((R.coded.code x ≡ g) × Unit {0}) (‵ (part_at R full_share x rb ro) ⊛ raw (Shut 𝓛 R anything γ rb ro 𝓜 𝓡 κ q))))) (takes_out 𝓛 R anything γ rb ro 𝓜 𝓡 κ q g) $
     await ! tt $ pick ! (λ x. learn ! (λ is. split ! $ spread m ! lawful x rb ro (λ vx fx.
     -- [the value's cell; the value; the way back; the token; its cell, in four entries; the new value; others]
     sets ! (addr ! (through ! refl (stop !))) refl (tt, tt) $ sets ! (of_opd ! (get ! refl)) refl (tt, tt) $ first ! $ blocks ! $
@@ -50,7 +50,7 @@ replace_spec 𝓤 𝓛 𝓜 𝓡 wired X L =
     exec ! 𝓣.C 𝓣.Λ Ev (after 3 fn.body) (at_ret Ev Post) $ sets ! (of_opd ! (get ! refl)) refl fx $
     move ! (0 ∷ 8 ∷ []) $ gather m ! y vy rb ro $
     -- [the new value, there; the old one; the way back; the token; its cell, in four entries; others]
-    let W : SProp 𝓤 = Laid 𝓛 R γ rb ro 𝓜 𝓡 κ q y in move ! (2 ∷ []) $ use1 𝓛 (raw W) (all_e 𝓤 (Laid 𝓛 R γ rb ro 𝓜 𝓡 κ q) y) $ move ! (1 ∷ 0 ∷ []) $
+    let W : SProp 𝓤 = Laid 𝓛 R anything γ rb ro 𝓜 𝓡 κ q (y, tt) in move ! (2 ∷ []) $ use1 𝓛 (raw W) (all_e 𝓤 (Laid 𝓛 R anything γ rb ro 𝓜 𝓡 κ q) (y, tt)) $ move ! (1 ∷ 0 ∷ []) $
     use2 𝓛 (later (‵ (cell_token γ new) ⊛ ‵ (flft κ q))) (apply∗ 𝓤 (sem 𝓛 (part_at R full_share y rb ro)) (H.⇛ (sep 𝓤 (sem 𝓛 (cell_token γ new)) (𝓛.A.lft κ q)))) $ await ! tt $ split ! $
     -- [what the token owns; the lifetime's token; the old value; the token; its cell, in four entries; others]
     let t' : S.Denot = record t { value = new } in rewrite ! 0 (λ (u : ℕ). ‵ (cell_token u new)) (sym asked) refl $ move ! (3 ∷ 0 ∷ []) $ fjoin ! $ move ! (3 ∷ 0 ∷ 4 ∷ 5 ∷ 6 ∷ []) $ closes ! tt S t' vs0 tb to $
@@ -58,5 +58,5 @@ replace_spec 𝓤 𝓛 𝓜 𝓡 wired X L =
     move ! (2 ∷ 5 ∷ []) $ join ! $ move ! (3 ∷ 0 ∷ []) $ join ! $ nothing ! $ nothing ! $ fjoin ! $ feq_i ! (List Val) z.0.4.1.0 (vptr tb to ∷ []) et $ move ! (0 ∷ 3 ∷ 4 ∷ []) $ fjoin3 ! $ fjoin ! $ nothing ! $ fjoin ! $
     -- [the parameters; the tokens; the old value]
     let First : Type 0 = (t.name ≡ t.name) × (new ≡ new) in let Second : Type 0 = R.coded.code x ≡ g in
-    use0 𝓛 (raw (fact 𝓤 Second)) (fact_i 𝓤 Second (emp 𝓤) is) $ use0 𝓛 (raw (fact 𝓤 First)) (fact_i 𝓤 First (emp 𝓤) (refl, refl)) $ join ! $
+    use0 𝓛 (raw (fact 𝓤 Second)) (fact_i 𝓤 Second (emp 𝓤) is.0) $ use0 𝓛 (raw (fact 𝓤 First)) (fact_i 𝓤 First (emp 𝓤) (refl, refl)) $ join ! $
     returns ! (look_at ! 0 refl) $ free_all ! refl $ keep ! (2 ∷ 1 ∷ 3 ∷ 0 ∷ []) $ by ! (leaves 𝓛 En hs c z vx x (tt, (t', (tt, tt))) (tt, (tt, (tt, tt)))))))))))

@@ -1,0 +1,295 @@
+//! What the holder of a slot has, and a place where it is only lent. Threads share the place by `&`, and its holder has the token. Whatever
+//! became of the token, whoever has the place alone then has all of it back: the slot's key and pass, its batch, its spots, and the
+//! activation in which it read.
+ghost use Rattle.std.specs.Prelude.{◌≡◌, ◌<◌, Some};
+ghost use Rattle.seize_book.specs.Tokens.{label_at};
+ghost use Rattle.seize_calls_rows.specs.Seats.{IsOfBook, IsPostOf, IsSeat, IsSound, SitsAt, post_label};
+ghost use Rattle.seize_calls_rows.specs.Workers.{MayWork, Stands};
+ghost use Rattle.seize_table.specs.Pairs.{of_family};
+ghost use Rattle.seize_words.specs.Joined.{words_book};
+
+use crate::counting::Counting;
+use crate::worker::{Active, LINKS, Worker};
+use seize_calls::batch::Batch;
+use seize_content::{CellToken, Steady, SteadyCell, Work};
+use seize_store::Spots;
+use seize_words::activation::Activation;
+use seize_words::book::{Pass, SlotKey};
+use seize_words::chunk::{Header, Part};
+use seize_words::words::Words;
+use std::mem;
+use std::sync::Wait;
+use std::sync::atomic::AtomicU64;
+
+/// What the holder of a slot has beside a pass.
+#[derive(Drop)]
+pub struct Holder {
+    pub slot: usize,
+    pub size: usize,
+    pub key: SlotKey,
+    pub batch: Batch,
+    pub spots: Spots<Header, Part, u64>,
+}
+
+/// What the holder has with its pass, and its slot's activation, where that has entered.
+#[derive(Drop)]
+pub struct Seat {
+    pub holder: Holder,
+    pub pass: Pass,
+    pub activation: Option<Activation>,
+}
+
+/// A seat that is only lent. There is none in it while the slot makes a turn, and never else.
+#[derive(Drop)]
+pub struct Post {
+    pub seat: Option<Seat>,
+}
+
+impl Steady for Post {
+    ghost label = { post_label };
+
+    ghost sound = { IsSound };
+}
+
+impl Worker {
+    /// Its seat.
+    pub fn sit(self, words: &Words<u64>) -> Seat
+        requires may { MayWork words.now self }
+        ensures sits { SitsAt words.now result }
+        ensures slot { (result.holder.slot ≡ self.slot) × (result.pass ≡ self.pass) }
+    {
+        let Worker {
+            slot,
+            size,
+            key,
+            batch,
+            spots,
+            pass,
+        } = self;
+        let holder = Holder {
+            slot,
+            size,
+            key,
+            batch,
+            spots,
+        };
+        Seat {
+            holder,
+            pass,
+            activation: None,
+        }
+    }
+}
+
+impl Active {
+    /// Its seat.
+    pub fn sit(self, words: &Words<u64>) -> Seat
+        requires stands { Stands words.now self }
+        ensures sits { SitsAt words.now result }
+        ensures slot { (result.holder.slot ≡ self.slot) × (result.pass ≡ self.pass) }
+    {
+        let Active {
+            slot,
+            size,
+            key,
+            batch,
+            spots,
+            pass,
+            activation,
+        } = self;
+        let holder = Holder {
+            slot,
+            size,
+            key,
+            batch,
+            spots,
+        };
+        Seat {
+            holder,
+            pass,
+            activation: Some(activation),
+        }
+    }
+}
+
+impl Seat {
+    /// The slot enters, where it has not.
+    pub fn enter(self, words: &Words<u64>) -> Active
+        requires sits { SitsAt words.now self }
+        ensures stands { Stands words.now result }
+        ensures slot { result.slot ≡ self.holder.slot }
+    {
+        let Seat {
+            holder: Holder {
+                slot,
+                size,
+                key,
+                batch,
+                spots,
+            },
+            pass,
+            activation,
+        } = self;
+        match activation {
+            Some(activation) => Active {
+                slot,
+                size,
+                key,
+                batch,
+                spots,
+                pass,
+                activation,
+            },
+            None => Worker {
+                slot,
+                size,
+                key,
+                batch,
+                spots,
+                pass,
+            }
+            .enter(words),
+        }
+    }
+
+    /// A seat of some words sits at these, where their book has its family. It does nothing when the program runs.
+    pub fn known(self, words: &Words<u64>) -> Seat
+        requires seat { IsSeat self }
+        requires family { IsOfBook self words.now }
+        ensures sits { SitsAt words.now result }
+        ensures same { result ≡ self }
+    {
+        let Seat {
+            holder,
+            mut pass,
+            activation,
+        } = self;
+        pass.agree(&words.blocks.book);
+        Seat {
+            holder,
+            pass,
+            activation,
+        }
+    }
+
+    /// Enters, where the slot has not, swaps the value of a new block, which is lent, into the link, and retires what came out. The slot
+    /// stays active. It says whether the value was put in; it was not where a growth of the store was refused.
+    pub fn turn(
+        self,
+        words: &Words<u64>,
+        link: usize,
+        value: u64,
+        marks: &[AtomicU64],
+        rt: &impl Wait,
+    ) -> (Seat, bool)
+        requires sits { SitsAt words.now self }
+        requires link { link < 1024 }
+        ensures sits { SitsAt words.now result.0 }
+        ensures slot { result.0.holder.slot ≡ self.holder.slot }
+    {
+        let mut counting = Counting::new(marks);
+        let (active, swapped) = self.enter(words).swap_in(words, link, value);
+        match swapped {
+            None => (active.sit(words), false),
+            Some(None) => (active.sit(words), true),
+            Some(Some(out)) => {
+                let (active, _) = active.retire(words, out, 1, &mut counting, rt);
+                (active.sit(words), true)
+            }
+        }
+    }
+}
+
+impl Post {
+    /// A post with this seat.
+    pub fn new(seat: Seat) -> Post
+        requires { IsSeat seat }
+        ensures { IsSound result × (post_label result ≡ label_at seat.pass.name seat.holder.slot) }
+    {
+        Post { seat: Some(seat) }
+    }
+
+    /// The seat in it.
+    pub fn into_seat(self) -> Seat
+        requires { IsSound self }
+        ensures { self.seat ≡ Some result }
+    {
+        match self.seat {
+            Some(seat) => seat,
+            None => unreachable!(),
+        }
+    }
+}
+
+impl Worker {
+    /// What it has is only lent from then on, to whoever has the token.
+    pub fn lend(self, words: &Words<u64>) -> (SteadyCell<Post>, CellToken)
+        requires may { MayWork words.now self }
+        ensures post { IsPostOf words.now result.0 }
+        ensures token { result.1.name ≡ result.0.name }
+    {
+        SteadyCell::new(Post::new(self.sit(words)))
+    }
+}
+
+/// A turn of the slot whose seat it is: it swaps the value into the link, see [`Seat::turn`].
+#[derive(Drop)]
+pub struct Turn<'a, W> {
+    pub words: &'a Words<u64>,
+    pub link: usize,
+    pub value: u64,
+    pub marks: &'a [AtomicU64],
+    pub rt: &'a W,
+}
+
+impl<W: Wait> Work<Post, bool> for Turn<'_, W> {
+    ghost may = { λ turn post. (turn.link < 1024) × of_family (words_book turn.words.now).family (post_label post) };
+
+    ghost gives = { λ _ _ _ _. Unit {0} };
+
+    fn work(self, post: &mut Post) -> bool {
+        let Turn {
+            words,
+            link,
+            value,
+            marks,
+            rt,
+        } = self;
+        let lent = mem::replace(post, Post { seat: None });
+        let seat = lent.into_seat().known(words);
+        let (seat, done) = seat.turn(words, link, value, marks, rt);
+        *post = Post::new(seat);
+        done
+    }
+}
+
+/// Makes so many turns with the token of this post, with one link after the other and the values from this one on. Then the holder is
+/// forgotten, and the token with it; its slot is active still. It says whether all values were put in.
+pub fn turn_and_forget(
+    words: &Words<u64>,
+    post: &SteadyCell<Post>,
+    token: CellToken,
+    first: u64,
+    turns: u64,
+    marks: &[AtomicU64],
+    rt: &impl Wait,
+) -> bool
+    requires token { token.name ≡ post.now.name }
+    requires post { IsPostOf words.now post.now }
+{
+    let mut token = token;
+    for turn in 0..turns {
+        let work = Turn {
+            words,
+            link: (turn % LINKS) as usize,
+            value: first.wrapping_add(turn),
+            marks,
+            rt,
+        };
+        if !post.work(&mut token, work) {
+            return false;
+        }
+    }
+    mem::forget(token);
+    true
+}
