@@ -1,6 +1,7 @@
 //! A book whose gate is open to several holders of slots, in turns, and then shut to one caller, who has all contents come back. Each
 //! holder makes its calls with a pass that a porter gave out. When these passes are laid back, by the holders or by whoever has what was
-//! lent to them, the gate is shut: the list that the first pass has seen is the whole list from then on, and each slot leaves nothing behind.
+//! lent to them, the gate is shut: the list that the first pass has seen is the whole list from then on, and each slot leaves nothing
+//! behind.
 ghost use Rattle.std.specs.Prelude.{◌≡◌, ◌<◌, IfSome};
 ghost use Rattle.seize_book.specs.Turns.{HasTurn, TakesBack};
 ghost use Rattle.seize_calls_rows.specs.Turns.{CanMakeIn, IsOneMoreOut, IsShutBy, IsSlotAfter, Regains};
