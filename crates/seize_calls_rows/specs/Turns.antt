@@ -1,7 +1,7 @@
 -- What is known while holders of slots work in turns, and when the gate is shut.
 --     CanMakeIn source words porter    the next slot can be made, and its holder has a pass of the porter's
 --     IsSlotAfter source worker source' words     the worker has the slot that came next, and so may the slot after it be made
---     IsOneMoreOut porter porter'      one more pass is out
+--     IsOneMoreOut porter porter'      one more pass is out;  AreSoManyOut porter porter'     as many as before
 --     StandsAs words spots slot size batch key activation pass     as `Stands`, of each by itself;  Holds words holder pass   as `MayWork`
 --     HasNone holder                   its slot has no batch, as its key knows
 --     KeepsLinks pass pass'            each link holds what it held
@@ -12,13 +12,13 @@
 --                                      list says is kept of it; the pass has seen what it had seen
 --     IsShut porter shut               it is the pass of the gate that was shut
 --     IsShutBy porter first second shut     and has seen what the passes of the two seats had
---     Regains shut pass had had'       all that are gone since the gate was shut went so to the reclaimer, no link holds anything, and of
---                                      what came out of a link nothing was lost
+--     Regains before pass had had'     all that are gone since went so to the reclaimer, no link holds anything, and nothing is lost of what
+--                                      came out of a link
 --     LeavesNothing pass s             slot s has no call, is not active, and has no batch, as the pass has seen
---     AreAll first second pass         these are the holders of all slots that there are
---     AllBack pass                     the pass has seen the whole list, and nobody else can add to it. In it no link holds anything, no
---                                      call is under way, no slot is active and none has a batch. So each value that was ever retired went
---                                      to its reclaimer
+--     AreAll first second pass         these are the holders of slots 0 and 1, in this order, and there are no others
+--     AllBack pass                     nobody else can add to the list while somebody has the pass. No link holds anything, no call is under
+--                                      way, no slot is active and none has a batch, as it has seen. So each value that was ever retired is
+--                                      gone
 use Rattle.std.specs.Prelude.{◌≡◌, ℕ, ◌+◌, ◌<◌, true, false, List, [], ◌++◌, None, is_some}
 use mathlib.Core.List.{IsPrefix}
 use Rattle.seize_machine.specs.Machine.History.{Reclaimed, Retired}
@@ -56,6 +56,9 @@ IsSlotAfter source worker source' words = (worker.slot ≡ made_by source) × Ha
 
 abbrev pub IsOneMoreOut : Porter → Porter → Type 0
 IsOneMoreOut porter porter' = (porter'.name ≡ porter.name) × (porter'.out ≡ porter.out + 1)
+
+abbrev pub AreSoManyOut : Porter → Porter → Type 0
+AreSoManyOut porter porter' = (porter'.name ≡ porter.name) × (porter'.out ≡ porter.out)
 
 abbrev pub StandsAs : Shared → Spots Header Part ℕ → ℕ → ℕ → Batch → SlotKey → Activation → Pass → Type 0
 StandsAs words spots slot size batch key activation pass =
@@ -97,11 +100,11 @@ pub record AllBack (pass : Pass) : Type 0 where
   pub reclaimed : (v q : ℕ) → let ms = moments (start pass.name) pass.seen in
       Retired ms v q → (c : ℕ) × Reclaimed ms v c
 
-pub record Regains (shut pass : Pass) (had had' : Had) : Type 0 where
-  pub same : IsSame shut pass
-  pub gave : Gave shut pass had had'
+pub record Regains (before pass : Pass) (had had' : Had) : Type 0 where
+  pub same : IsSame before pass
+  pub gave : Gave before pass had had'
   pub links : EmptyBelow 1024 pass
-  pub lost : NoneLost shut pass
+  pub lost : NoneLost before pass
 
 -- the slot has no call, is not active and has no batch
 pub record LeavesNothing (pass : Pass) (s : ℕ) : Type 0 where

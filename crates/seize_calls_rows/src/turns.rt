@@ -1,11 +1,11 @@
-//! A book whose gate is open to several holders of slots, in turns, and then shut to one caller, who has all contents come back. Each
-//! holder makes its calls with a pass that a porter gave out. When these passes are laid back, by the holders or by whoever has what was
-//! lent to them, the gate is shut: the list that the first pass has seen is the whole list from then on, and each slot leaves nothing
-//! behind.
-ghost use Rattle.std.specs.Prelude.{◌≡◌, ◌<◌, ◌↔◌, IfSome, true};
+//! A book whose gate is open to several holders of slots, in turns, and then shut to one caller, who has what links and batches hold
+//! come back. Each holder makes its calls with a pass that a porter gave out. When these passes are laid back, by the holders or by
+//! whoever has what was lent to them, the gate is shut: the list that the first pass has seen is the whole list from then on, and each
+//! slot leaves nothing behind.
+ghost use Rattle.std.specs.Prelude.{◌≡◌, ◌<◌, ◌↔◌, IfSome, None, true};
 ghost use Rattle.seize_book.specs.Passes.{LooksOn};
 ghost use Rattle.seize_book.specs.Turns.{HasTurn, TakesBack};
-ghost use Rattle.seize_calls_rows.specs.Turns.{AllBack, AreAll, CanMakeIn, IsOneMoreOut, IsShutBy, IsSlotAfter, Regains};
+ghost use Rattle.seize_calls_rows.specs.Turns.{AllBack, AreAll, AreSoManyOut, CanMakeIn, IsOneMoreOut, IsShutBy, IsSlotAfter, Regains};
 ghost use Rattle.seize_calls_rows.specs.Seats.{IsLeft, SitsAt, post_at};
 ghost use Rattle.seize_calls_rows.specs.Turns.{EmptyBelow, Gave, HasNone, Holds, IsShut, KeepsLinks, LeavesNothing, NoneLost, StandsAs, TakesOut};
 ghost use Rattle.seize_calls_rows.specs.Workers.{GoesOn, MayWork, made_by};
@@ -45,11 +45,13 @@ pub fn open_in_turns(alloc: Global, size: usize) -> Option<(Words<u64>, Porter, 
 }
 
 impl Source {
-    /// Makes the next slot, whose holder has a pass that the porter gives out. Nothing comes where the growth of the table was refused.
+    /// Makes the next slot, whose holder has a pass that the porter gives out. Nothing comes where the growth of the table, or the room
+    /// of the slot's list of spots, was refused; no pass more is out then.
     pub fn make_in_turns(self, words: &Words<u64>, porter: &mut Porter) -> Option<(Worker, Source)>
         requires can { CanMakeIn self words.now porter.old }
         ensures may { IfSome result (λ made. MayWork words.now made.0 × IsSlotAfter self made.0 made.1 words.now) }
         ensures out { IfSome result (λ made. IsOneMoreOut porter.old porter.new) }
+        ensures back { result ≡ None → AreSoManyOut porter.old porter.new }
     {
         let pass = porter.pass();
         match self.make_with(words, pass) {
@@ -365,9 +367,10 @@ fn are_all(first: usize, second: usize, many: usize) -> bool
     first == 0 && second == 1 && many == 2
 }
 
-/// Has all contents come back, with the pass of the shut gate. A slot that is active flushes and leaves first: its holder was forgotten.
-/// Then the first one takes out what the links hold, and retires it, and both are cleared, until neither has a batch: as often as what
-/// reclaimers put asks for, and there may be no end of that. It gives the holders back, and says whether there are no other slots.
+/// Has what links and batches hold come back, with the pass of the shut gate. A slot that is active flushes and leaves first: its holder
+/// was forgotten. Then the first one takes out what the links hold, and retires it, and both are cleared, until neither has a batch. No
+/// clause says that this has an end. It gives the holders back, and says whether these are slots 0 and 1, in this order, and there are
+/// no others.
 pub fn reclaim_all(
     words: &Words<u64>,
     first: Left,
