@@ -10,15 +10,15 @@
 --     EmptyBelow n pass                the links below this number hold nothing
 --     Gave pass pass' had had'         the values that are gone since went to the reclaimer (HasHad), in order, each with the word that the
 --                                      list says is kept of it; the pass has seen what it had seen
---     IsShut porter shut               it is the pass of the gate that was shut
+--     IsShut porter shut               it is the pass of the gate that was shut, and has seen what the porter had
 --     IsShutBy porter first second shut     and has seen what the passes of the two seats had
---     Regains before pass had had'     all that are gone since went so to the reclaimer, no link holds anything, and nothing is lost of what
---                                      came out of a link
+--     Regains before pass had had'     all that are gone since went so to the reclaimer, no link holds anything, and nothing is lost of
+--                                      what came out of a link
 --     LeavesNothing pass s             slot s has no call, is not active, and has no batch, as the pass has seen
 --     AreAll first second pass         these are the holders of slots 0 and 1, in this order, and there are no others
---     AllBack pass                     nobody else can add to the list while somebody has the pass. No link holds anything, no call is under
---                                      way, no slot is active and none has a batch, as it has seen. So each value that was ever retired is
---                                      gone
+--     AllBack pass                     nobody else can add to the list while somebody has the pass. No link holds anything, no call is
+--                                      under way, no slot is active and none has a batch, as it has seen. So each value that was ever
+--                                      retired is gone
 use Rattle.std.specs.Prelude.{◌≡◌, ℕ, ◌+◌, ◌<◌, true, false, List, [], ◌++◌, None, is_some}
 use mathlib.Core.List.{IsPrefix}
 use Rattle.seize_machine.specs.Machine.History.{Reclaimed, Retired}
@@ -118,7 +118,7 @@ AreAll first second pass = (first.slot ≡ 0) × (second.slot ≡ 1) × (slots_s
 
 -- it is the pass of the gate that was shut
 abbrev pub IsShut : Porter → Pass → Type 0
-IsShut porter shut = (shut.name ≡ porter.name) × HasTurn shut × IsSole shut.name.gate shut.id
+IsShut porter shut = (shut.name ≡ porter.name) × HasTurn shut × IsSole shut.name.gate shut.id × IsPrefix porter.seen shut.seen
 
 abbrev pub IsShutBy : Porter → Seat → Seat → Pass → Type 0
 IsShutBy porter first second shut = IsShut porter shut × IsPrefix first.pass.seen shut.seen × IsPrefix second.pass.seen shut.seen
