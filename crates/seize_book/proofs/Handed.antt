@@ -27,7 +27,7 @@ moments_of st ds = history next st (map timed ds)
 abbrev pub state_of : State → List Deed → State
 state_of st ds = end_of st (moments_of st ds)
 
-moments_length : (st : State) (ds : List Deed) → length (moments_of st ds) ≡ length ds
+pub moments_length : (st : State) (ds : List Deed) → length (moments_of st ds) ≡ length ds
 moments_length st [] = refl
 moments_length st (e ∷ ds) = ap suc (moments_length (done_by next st (timed e)).0 ds)
 

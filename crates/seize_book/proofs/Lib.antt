@@ -10,6 +10,7 @@ pub mod Deposits
 pub mod Goes
 pub mod Handed
 pub mod Lives
+pub mod Standing
 pub mod Tickets
 pub mod Gates
 pub mod Tables

@@ -1,9 +1,9 @@
 -- The holder of a pass, and of keys, looks at the list with no event. Assumes `Logic`.
-use Rattle.std.proofs.Common.{◌≡◌, ℕ, List, [], ◌∷◌, length, refl, sym, ◌∙◌, append-nil, Option, Some, true, arith}
+use Rattle.std.proofs.Common.{◌≡◌, ℕ, List, [], ◌∷◌, length, refl, sym, ◌∙◌, append-nil, Option, Some, true, inl, arith}
 use mathlib.Core.List.{IsPrefix}
 use seplogic.Ra.Ura.{Ura}
 use base.Logic.{SProp, ent, sep, ex, guard, upd, upd_i}
-use base.Fml.{Fml, ftrue, finv, fdead}
+use base.Fml.{Fml, Share, ftrue, finv, fdead, flft}
 use types.Logic.{Logic, sem}
 use types.Growing.{at_least_dup}
 use types.Kit.{‵, raw, later, updating, await, now, settle, keep, ◌⊛◌, some, given, ◌$◌, ◌∵◌, !, qed, move, drop, split, split3, join, fsplit, fjoin, fpick, fpack, pick, learn, show, check, frame, assume, rewrite, suffices, done, use1, use2, use3}
@@ -26,7 +26,7 @@ use Rattle.seize_book.proofs.Gates.{agrees, gives_as}
 use Rattle.seize_book.proofs.Goes.{kept_now}
 use Rattle.seize_book.proofs.Notes.{distinct_links, knows_twice, opens}
 use Rattle.seize_book.proofs.Passes.{IsDistinct}
-use Rattle.seize_book.proofs.Lives.{ended_grows, over_one}
+use Rattle.seize_book.proofs.Lives.{ended_grows, living, none_over, over_one}
 use Rattle.seize_book.proofs.Tables.{all_lie_twice}
 use Rattle.seize_book.proofs.Ways.{AreIn, found_lent, all_in, all_twice, one_leads, keys_apart, keys_whole, ways, ways_renewed}
 
@@ -268,3 +268,28 @@ module _ {M : Type 1} {𝓤 : Ura M} (𝓛 : Logic 𝓤) (n : Name) (p : ℕ) wh
       dead : (log : List Entry) → Known (rules st) [] seen log → ⟦ beside n log ⟧ ∗ ⟦ ftrue ⟧ ⊢ guard 𝓤 (Unit {0}) (⟦ beside n log ⟧ ∗ ⟦ fdead (a ∷ []) ⟧)
       dead log known = qed 𝓛 (‵ (beside n log) ∷ ‵ ftrue ∷ []) ∵ fsplit ! $ use1 𝓛 (‵ (over (ended log)) ⊛ ‵ (fdead (a ∷ []))) (over_one 𝓛 (ended log) a (ended_grows seen log a known.1 there)) $ split ! $
           check ! tt $ move ! (0 ∷ 2 ∷ []) $ fjoin ! $ keep ! (0 ∷ 1 ∷ []) $ done !
+
+  -- and one whose token is at hand has not ended in what the pass has seen
+  abbrev pub Lasts : List Entry → ℕ → Share → Pr
+  Lasts seen a q = guard 𝓤 (¬ (IsIn (ended seen) a)) (⟦ pass_owns n p seen ⟧ ∗ ⟦ flft (a ∷ []) q ⟧)
+
+  pub lasts : (seen : List Entry) (a : ℕ) (q : Share) → ⟦ pass_owns n p seen ⟧ ∗ ⟦ flft (a ∷ []) q ⟧ ⊢ H.⇛ (Lasts seen a q)
+  lasts seen a q = let Z : Pr = Lasts seen a q in let T : Fml = flft (a ∷ []) q in qed 𝓛 ((‵ (knows n) ⊛ ‵ (pass_holds n p seen)) ∷ ‵ T ∷ []) ∵ split ! $ use1 𝓛 (‵ (knows n) ⊛ ‵ (knows n)) (knows_twice 𝓛 n) $ split ! $ use1 𝓛 (‵ (finv J)) (opens 𝓛 n) $
+      suffices ! _ (𝓛.invs.inv_acc J Z) $ frame ! $ assume ! (‵ J) $ move ! (2 ∷ []) $
+      -- [the pass; J; the book; the token]
+      use1 𝓛 (some (λ (own : List Entry). given (Idle own seen) (‵ (rights (pass_key p own ∷ [])) ⊛ ‵ (had seen) ⊛ ‵ (gives seen)))) (apart seen) $ pick ! (λ own. learn ! (λ past. split3 ! $ move ! (1 ∷ []) $
+      use1 𝓛 (‵ (had seen) ⊛ ‵ (had seen)) (at_least_dup (logs entry_coded) 𝓛 n.log seen) $ split ! $
+      -- [what it has seen, twice; its key; its copy; J; the book; the token]
+      move ! (2 ∷ 0 ∷ 3 ∷ []) $ use3 𝓛 (‵ (pass_holds n p seen)) (together seen own past) $ move ! (3 ∷ 0 ∷ []) $ fjoin ! $
+      -- [the pass; what it has seen; J; the token]
+      move ! (1 ∷ 3 ∷ []) $ join ! $ nothing ! $ move ! (3 ∷ 0 ∷ 1 ∷ []) $
+      use3 𝓛 (some (λ (log : List Entry). given (Known (rules st) [] seen log × (¬ (IsIn (ended seen) a))) (‵ J ⊛ ‵ ftrue ⊛ ‵ (had log) ⊛ ‵ T)))
+      (looks_beside entry_coded (rules st) (beside n) n.log (rows n) 𝓛 [] seen (λ _. ¬ (IsIn (ended seen) a)) ⟦ T ⟧ (λ _. ⟦ T ⟧) tt alive) $
+      suffices ! _ (upd_i 𝓤 (⟦ J ⟧ ∗ Z)) $ pick ! (λ log. learn ! (λ known. split ! $ frame ! $ split3 ! $ check ! known.1 $ keep ! (3 ∷ 2 ∷ []) $ done !))))
+    where
+      alive : (log : List Entry) → Known (rules st) [] seen log → ⟦ beside n log ⟧ ∗ ⟦ flft (a ∷ []) q ⟧ ⊢ guard 𝓤 (¬ (IsIn (ended seen) a)) (⟦ beside n log ⟧ ∗ ⟦ flft (a ∷ []) q ⟧)
+      alive log known = qed 𝓛 (‵ (beside n log) ∷ ‵ (flft (a ∷ []) q) ∷ []) ∵ fsplit ! $ nothing ! $ move ! (3 ∷ 0 ∷ []) $ fjoin ! $ move ! (1 ∷ 0 ∷ []) $
+          use2 𝓛 (given ((b : ℕ) → IsIn (a ∷ []) b → ¬ (IsIn (ended log) b)) (‵ (over (ended log)) ⊛ ‵ (living 𝓛 (a ∷ []) q))) (none_over 𝓛 (a ∷ []) (ended log) q) $ learn ! (λ none.
+          check ! (λ there. none a (inl refl) (ended_grows seen log a known.1 there)) $ split ! $ move ! (1 ∷ []) $ fsplit ! $
+          -- [the token; nothing; what has ended; the rest]
+          move ! (2 ∷ 3 ∷ []) $ fjoin ! $ keep ! (0 ∷ 1 ∷ []) $ done !)

@@ -107,7 +107,7 @@ module _ (link : Link) (a : Activation) (pass pass' : Pass) (in_ : IsIn link a p
   pub taken : Takes link a pass pass' ev v
   taken =
       let w = within pass.name a.slot a.life (number link) a.since pass.seen in_.within v pass.id keys.held step.since step.log step.found in
-      record { same = told.0; before = step.log; noted = step.noted; is_before = step.is_log; during = (w.0, w.2); found = step.found.shows ∙ ap link_word held }
+      record { same = told.0; before = step.log; noted = step.noted; is_before = step.is_log; during = (w.0, w.2, step.found.none_ended a.life (inl refl)); found = step.found.shows ∙ ap link_word held }
 
   its_key : IsKeyOf (link_at (after (start pass.name) step.log) (number link)) step.since.1
   its_key = subst (λ (o : Option ℕ). IsKeyOf o step.since.1) held step.found.stands

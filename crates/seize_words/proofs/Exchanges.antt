@@ -18,7 +18,7 @@ use Rattle.seize_book.specs.Entry.{Deed, Entry, Made, Used}
 use Rattle.seize_book.specs.Homes.{home_of}
 use Rattle.seize_book.specs.Laws.{IsIn, Reader, ended, life}
 use Rattle.seize_book.specs.Ledger.{Held, WithKinds}
-use Rattle.seize_words.specs.Links.{IsNewIn, IsWithin, at_link, compared, is_at_most_one, value_in, value_with}
+use Rattle.seize_words.specs.Links.{IsNewIn, IsWithin, at_link, compared, is_at_most_one, value_in}
 use Rattle.seize_words.specs.Stepping.{FoundAs, IsStep, MayStep}
 use Rattle.seize_book.specs.Tokens.{Name, start}
 use Rattle.seize_book.proofs.Lists.{after_push, equal, unequal}
@@ -100,48 +100,44 @@ module _ (n : Name) (s a l : ℕ) (since seen : List Entry) (in_ : IsWithin n s 
   same_words None (Some w) h = absurd (cc)
   same_words (Some v) None h = absurd (cc)
 
-  pub hit : (seen_word : ℕ) (old o : Option ℕ) → link_word old ≡ seen_word → is_stored old (Compare (compared seen_word old) o) ≡ true
-  hit seen_word old o e = ap (λ (b : Bool). same_link old (if b then old else value_with seen_word)) (equal (link_word old) seen_word e) ∙ is_same old
+  pub hit : (current old o : Option ℕ) → link_word old ≡ link_word current → is_stored old (Compare (compared current old) o) ≡ true
+  hit current old o e = ap (λ (b : Bool). same_link old (if b then old else current)) (equal (link_word old) (link_word current) e) ∙ is_same old
 
-  pub missed : (seen_word : ℕ) (old o : Option ℕ) → seen_word < 2 ^ 64 → link_word old ≢ seen_word → is_stored old (Compare (compared seen_word old) o) ≡ false
-  missed seen_word old o fits differs = ap (λ (b : Bool). same_link old (if b then old else value_with seen_word)) (unequal (link_word old) seen_word differs) ∙ apart (is_true (same_link old (value_with seen_word)))
+  pub missed : (current old o : Option ℕ) → link_word old ≢ link_word current → is_stored old (Compare (compared current old) o) ≡ false
+  missed current old o differs = ap (λ (b : Bool). same_link old (if b then old else current)) (unequal (link_word old) (link_word current) differs) ∙ apart (is_true (same_link old current))
     where
-      word_back : (w : ℕ) → w < 2 ^ 64 → link_word (value_with w) ≡ w
-      word_back zero f = refl
-      word_back (suc w) f = let small : w % 2 ^ 64 ≡ w = omega (arith, f) in omega (arith, small)
-
-      apart : (same_link old (value_with seen_word) ≡ true) ⊎ (same_link old (value_with seen_word) ≡ false) → same_link old (value_with seen_word) ≡ false
-      apart (inl h) = absurd (differs (same_words old (value_with seen_word) h ∙ word_back seen_word fits))
+      apart : (same_link old current ≡ true) ⊎ (same_link old current ≡ false) → same_link old current ≡ false
+      apart (inl h) = absurd (differs (same_words old current h))
       apart (inr h) = h
 
-  pub may_compare_link : (p size seen_word new : ℕ) (held : List (Held Entry)) → seen_word < 2 ^ 64 → is_at_most_one held ≡ true → IsNewIn n (value_in held) held → new ≡ link_word (value_in held)
-      → MayStep (at_link n l) p seen held (a ∷ []) [] (exchanged seen_word new)
-      (λ v log. Made (record { pass = p; size = size; event = ExchangeLink s l (Compare (compared seen_word (link_at (after st log) l)) (value_in held)); life = 0; kepts = [] })) (λ v. v == seen_word)
-  may_compare_link p size seen_word new held fits one fresh word = (all_blocks held one, step)
+  pub may_compare_link : (p size new : ℕ) (current : Option ℕ) (held : List (Held Entry)) → is_at_most_one held ≡ true → IsNewIn n (value_in held) held → new ≡ link_word (value_in held)
+      → MayStep (at_link n l) p seen held (a ∷ []) [] (exchanged (link_word current) new)
+      (λ v log. Made (record { pass = p; size = size; event = ExchangeLink s l (Compare (compared current (link_at (after st log) l)) (value_in held)); life = 0; kepts = [] })) (λ v. v == link_word current)
+  may_compare_link p size new current held one fresh word = (all_blocks held one, step)
     where
       e : List Entry → Entry
-      e log = Made (record { pass = p; size = size; event = ExchangeLink s l (Compare (compared seen_word (link_at (after st log) l)) (value_in held)); life = 0; kepts = [] })
+      e log = Made (record { pass = p; size = size; event = ExchangeLink s l (Compare (compared current (link_at (after st log) l)) (value_in held)); life = 0; kepts = [] })
 
       step : (v : ℕ) (t : At) (own log : List Entry) → FoundAs (at_link n l) v p seen held (a ∷ []) t log
-          → IsStep (at_link n l) p held [] (exchanged seen_word new v) (Made (record { pass = p; size = size; event = ExchangeLink s l (Compare (compared seen_word (link_at (after st log) l)) (value_in held)); life = 0; kepts = [] })) (v == seen_word) t own log
+          → IsStep (at_link n l) p held [] (exchanged (link_word current) new v) (Made (record { pass = p; size = size; event = ExchangeLink s l (Compare (compared current (link_at (after st log) l)) (value_in held)); life = 0; kepts = [] })) (v == link_word current) t own log
       step v t own log found =
           let w = within v p held t log found in let old : Option ℕ = link_at (after st log) l in let is : v ≡ link_word old = found.shows ∙ ap link_word (same n l v p seen held (a ∷ []) t log found) in
-          let goal : ℕ → Type 0 = λ x. IsStep (at_link n l) p held [] x (Made (record { pass = p; size = size; event = ExchangeLink s l (Compare (compared seen_word old) (value_in held)); life = 0; kepts = [] })) (v == seen_word) t own log in
-          kit.exchanged v seen_word new goal
-          (λ same. subst (λ (b : Bool). IsStep (at_link n l) p held [] new (Made (record { pass = p; size = size; event = ExchangeLink s l (Compare (compared seen_word old) (value_in held)); life = 0; kepts = [] })) b t own log) (sym (equal v seen_word same))
-          (store_step n l v p size s seen held (a ∷ []) t own log found w.0 w.1 (value_in held) (Compare (compared seen_word old) (value_in held)) refl fresh new word (hit seen_word old (value_in held) (sym is ∙ same))))
-          (λ differs. subst (λ (b : Bool). IsStep (at_link n l) p held [] v (Made (record { pass = p; size = size; event = ExchangeLink s l (Compare (compared seen_word old) (value_in held)); life = 0; kepts = [] })) b t own log) (sym (unequal v seen_word differs))
-          (miss_step n l v p size s seen held (a ∷ []) t own log found w.0 w.1 (value_in held) (Compare (compared seen_word old) (value_in held)) refl fresh (missed seen_word old (value_in held) fits (λ x. differs (is ∙ x)))))
+          let goal : ℕ → Type 0 = λ x. IsStep (at_link n l) p held [] x (Made (record { pass = p; size = size; event = ExchangeLink s l (Compare (compared current old) (value_in held)); life = 0; kepts = [] })) (v == link_word current) t own log in
+          kit.exchanged v (link_word current) new goal
+          (λ same. subst (λ (b : Bool). IsStep (at_link n l) p held [] new (Made (record { pass = p; size = size; event = ExchangeLink s l (Compare (compared current old) (value_in held)); life = 0; kepts = [] })) b t own log) (sym (equal v (link_word current) same))
+          (store_step n l v p size s seen held (a ∷ []) t own log found w.0 w.1 (value_in held) (Compare (compared current old) (value_in held)) refl fresh new word (hit current old (value_in held) (sym is ∙ same))))
+          (λ differs. subst (λ (b : Bool). IsStep (at_link n l) p held [] v (Made (record { pass = p; size = size; event = ExchangeLink s l (Compare (compared current old) (value_in held)); life = 0; kepts = [] })) b t own log) (sym (unequal v (link_word current) differs))
+          (miss_step n l v p size s seen held (a ∷ []) t own log found w.0 w.1 (value_in held) (Compare (compared current old) (value_in held)) refl fresh (missed current old (value_in held) (λ x. differs (is ∙ x)))))
 
   -- and where something else is there, finds that
-  pub compare_finds : (p size seen_word : ℕ) (held : List (Held Entry)) → seen_word < 2 ^ 64 → IsNewIn n (value_in held) held → (v : ℕ) (t : At) (log : List Entry) → FoundAs (at_link n l) v p seen held (a ∷ []) t log → (v == seen_word) ≡ false → (w : ℕ)
-      → link_at (after st (log ++ Made (record { pass = p; size = size; event = ExchangeLink s l (Compare (compared seen_word (link_at (after st log) l)) (value_in held)); life = 0; kepts = [] }) ∷ [])) l ≡ Some w
-      → Reader st (log ++ Made (record { pass = p; size = size; event = ExchangeLink s l (Compare (compared seen_word (link_at (after st log) l)) (value_in held)); life = 0; kepts = [] }) ∷ []) w a
-  compare_finds p size seen_word held fits fresh v t log found differs w is =
-      let now : State = after st log in let old : Option ℕ = link_at now l in let o : Option ℕ = value_in held in let exchange : Exchange = Compare (compared seen_word old) o in
+  pub compare_finds : (p size : ℕ) (current : Option ℕ) (held : List (Held Entry)) → IsNewIn n (value_in held) held → (v : ℕ) (t : At) (log : List Entry) → FoundAs (at_link n l) v p seen held (a ∷ []) t log → (v == link_word current) ≡ false → (w : ℕ)
+      → link_at (after st (log ++ Made (record { pass = p; size = size; event = ExchangeLink s l (Compare (compared current (link_at (after st log) l)) (value_in held)); life = 0; kepts = [] }) ∷ [])) l ≡ Some w
+      → Reader st (log ++ Made (record { pass = p; size = size; event = ExchangeLink s l (Compare (compared current (link_at (after st log) l)) (value_in held)); life = 0; kepts = [] }) ∷ []) w a
+  compare_finds p size current held fresh v t log found differs w is =
+      let now : State = after st log in let old : Option ℕ = link_at now l in let o : Option ℕ = value_in held in let exchange : Exchange = Compare (compared current old) o in
       let e : Deed = record { pass = p; size = size; event = ExchangeLink s l exchange; life = 0; kepts = [] } in let d : State × Answer = (now, Held_ old) in let here = within v p held t log found in
       let shows : v ≡ link_word old = found.shows ∙ ap link_word (same n l v p seen held (a ∷ []) t log found) in
-      let not_seen : link_word old ≢ seen_word = λ x. absurd (let both : true ≡ false = sym (equal v seen_word (shows ∙ x)) ∙ differs in cc) in
-      let does : Does st log (Made e) d = miss_does n l v p size s seen held (a ∷ []) t log log found here.0 here.1 o exchange refl fresh (missed seen_word old o fits not_seen) in
+      let not_seen : link_word old ≢ link_word current = λ x. absurd (let both : true ≡ false = sym (equal v (link_word current) (shows ∙ x)) ∙ differs in cc) in
+      let does : Does st log (Made e) d = miss_does n l v p size s seen held (a ∷ []) t log log found here.0 here.1 o exchange refl fresh (missed current old o not_seen) in
       let holds : old ≡ Some w = sym (ap (λ (z : State). link_at z l) (after_push st log (Made e) d found.before.legal does)) ∙ is in
       subst (Reader st (log ++ Made e ∷ []) w) here.2 (found_now st log e d s w does own_event holds)

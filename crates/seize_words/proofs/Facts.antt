@@ -61,6 +61,8 @@ pub use Rattle.seize_words.proofs.Noted.{blocks_stored, noted_back, same_note}
 pub use Rattle.seize_book.proofs.LentValues.{gone_lent, lent_in, lent_key, named_lent}
 -- a value that was named stays so, and one that was reclaimed
 pub use Rattle.seize_book.proofs.Sound.{gone_later, named_later}
+-- what was found in a link stands while its activation lasts, and so a won exchange takes out what it takes the link to hold
+pub use Rattle.seize_words.proofs.Standing.{found_later, found_stands, took_current, was_found}
 -- looks, a slot's key, and the walk of its call, in what the key knows later
 pub use Rattle.seize_words.proofs.Traversals.{batch_next, hand_leaves, handing_named, knows_noted, knows_still, looks_twice, same_key, walk_kept, word_stays}
 use Rattle.seize_book.proofs.Plans.{AllLess, blocks_stay, legal_prefix, plan_stays, plans_append, plans_long, saw_there, tried_there}

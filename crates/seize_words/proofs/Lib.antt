@@ -1,5 +1,6 @@
 pub mod Inserts
 pub mod Finds
+pub mod Standing
 pub mod Facts
 pub mod Steps
 pub mod Uses

@@ -9,6 +9,8 @@
 --     HasNext left, IsNext left link left'     a link is left to make;  it was made
 --     Takes                       the event was made with the pass, during the activation;  IsDuring activation name list
 --     Reads, Swaps, CompareExchanges     what the event is, in which state it was made, and what is had afterwards
+--     IsStepOn slot number event  the event is this slot's on this link
+--     WasFound a v pass           v was found in a link in this activation, as the pass has seen
 --     Sees                        it is a read, and the glimpse is of what the link held
 --     Finds                       it is a read, and the pass looked at the list since
 use Rattle.std.specs.Prelude.{◌≡◌, ◌≢◌, ℕ, suc, List, [], Option, Some, None, true, is_some, drop}
@@ -20,7 +22,7 @@ use Rattle.seize_book.specs.Begin.{first_links}
 use Rattle.seize_book.specs.Blocks.{link_word}
 use Rattle.seize_book.specs.Book.{after}
 use Rattle.seize_book.specs.Entry.{Entry, Made}
-use Rattle.seize_book.specs.Laws.{life}
+use Rattle.seize_book.specs.Laws.{IsIn as IsAmong, Reader, ended, life}
 use Rattle.seize_book.specs.Ledger.{renewed}
 use Rattle.seize_words.specs.Links.{IsNewIn, IsWithin, compared, value_in}
 use Rattle.seize_book.specs.Others.{state_of}
@@ -58,9 +60,10 @@ IsNewFor link key new =
 abbrev pub IsSomeKey : MaybeKey → Type 0
 IsSomeKey key = is_some (holds key) ≡ true
 
--- the activation's slot was active when the list was this, and in this activation
+-- the activation's slot was active when the list was this, and in this activation, which had not ended
 abbrev pub IsDuring : Activation → Name → List Entry → Type 0
-IsDuring a n list = (is_active (head_at (after (start n) list) a.slot) ≡ true) × (life a.slot list ≡ a.life)
+IsDuring a n list =
+    (is_active (head_at (after (start n) list) a.slot) ≡ true) × (life a.slot list ≡ a.life) × ¬ (IsAmong (ended list) a.life)
 
 -- The pass added the event, during the activation, where the link held this, and this was its word.
 pub record Takes (link : Link) (a : Activation) (pass pass' : Pass) (event : Option ℕ → Event) (v : ℕ) : Type 0 where
@@ -76,6 +79,14 @@ pub record Takes (link : Link) (a : Activation) (pass pass' : Pass) (event : Opt
 abbrev pub held_before : {link : Link} {a : Activation} {pass pass' : Pass} {event : Option ℕ → Event} {v : ℕ}
     → Takes link a pass pass' event v → Option ℕ
 held_before {link} {a} {pass} t = link_at (after (start pass.name) t.before) (number link)
+
+abbrev pub IsStepOn : ℕ → ℕ → Event → Type 0
+IsStepOn s l (ReadLink i k) = (i ≡ s) × (k ≡ l)
+IsStepOn s l (ExchangeLink i k exchange) = (i ≡ s) × (k ≡ l)
+IsStepOn s l _ = ⊥
+
+abbrev pub WasFound : Activation → ℕ → Pass → Type 0
+WasFound a v pass = Reader (start pass.name) pass.seen v a.life
 
 abbrev pub Reads : Link → Activation → Pass → Pass → ℕ → Type 0
 Reads link activation pass pass' v = Takes link activation pass pass' (λ _. ReadLink activation.slot (number link)) v
@@ -106,12 +117,12 @@ Swaps link activation key pass key' pass' v =
     × (key'.keys.name ≡ key.keys.name) × (holds key' ≡ held_before t) × IsOut key' × KnowsAll key' pass'
 
 -- and here where it was what was seen; else it is the same key, its value may be named still, and the glimpse is of what the link held
-abbrev pub CompareExchanges : Link → Activation → MaybeKey → Pass → ℕ → MaybeKey → Pass → ℕ → Glimpse → Type 0
-CompareExchanges link activation key pass seen key' pass' v glimpse =
-    (t : Takes link activation pass pass' (λ old. ExchangeLink activation.slot (number link) (Compare (compared seen old) (holds key))) v)
+abbrev pub CompareExchanges : Link → Activation → MaybeKey → Pass → Option ℕ → MaybeKey → Pass → ℕ → Glimpse → Type 0
+CompareExchanges link activation key pass current key' pass' v glimpse =
+    (t : Takes link activation pass pass' (λ old. ExchangeLink activation.slot (number link) (Compare (compared current old) (holds key))) v)
     × (key'.keys.name ≡ key.keys.name)
-    × (v ≡ seen → (holds key' ≡ held_before t) × IsOut key' × (glimpse.value ≡ None))
-    × (v ≢ seen → (holds key' ≡ holds key) × IsNewIn key'.keys.name (holds key') key'.keys.held × (glimpse.value ≡ held_before t))
+    × (v ≡ link_word current → (holds key' ≡ held_before t) × IsOut key' × (glimpse.value ≡ None))
+    × (v ≢ link_word current → (holds key' ≡ holds key) × IsNewIn key'.keys.name (holds key') key'.keys.held × (glimpse.value ≡ held_before t))
     × KnowsAll key' pass'
 
 -- Links are made of the keys that their book begins with.

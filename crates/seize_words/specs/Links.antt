@@ -6,7 +6,7 @@
 --                        reclaimed; and something is lent with it, if the blocks of the book lie in a store; or there is neither value nor
 --                        key
 --     value_in held, is_at_most_one held     the value that a key is labelled with, if there is one;  there is no other key
---     compared seen old  what an exchange compares that asks for this word, where the link holds this
+--     compared current old   what an exchange compares that takes the link to hold `current`, where it holds `old`: their words decide
 use Rattle.std.specs.Prelude.{◌≡◌, ℕ, zero, suc, ◌<◌, ◌==◌, Bool, true, false, ◌&&◌, if◌then◌else◌, List, [], ◌∷◌, length, Option, Some, None}
 use Rattle.seize_book.specs.Blocks.{link_word}
 use mathlib.Core.List.{IsPrefix}
@@ -50,11 +50,12 @@ is_at_most_one [] = true
 is_at_most_one (h ∷ []) = (h.kind == blocks) && (h.key == home_of h.label)
 is_at_most_one (h ∷ g ∷ held) = false
 
+-- What is compared where the link is taken to hold `current`, and holds `old`: what it holds if that has the same word. A word can't tell
+-- two values that lay in one block one after the other; `current` is what the link holds wherever it stands still.
+abbrev pub compared : Option ℕ → Option ℕ → Option ℕ
+compared current old = if link_word old == link_word current then old else current
+
 -- a value with this word, or none
 abbrev pub value_with : ℕ → Option ℕ
 value_with zero = None
 value_with (suc n) = Some n
-
--- what is compared where the link's word has to be `seen` and the link holds this: what it holds if that is its word
-abbrev pub compared : ℕ → Option ℕ → Option ℕ
-compared seen old = if link_word old == seen then old else value_with seen

@@ -9,7 +9,7 @@ ghost use Rattle.std.specs.Coded.{coded_ℕ};
 ghost use Rattle.seize_book.specs.Entry.{Entry, entry_coded};
 ghost use Rattle.seize_book.specs.Tokens.{Name, name_coded, over};
 
-use seize_book::book::Keys;
+use seize_book::book::{Keys, Pass};
 use std::marker::{Model, PhantomData};
 
 /// One activation of a slot, in the hands of who made it. While it is borrowed, the slot neither leaves nor refreshes.
@@ -45,7 +45,7 @@ impl Model for Ended {
 }
 
 impl Activation {
-    ghost use Rattle.seize_words.specs.Activations.{Begun, IsNewOf, Renewed};
+    ghost use Rattle.seize_words.specs.Activations.{Begun, IsLasting, IsNewOf, Renewed};
 
     /// A new one of the slot that the key is of. It has still to begin.
     pub(crate) fn new(keys: &mut Keys) -> Activation
@@ -59,6 +59,12 @@ impl Activation {
     /// It has begun with the last event of its slot.
     pub(crate) fn begun(&mut self, keys: &mut Keys)
         ensures { Begun self.old keys.old self.new × (keys.new ≡ keys.old) }
+    {}
+
+    /// It has not ended in what the pass has seen, since it is borrowed. So a value that was found in it was not reclaimed there
+    /// (`found_stands`). It does nothing when the program runs: its contract is the law.
+    pub fn lasts(&self, pass: &mut Pass)
+        ensures { (pass.new ≡ pass.old) × IsLasting self.now pass.new }
     {}
 
     /// Ends it. It is another one then, which has still to begin.

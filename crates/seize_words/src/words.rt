@@ -35,12 +35,13 @@ pub struct Words<T> {
 }
 
 impl<T: Drop> Words<T> {
-    ghost use Rattle.std.specs.Prelude.{ℕ, [], ◌<◌, ◌⊎◌, ◌↔◌, Err, IfErr, IfOk, IfSome, Some, false, is_some, true};
+    ghost use Rattle.std.specs.Prelude.{ℕ, [], ◌<◌, ◌⊎◌, ◌↔◌, Err, IfErr, IfOk, IfSome, Option, Some, false, is_some, true};
     ghost use Rattle.seize_machine.specs.Machine.Event.{AddCount, Enter, Insert, ReadHead, SubCount, SwapOut};
     ghost use Rattle.seize_machine.specs.Machine.State.{is_idle};
     ghost use Rattle.seize_store.specs.Named.{name_of as store_name};
     ghost use Rattle.seize_table.specs.Named.{name_of};
     ghost use Rattle.seize_table.specs.declared.refusal.Refusal.TheVariants.{NoMemory, NoNumbers};
+    ghost use Rattle.seize_book.specs.Blocks.{link_word};
     ghost use Rattle.seize_book.specs.Books.{HasKeys, Opens, OpensAlone};
     ghost use Rattle.seize_words.specs.Counts.{Counts, GivesUp, Leaves, Takes};
     ghost use Rattle.seize_words.specs.Heads.{found_end};
@@ -438,11 +439,13 @@ impl<T: Drop> Words<T> {
         activation: &'g Activation,
         pass: &mut Pass,
     ) -> (u64, Glimpse<'g>)
+        ghost current: { Option ℕ }
         requires book { words_book self.now ≡ pass.old.name }
         requires within { IsInAt activation.now pass.old link }
         requires new { IsNewTo (words_book self.now) value.old new }
+        requires seen { seen ≡ link_word current }
         ensures exchanges { OnLink (words_book self.now) link (λ link.
-            CompareExchanges link activation.now value.old pass.old seen value.new pass.new result.0 result.1) }
+            CompareExchanges link activation.now value.old pass.old current value.new pass.new result.0 result.1) }
     {
         self.links
             .get(link)
