@@ -62,7 +62,7 @@ pub use Rattle.seize_book.proofs.LentValues.{gone_lent, lent_in, lent_key, named
 -- a value that was named stays so, and one that was reclaimed
 pub use Rattle.seize_book.proofs.Sound.{gone_later, named_later}
 -- what was found in a link stands while its activation lasts, and so a won exchange takes out what it takes the link to hold
-pub use Rattle.seize_words.proofs.Standing.{found_later, found_stands, took_current, was_found}
+pub use Rattle.seize_words.proofs.Standing.{found_later, found_stands, took_current, was_found, word_back}
 -- looks, a slot's key, and the walk of its call, in what the key knows later
 pub use Rattle.seize_words.proofs.Traversals.{batch_next, hand_leaves, handing_named, knows_noted, knows_still, looks_twice, same_key, walk_kept, word_stays}
 use Rattle.seize_book.proofs.Plans.{AllLess, blocks_stay, legal_prefix, plan_stays, plans_append, plans_long, saw_there, tried_there}
@@ -262,20 +262,21 @@ module _ (link : Link) (a : Activation) (pass pass' : Pass) (event : Option ℕ 
   pub held_lent : IsLentIn pass.name w
   held_lent = t.noted.lent w (subst (λ (z : State). has w z.named ≡ true) t.noted.leads named_now)
 
--- so whoever has a glimpse of it knows that it can be seen
-pub glimpse_lent : (link : Link) (a : Activation) (pass pass' : Pass) (v w : ℕ) (glimpse : Glimpse) → Sees link a pass pass' v glimpse → glimpse.value ≡ Some w → IsLentIn pass.name w
-glimpse_lent link a pass pass' v w glimpse sees is = held_lent link a pass pass' (λ _. ReadLink a.slot (number link)) v w sees.0 (sym sees.1 ∙ is)
+-- so whoever has a glimpse of what the link held knows that it can be seen
+pub glimpse_lent : (link : Link) (a : Activation) (pass pass' : Pass) (event : Option ℕ → Event) (v w : ℕ) (glimpse : Glimpse) (t : Takes link a pass pass' event v) → glimpse.value ≡ held_before t → glimpse.value ≡ Some w → IsLentIn pass.name w
+glimpse_lent link a pass pass' event v w glimpse t its is = held_lent link a pass pass' event v w t (sym its ∙ is)
 
--- and by which number, where the link's word was not 0
-pub glimpse_found : (link : Link) (a : Activation) (pass pass' : Pass) (v : ℕ) (glimpse : Glimpse) → Sees link a pass pass' v glimpse → is_some pass.name.store ≡ true → v ≢ 0 → IsFoundAt glimpse.value (v - 1) pass'
-glimpse_found link a pass pass' v glimpse sees store some = go (held_before sees.0) refl
+-- and by which number, where the link's word was not 0: of a read, and of an exchange that was lost
+pub glimpse_found : (link : Link) (a : Activation) (pass pass' : Pass) (event : Option ℕ → Event) (v : ℕ) (glimpse : Glimpse) (t : Takes link a pass pass' event v) → glimpse.value ≡ held_before t → is_some pass.name.store ≡ true → v ≢ 0
+    → IsFoundAt glimpse.value (v - 1) pass'
+glimpse_found link a pass pass' event v glimpse t its store some = go (held_before t) refl
   where
-    go : (o : Option ℕ) → held_before sees.0 ≡ o → IsFoundAt glimpse.value (v - 1) pass'
-    go None is = absurd (some (sees.0.found ∙ ap link_word is))
+    go : (o : Option ℕ) → held_before t ≡ o → IsFoundAt glimpse.value (v - 1) pass'
+    go None is = absurd (some (t.found ∙ ap link_word is))
     go (Some w) is = record {
       value = w;
-      is = sees.1 ∙ is;
-      named = held_named link a pass pass' (λ _. ReadLink a.slot (number link)) v w sees.0 is;
-      numbered = let shows : v ≡ block_of w + 1 = sees.0.found ∙ ap link_word is in omega (arith, shows);
-      lent = lent_in pass.name w store (glimpse_lent link a pass pass' v w glimpse sees (sees.1 ∙ is));
+      is = its ∙ is;
+      named = held_named link a pass pass' event v w t is;
+      numbered = let shows : v ≡ block_of w + 1 = t.found ∙ ap link_word is in omega (arith, shows);
+      lent = lent_in pass.name w store (glimpse_lent link a pass pass' event v w glimpse t its (its ∙ is));
     }

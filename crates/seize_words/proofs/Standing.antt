@@ -1,6 +1,6 @@
 -- What was found in a link stands while an activation lasts in which it was found; so a won exchange that takes the link to hold a value
 -- which was found, in an activation that lasts, has taken out that very value.
-use Rattle.std.proofs.Common.{◌≡◌, ℕ, ◌+◌, ◌-◌, true, List, [], ◌∷◌, ◌++◌, Option, None, Some, refl, sym, ap, ◌∙◌, subst, arith}
+use Rattle.std.proofs.Common.{◌≡◌, ℕ, zero, suc, ◌+◌, ◌-◌, ◌%◌, ◌^◌, ◌<◌, true, List, [], ◌∷◌, ◌++◌, Option, None, Some, refl, sym, ap, ◌∙◌, subst, arith}
 use mathlib.Core.List.{IsPrefix}
 use Rattle.seize_machine.specs.Machine.State.{State, are_distinct, link_at, linked}
 use Rattle.seize_machine.specs.Machine.Event.{Event}
@@ -20,6 +20,7 @@ use Rattle.seize_book.proofs.Standing as standing
 use Rattle.seize_words.specs.Activations.{IsLasting}
 use Rattle.seize_words.specs.Chunks.{StandsAt}
 use Rattle.seize_words.specs.LinkWords.{IsStepOn, Takes, WasFound, held_before, number}
+use Rattle.seize_words.specs.Links.{value_with}
 use Rattle.seize_words.specs.declared.activation.Activation.{Activation}
 use Rattle.seize_book.specs.declared.book.pass.Pass.{Pass}
 use Rattle.seize_words.specs.declared.link.Link.{Link}
@@ -54,6 +55,11 @@ found_stands a v pass distinct legal lasts found = (
   standing.found_stands pass.name pass.seen distinct legal v a.life found lasts,
   refl,
 )
+
+-- Each word of a link is that of a value, or of none.
+pub word_back : (w : ℕ) → w < 2 ^ 64 → link_word (value_with w) ≡ w
+word_back zero fits = refl
+word_back (suc w) fits = let small : w % 2 ^ 64 ≡ w = omega (arith, fits) in omega (arith, small)
 
 -- Two options of values are one where they have one word, and values among them that have one number are one.
 pub one_by_word : (o p : Option ℕ) → link_word o ≡ link_word p → ((v w : ℕ) → o ≡ Some v → p ≡ Some w → block_of v ≡ block_of w → v ≡ w) → o ≡ p

@@ -1,6 +1,6 @@
 //! Links: what holders of activations read and exchange. A link's word names the block of the value that the link holds, and the value's
 //! key stands beside it: whoever takes the value out gets the key. It uses words, activations and the book's keys.
-ghost use Rattle.std.specs.Prelude.{◌≡◌, ℕ, Option, true};
+ghost use Rattle.std.specs.Prelude.{◌≡◌, ℕ, None, Option, true};
 ghost use Rattle.seize_book.specs.Blocks.{link_word};
 ghost use Rattle.seize_words.specs.Links.{IsLink, is_at_most_one};
 
@@ -61,6 +61,16 @@ impl MaybeKey {
     }
 }
 
+/// Which value, or none, the caller of an exchange takes the link to hold. It is not there in the program: the caller passes `Brand`, and its
+/// proof picks one of the word that was seen; where none is picked it is none.
+pub trait Expects {
+    ghost current: { Option ℕ };
+}
+
+impl Expects for Brand {
+    ghost current = { None };
+}
+
 impl Link {
     ghost use Rattle.seize_words.specs.LinkWords.{CompareExchanges, HasNext, IsIn, IsNext, IsNewFor, Reads, Sees, Swaps};
 
@@ -119,11 +129,11 @@ impl Link {
     /// The same, but only if the link's word is what was seen. It gives the word of what the link held. If that was something else, the
     /// value's key comes back, and the glimpse is of what the link holds, for as long as the activation is borrowed; else it is of nothing.
     ///
-    /// The caller says which value, of the word that was seen, it takes the link to hold (`current`). The event compares with that where
-    /// the exchange is lost, and where it is won with what the link held, which is the same if that value stands still (`took_current`).
+    /// The event compares with what the caller takes the link to hold (`E`), of the word that was seen, where the exchange is lost; and
+    /// where it is won with what the link held. That is the same where what was seen stands still (`took_current`).
     ///
     /// It takes no memory and waits for nobody: one atomic compare and exchange.
-    pub fn compare_exchange<'g>(
+    pub fn compare_exchange<'g, E: Expects>(
         &self,
         seen: u64,
         new: u64,
@@ -131,11 +141,10 @@ impl Link {
         activation: &'g Activation,
         pass: &mut Pass,
     ) -> (u64, Glimpse<'g>)
-        ghost current: { Option ℕ }
         requires within { IsIn self.now activation.now pass.old }
         requires new { IsNewFor self.now value.old new }
-        requires seen { seen ≡ link_word current }
-        ensures exchanges { CompareExchanges self.now activation.now value.old pass.old current value.new pass.new result.0 result.1 }
+        requires seen { seen ≡ link_word E.current }
+        ensures exchanges { CompareExchanges self.now activation.now value.old pass.old E.current value.new pass.new result.0 result.1 }
     {
         let word = &self.word;
         word.exchange_in::<Brand>(seen, new, &mut value.keys, activation, pass)

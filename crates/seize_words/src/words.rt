@@ -9,7 +9,7 @@ use crate::activation::Activation;
 use crate::blocks::Blocks;
 use crate::chunk::{Header, Part};
 use crate::glimpse::Glimpse;
-use crate::link::{Links, MaybeKey};
+use crate::link::{Expects, Links, MaybeKey};
 use crate::slots::{NextSlot, Reservation, Slots};
 use seize_book::book::{
     Book, BookKeys, Keeps, NumbersKey, Pass, Porter, SlotKey, Unopened, ValueKeys,
@@ -35,7 +35,7 @@ pub struct Words<T> {
 }
 
 impl<T: Drop> Words<T> {
-    ghost use Rattle.std.specs.Prelude.{ℕ, [], ◌<◌, ◌⊎◌, ◌↔◌, Err, IfErr, IfOk, IfSome, Option, Some, false, is_some, true};
+    ghost use Rattle.std.specs.Prelude.{ℕ, [], ◌<◌, ◌⊎◌, ◌↔◌, Err, IfErr, IfOk, IfSome, Some, false, is_some, true};
     ghost use Rattle.seize_machine.specs.Machine.Event.{AddCount, Enter, Insert, ReadHead, SubCount, SwapOut};
     ghost use Rattle.seize_machine.specs.Machine.State.{is_idle};
     ghost use Rattle.seize_store.specs.Named.{name_of as store_name};
@@ -430,7 +430,7 @@ impl<T: Drop> Words<T> {
     /// The same, but only if the link's word is what was seen. See `Link::compare_exchange`.
     ///
     /// It takes no memory and waits for nobody: one load to find the link, and one atomic compare and exchange.
-    pub fn exchange_link<'g>(
+    pub fn exchange_link<'g, E: Expects>(
         &self,
         link: usize,
         seen: u64,
@@ -439,16 +439,15 @@ impl<T: Drop> Words<T> {
         activation: &'g Activation,
         pass: &mut Pass,
     ) -> (u64, Glimpse<'g>)
-        ghost current: { Option ℕ }
         requires book { words_book self.now ≡ pass.old.name }
         requires within { IsInAt activation.now pass.old link }
         requires new { IsNewTo (words_book self.now) value.old new }
-        requires seen { seen ≡ link_word current }
+        requires seen { seen ≡ link_word E.current }
         ensures exchanges { OnLink (words_book self.now) link (λ link.
-            CompareExchanges link activation.now value.old pass.old current value.new pass.new result.0 result.1) }
+            CompareExchanges link activation.now value.old pass.old E.current value.new pass.new result.0 result.1) }
     {
         self.links
             .get(link)
-            .compare_exchange(seen, new, value, activation, pass)
+            .compare_exchange::<Brand>(seen, new, value, activation, pass)
     }
 }

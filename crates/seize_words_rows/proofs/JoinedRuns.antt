@@ -18,7 +18,8 @@ use Rattle.seize_book.specs.Others.{state_of, value_of}
 use Rattle.seize_words.proofs.Facts.{is_lent}
 use Rattle.seize_words.specs.Joined.{IsNewTo, words_book}
 use Rattle.seize_words.specs.LinkWords.{IsKeyIn, Takes, held_before, holds, number}
-use Rattle.seize_words.specs.Links.{IsNewIn, compared, value_in, value_with}
+use Rattle.seize_words.specs.Links.{IsNewIn, compared, value_in}
+use Rattle.seize_book.proofs.Lists.{equal}
 use Rattle.seize_book.specs.Homes.{IsVacant, home_of}
 use Rattle.seize_book.specs.Private.{label_of, own_of}
 use Rattle.seize_book.specs.declared.book.keys.Keys.{Keys}
@@ -103,7 +104,7 @@ reads_second v = record { size = refl; legal = refl; planned = refl }
 after_one : (k : ℕ) → (k + 1 == 0) ≡ false
 after_one k = grind arith
 
-pub asks_for_none : (v : ℕ) → compared 0 (Some v) ≡ None
+pub asks_for_none : (v : ℕ) → compared None (Some v) ≡ None
 asks_for_none v = ap (λ (b : Bool). if b then Some v else None) (after_one (block_of v))
 
 abbrev lost_if : ℕ → Bool → Option (State × Answer)
@@ -121,8 +122,8 @@ same : (v : ℕ) → (v == v) ≡ true
 same v = grind arith
 
 -- and one that asks for the word that it holds
-pub asks_for : (seen v : ℕ) → link_word (Some v) ≡ seen → compared seen (Some v) ≡ Some v
-asks_for seen v is = subst (λ (w : ℕ). compared w (Some v) ≡ Some v) is (ap (λ (b : Bool). if b then Some v else value_with (link_word (Some v))) (same (link_word (Some v))))
+pub asks_for : (current : Option ℕ) (v : ℕ) → link_word (Some v) ≡ link_word current → compared current (Some v) ≡ Some v
+asks_for current v is = ap (λ (b : Bool). if b then Some v else current) (equal (link_word (Some v)) (link_word current) is)
 
 pub comes_out : (v : ℕ) → Goes (linked v) (ExchangeLink 1 1 (Compare (Some v) None)) (left 0 v) (Held_ (Some v))
 comes_out v = record {

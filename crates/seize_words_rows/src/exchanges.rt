@@ -72,7 +72,7 @@ impl Swapper {
         for block in first..first + EACH {
             let seen = link.read(&activation, &mut pass);
             let mut value = MaybeKey::some(book.block(block).value);
-            let (old, _) = link.compare_exchange(
+            let (old, _) = link.compare_exchange::<Brand>(
                 seen,
                 block + 1,
                 &mut value,

@@ -140,7 +140,7 @@ pub fn lose(
     };
     let new = lend(&words.blocks, &mut key, block);
     let mut key = MaybeKey::some(key);
-    let (found, _) = words.exchange_link(1, 0, new.number + 1, &mut key, activation, pass);
+    let (found, _) = words.exchange_link::<Brand>(1, 0, new.number + 1, &mut key, activation, pass);
     Some((found, give_back(&words.blocks, key.value(), new, pass)))
 }
 
@@ -159,7 +159,7 @@ pub fn take_out(
 {
     let mut none = MaybeKey::none(pass);
     let seen = lent.number + 1;
-    let (found, _) = words.exchange_link(1, seen, 0, &mut none, activation, pass);
+    let (found, _) = words.exchange_link::<Brand>(1, seen, 0, &mut none, activation, pass);
     (found, none.value())
 }
 

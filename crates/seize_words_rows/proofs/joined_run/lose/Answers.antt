@@ -1,4 +1,4 @@
-use Rattle.std.proofs.Common.{◌≡◌, ◌+◌, ℕ, Option, Some, sym, ap, ◌∙◌, subst, arith}
+use Rattle.std.proofs.Common.{◌≡◌, ◌+◌, ℕ, Option, None, Some, refl, sym, ap, ◌∙◌, subst, arith}
 use Rattle.seize_machine.specs.Machine.Event.{ExchangeLink}
 use Rattle.seize_machine.specs.Machine.Next.{next}
 use Rattle.seize_machine.specs.declared.machine.event.Answer.TheVariants.{Link}
@@ -23,7 +23,7 @@ exchange_link-found-requires c =
     let words = c.args.words.now in let add = c.add in let pass = sym add.ensures.pass in
     let in_ = subst (λ (p : Pass). IsInAt c.args.activation.now p 1) pass (c.requires.words.1.0.1 1 (within_two words c.args.pass.now 1 c.requires.words.0 c.requires.words.1.0.0 (omega arith))) in
     let new = new_to (words_book words) c.lend-new.result c.lend-new.new.key c.some-key.result c.some-key.ensures c.lend-new.ensures.new in
-    (omega arith, (c.requires.words.1.0.0 ∙ ap (λ (p : Pass). p.name) pass, (in_, new)))
+    (omega arith, (c.requires.words.1.0.0 ∙ ap (λ (p : Pass). p.name) pass, (in_, (new, refl))))
 
 pub give_back-requires : goal.give_back-requires
 give_back-requires c =
@@ -31,7 +31,7 @@ give_back-requires c =
     let value = lend.new.key in let is = c.requires.linked in let v = is.0 in let some = c.some-key in let takes = exchanges.2.0 in
     let its = ap (λ (k : Keys). value_in k.held) some.ensures ∙ value_of_one value.keys.held value.one in
     let sees = sees_still n c.args.pass.now one.new.pass (linked v) one.ensures.pass is.2 in
-    let event = λ (old : Option ℕ). ExchangeLink a.slot (number link) (Compare (compared 0 old) (holds some.result)) in
+    let event = λ (old : Option ℕ). ExchangeLink a.slot (number link) (Compare (compared None old) (holds some.result)) in
     let word : two.result.0 ≡ block_of v + 1 = word_at_link n link a one.new.pass two.new.pass event two.result.0 takes 1 exchanges.1.1 (linked v) sees in
     let lost = exchanges.2.3 (λ none. absurd (let e : 0 ≡ block_of v + 1 = sym none ∙ word in omega (arith, e))) in
     record {
@@ -51,7 +51,7 @@ returns-clause-linked c =
     let w = value_of value in let is = c.requires.linked in let v = is.0 in let key = c.some-key.result in let slot = c.requires.words.1.1 in let first = exchanges.1.1 in
     let its = ap (λ (k : Keys). value_in k.held) c.some-key.ensures ∙ value_of_one value.keys.held value.one in
     let sees = sees_still n c.args.pass.now one.new.pass (linked v) one.ensures.pass is.2 in
-    let event = λ (old : Option ℕ). ExchangeLink a.slot (number link) (Compare (compared 0 old) (holds key)) in
+    let event = λ (old : Option ℕ). ExchangeLink a.slot (number link) (Compare (compared None old) (holds key)) in
     let legal = legal_here n link a one.new.pass two.new.pass event two.result.0 exchanges.2.0 1 first (linked v) sees in
     let goes = loses v w (exchanges.2.0.noted.later, exchanges.2.0.noted.answer)
     (subst (λ (t : ℕ × (ℕ × (Option ℕ × Option ℕ))). next 2 (linked v).state (ExchangeLink t.0 t.1.0 (Compare t.1.1.0 t.1.1.1)) ≡ Some (exchanges.2.0.noted.later, exchanges.2.0.noted.answer))

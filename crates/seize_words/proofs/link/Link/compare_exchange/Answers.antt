@@ -26,18 +26,18 @@ events n s l current o v log = by_held s l current o (link_at (after (start n) l
 
 pub exchange_in-requires : goal.exchange_in-requires
 exchange_in-requires g c =
-    let link = c.args.self.now in let a = c.args.activation.now in let pass = c.args.pass.now in let in_ = c.requires.0 in let l = number link in let value = c.args.value.now in let held = value.keys.held in let current = g.current in let n = link_word current in
-    let fresh = subst (λ (b : Name). IsNewIn b (holds value) held) in_.book.0 c.requires.1.0.1 in
-    let may = may_compare_link pass.name a.slot a.life l a.since pass.seen in_.within pass.id pass.name.size c.args.new current held value.value fresh c.requires.1.0.2 in
+    let link = c.args.self.now in let a = c.args.activation.now in let pass = c.args.pass.now in let in_ = c.requires.within in let l = number link in let value = c.args.value.now in let held = value.keys.held in let current = g.E.Expects.current in let n = link_word current in
+    let fresh = subst (λ (b : Name). IsNewIn b (holds value) held) in_.book.0 c.requires.new.1 in
+    let may = may_compare_link pass.name a.slot a.life l a.since pass.seen in_.within pass.id pass.name.size c.args.new current held value.value fresh c.requires.new.2 in
     let finds = compare_finds pass.name a.slot a.life l a.since pass.seen in_.within pass.id pass.name.size current held fresh in
     let ev : ℕ → List Entry → Entry = λ v log. Made (record { pass = pass.id; size = pass.name.size; event = events pass.name a.slot l current (holds value) v log; life = 0; kepts = [] }) in
     let steps : ℕ → Site → Type 0 = λ k t. MayStep t pass.id pass.seen held (a.life ∷ []) [] (exchanged k c.args.new) ev (λ v. v == k) in
     let founds : ℕ → Site → Type 0 = λ k t. FindsFor t pass held a.life (entries pass 0 (events pass.name a.slot l current (holds value))) (λ v. v == k) in
-    let site = sym (is_at link.word pass.name in_.book.0 link.link) in let seen : n ≡ c.args.seen = sym c.requires.1.1 in (
+    let site = sym (is_at link.word pass.name in_.book.0 link.link) in let seen : n ≡ c.args.seen = sym c.requires.seen in (
       link.link,
       (
         in_.book.0,
-        c.requires.1.0.0 ∙ in_.book.0,
+        c.requires.new.0 ∙ in_.book.0,
         subst (steps c.args.seen) site (subst (λ (k : ℕ). steps k (at_link pass.name l)) seen may),
       ),
       subst (founds c.args.seen) site (subst (λ (k : ℕ). founds k (at_link pass.name l)) seen (λ v t log found e w is. finds v t log found e w is)),
@@ -45,7 +45,7 @@ exchange_in-requires g c =
 
 pub returns : goal.returns
 returns g c =
-    let link = c.args.self.now in let a = c.args.activation.now in let pass = c.args.pass.now in let in_ = c.requires.0 in let l = number link in let value = c.args.value.now in let seen = c.args.seen in let current = g.current in let is_seen = c.requires.1.1 in
+    let link = c.args.self.now in let a = c.args.activation.now in let pass = c.args.pass.now in let in_ = c.requires.within in let l = number link in let value = c.args.value.now in let seen = c.args.seen in let current = g.E.Expects.current in let is_seen = c.requires.seen in
     let pass' = c.exchange_in.new.pass in let keys' = c.exchange_in.new.keys in let v = c.exchange_in.result.0 in let f = exchanged seen c.args.new in let ev = by_held a.slot l current (holds value) in
     let told = subst (λ (t : Site). Took t value.keys pass keys' pass' (a.life ∷ []) f v (entries pass 0 (events pass.name a.slot l current (holds value))) (λ v. v == seen)) (is_at link.word pass.name in_.book.0 link.link) c.exchange_in.ensures.0 in
     let there : Option ℕ = link_at (after (start link.word.name) pass'.seen) l in
@@ -55,14 +55,14 @@ returns g c =
         told.1,
         (λ e. (
           came_out link a pass pass' in_ value.keys keys' f v ev (λ v. v == seen) told (equal v seen (e ∙ sym is_seen)),
-          is_out link a pass pass' in_ value.keys keys' f v ev (λ v. v == seen) told (λ old. Compare (compared current old) (holds value)) (c.requires.1.0.0 ∙ in_.book.0) (λ _. refl)
+          is_out link a pass pass' in_ value.keys keys' f v ev (λ v. v == seen) told (λ old. Compare (compared current old) (holds value)) (c.requires.new.0 ∙ in_.book.0) (λ _. refl)
               (λ old found. hit pass.name a.slot a.life l a.since pass.seen in_.within current old (holds value) (sym found ∙ e)) (equal v seen (e ∙ sym is_seen)),
           c.exchange_in.ensures.1 ∙ ap (λ (b : Bool). shown b there) (equal v seen (e ∙ sym is_seen)),
         )),
         (λ differs. (
           stayed link a pass pass' in_ value.keys keys' f v ev (λ v. v == seen) told (unequal v seen (λ x. differs (x ∙ is_seen))),
-          still_may link a pass pass' in_ value.keys keys' f v ev (λ v. v == seen) told (λ old. Compare (compared current old) (holds value)) (c.requires.1.0.0 ∙ in_.book.0)
-              (subst (λ (n : Name). IsNewIn n (holds value) value.keys.held) in_.book.0 c.requires.1.0.1) (λ _. refl)
+          still_may link a pass pass' in_ value.keys keys' f v ev (λ v. v == seen) told (λ old. Compare (compared current old) (holds value)) (c.requires.new.0 ∙ in_.book.0)
+              (subst (λ (n : Name). IsNewIn n (holds value) value.keys.held) in_.book.0 c.requires.new.1) (λ _. refl)
               (λ old found. missed pass.name a.slot a.life l a.since pass.seen in_.within current old (holds value) (λ x. differs (found ∙ x))) (unequal v seen (λ x. differs (x ∙ is_seen))),
           c.exchange_in.ensures.1 ∙ (ap (λ (b : Bool). shown b there) (unequal v seen (λ x. differs (x ∙ is_seen))) ∙ (ap (λ (n : Name). link_at (after (start n) pass'.seen) l) in_.book.0
               ∙ link_kept link a pass pass' in_ value.keys keys' f v ev (λ v. v == seen) told (λ old. Compare (compared current old) (holds value)) (λ _. refl)
@@ -74,7 +74,7 @@ returns g c =
 
 pub invariant_of-value : goal.invariant_of-value
 invariant_of-value g c =
-    let link = c.args.self.now in let a = c.args.activation.now in let pass = c.args.pass.now in let in_ = c.requires.0 in let l = number link in let value = c.args.value.now in let seen = c.args.seen in let current = g.current in let is_seen = c.requires.1.1 in
+    let link = c.args.self.now in let a = c.args.activation.now in let pass = c.args.pass.now in let in_ = c.requires.within in let l = number link in let value = c.args.value.now in let seen = c.args.seen in let current = g.E.Expects.current in let is_seen = c.requires.seen in
     let pass' = c.exchange_in.new.pass in let keys' = c.exchange_in.new.keys in let v = c.exchange_in.result.0 in let f = exchanged seen c.args.new in let ev = by_held a.slot l current (holds value) in
     let told = subst (λ (t : Site). Took t value.keys pass keys' pass' (a.life ∷ []) f v (entries pass 0 (events pass.name a.slot l current (holds value))) (λ v. v == seen)) (is_at link.word pass.name in_.book.0 link.link) c.exchange_in.ensures.0 in
     record { value = still_one link a pass pass' in_ value.keys keys' f v ev (λ v. v == seen) told value.value }

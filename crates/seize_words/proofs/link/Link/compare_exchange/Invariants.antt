@@ -10,7 +10,7 @@ use Rattle.seize_words.proofs.link.Link.compare_exchange.Given as goal
 
 abbrev pub ghosts-exchange_in : goal.ghosts-exchange_in
 ghosts-exchange_in g a = record {
-  entry = entries a.pass.now 0 (λ v log. ExchangeLink a.activation.now.slot a.self.now.number (Compare (compared g.current (link_at (after (start a.pass.now.name) log) a.self.now.number)) (value_in a.keys.now.held)));
+  entry = entries a.pass.now 0 (λ v log. ExchangeLink a.activation.now.slot a.self.now.number (Compare (compared g.E.Expects.current (link_at (after (start a.pass.now.name) log) a.self.now.number)) (value_in a.keys.now.held)));
   trades = λ v. v == a.seen;
   births = [];
 }
