@@ -9,6 +9,7 @@ use crate::making::Maker;
 use seize_words::activation::Activation;
 use seize_words::book::{Book, Pass};
 use seize_words::link::{Link, MaybeKey};
+use std::marker::Brand;
 use std::thread;
 
 /// How many values each thread puts in.

@@ -22,6 +22,7 @@ use seize_words::note::Note;
 use seize_words::slots::NextSlot;
 use seize_words::words::Words;
 use std::alloc::Global;
+use std::marker::Brand;
 
 /// The words of a new book with two links, and two slots. It gives the key of the slot that finds, that of the other one, and the one pass.
 /// Nothing comes where memory was refused.
@@ -120,18 +121,28 @@ pub fn find(
     (first, second, *value)
 }
 
-/// An exchange at link 1 that takes it to be empty, and so loses. What would have gone in was lent and never named: it is had back, and its
-/// block goes back into the store. It gives the word that was found, and the value. Nothing comes where a growth of the store was refused.
+/// What is had where an exchange was lost.
+pub struct Lost {
+    /// The word that was found.
+    pub found: u64,
+    /// What is lent with the value that was found.
+    pub seen: u64,
+    /// The value that would have gone in.
+    pub value: u64,
+}
+
+/// An exchange at link 1 that takes it to be empty, and so loses. What was found there is seen. What would have gone in was lent and never
+/// named: it is had back, and its block goes back into the store. Nothing comes where a growth of the store was refused.
 pub fn lose(
     words: &Words<u64>,
     lent: Lent,
     value: u64,
     activation: &Activation,
     pass: &mut Pass,
-) -> Option<(u64, u64)>
+) -> Option<Lost>
     requires words { HasTwo words.now × HasBegun words.now activation.now pass.old 1 }
     requires linked { IsLinked words.now lent pass.old }
-    ensures found { IfSome result (λ lost. (lost.0 ≡ lent.number + 1) × (lost.1 ≡ value)) }
+    ensures found { IfSome result (λ lost. (lost.found ≡ lent.number + 1) × (lost.seen ≡ lent.value) × (lost.value ≡ value)) }
     ensures begun { Stay words.now pass.old pass.new }
     ensures linked { IsLinked words.now lent pass.new }
 {
@@ -140,8 +151,11 @@ pub fn lose(
     };
     let new = lend(&words.blocks, &mut key, block);
     let mut key = MaybeKey::some(key);
-    let (found, _) = words.exchange_link::<Brand>(1, 0, new.number + 1, &mut key, activation, pass);
-    Some((found, give_back(&words.blocks, key.value(), new, pass)))
+    let (found, glimpse) =
+        words.exchange_link::<Brand>(1, 0, new.number + 1, &mut key, activation, pass);
+    let seen = *words.blocks.see(found - 1, glimpse, pass);
+    let value = give_back(&words.blocks, key.value(), new, pass);
+    Some(Lost { found, seen, value })
 }
 
 /// An exchange at link 1 of what was found there, which wins: the value comes out. It gives the word that was found, and the value's key.

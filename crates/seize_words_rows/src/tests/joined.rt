@@ -34,7 +34,7 @@ fn a_block_goes_through_a_link(rt: HostRuntime) {
     let Some(lost) = joined_run::lose(&words, lent, 71, &second, &mut pass) else {
         panic!(rt; "no memory");
     };
-    assert_eq!(rt; lost, (word, 71));
+    assert_eq!(rt; (lost.found, lost.seen, lost.value), (word, 70, 71));
     let (found, _) = joined_run::take_out(&words, lent, &second, &mut pass);
     assert_eq!(rt; found, word);
     assert_eq!(rt;

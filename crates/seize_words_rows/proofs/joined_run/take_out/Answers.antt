@@ -1,4 +1,4 @@
-use Rattle.std.proofs.Common.{◌≡◌, ℕ, ◌+◌, Option, Some, inr, sym, ap, ◌∙◌, subst}
+use Rattle.std.proofs.Common.{◌≡◌, ℕ, ◌+◌, Option, Some, inr, sym, ap, ◌∙◌, subst, arith}
 use Rattle.seize_machine.specs.Machine.Event.{ExchangeLink}
 use Rattle.seize_machine.specs.declared.machine.event.Answer.TheVariants.{Link}
 use Rattle.seize_machine.specs.declared.machine.event.Exchange.TheVariants.{Compare}
@@ -21,16 +21,16 @@ pub returns-clause-out : goal.returns-clause-out
 returns-clause-out c =
     let words = c.args.words.now in let n = words_book words in let a = c.args.activation.now in let lent = c.args.lent in let is = c.requires.linked in let v = is.0 in
     let none = c.none-none in let two = c.exchange_link-found in let exchanges = two.ensures.exchanges in let link = exchanges.0 in let slot = c.requires.words.1.1 in let first = exchanges.1.1 in
-    let seen = c.args.lent.number + 1 in let is_seen = sym (word_back seen ?) in let takes = exchanges.2.0 in
+    let seen = c.args.lent.number + 1 in let is_seen = word_back seen (omega (arith, is.1.fits)) in let takes = exchanges.2.0 in
     let sees = sees_still n c.args.pass.now none.new.pass (linked v) none.ensures.1 is.2 in
     let event = λ (old : Option ℕ). ExchangeLink a.slot (number link) (Compare (compared (value_with seen) old) (holds none.result)) in
-    let asked = asks_for (value_with seen) v (ap (λ (k : ℕ). k + 1) is.1.number ∙ is_seen) in
+    let asked = asks_for (value_with seen) v (ap (λ (k : ℕ). k + 1) is.1.number ∙ sym is_seen) in
     let holds_none = ap value_in none.ensures.0.1 in
     let goes = subst (λ (t : ℕ × (ℕ × (Option ℕ × Option ℕ))). Goes (linked v) (ExchangeLink t.0 t.1.0 (Compare t.1.1.0 t.1.1.1)) (left 0 v) (Link (Some v))) (λ j. (sym slot j, (sym first j, (sym asked j, sym holds_none j)))) (comes_out v) in
     let after = steps_at n link a none.new.pass two.new.pass event two.result.0 takes 1 first (linked v) sees (left 0 v) (Link (Some v)) goes in
     let held = held_at n link a none.new.pass two.new.pass event two.result.0 takes 1 first (linked v) sees in
     let word = word_at_link n link a none.new.pass two.new.pass event two.result.0 takes 1 first (linked v) sees ∙ ap (λ (k : ℕ). k + 1) is.1.number in
-    let won = exchanges.2.2 (word ∙ is_seen) in let key' = two.new.value in let out = won.1 v (won.0 ∙ held) in
+    let won = exchanges.2.2 (word ∙ sym is_seen) in let key' = two.new.value in let out = won.1 v (won.0 ∙ held) in
     let same : key'.keys ≡ c.value.result.keys = c.value.ensures in
     let its : v ≡ label_of c.value.result.keys.held = sym (label_is key'.keys.held v (won.0 ∙ held)) ∙ ap (λ (k : Keys). label_of k.held) same in (
       (
