@@ -5,7 +5,7 @@ ghost use Rattle.seize_words_rows.specs.Making.{CanMake, TakesPart};
 ghost use Rattle.seize_words_rows.specs.Visits.{MayVisit};
 ghost use Rattle.std.specs.Prelude.{◌≡◌};
 
-use crate::exchanges::{EACH, Swapper, TURNS, read_many, share_many};
+use crate::exchanges::{EACH, Exchanged, Swapper, TURNS, read_many, share_many};
 use crate::leaving::{Visitor, leave_head};
 use crate::making::{Maker, open};
 use crate::reads::{meet_and_read, read_with_each};
@@ -197,19 +197,37 @@ fn swaps_lose_and_invent_no_value(rt: HostRuntime) {
 }
 
 // The same of two that exchange with what they read just before.
-fn exchange_both<R: Threads + Wait + Sync>(rt: &R, link: &Link, a: Swapper, b: Swapper) -> u64
+fn exchange_both<R: Threads + Wait + Sync>(rt: &R, link: &Link, a: Swapper, b: Swapper) -> Exchanged
     requires { MaySwap link.now a × MaySwap link.now b }
 {
     let (one, two) = thread::join(
         rt,
-        move || -> u64
+        move || -> Exchanged
             requires { MaySwap link.now a }
         { a.exchange_many(link, 3_000_000) },
-        move || -> u64
+        move || -> Exchanged
             requires { MaySwap link.now b }
         { b.exchange_many(link, 4_000_000) },
     );
-    one.wrapping_add(two)
+    one.with(two)
+}
+
+// Two threads exchange, and nobody else writes. Whoever makes the first exchange wins it. And each that one of them lost found what the
+// other had put in since the read, by another exchange each time: so the other won no fewer than it lost, and both together won at least
+// as many as one of them made.
+#[test]
+fn exchanges_are_won_and_lose_no_value(rt: HostRuntime) {
+    let (book, maker, mut links) = open(1);
+    let link = Link::next(&mut links);
+    let (one, maker) = Swapper::enter(&book, maker, &link);
+    let (two, maker) = Swapper::enter(&book, maker, &link);
+    let (mut last, maker) = Swapper::enter(&book, maker, &link);
+    let both = exchange_both(&rt, &link, one, two);
+    let mut none = MaybeKey::none(&mut last.pass);
+    let word = link.swap(0, &mut none, &last.activation, &mut last.pass);
+    assert_eq!(rt; both.left, word);
+    assert!(rt; both.won >= EACH);
+    drop((links, maker, last, none));
 }
 
 // Two of them swap, and two exchange.
@@ -230,7 +248,7 @@ fn four<R: Threads + Wait + Sync>(
         { swap_both(rt, link, a, b) },
         move || -> u64
             requires { MaySwap link.now c × MaySwap link.now d }
-        { exchange_both(rt, link, c, d) },
+        { exchange_both(rt, link, c, d).left },
     );
     one.wrapping_add(two)
 }
