@@ -6,6 +6,7 @@ ghost use Rattle.seize_words_rows.specs.Visits.{MayVisit};
 ghost use Rattle.std.specs.Prelude.{◌≡◌};
 
 use crate::exchanges::{EACH, Exchanged, Swapper, TURNS, read_many, share_many};
+use crate::flushing::Signs;
 use crate::leaving::{Visitor, leave_head};
 use crate::making::{Maker, open};
 use crate::reads::{meet_and_read, read_with_each};
@@ -528,25 +529,26 @@ fn two_slots_enter_and_leave(rt: HostRuntime) {
     drop((links, maker));
 }
 
-// One thread makes slots, whose heads go into the table, while another flushes its batch again and again: each flush reads the heads of as
-// many slots as there are by then, and gives up. It goes on until it has seen all of them: a flush takes so little time that the thread
-// which makes them may not have run at all after 10,000,000, where the machine has other work.
+// One thread flushes its batch again and again: each flush reads the heads of as many slots as there are by then, and gives up. Another one
+// makes slots meanwhile, whose heads go into the table: it waits for the first flush, and a last flush comes after it has ended. So all
+// slots are made between two flushes, of which the first reads 2 heads, and the last all of them.
 #[test]
 fn slots_are_made_while_others_mark(rt: HostRuntime) {
     let Some((slots, growth, flusher)) = flushing::begin(rt.alloc()) else {
         panic!(rt; "no memory");
     };
-    let shared = &slots;
+    let signs = Signs::new();
+    let (shared, signs) = (&slots, &signs);
     let (made, saw) = thread::join(
         &rt,
         move || -> u64
             requires { MayGrow shared.now growth × (grown growth ≡ 2) }
-        { growth.grow(shared, MADE) },
-        move || -> bool
+        { growth.grow_beside(shared, signs, MADE, TURNS) },
+        move || -> Option<(u64, u64)>
             requires { MayFlush shared.now flusher }
-        { flusher.flush_until(shared, MADE + 2, 100 * TURNS) },
+        { flusher.flush_beside(shared, signs, 100 * TURNS) },
     );
-    assert_eq!(rt; (made, saw), (MADE, true));
+    assert_eq!(rt; (made, saw), (MADE, Some((2, MADE + 2))));
     let mut pass = slots.book.pass();
     let (count, all) = slots.load(&mut pass);
     assert_eq!(rt; count as u64, MADE + 2);
