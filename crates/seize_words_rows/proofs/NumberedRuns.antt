@@ -1,30 +1,33 @@
 -- The steps of the worked run by numbers.
-use Rattle.std.proofs.Common.{◌≡◌, ℕ, ◌+◌, ◌<◌, ◌^◌, true, List, [], Some, length, unwrap_or, refl, sym, ap, ◌∙◌, subst}
+use Rattle.std.proofs.Common.{◌≡◌, ℕ, ◌+◌, ◌-◌, ◌<◌, ◌^◌, ◌==◌, pos, negsuc, ◌+ℤ◌, Bool, if◌then◌else◌, true, List, [], ◌∷◌, Some, length, unwrap_or, refl, sym, ap, ◌∙◌, subst, arith}
 use Rattle.std.specs.Prelude.{slice_index_or}
 use mathlib.Core.List.{IsPrefix}
 use base.Growing.{prefix_refl}
 use denote.Builtin.{u64}
-use Rattle.seize_machine.specs.Machine.State.{Slot, State, are_distinct, linked, slot_at}
+use Rattle.seize_machine.specs.Machine.State.{Slot, State, are_distinct, has, linked, slot_at}
 use Rattle.seize_machine.specs.Machine.History.{first_of}
-use Rattle.seize_book.specs.Blocks.{Plan, block_in, block_of, no_plan}
+use Rattle.seize_book.specs.Blocks.{Plan, block_in, block_of, count_word, no_plan}
 use Rattle.seize_book.specs.Book.{IsLegalList, after}
 use Rattle.seize_book.specs.Chains.{served}
 use Rattle.seize_book.specs.Entry.{Entry}
-use Rattle.seize_book.specs.Homes.{home_of}
+use Rattle.seize_book.specs.Homes.{count_in, home_of}
+use Rattle.seize_book.specs.Homesteads.{state_seen}
 use Rattle.seize_book.specs.Slots.{IsOf, Looks, hands_next, written_of}
 use Rattle.seize_book.specs.Tokens.{Name, start}
 use Rattle.seize_book.specs.declared.book.pass.Pass.{Pass}
 use Rattle.seize_book.specs.declared.book.slot_key.SlotKey.{SlotKey}
+use Rattle.seize_words.specs.Counts.{count_seen, home}
 use Rattle.seize_words.specs.Heads.{reads}
 use Rattle.seize_words.specs.Headers.{Stores}
 use Rattle.seize_words.specs.Joined.{IsAddingAt, IsCountingAt, IsHolder, MayReadAt, TriesAtSlot}
 use Rattle.seize_words.specs.Totals.{slots_seen}
 use Rattle.seize_words.specs.Walks as walks
+use Rattle.seize_words.specs.declared.batch.Count.{Count}
 use Rattle.seize_words.proofs.Facts.{is_lent}
 use Rattle.seize_words_rows.specs.NumberedRuns.{IsOne, value_in}
 use Rattle.seize_words_rows.specs.Reclaiming.{IsNextAt}
 use Rattle.seize_words_rows.specs.declared.numbered_run.Retired.{Retired}
-use Rattle.seize_words_rows.specs.Runs.{counted_up, left, looked, reader_over}
+use Rattle.seize_words_rows.specs.Runs.{counted_down, counted_up, left, looked, reader_over}
 use Rattle.seize_words_rows.specs.Stages.{IsAt, Knows, Leads, Sees, Stage}
 use Rattle.seize_words_rows.proofs.Stages.{front_is, planned_is, record_is, sees_on}
 
@@ -114,3 +117,22 @@ next_here n key retired is knows = record {
   lent = is_lent (value_in retired) (u64.coded.code retired.lent.value) is.its.code;
   numbered = is.its.number;
 }
+
+-- the value was named, as the pass has seen
+pub named_down : (n : Name) (pass : Pass) (v : ℕ) → Sees n pass (counted_down v) → has v (state_seen pass).named ≡ true
+named_down n pass v sees =
+    ap (λ (m : Name). has v (after (start m) pass.seen).named) sees.book ∙ ap (λ (st : State). has v st.named) sees.leads.state ∙ has_first v
+  where
+    has_first : (x : ℕ) → has x (x ∷ []) ≡ true
+    has_first x = grind arith
+
+-- the word of the batch's count
+pub word_down : (n : Name) (pass : Pass) (count : Count) (v : ℕ) → Sees n pass (counted_down v) → home_of v ≡ home count → count_seen count pass ≡ 2 ^ 64 - 1
+word_down n pass count v sees its =
+    ap (λ (m : Name). count_word (count_in (after (start m) pass.seen) (home count))) sees.book
+    ∙ ap (λ (st : State). count_word (count_in st (home count))) sees.leads.state
+    ∙ ap (λ (k : ℕ). count_word (count_in (counted_down v).state k)) (sym its)
+    ∙ ap (λ (b : Bool). count_word ((if b then negsuc 0 else pos 0) +ℤ pos 0)) (is_same (home_of v))
+  where
+    is_same : (x : ℕ) → (x == x) ≡ true
+    is_same x = grind arith

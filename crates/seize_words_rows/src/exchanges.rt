@@ -26,6 +26,25 @@ pub struct Swapper {
     pub pass: Pass,
 }
 
+/// What exchanges came to.
+#[derive(Clone, Copy, PartialEq, Eq, Debug)]
+pub struct Exchanged {
+    /// The sum of the words that were put in, less those that came out, modulo 2^64.
+    pub left: u64,
+    /// How many exchanges were won.
+    pub won: u64,
+}
+
+impl Exchanged {
+    /// What both came to, modulo 2^64.
+    pub fn with(self, other: Exchanged) -> Exchanged {
+        Exchanged {
+            left: self.left.wrapping_add(other.left),
+            won: self.won.wrapping_add(other.won),
+        }
+    }
+}
+
 impl Swapper {
     /// Makes the next slot, which enters.
     pub fn enter(book: &Book, maker: Maker, link: &Link) -> (Swapper, Maker)
@@ -59,8 +78,8 @@ impl Swapper {
         swap_each(&book, link, &activation, &mut pass, first, EACH)
     }
 
-    /// The same, but each value goes in only if the link still holds what was read there just before.
-    pub fn exchange_many(self, link: &Link, first: u64) -> u64
+    /// The same, but each value goes in only if the link still holds what was read there just before: then the exchange is won.
+    pub fn exchange_many(self, link: &Link, first: u64) -> Exchanged
         requires may { MaySwap link.now self }
         requires small { first < 2 ^ 32 }
     {
@@ -69,7 +88,7 @@ impl Swapper {
             book,
             mut pass,
         } = self;
-        let mut left: u64 = 0;
+        let (mut left, mut won): (u64, u64) = (0, 0);
         for block in first..first + EACH {
             let seen = link.read(&activation, &mut pass);
             let mut value = MaybeKey::some(book.block(block).value);
@@ -82,9 +101,10 @@ impl Swapper {
             );
             if old == seen {
                 left = left.wrapping_add(block + 1).wrapping_sub(old);
+                won = won.wrapping_add(1);
             }
         }
-        left
+        Exchanged { left, won }
     }
 
     /// Swaps the value of this block into one link, and then reads the other until that holds something. It says whether it ever did.

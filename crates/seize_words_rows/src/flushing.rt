@@ -17,6 +17,8 @@ use seize_words::activation::Activation;
 use seize_words::book::{NumbersKey, Pass, SlotKey, ValueKey};
 use seize_words::slots::{NextSlot, Slots};
 use std::alloc::Global;
+use std::sync::atomic::{AtomicU64, Ordering};
+use std::thread;
 
 /// Retires the value where the slot's batch isn't full with it.
 pub fn retire(key: &mut SlotKey, value: &mut ValueKey, pass: &mut Pass)
@@ -51,6 +53,25 @@ pub fn flush(slots: &Slots, values: usize, key: &mut SlotKey, pass: &mut Pass) -
     }
 }
 
+/// What the two threads tell each other. Each is 0 until it is set.
+#[derive(Drop)]
+pub struct Signs {
+    /// The one has flushed once.
+    pub begun: AtomicU64,
+    /// The other makes no more slots.
+    pub ended: AtomicU64,
+}
+
+impl Signs {
+    /// None is set.
+    pub fn new() -> Signs {
+        Signs {
+            begun: AtomicU64::new(0),
+            ended: AtomicU64::new(0),
+        }
+    }
+}
+
 /// What a thread flushes with: a slot that is active for good, with one value in its batch.
 #[derive(Drop)]
 pub struct Flusher {
@@ -60,8 +81,9 @@ pub struct Flusher {
 }
 
 impl Flusher {
-    /// Flushes so often, at most, until it sees so many slots. It says whether it saw them, and each flush gave up.
-    pub fn flush_until(self, slots: &Slots, count: u64, turns: u64) -> bool
+    /// Flushes so often, at most, and a last time after the other thread has ended. It gives how many slots there were before the first
+    /// flush and before the last. Nothing comes where a flush didn't give up, or the other thread didn't end.
+    pub fn flush_beside(self, slots: &Slots, signs: &Signs, turns: u64) -> Option<(u64, u64)>
         requires may { MayFlush slots.now self }
     {
         let Flusher {
@@ -69,16 +91,19 @@ impl Flusher {
             activation: _,
             mut pass,
         } = self;
+        let first = slots.total.load(&mut pass);
         for _ in 0..turns {
-            let seen = slots.total.load(&mut pass);
+            let ended = signs.ended.load(Ordering::SeqCst);
+            let last = slots.total.load(&mut pass);
             if !flush(slots, 1, &mut key, &mut pass) {
-                return false;
+                return None;
             }
-            if seen >= count {
-                return true;
+            if ended != 0 {
+                return Some((first, last));
             }
+            signs.begun.store(1, Ordering::SeqCst);
         }
-        false
+        None
     }
 }
 
@@ -91,8 +116,23 @@ pub struct Growth {
 }
 
 impl Growth {
-    /// Makes so many slots, or as many as there is memory for. It says how many.
-    pub fn grow(self, slots: &Slots, count: u64) -> u64
+    /// Waits for the other thread's first flush, so many turns at most, and makes so many slots then, or as many as there is memory for. It
+    /// says how many.
+    pub fn grow_beside(self, slots: &Slots, signs: &Signs, count: u64, turns: u64) -> u64
+        requires may { MayGrow slots.now self }
+        requires few { grown self + count < all_numbers }
+    {
+        let made = if wait_for(&signs.begun, turns) {
+            self.grow(slots, count)
+        } else {
+            0
+        };
+        signs.ended.store(1, Ordering::SeqCst);
+        made
+    }
+
+    // Makes so many slots, or as many as there is memory for. It says how many.
+    fn grow(self, slots: &Slots, count: u64) -> u64
         requires may { MayGrow slots.now self }
         requires few { grown self + count < all_numbers }
     {
@@ -109,6 +149,17 @@ impl Growth {
         }
         count
     }
+}
+
+// Waits until the sign is set, so many turns at most. It says whether it ever was.
+fn wait_for(sign: &AtomicU64, turns: u64) -> bool {
+    for _ in 0..turns {
+        if sign.load(Ordering::SeqCst) != 0 {
+            return true;
+        }
+        thread::yield_now();
+    }
+    false
 }
 
 // Makes the slot that comes next, and enters it by its head in the table.

@@ -3,7 +3,7 @@
 //! below 0 by the reader and up to 0 by the other, which gives it up and hands its value to its reclaimer.
 //!
 //! The stages are those of `worked_run`. No contract fixes the block's number: it is the one that the store gave.
-ghost use Rattle.std.specs.Prelude.{◌≡◌, ◌+◌, ℕ, IfSome, false, true};
+ghost use Rattle.std.specs.Prelude.{◌≡◌, ◌+◌, ◌-◌, ◌^◌, ℕ, IfSome, false, true};
 ghost use Rattle.seize_words.specs.Joined.{words_book};
 ghost use Rattle.seize_words.specs.Named.{numbers_book};
 ghost use Rattle.seize_words.specs.Reservations.{IsLastOf};
@@ -159,7 +159,7 @@ pub fn leave(
     words.swap_out(0, activation, reader, pass)
 }
 
-/// It counts the batch down to -1, and its call is over. It gives nothing up.
+/// It counts the batch down to -1, and its call is over. It gives nothing up. It gives the count's word too, which is -1 modulo 2^64.
 pub fn count_down(
     words: &Words<u64>,
     retired: &Retired,
@@ -168,6 +168,7 @@ pub fn count_down(
 ) -> (bool, u64)
     requires stands { StandsAt words.now retired.now pass.old left reader.old 0 left }
     ensures zero { result.0 ≡ false }
+    ensures word { result.1 ≡ 2 ^ 64 - 1 }
     ensures stands { StandsAt words.now retired.now pass.new reader_over reader.new 0 reader_over }
 {
     reader.look(pass);

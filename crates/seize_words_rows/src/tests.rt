@@ -5,7 +5,8 @@ ghost use Rattle.seize_words_rows.specs.Making.{CanMake, TakesPart};
 ghost use Rattle.seize_words_rows.specs.Visits.{MayVisit};
 ghost use Rattle.std.specs.Prelude.{◌≡◌};
 
-use crate::exchanges::{EACH, Swapper, TURNS, read_many, share_many};
+use crate::exchanges::{EACH, Exchanged, Swapper, TURNS, read_many, share_many};
+use crate::flushing::Signs;
 use crate::leaving::{Visitor, leave_head};
 use crate::making::{Maker, open};
 use crate::reads::{meet_and_read, read_with_each};
@@ -197,19 +198,37 @@ fn swaps_lose_and_invent_no_value(rt: HostRuntime) {
 }
 
 // The same of two that exchange with what they read just before.
-fn exchange_both<R: Threads + Wait + Sync>(rt: &R, link: &Link, a: Swapper, b: Swapper) -> u64
+fn exchange_both<R: Threads + Wait + Sync>(rt: &R, link: &Link, a: Swapper, b: Swapper) -> Exchanged
     requires { MaySwap link.now a × MaySwap link.now b }
 {
     let (one, two) = thread::join(
         rt,
-        move || -> u64
+        move || -> Exchanged
             requires { MaySwap link.now a }
         { a.exchange_many(link, 3_000_000) },
-        move || -> u64
+        move || -> Exchanged
             requires { MaySwap link.now b }
         { b.exchange_many(link, 4_000_000) },
     );
-    one.wrapping_add(two)
+    one.with(two)
+}
+
+// Two threads exchange, and nobody else writes. Whoever makes the first exchange wins it. And each that one of them lost found what the
+// other had put in since the read, by another exchange each time: so the other won no fewer than it lost, and both together won at least
+// as many as one of them made.
+#[test]
+fn exchanges_are_won_and_lose_no_value(rt: HostRuntime) {
+    let (book, maker, mut links) = open(1);
+    let link = Link::next(&mut links);
+    let (one, maker) = Swapper::enter(&book, maker, &link);
+    let (two, maker) = Swapper::enter(&book, maker, &link);
+    let (mut last, maker) = Swapper::enter(&book, maker, &link);
+    let both = exchange_both(&rt, &link, one, two);
+    let mut none = MaybeKey::none(&mut last.pass);
+    let word = link.swap(0, &mut none, &last.activation, &mut last.pass);
+    assert_eq!(rt; both.left, word);
+    assert!(rt; both.won >= EACH);
+    drop((links, maker, last, none));
 }
 
 // Two of them swap, and two exchange.
@@ -230,7 +249,7 @@ fn four<R: Threads + Wait + Sync>(
         { swap_both(rt, link, a, b) },
         move || -> u64
             requires { MaySwap link.now c × MaySwap link.now d }
-        { exchange_both(rt, link, c, d) },
+        { exchange_both(rt, link, c, d).left },
     );
     one.wrapping_add(two)
 }
@@ -510,25 +529,26 @@ fn two_slots_enter_and_leave(rt: HostRuntime) {
     drop((links, maker));
 }
 
-// One thread makes slots, whose heads go into the table, while another flushes its batch again and again: each flush reads the heads of as
-// many slots as there are by then, and gives up. It goes on until it has seen all of them: a flush takes so little time that the thread
-// which makes them may not have run at all after 10,000,000, where the machine has other work.
+// One thread flushes its batch again and again: each flush reads the heads of as many slots as there are by then, and gives up. Another one
+// makes slots meanwhile, whose heads go into the table: it waits for the first flush, and a last flush comes after it has ended. So all
+// slots are made between two flushes, of which the first reads 2 heads, and the last all of them.
 #[test]
 fn slots_are_made_while_others_mark(rt: HostRuntime) {
     let Some((slots, growth, flusher)) = flushing::begin(rt.alloc()) else {
         panic!(rt; "no memory");
     };
-    let shared = &slots;
+    let signs = Signs::new();
+    let (shared, signs) = (&slots, &signs);
     let (made, saw) = thread::join(
         &rt,
         move || -> u64
             requires { MayGrow shared.now growth × (grown growth ≡ 2) }
-        { growth.grow(shared, MADE) },
-        move || -> bool
+        { growth.grow_beside(shared, signs, MADE, TURNS) },
+        move || -> Option<(u64, u64)>
             requires { MayFlush shared.now flusher }
-        { flusher.flush_until(shared, MADE + 2, 100 * TURNS) },
+        { flusher.flush_beside(shared, signs, 100 * TURNS) },
     );
-    assert_eq!(rt; (made, saw), (MADE, true));
+    assert_eq!(rt; (made, saw), (MADE, Some((2, MADE + 2))));
     let mut pass = slots.book.pass();
     let (count, all) = slots.load(&mut pass);
     assert_eq!(rt; count as u64, MADE + 2);

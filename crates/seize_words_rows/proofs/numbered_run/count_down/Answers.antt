@@ -1,11 +1,11 @@
-use Rattle.std.proofs.Common.{negsuc, refl, sym, subst}
+use Rattle.std.proofs.Common.{negsuc, refl, sym, subst, ◌∙◌}
 use Rattle.seize_machine.specs.Machine.Event.{Return, SubCount}
 use Rattle.seize_machine.specs.declared.machine.event.Answer.TheVariants.{Count, Done}
 use Rattle.seize_book.specs.Kept.{AreTold}
 use Rattle.seize_words.specs.Joined.{words_book}
 use Rattle.seize_words_rows.specs.NumberedRuns.{value_in}
 use Rattle.seize_words_rows.specs.Runs.{counted_down, left, reader_over}
-use Rattle.seize_words_rows.proofs.NumberedRuns.{looked_at}
+use Rattle.seize_words_rows.proofs.NumberedRuns.{looked_at, named_down, word_down}
 use Rattle.seize_words_rows.proofs.Runs.{counts_down, returns_reader}
 use Rattle.seize_words_rows.proofs.Stages.{looks_on, sees_still, steps}
 use Rattle.seize_words_rows.proofs.Told.{told_looked, told_noted}
@@ -25,3 +25,13 @@ returns-clause-stands c =
     let counted = told_noted values look.new.self one.new.key pass one.new.pass _ one.ensures.counts.0 (subst (AreTold values) (sym c.new-values.ensures.1) at_look) in
     let loaded = told_looked values header.new.pass load.new.pass load.ensures.looks (told_looked values one.new.pass header.new.pass header.ensures.looks counted) in
     (stands.0, last.0, last.1, told_noted values one.new.key two.new.self load.new.pass two.new.pass _ two.ensures.noted loaded)
+
+pub returns-clause-word : goal.returns-clause-word
+returns-clause-word c =
+    let n = words_book c.args.words.now in let v = value_in c.args.retired.now in let look = c.look in let one = c.subtract-zero in let stands = c.requires.stands in let pass = c.new-values.new.pass in
+    let at = looked_at n c.args.reader.now look.new.self c.args.pass.now look.new.pass 0 (left v) (left v) look.ensures.looked stands.1 stands.2 in
+    let first = steps n look.new.self one.new.key pass one.new.pass 0 0 (λ s. SubCount s) (left v) (left v) (counted_down v) (Count (negsuc 0)) one.ensures.counts.0 (sees_still n look.new.pass pass (left v) c.new-values.ensures.1 at.0.0) at.0.1 (counts_down v) in
+    let header = c.header-header in let load = c.load-word in
+    let mid = looks_on n one.new.key one.new.key one.new.pass header.new.pass 0 (counted_down v) header.ensures.looks refl first.0 first.1 in
+    let later = looks_on n one.new.key one.new.key header.new.pass load.new.pass 0 (counted_down v) load.ensures.looks refl mid.0 mid.1 in
+    load.ensures.shows ∙ word_down n load.new.pass header.result.now.count v later.0 (header.ensures.header.1 v (named_down n header.new.pass v mid.0) stands.0.its.number)
