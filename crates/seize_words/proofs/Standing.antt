@@ -76,7 +76,7 @@ pub took_current : (link : Link) (a found : Activation) (pass pass' later : Pass
 took_current link a found pass pass' later event v current t on won seen looks lasts still one =
     one_by_word (held_before t) current (sym t.found ∙ won) (λ x y is is' numbers.
     let stands = λ (b : Activation) (z : ℕ) (lasting : IsLasting b later) (f : WasFound b z pass'). found_stands b z later (ap (λ (n : Name). are_distinct (linked n.links)) looks.same.0 ∙ looks.distinct) (subst (λ (n : Name). IsLegalList (start n) later.seen) (sym looks.same.0) looks.legal) lasting
-        (found_later b z pass' later looks.same.0 looks.grows f) in
+    (found_later b z pass' later looks.same.0 looks.grows f) in
     let word : v ≡ block_of x + 1 = t.found ∙ ap link_word is in
     let old = stands a x lasts (was_found link a pass pass' event v x t on is) in let new = stands found y still (seen y is') in
     one x y (old.0, old.1, omega (arith, word)) (new.0, new.1, omega (arith, word, numbers)))

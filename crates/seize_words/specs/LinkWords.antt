@@ -119,10 +119,12 @@ Swaps link activation key pass key' pass' v =
 -- and here where it was what was seen; else it is the same key, its value may be named still, and the glimpse is of what the link held
 abbrev pub CompareExchanges : Link → Activation → MaybeKey → Pass → Option ℕ → MaybeKey → Pass → ℕ → Glimpse → Type 0
 CompareExchanges link activation key pass current key' pass' v glimpse =
-    (t : Takes link activation pass pass' (λ old. ExchangeLink activation.slot (number link) (Compare (compared current old) (holds key))) v)
+    (t : Takes link activation pass pass' (λ old.
+    ExchangeLink activation.slot (number link) (Compare (compared current old) (holds key))) v)
     × (key'.keys.name ≡ key.keys.name)
     × (v ≡ link_word current → (holds key' ≡ held_before t) × IsOut key' × (glimpse.value ≡ None))
-    × (v ≢ link_word current → (holds key' ≡ holds key) × IsNewIn key'.keys.name (holds key') key'.keys.held × (glimpse.value ≡ held_before t))
+    × (v ≢ link_word current →
+    (holds key' ≡ holds key) × IsNewIn key'.keys.name (holds key') key'.keys.held × (glimpse.value ≡ held_before t))
     × KnowsAll key' pass'
 
 -- Links are made of the keys that their book begins with.

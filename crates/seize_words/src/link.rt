@@ -61,8 +61,8 @@ impl MaybeKey {
     }
 }
 
-/// Which value, or none, the caller of an exchange takes the link to hold. It is not there in the program: the caller passes `Brand`, and its
-/// proof picks one of the word that was seen; where none is picked it is none.
+/// Which value, or none, the caller of an exchange takes the link to hold. It is not there in the program: the caller passes `Brand`, and
+/// its proof picks one of the word that was seen; where none is picked it is none.
 pub trait Expects {
     ghost current: { Option ℕ };
 }

@@ -151,8 +151,14 @@ pub fn lose(
     };
     let new = lend(&words.blocks, &mut key, block);
     let mut key = MaybeKey::some(key);
-    let (found, glimpse) =
-        words.exchange_link::<Brand>(1, 0, new.number + 1, &mut key, activation, pass);
+    let (found, glimpse) = words.exchange_link::<Brand>(
+        1,
+        0,
+        new.number + 1,
+        &mut key,
+        activation,
+        pass,
+    );
     let seen = *words.blocks.see(found - 1, glimpse, pass);
     let value = give_back(&words.blocks, key.value(), new, pass);
     Some(Lost { found, seen, value })
