@@ -7,7 +7,8 @@ ghost use Rattle.seize_book.specs.Tokens.{Name, name_coded, porter_owns};
 use crate::book::pass::Pass;
 use std::marker::{Model, PhantomData};
 
-/// What passes of a book come from whose gate is `turns`. There is one, and it can't be forgotten: it is spent by [`Porter::shut`].
+/// What passes of a book come from whose gate is `turns`. There is one, and it has no `Drop`: it is spent by [`Porter::shut`],
+/// which gives a pass; who drops that leaves the book shut.
 pub struct Porter {
     pub(super) marker: PhantomData<()>,
     /// The book.
