@@ -11,4 +11,5 @@ pub mod seat;
 #[cfg(test)]
 mod tests;
 pub mod turns;
+pub mod visiting;
 pub mod worker;

@@ -4,6 +4,7 @@ ghost use Rattle.seize_calls_rows.specs.Workers.{MayWork};
 
 mod forgetting;
 mod holding;
+mod visiting;
 
 use crate::counting::Counting;
 use crate::putting::{Putting, make};
