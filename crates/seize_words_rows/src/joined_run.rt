@@ -122,6 +122,7 @@ pub fn find(
 }
 
 /// What is had where an exchange was lost.
+#[derive(Drop)]
 pub struct Lost {
     /// The word that was found.
     pub found: u64,
