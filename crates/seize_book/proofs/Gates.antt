@@ -1,4 +1,5 @@
--- Where one pass is alone, its copy of the list and the book's; and how the gate `turns` is shut and opened again. Assumes `Logic`.
+-- Where one pass is alone, its copy of the list and the book's; and how a porter comes home at the gate `turns`, and goes off. Assumes
+-- `Logic`.
 use Rattle.std.proofs.Common.{◌≡◌, ℕ, zero, suc, ◌-◌, ◌≤◌, Bool, true, false, List, [], ◌∷◌, refl, sym}
 use mathlib.Core.List.{IsPrefix}
 use mathlib.Core.Option as Maybe
@@ -12,7 +13,8 @@ use base.Fml.{Fml, Share, ftrue}
 use types.Logic.{Logic, sem}
 use types.Growing.{latest_agrees, latest_glue, latest_grows, latest_cut}
 use types.Owned.{own_sum}
-use types.Kit.{‵, raw, ◌⊛◌, given, ◌$◌, ◌∵◌, !, qed, by, move, split, fsplit, fjoin, fpick, fpack, learn, check, suffices, settle, done, use1, use2, rewrite}
+use types.Kit.{‵, raw, ◌⊛◌, given, ◌$◌, ◌∵◌, !, qed, by, move, drop, split, fsplit, fjoin, fpick, fpack, learn, check, suffices, settle, done, use1, use2, rewrite}
+use denote.Steps.{nothing}
 use Rattle.seize_book.specs.Ledger.{fact, logs}
 use Rattle.seize_book.specs.Entry.{Entry, entry_coded}
 use Rattle.seize_book.specs.Tokens.{Gate, many, sole, turns, IsSole, IsTurns, all_but, gate_keeps, gate_gives, gate_leaves, one_out, turned}
@@ -96,40 +98,76 @@ module _ {M : Type 1} {𝓤 : Ura M} (𝓛 : Logic 𝓤) where
   gives_as (turns η κ) zero a b e = qed 𝓛 (‵ (gate_gives (turns η κ) zero a) ∷ []) ∵ rewrite ! 0 (λ (x : List Entry). ‵ (gate_gives (turns η κ) zero x)) (e tt) refl $ done !
   gives_as (turns η κ) (suc p) a b e = qed 𝓛 (‵ (gate_gives (turns η κ) (suc p) a) ∷ []) ∵ done !
 
-  -- In turns: the gate is shut, and opened again.
+  -- In turns: the porter comes home, and goes out again; at home it has what the first pass has.
 
-  shut_once : (η κ : ℕ) (log : List Entry) (b : Bool) → ⟦ turned η κ log b ⟧ ∗ ⟦ all_but κ 0 ⟧ ⊢ ⟦ gate_keeps (turns η κ) log ⟧ ∗ ⟦ copy three_quarters η log ⟧
-  shut_once η κ log true = qed 𝓛 (‵ (turned η κ log true) ∷ ‵ (all_but κ 0) ∷ []) ∵ fsplit ! $ move ! (1 ∷ 2 ∷ []) $ use2 𝓛 (given ⊥ (‵ ftrue)) (all_once 𝓛 κ (guard 𝓤 ⊥ ⟦ ftrue ⟧) 0 0) $ learn ! (λ x. absurd x)
-  shut_once η κ log false = qed 𝓛 (‵ (turned η κ log false) ∷ ‵ (all_but κ 0) ∷ []) ∵
-      use1 𝓛 (‵ (copy quarter η log) ⊛ ‵ (copy three_quarters η log)) (latest_cut (logs entry_coded) 𝓛 full_share quarter three_quarters η log quarters) $ split ! $
+  -- it has seen the whole list, where it is at home
+  abbrev pub Stands : Gate → Bool → List Entry → List Entry → Pr
+  Stands g home log seen = guard 𝓤 (home ≡ true → log ≡ seen) (⟦ gate_keeps g log ⟧ ∗ ⟦ gate_leaves g true 0 log ⟧)
+
+  abbrev at_home : ℕ → List Entry → Fml
+  at_home η log = copy three_quarters η log
+
+  packs_home : (η κ : ℕ) (log : List Entry) → ⟦ at_home η log ⟧ ⊢ ⟦ gate_leaves (turns η κ) true 0 log ⟧
+  packs_home η κ log = qed 𝓛 (‵ (at_home η log) ∷ []) ∵ nothing ! $ fpack ! (zero ≡ zero) (λ _. ftrue) refl $ move ! (1 ∷ 0 ∷ []) $ fjoin ! $ done !
+
+  opens_home : (η κ out : ℕ) (seen : List Entry) → ⟦ gate_leaves (turns η κ) true out seen ⟧ ⊢ guard 𝓤 (out ≡ 0) ⟦ at_home η seen ⟧
+  opens_home η κ out seen = qed 𝓛 (‵ (gate_leaves (turns η κ) true out seen) ∷ []) ∵ fsplit ! $ move ! (1 ∷ []) $ fpick ! (λ none. drop ! $ check ! none $ done !)
+
+  all_in : (η κ : ℕ) (log : List Entry) (b : Bool) → ⟦ turned η κ log b ⟧ ∗ ⟦ all_but κ 0 ⟧ ⊢ ⟦ gate_keeps (turns η κ) log ⟧ ∗ ⟦ at_home η log ⟧
+  all_in η κ log true = qed 𝓛 (‵ (turned η κ log true) ∷ ‵ (all_but κ 0) ∷ []) ∵ fsplit ! $ move ! (1 ∷ 2 ∷ []) $ use2 𝓛 (given ⊥ (‵ ftrue)) (all_once 𝓛 κ (guard 𝓤 ⊥ ⟦ ftrue ⟧) 0 0) $ learn ! (λ x. absurd x)
+  all_in η κ log false = qed 𝓛 (‵ (turned η κ log false) ∷ ‵ (all_but κ 0) ∷ []) ∵
+      use1 𝓛 (‵ (copy quarter η log) ⊛ ‵ (at_home η log)) (latest_cut (logs entry_coded) 𝓛 full_share quarter three_quarters η log quarters) $ split ! $
       move ! (0 ∷ 2 ∷ []) $ fjoin ! $ fpack ! Bool (turned η κ log) true $ done !
 
-  pub shuts : (g : Gate) (log : List Entry) → IsTurns g → ⟦ gate_keeps g log ⟧ ∗ ⟦ gate_leaves g 0 ⟧ ⊢ ⟦ gate_keeps g log ⟧ ∗ ⟦ gate_gives g 0 log ⟧
-  shuts many log is = absurd is
-  shuts (sole η) log is = absurd is
-  shuts (turns η κ) log is = qed 𝓛 (‵ (gate_keeps (turns η κ) log) ∷ ‵ (gate_leaves (turns η κ) 0) ∷ []) ∵ fpick ! (λ b. by ! (shut_once η κ log b))
+  pub comes_home : (g : Gate) (home : Bool) (log seen : List Entry) → IsTurns g → ⟦ gate_keeps g log ⟧ ∗ ⟦ gate_leaves g home 0 seen ⟧ ⊢ Stands g home log seen
+  comes_home many home log seen is = absurd is
+  comes_home (sole η) home log seen is = absurd is
+  comes_home (turns η κ) true log seen is = qed 𝓛 (‵ (gate_keeps (turns η κ) log) ∷ ‵ (gate_leaves (turns η κ) true 0 seen) ∷ []) ∵ move ! (1 ∷ []) $
+      use1 𝓛 (given (zero ≡ zero) (‵ (at_home η seen))) (opens_home η κ 0 seen) $ learn ! (λ _. move ! (1 ∷ []) $ fpick ! (λ b. move ! (0 ∷ 1 ∷ []) $
+      use2 𝓛 (given (log ≡ seen) (‵ (turned η κ log b) ⊛ ‵ (at_home η seen))) (in_turn η κ log seen b) $ learn ! (λ e. split ! $ fpack ! Bool (turned η κ log) b $
+      move ! (1 ∷ []) $ rewrite ! 0 (λ (x : List Entry). ‵ (at_home η x)) (sym e) refl $ use1 𝓛 (‵ (gate_leaves (turns η κ) true 0 log)) (packs_home η κ log) $
+      check ! (λ _. e) $ move ! (1 ∷ 0 ∷ []) $ done !)))
+  comes_home (turns η κ) false log seen is = qed 𝓛 (‵ (gate_keeps (turns η κ) log) ∷ ‵ (gate_leaves (turns η κ) false 0 seen) ∷ []) ∵ fpick ! (λ b.
+      use2 𝓛 (‵ (gate_keeps (turns η κ) log) ⊛ ‵ (at_home η log)) (all_in η κ log b) $ split ! $ move ! (1 ∷ []) $
+      use1 𝓛 (‵ (gate_leaves (turns η κ) true 0 log)) (packs_home η κ log) $ check ! (λ e. absurd (let no : false ≡ true = e in cc)) $ move ! (1 ∷ 0 ∷ []) $ done !)
 
-  open_once : (η κ : ℕ) (log seen : List Entry) (b : Bool) → ⟦ turned η κ log b ⟧ ∗ ⟦ copy three_quarters η seen ⟧ ⊢ ⟦ gate_keeps (turns η κ) log ⟧ ∗ ⟦ all_but κ 0 ⟧
-  open_once η κ log seen true = let l = logs entry_coded in qed 𝓛 (‵ (turned η κ log true) ∷ ‵ (copy three_quarters η seen) ∷ []) ∵ fsplit ! $ move ! (0 ∷ 2 ∷ []) $
-      use2 𝓛 (given (log ≡ seen) (‵ (copy quarter η log) ⊛ ‵ (copy three_quarters η seen))) (latest_agrees l 𝓛 quarter three_quarters η log seen) $ learn ! (λ e. split ! $
-      move ! (1 ∷ 0 ∷ []) $ rewrite ! 0 (λ (x : List Entry). ‵ (copy three_quarters η x)) (sym e) refl $ move ! (1 ∷ 0 ∷ []) $
+  open_once : (η κ : ℕ) (log seen : List Entry) (b : Bool) → ⟦ turned η κ log b ⟧ ∗ ⟦ at_home η seen ⟧ ⊢ ⟦ gate_keeps (turns η κ) log ⟧ ∗ ⟦ all_but κ 0 ⟧
+  open_once η κ log seen true = let l = logs entry_coded in qed 𝓛 (‵ (turned η κ log true) ∷ ‵ (at_home η seen) ∷ []) ∵ fsplit ! $ move ! (0 ∷ 2 ∷ []) $
+      use2 𝓛 (given (log ≡ seen) (‵ (copy quarter η log) ⊛ ‵ (at_home η seen))) (latest_agrees l 𝓛 quarter three_quarters η log seen) $ learn ! (λ e. split ! $
+      move ! (1 ∷ 0 ∷ []) $ rewrite ! 0 (λ (x : List Entry). ‵ (at_home η x)) (sym e) refl $ move ! (1 ∷ 0 ∷ []) $
       use2 𝓛 (‵ (turned η κ log false)) (latest_glue l 𝓛 full_share quarter three_quarters η log quarters) $ fpack ! Bool (turned η κ log) false $ done !)
   open_once η κ log seen false = more_than_all (⟦ gate_keeps (turns η κ) log ⟧ ∗ ⟦ all_but κ 0 ⟧) three_quarters η log seen
 
-  pub opens_again : (g : Gate) (log seen : List Entry) → IsTurns g → ⟦ gate_keeps g log ⟧ ∗ ⟦ gate_gives g 0 seen ⟧ ⊢ ⟦ gate_keeps g log ⟧ ∗ ⟦ gate_leaves g 0 ⟧
-  opens_again many log seen is = absurd is
-  opens_again (sole η) log seen is = absurd is
-  opens_again (turns η κ) log seen is = qed 𝓛 (‵ (gate_keeps (turns η κ) log) ∷ ‵ (gate_gives (turns η κ) 0 seen) ∷ []) ∵ fpick ! (λ b. by ! (open_once η κ log seen b))
+  -- it is no more at home
+  pub goes_off : (g : Gate) (home : Bool) (out : ℕ) (log seen : List Entry) → ⟦ gate_keeps g log ⟧ ∗ ⟦ gate_leaves g home out seen ⟧ ⊢ ⟦ gate_keeps g log ⟧ ∗ ⟦ gate_leaves g false out seen ⟧
+  goes_off many home out log seen = qed 𝓛 (‵ (gate_keeps many log) ∷ ‵ (fact ⊥) ∷ []) ∵ done !
+  goes_off (sole η) home out log seen = qed 𝓛 (‵ (gate_keeps (sole η) log) ∷ ‵ (fact ⊥) ∷ []) ∵ done !
+  goes_off (turns η κ) true out log seen = qed 𝓛 (‵ (gate_keeps (turns η κ) log) ∷ ‵ (gate_leaves (turns η κ) true out seen) ∷ []) ∵ move ! (1 ∷ []) $
+      use1 𝓛 (given (out ≡ 0) (‵ (at_home η seen))) (opens_home η κ out seen) $ learn ! (λ none. move ! (1 ∷ []) $ fpick ! (λ b. move ! (0 ∷ 1 ∷ []) $
+      use2 𝓛 (‵ (gate_keeps (turns η κ) log) ⊛ ‵ (all_but κ 0)) (open_once η κ log seen b) $ split ! $ move ! (1 ∷ []) $ rewrite ! 0 (λ (k : ℕ). ‵ (all_but κ k)) (sym none) refl $
+      move ! (1 ∷ 0 ∷ []) $ done !))
+  goes_off (turns η κ) false out log seen = qed 𝓛 (‵ (gate_keeps (turns η κ) log) ∷ ‵ (gate_leaves (turns η κ) false out seen) ∷ []) ∵ done !
+
+  -- the first pass has what the porter has at home
+  pub first_goes : (g : Gate) (seen : List Entry) → IsTurns g → ⟦ gate_leaves g true 0 seen ⟧ ⊢ ⟦ gate_gives g 0 seen ⟧
+  first_goes many seen is = absurd is
+  first_goes (sole η) seen is = absurd is
+  first_goes (turns η κ) seen is = qed 𝓛 (‵ (gate_leaves (turns η κ) true 0 seen) ∷ []) ∵ use1 𝓛 (given (zero ≡ zero) (‵ (at_home η seen))) (opens_home η κ 0 seen) $ learn ! (λ _. done !)
+
+  pub first_comes : (g : Gate) (seen : List Entry) → IsTurns g → ⟦ gate_gives g 0 seen ⟧ ⊢ ⟦ gate_leaves g true 0 seen ⟧
+  first_comes many seen is = absurd is
+  first_comes (sole η) seen is = absurd is
+  first_comes (turns η κ) seen is = packs_home η κ seen
 
   -- a pass goes out that is not the first, and one comes back
-  pub gives_one : (g : Gate) (out p : ℕ) (seen : List Entry) → (p ≡ 0 → ⊥) → ⟦ gate_leaves g out ⟧ ⊢ ⟦ gate_leaves g (suc out) ⟧ ∗ ⟦ gate_gives g p seen ⟧
-  gives_one many out p seen other = qed 𝓛 (‵ (fact ⊥) ∷ []) ∵ fpick ! (λ x. absurd x)
-  gives_one (sole η) out p seen other = qed 𝓛 (‵ (fact ⊥) ∷ []) ∵ fpick ! (λ x. absurd x)
-  gives_one (turns η κ) out zero seen other = absurd (other refl)
-  gives_one (turns η κ) out (suc p) seen other = goes_out 𝓛 κ out
+  pub gives_one : (g : Gate) (out p : ℕ) (seen had : List Entry) → (p ≡ 0 → ⊥) → ⟦ gate_leaves g false out had ⟧ ⊢ ⟦ gate_leaves g false (suc out) had ⟧ ∗ ⟦ gate_gives g p seen ⟧
+  gives_one many out p seen had other = qed 𝓛 (‵ (fact ⊥) ∷ []) ∵ fpick ! (λ x. absurd x)
+  gives_one (sole η) out p seen had other = qed 𝓛 (‵ (fact ⊥) ∷ []) ∵ fpick ! (λ x. absurd x)
+  gives_one (turns η κ) out zero seen had other = absurd (other refl)
+  gives_one (turns η κ) out (suc p) seen had other = goes_out 𝓛 κ out
 
-  pub takes_one : (g : Gate) (out p : ℕ) (seen : List Entry) → (p ≡ 0 → ⊥) → ⟦ gate_leaves g out ⟧ ∗ ⟦ gate_gives g p seen ⟧ ⊢ guard 𝓤 (1 ≤ out) ⟦ gate_leaves g (out - 1) ⟧
-  takes_one many out p seen other = qed 𝓛 (‵ (fact ⊥) ∷ ‵ ftrue ∷ []) ∵ fpick ! (λ x. absurd x)
-  takes_one (sole η) out p seen other = qed 𝓛 (‵ (fact ⊥) ∷ ‵ (gate_gives (sole η) p seen) ∷ []) ∵ fpick ! (λ x. absurd x)
-  takes_one (turns η κ) out zero seen other = absurd (other refl)
-  takes_one (turns η κ) out (suc p) seen other = comes_back 𝓛 κ out
+  pub takes_one : (g : Gate) (out p : ℕ) (seen had had' : List Entry) → (p ≡ 0 → ⊥) → ⟦ gate_leaves g false out had ⟧ ∗ ⟦ gate_gives g p seen ⟧ ⊢ guard 𝓤 (1 ≤ out) ⟦ gate_leaves g false (out - 1) had' ⟧
+  takes_one many out p seen had had' other = qed 𝓛 (‵ (fact ⊥) ∷ ‵ ftrue ∷ []) ∵ fpick ! (λ x. absurd x)
+  takes_one (sole η) out p seen had had' other = qed 𝓛 (‵ (fact ⊥) ∷ ‵ (gate_gives (sole η) p seen) ∷ []) ∵ fpick ! (λ x. absurd x)
+  takes_one (turns η κ) out zero seen had had' other = absurd (other refl)
+  takes_one (turns η κ) out (suc p) seen had had' other = comes_back 𝓛 κ out

@@ -55,10 +55,12 @@ gives_keyless (sole η) p seen = tt
 gives_keyless (turns η κ) zero seen = tt
 gives_keyless (turns η κ) (suc p) seen = λ k. entry_keyless token κ k tt
 
-leaves_keyless : (g : Gate) (out : ℕ) → Keyless (gate_leaves g out)
-leaves_keyless many out = λ _. tt
-leaves_keyless (sole η) out = λ _. tt
-leaves_keyless (turns η κ) out = all_but_keyless κ out
+leaves_keyless : (g : Gate) (home : Bool) (out : ℕ) (seen : List Entry) → Keyless (gate_leaves g home out seen)
+unfolding latest
+leaves_keyless many home out seen = λ _. tt
+leaves_keyless (sole η) home out seen = λ _. tt
+leaves_keyless (turns η κ) true out seen = (tt, λ _. tt)
+leaves_keyless (turns η κ) false out seen = all_but_keyless κ out
 
 lead_keyless : (store : Option (List ℕ)) (b : ℕ) (t : ℕ × ℕ) → Keyless (leads_in store b t)
 lead_keyless None b t = tt
@@ -109,9 +111,9 @@ pub pass_keyless : (n : Name) (p : ℕ) (seen : List Entry) → Keyless (pass_ow
 unfolding at_least
 pass_keyless n p seen = ((inside_keyless n, (tt, λ _. tt)), λ own. (entry_keyless (halved entry_coded) _ p _, (tt, (gives_keyless n.gate p seen, λ _. tt))))
 
-pub porter_keyless : (n : Name) (out : ℕ) (seen : List Entry) → Keyless (porter_owns n out seen)
+pub porter_keyless : (n : Name) (home : Bool) (out : ℕ) (seen : List Entry) → Keyless (porter_owns n home out seen)
 unfolding at_least
-porter_keyless n out seen = ((inside_keyless n, (tt, λ _. tt)), λ own. (entry_keyless (halved entry_coded) _ 0 _, (tt, (leaves_keyless n.gate out, λ _. tt))))
+porter_keyless n home out seen = ((inside_keyless n, (tt, λ _. tt)), λ own. (entry_keyless (halved entry_coded) _ 0 _, (tt, (leaves_keyless n.gate home out seen, λ _. tt))))
 
 note_in_keyless : (store : Option (List ℕ)) (c : ℕ) (g : Gv) → Keyless (note_in store c g)
 note_in_keyless None c g = tt

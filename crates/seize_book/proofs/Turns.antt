@@ -1,5 +1,6 @@
--- A porter gives passes out and takes them back, and where all are back the gate is shut: the first pass is alone then. Assumes `Logic`.
-use Rattle.std.proofs.Common.{◌≡◌, ℕ, zero, suc, ◌-◌, ◌≤◌, List, [], ◌∷◌, refl, sym, ◌∙◌, arith}
+-- A porter gives passes out and takes them back, and where all are back it comes home: nobody may add then, until a pass goes out, or the
+-- first one, which is alone. Assumes `Logic`.
+use Rattle.std.proofs.Common.{◌≡◌, ℕ, zero, suc, ◌-◌, ◌≤◌, Bool, true, false, List, [], ◌∷◌, refl, sym, ◌∙◌, arith}
 use mathlib.Core.List.{IsPrefix}
 use seplogic.Ra.Ura.{Ura}
 use base.Growing.{Least, prefix_refl, prefix_trans}
@@ -10,16 +11,16 @@ use types.Growing.{at_least_dup, at_least_join}
 use types.Kit.{‵, raw, ◌⊛◌, some, given, later, ◌$◌, ◌∵◌, !, qed, by, move, keep, drop, split, split3, join, fsplit, fjoin, fpick, fpack, pick, learn, show, check, frame, assume, suffices, done, use1, use2, use3, updating, await, now}
 use denote.Steps.{nothing}
 use Rattle.seize_machine.specs.Machine.State.{State}
-use Rattle.seize_book.specs.Ledger.{AllApart, Held, Known, WithKinds, logs, reached}
+use Rattle.seize_book.specs.Ledger.{AllApart, Held, Known, WithKinds, fact, logs, reached}
 use Rattle.seize_book.specs.Entry.{Entry, entry_coded}
 use Rattle.seize_book.specs.Book.{after, kinds, mine, passes, rules}
 use Rattle.seize_book.specs.Fair.{pass_key}
 use Rattle.seize_book.specs.Passes.{Longer}
 use Rattle.seize_book.specs.Tokens.{AllLentIn, Gate, IsSole, IsTurns, Name, turns, beside, found, gate_gives, gate_keeps, gate_leaves, inside, knows, pass_holds, pass_owns, porter_at, porter_owns, rows, start}
-use Rattle.seize_book.specs.Turns.{Shuts}
+use Rattle.seize_book.specs.Turns.{ComesHome, IsStill, IsWhole, Shuts}
 use Rattle.seize_book.proofs.Append.{looks_beside}
 use Rattle.seize_book.proofs.Apart.{all_apart}
-use Rattle.seize_book.proofs.Gates.{gives_one, opens_again, shuts, takes_one}
+use Rattle.seize_book.proofs.Gates.{comes_home, first_comes, first_goes, gives_one, goes_off, takes_one}
 use Rattle.seize_book.proofs.Lists.{between}
 use Rattle.seize_book.proofs.Looks.{Idle, apart, together}
 use Rattle.seize_book.proofs.Meets.{longer, peeks}
@@ -64,8 +65,8 @@ module _ {M : Type 1} {𝓤 : Ura M} (𝓛 : Logic 𝓤) (n : Name) where
   abbrev keeps : List Entry → Fml
   keeps log = gate_keeps n.gate log
 
-  abbrev leaves : ℕ → Fml
-  leaves out = gate_leaves n.gate out
+  abbrev leaves : Bool → ℕ → List Entry → Fml
+  leaves home out seen = gate_leaves n.gate home out seen
 
   abbrev gives : ℕ → List Entry → Fml
   gives p seen = gate_gives n.gate p seen
@@ -74,24 +75,24 @@ module _ {M : Type 1} {𝓤 : Ura M} (𝓛 : Logic 𝓤) (n : Name) where
   first own = rights 𝓛 n (pass_key 0 own ∷ [])
 
   -- a porter, taken apart: the key of the first pass, what it has seen, and what it has of the gate
-  abbrev Taken : ℕ → List Entry → List Entry → Pr
-  Taken out seen own = guard 𝓤 (Idle 𝓛 n 0 own seen) (⟦ first own ⟧ ∗ ⟦ had seen ⟧ ∗ ⟦ leaves out ⟧)
+  abbrev Taken : Bool → ℕ → List Entry → List Entry → Pr
+  Taken home out seen own = guard 𝓤 (Idle 𝓛 n 0 own seen) (⟦ first own ⟧ ∗ ⟦ had seen ⟧ ∗ ⟦ leaves home out seen ⟧)
 
-  abbrev taken : ℕ → List Entry → types.Kit.Item 𝓤
-  taken out seen = some (λ (own : List Entry). given (Idle 𝓛 n 0 own seen) (‵ (first own) ⊛ ‵ (had seen) ⊛ ‵ (leaves out)))
+  abbrev taken : Bool → ℕ → List Entry → types.Kit.Item 𝓤
+  taken home out seen = some (λ (own : List Entry). given (Idle 𝓛 n 0 own seen) (‵ (first own) ⊛ ‵ (had seen) ⊛ ‵ (leaves home out seen)))
 
-  abbrev holds : ℕ → List Entry → Fml
-  holds out seen = base.Fml.fex (List Entry) (porter_at n out seen)
+  abbrev holds : Bool → ℕ → List Entry → Fml
+  holds home out seen = base.Fml.fex (List Entry) (porter_at n home out seen)
 
-  takes : (out : ℕ) (seen : List Entry) → ⟦ holds out seen ⟧ ⊢ ex 𝓤 (Taken out seen)
-  takes out seen = qed 𝓛 (‵ (holds out seen) ∷ []) ∵ fpick ! (λ own. fsplit ! $ move ! (1 ∷ []) $ fsplit ! $ move ! (1 ∷ []) $ fsplit ! $ move ! (1 ∷ []) $ fpick ! (λ past. drop ! $
+  takes : (home : Bool) (out : ℕ) (seen : List Entry) → ⟦ holds home out seen ⟧ ⊢ ex 𝓤 (Taken home out seen)
+  takes home out seen = qed 𝓛 (‵ (holds home out seen) ∷ []) ∵ fpick ! (λ own. fsplit ! $ move ! (1 ∷ []) $ fsplit ! $ move ! (1 ∷ []) $ fsplit ! $ move ! (1 ∷ []) $ fpick ! (λ past. drop ! $
       -- [the gate; what it has seen; its key]
-      nothing ! $ move ! (3 ∷ 0 ∷ []) $ fjoin ! $ show ! (Taken out seen) own $ check ! past $ move ! (0 ∷ 2 ∷ 1 ∷ []) $ done !))
+      nothing ! $ move ! (3 ∷ 0 ∷ []) $ fjoin ! $ show ! (Taken home out seen) own $ check ! past $ move ! (0 ∷ 2 ∷ 1 ∷ []) $ done !))
 
-  whole : (out : ℕ) (seen own : List Entry) → Idle 𝓛 n 0 own seen → ⟦ first own ⟧ ∗ ⟦ had seen ⟧ ∗ ⟦ leaves out ⟧ ⊢ ⟦ holds out seen ⟧
-  whole out seen own past = qed 𝓛 (‵ (first own) ∷ ‵ (had seen) ∷ ‵ (leaves out) ∷ []) ∵ fsplit ! $ nothing ! $ fpack ! (Idle 𝓛 n 0 own seen) (λ _. ftrue) past $
+  whole : (home : Bool) (out : ℕ) (seen own : List Entry) → Idle 𝓛 n 0 own seen → ⟦ first own ⟧ ∗ ⟦ had seen ⟧ ∗ ⟦ leaves home out seen ⟧ ⊢ ⟦ holds home out seen ⟧
+  whole home out seen own past = qed 𝓛 (‵ (first own) ∷ ‵ (had seen) ∷ ‵ (leaves home out seen) ∷ []) ∵ fsplit ! $ nothing ! $ fpack ! (Idle 𝓛 n 0 own seen) (λ _. ftrue) past $
       -- [past; its key; nothing; what it has seen; the gate]
-      move ! (4 ∷ 0 ∷ []) $ fjoin ! $ move ! (3 ∷ 0 ∷ []) $ fjoin ! $ move ! (1 ∷ 0 ∷ []) $ fjoin ! $ fpack ! (List Entry) (porter_at n out seen) own $ keep ! (0 ∷ []) $ done !
+      move ! (4 ∷ 0 ∷ []) $ fjoin ! $ move ! (3 ∷ 0 ∷ []) $ fjoin ! $ move ! (1 ∷ 0 ∷ []) $ fjoin ! $ fpack ! (List Entry) (porter_at n home out seen) own $ keep ! (0 ∷ []) $ done !
 
   -- The gate is changed: nothing is appended, and the holder of keys knows of all that was.
   module _ (held : List (Held Entry)) (seen : List Entry) (X : Fml) (Y : List Entry → Fml) (ask : (log : List Entry) → ⟦ keeps log ⟧ ∗ ⟦ X ⟧ ⊢ ⟦ keeps log ⟧ ∗ ⟦ Y log ⟧) where
@@ -121,68 +122,83 @@ module _ {M : Type 1} {𝓤 : Ura M} (𝓛 : Logic 𝓤) (n : Name) where
   abbrev changed : List (Held Entry) → List Entry → (List Entry → Fml) → types.Kit.Item 𝓤
   changed held seen Y = later (some (λ (log : List Entry). given (Known (rules st) held seen log × AllLentIn n (after st log).named) (‵ (rights 𝓛 n held) ⊛ ‵ (had log) ⊛ ‵ (Y log))))
 
-  -- all are back: the first pass has seen all that there is
-  abbrev pub IsShut : List Entry → List Entry → Type 0
-  IsShut seen log = (rules st).Legal log × IsPrefix seen log × (mine st 0 log ≡ mine st 0 seen) × AllLentIn n (after st log).named × IsDistinct 𝓛 n
-
-  abbrev pub Shut : List Entry → List Entry → Pr
-  Shut seen log = guard 𝓤 (IsTurns n.gate × IsShut seen log) ⟦ pass_owns n 0 log ⟧
-
-  pub shuts_by : (out : ℕ) (seen log : List Entry) → IsTurns n.gate → IsShut seen log → Shuts (record { marker = record {}; name = n; seen = seen; out = out }) (record { marker = record {}; name = n; id = 0; seen = log })
-  shuts_by out seen log is so = record {
-    book = refl;
-    turn = (is, refl);
-    alone = turn_alone n.gate is;
-    grows = so.1;
-    none_made = so.2;
-    legal = so.0.0;
-    sound = so.0.1;
-    lent = so.3;
-    distinct = so.4;
-  }
-
-  is_turns : (out : ℕ) → ⟦ leaves out ⟧ ⊢ guard 𝓤 (IsTurns n.gate) ⟦ leaves out ⟧
-  is_turns out = go n.gate
+  is_turns : (home : Bool) (out : ℕ) (seen : List Entry) → ⟦ leaves home out seen ⟧ ⊢ guard 𝓤 (IsTurns n.gate) ⟦ leaves home out seen ⟧
+  is_turns home out seen = go n.gate
     where
-      go : (g : Gate) → ⟦ gate_leaves g out ⟧ ⊢ guard 𝓤 (IsTurns g) ⟦ gate_leaves g out ⟧
-      go Gate.many = qed 𝓛 (‵ (gate_leaves Gate.many out) ∷ []) ∵ fpick ! (λ x. absurd x)
-      go (Gate.sole η) = qed 𝓛 (‵ (gate_leaves (Gate.sole η) out) ∷ []) ∵ fpick ! (λ x. absurd x)
-      go (turns η κ) = qed 𝓛 (‵ (gate_leaves (turns η κ) out) ∷ []) ∵ check ! tt $ done !
+      go : (g : Gate) → ⟦ gate_leaves g home out seen ⟧ ⊢ guard 𝓤 (IsTurns g) ⟦ gate_leaves g home out seen ⟧
+      go Gate.many = qed 𝓛 (‵ (gate_leaves Gate.many home out seen) ∷ []) ∵ fpick ! (λ x. absurd x)
+      go (Gate.sole η) = qed 𝓛 (‵ (gate_leaves (Gate.sole η) home out seen) ∷ []) ∵ fpick ! (λ x. absurd x)
+      go (turns η κ) = qed 𝓛 (‵ (gate_leaves (turns η κ) home out seen) ∷ []) ∵ check ! tt $ done !
 
-  pub porter_shuts : (seen : List Entry) → ⟦ porter_owns n 0 seen ⟧ ⊢ H.⇛ (ex 𝓤 (Shut seen))
-  porter_shuts seen = qed 𝓛 (‵ (porter_owns n 0 seen) ∷ []) ∵ updating ! $ fsplit ! $ use1 𝓛 (given (IsDistinct 𝓛 n) (‵ (knows n))) (distinct_links 𝓛 n) $ learn ! (λ distinct.
-      use1 𝓛 (‵ (knows n) ⊛ ‵ (knows n)) (knows_twice 𝓛 n) $ split ! $ move ! (2 ∷ []) $ use1 𝓛 (taken 0 seen) (takes 0 seen) $ pick ! (λ own. learn ! (λ past. split3 ! $
+  -- no pass is out, and it has seen all that there is
+  abbrev pub IsHome : Bool → List Entry → List Entry → Type 0
+  IsHome home seen log = IsTurns n.gate × IsWhole n seen log × IsStill home seen log
+
+  abbrev pub Home : Bool → List Entry → List Entry → Pr
+  Home home seen log = guard 𝓤 (IsHome home seen log) ⟦ porter_owns n true 0 log ⟧
+
+  pub porter_home : (home : Bool) (seen : List Entry) → ⟦ porter_owns n home 0 seen ⟧ ⊢ H.⇛ (ex 𝓤 (Home home seen))
+  porter_home home seen = let Has : List Entry → Fml = λ log. base.Fml.fsep (leaves true 0 log) (fact (IsStill home seen log)) in
+      qed 𝓛 (‵ (porter_owns n home 0 seen) ∷ []) ∵ updating ! $ fsplit ! $ use1 𝓛 (given (IsDistinct 𝓛 n) (‵ (knows n))) (distinct_links 𝓛 n) $ learn ! (λ distinct.
+      use1 𝓛 (‵ (knows n) ⊛ ‵ (knows n)) (knows_twice 𝓛 n) $ split ! $ move ! (2 ∷ []) $ use1 𝓛 (taken home 0 seen) (takes home 0 seen) $ pick ! (λ own. learn ! (λ past. split3 ! $
       -- [its key; what it has seen; the gate; the book, twice]
-      move ! (2 ∷ []) $ use1 𝓛 (given (IsTurns n.gate) (‵ (leaves 0))) (is_turns 0) $ learn ! (λ is.
+      move ! (2 ∷ []) $ use1 𝓛 (given (IsTurns n.gate) (‵ (leaves home 0 seen))) (is_turns home 0 seen) $ learn ! (λ is.
       move ! (2 ∷ 0 ∷ []) $ join ! $ move ! (2 ∷ 1 ∷ 0 ∷ []) $ let held : List (Held Entry) = pass_key 0 own ∷ [] in
-      use3 𝓛 (changed held seen (gives 0)) (changes held seen (leaves 0) (gives 0) (λ log. shuts 𝓛 n.gate log is) (omega arith, tt)) $ await ! tt $ pick ! (λ log. learn ! (λ known.
-      let same : mine st 0 own ≡ mine st 0 log = known.0.2.0.1 in
-      use1 𝓛 (‵ (pass_holds n 0 log)) (together 𝓛 n 0 log own (prefix_trans own seen log past.0 known.0.1, same)) $
-      -- [the pass; the book]
-      now ! $ show ! (Shut seen) log $ check ! (is, (known.0.0, known.0.1, sym same ∙ past.1, known.1, distinct)) $ move ! (1 ∷ 0 ∷ []) $ fjoin ! $ done !))))))
+      use3 𝓛 (changed held seen Has) (changes held seen (leaves home 0 seen) Has (still_home home seen is) (omega arith, tt)) $ await ! tt $ pick ! (λ log. learn ! (λ known. split3 ! $
+      -- [its key; what was reached; the gate, and that it was so; the book]
+      move ! (2 ∷ []) $ fsplit ! $ move ! (1 ∷ []) $ fpick ! (λ still. drop ! $
+      let same : mine st 0 own ≡ mine st 0 log = known.0.2.0.1 in let is_so : IsWhole n seen log = record { grows = known.0.1; none_made = sym same ∙ past.1; legal = known.0.0.0; sound = known.0.0.1; lent = known.1; distinct = distinct } in
+      move ! (1 ∷ 2 ∷ 0 ∷ []) $ use3 𝓛 (‵ (holds true 0 log)) (whole true 0 log own (prefix_trans own seen log past.0 known.0.1, same)) $
+      -- [the porter; the book]
+      now ! $ show ! (Home home seen) log $ check ! (is, is_so, still) $ move ! (1 ∷ 0 ∷ []) $ fjoin ! $ done !)))))))
+    where
+      still_home : (home : Bool) (seen : List Entry) → IsTurns n.gate → (log : List Entry) → ⟦ keeps log ⟧ ∗ ⟦ leaves home 0 seen ⟧ ⊢ ⟦ keeps log ⟧ ∗ ⟦ base.Fml.fsep (leaves true 0 log) (fact (IsStill home seen log)) ⟧
+      still_home home seen is log = qed 𝓛 (‵ (keeps log) ∷ ‵ (leaves home 0 seen) ∷ []) ∵ use2 𝓛 (given (IsStill home seen log) (‵ (keeps log) ⊛ ‵ (leaves true 0 log))) (comes_home 𝓛 n.gate home log seen is) $
+          learn ! (λ still. split ! $ move ! (1 ∷ []) $ nothing ! $ fpack ! (IsStill home seen log) (λ _. ftrue) still $ move ! (1 ∷ 0 ∷ []) $ fjoin ! $ move ! (1 ∷ 0 ∷ []) $ done !)
 
-  -- and the porter has it back
-  pub porter_again : (seen : List Entry) → IsTurns n.gate → ⟦ pass_owns n 0 seen ⟧ ⊢ H.⇛ ⟦ porter_owns n 0 seen ⟧
-  porter_again seen is = qed 𝓛 ((‵ (knows n) ⊛ ‵ (pass_holds n 0 seen)) ∷ []) ∵ updating ! $ split ! $
-      use1 𝓛 (‵ (knows n) ⊛ ‵ (knows n)) (knows_twice 𝓛 n) $ split ! $ move ! (2 ∷ []) $
+  pub home_by : (home : Bool) (out : ℕ) (seen log : List Entry) → IsHome home seen log
+      → ComesHome (record { marker = record {}; name = n; seen = seen; out = out; home = home }) (record { marker = record {}; name = n; seen = log; out = 0; home = true })
+  home_by home out seen log is = record { book = refl; none_out = refl; home = refl; whole = is.1; still = is.2 }
+
+  pub shut_by : (home : Bool) (out : ℕ) (seen log : List Entry) → IsHome home seen log
+      → Shuts (record { marker = record {}; name = n; seen = seen; out = out; home = home }) (record { marker = record {}; name = n; id = 0; seen = log })
+  shut_by home out seen log is = record { book = refl; turn = (is.0, refl); alone = turn_alone n.gate is.0; whole = is.1; still = is.2 }
+
+  -- what it has at home is what the first pass has
+  pub home_passes : (seen : List Entry) → IsTurns n.gate → ⟦ porter_owns n true 0 seen ⟧ ⊢ ⟦ pass_owns n 0 seen ⟧
+  home_passes seen is = qed 𝓛 (‵ (porter_owns n true 0 seen) ∷ []) ∵ fsplit ! $ move ! (1 ∷ []) $ use1 𝓛 (taken true 0 seen) (takes true 0 seen) $ pick ! (λ own. learn ! (λ past. split3 ! $
+      -- [its key; what it has seen; the gate; the book]
+      move ! (2 ∷ []) $ use1 𝓛 (‵ (gives 0 seen)) (first_goes 𝓛 n.gate seen is) $ move ! (1 ∷ 2 ∷ 0 ∷ []) $ use3 𝓛 (‵ (pass_holds n 0 seen)) (together 𝓛 n 0 seen own past) $ move ! (1 ∷ 0 ∷ []) $ fjoin ! $ done !))
+
+  pub pass_homes : (seen : List Entry) → IsTurns n.gate → ⟦ pass_owns n 0 seen ⟧ ⊢ ⟦ porter_owns n true 0 seen ⟧
+  pass_homes seen is = qed 𝓛 ((‵ (knows n) ⊛ ‵ (pass_holds n 0 seen)) ∷ []) ∵ split ! $ move ! (1 ∷ []) $
       use1 𝓛 (some (λ (own : List Entry). given (Idle 𝓛 n 0 own seen) (‵ (first own) ⊛ ‵ (had seen) ⊛ ‵ (gives 0 seen)))) (apart 𝓛 n 0 seen) $ pick ! (λ own. learn ! (λ past. split3 ! $
-      -- [its key; what it has seen; its copy; the book, twice]
+      -- [its key; what it has seen; its copy; the book]
+      move ! (2 ∷ []) $ use1 𝓛 (‵ (leaves true 0 seen)) (first_comes 𝓛 n.gate seen is) $ move ! (1 ∷ 2 ∷ 0 ∷ []) $ use3 𝓛 (‵ (holds true 0 seen)) (whole true 0 seen own past) $ move ! (1 ∷ 0 ∷ []) $ fjoin ! $ done !))
+
+  -- a porter that is at home goes off
+  porter_off : (home : Bool) (out : ℕ) (seen : List Entry) → ⟦ porter_owns n home out seen ⟧ ⊢ H.⇛ ⟦ porter_owns n false out seen ⟧
+  porter_off home out seen = let X : Fml = leaves home out seen in let Y : List Entry → Fml = λ _. leaves false out seen in
+      qed 𝓛 (‵ (porter_owns n home out seen) ∷ []) ∵ updating ! $ fsplit ! $ use1 𝓛 (‵ (knows n) ⊛ ‵ (knows n)) (knows_twice 𝓛 n) $ split ! $
+      move ! (2 ∷ []) $ use1 𝓛 (taken home out seen) (takes home out seen) $ pick ! (λ own. learn ! (λ past. split3 ! $
+      -- [its key; what it has seen; the gate; the book, twice]
       move ! (1 ∷ []) $ use1 𝓛 (‵ (had seen) ⊛ ‵ (had seen)) (at_least_dup (logs entry_coded) 𝓛 n.log seen) $ split ! $
       move ! (0 ∷ 3 ∷ []) $ join ! $ move ! (3 ∷ 2 ∷ 0 ∷ []) $ let held : List (Held Entry) = pass_key 0 own ∷ [] in
-      use3 𝓛 (changed held seen (λ _. leaves 0)) (changes held seen (gives 0 seen) (λ _. leaves 0) (λ log. opens_again 𝓛 n.gate log seen is) (omega arith, tt)) $ await ! tt $ pick ! (λ log. learn ! (λ known. split3 ! $
+      use3 𝓛 (changed held seen Y) (changes held seen X Y (λ log. goes_off 𝓛 n.gate home out log seen) (omega arith, tt)) $ await ! tt $ pick ! (λ log. learn ! (λ known. split3 ! $
       -- [its key; what was reached; the gate; what it has seen; the book]
-      move ! (0 ∷ 3 ∷ 2 ∷ []) $ use3 𝓛 (‵ (holds 0 seen)) (whole 0 seen own past) $ now ! $ move ! (2 ∷ 0 ∷ []) $ fjoin ! $ keep ! (0 ∷ []) $ done !))))
+      move ! (0 ∷ 3 ∷ 2 ∷ []) $ use3 𝓛 (‵ (holds false out seen)) (whole false out seen own past) $ now ! $ move ! (2 ∷ 0 ∷ []) $ fjoin ! $ keep ! (0 ∷ []) $ done !))))
 
   -- a pass goes out
   abbrev pub Out : ℕ → List Entry → ℕ × List Entry → Pr
-  Out out seen t = guard 𝓤 (IsTurns n.gate × ¬ (t.0 ≡ 0) × IsPrefix seen t.1 × (mine st t.0 t.1 ≡ [])) (⟦ porter_owns n (suc out) seen ⟧ ∗ ⟦ pass_owns n t.0 t.1 ⟧)
+  Out out seen t = guard 𝓤 (IsTurns n.gate × ¬ (t.0 ≡ 0) × IsPrefix seen t.1 × (mine st t.0 t.1 ≡ [])) (⟦ porter_owns n false (suc out) seen ⟧ ∗ ⟦ pass_owns n t.0 t.1 ⟧)
 
-  pub porter_gives : (out : ℕ) (seen : List Entry) → ⟦ porter_owns n out seen ⟧ ⊢ H.⇛ (ex 𝓤 (Out out seen))
-  porter_gives out seen = let births : Picks 𝓛 n = λ sizes. (passes, sizes passes) ∷ [] in qed 𝓛 (‵ (porter_owns n out seen) ∷ []) ∵ updating ! $ fsplit ! $
+  pub porter_gives : (home : Bool) (out : ℕ) (seen : List Entry) → ⟦ porter_owns n home out seen ⟧ ⊢ H.⇛ (ex 𝓤 (Out out seen))
+  porter_gives home out seen = let births : Picks 𝓛 n = λ sizes. (passes, sizes passes) ∷ [] in qed 𝓛 (‵ (porter_owns n home out seen) ∷ []) ∵ updating ! $
+      use1 𝓛 (later (‵ (porter_owns n false out seen))) (porter_off home out seen) $ await ! tt $ fsplit ! $
       use1 𝓛 (‵ (knows n) ⊛ ‵ (knows n)) (knows_twice 𝓛 n) $ split ! $ use1 𝓛 (‵ (knows n) ⊛ ‵ (knows n)) (knows_twice 𝓛 n) $ split ! $
-      move ! (3 ∷ []) $ use1 𝓛 (taken out seen) (takes out seen) $ pick ! (λ own. learn ! (λ past. split3 ! $
+      move ! (3 ∷ []) $ use1 𝓛 (taken false out seen) (takes false out seen) $ pick ! (λ own. learn ! (λ past. split3 ! $
       -- [its key; what it has seen; the gate; the book, three times]
-      move ! (2 ∷ []) $ use1 𝓛 (given (IsTurns n.gate) (‵ (leaves out))) (is_turns out) $ learn ! (λ is.
+      move ! (2 ∷ []) $ use1 𝓛 (given (IsTurns n.gate) (‵ (leaves false out seen))) (is_turns false out seen) $ learn ! (λ is.
       move ! (2 ∷ []) $ use1 𝓛 (‵ (had seen) ⊛ ‵ (had seen)) (at_least_dup (logs entry_coded) 𝓛 n.log seen) $ split ! $
       -- [what it has seen, twice; the gate; its key; the book, three times]
       move ! (4 ∷ 0 ∷ []) $ use2 𝓛 (minted 𝓛 n seen births) (new_keys 𝓛 n seen births (λ sizes. (omega arith, (λ log j h p le. h p (omega (arith, le))), omega arith, tt))) $ await ! tt $ pick ! (λ t. learn ! (λ so. let p : ℕ = t.0 passes in split ! $
@@ -190,34 +206,35 @@ module _ {M : Type 1} {𝓤 : Ura M} (𝓛 : Logic 𝓤) (n : Name) where
       let held : List (Held Entry) = pass_key 0 own ∷ pass_key p t.1 ∷ [] in move ! (4 ∷ []) $ fsplit ! $ move ! (0 ∷ 2 ∷ []) $ fjoin ! $
       use1 𝓛 (given (AllApart held) (‵ (rights 𝓛 n held))) (all_apart entry_coded (rows n) 𝓛 held) $ learn ! (λ differ. let other : ¬ (p ≡ 0) = λ e. differ.0.0 (refl, sym e) in
       -- [both keys; nothing; what was reached; what it has seen; the gate; the book, twice]
-      move ! (4 ∷ []) $ use1 𝓛 (‵ (leaves (suc out)) ⊛ ‵ (gives p t.1)) (gives_one 𝓛 n.gate out p t.1 other) $ split ! $ move ! (2 ∷ []) $ fsplit ! $
+      move ! (4 ∷ []) $ use1 𝓛 (‵ (leaves false (suc out) seen) ⊛ ‵ (gives p t.1)) (gives_one 𝓛 n.gate out p t.1 seen other) $ split ! $ move ! (2 ∷ []) $ fsplit ! $
       -- [its key; the new one; the gate; the pass's ticket; nothing; what was reached; what it has seen; the book, twice]
-      move ! (0 ∷ 4 ∷ []) $ fjoin ! $ move ! (0 ∷ 5 ∷ 2 ∷ []) $ use3 𝓛 (‵ (holds (suc out) seen)) (whole (suc out) seen own past) $ move ! (4 ∷ 0 ∷ []) $ fjoin ! $
+      move ! (0 ∷ 4 ∷ []) $ fjoin ! $ move ! (0 ∷ 5 ∷ 2 ∷ []) $ use3 𝓛 (‵ (holds false (suc out) seen)) (whole false (suc out) seen own past) $ move ! (4 ∷ 0 ∷ []) $ fjoin ! $
       -- [the porter; the new key; the pass's ticket; what was reached; the book]
       move ! (1 ∷ 3 ∷ 2 ∷ []) $ use3 𝓛 (‵ (pass_holds n p t.1)) (together 𝓛 n p t.1 t.1 (prefix_refl t.1, refl)) $ move ! (2 ∷ 0 ∷ []) $ fjoin ! $
       now ! $ show ! (Out out seen) (p, t.1) $ check ! (is, other, so.0, so.1 passes p (omega arith)) $ move ! (1 ∷ 0 ∷ []) $ done !))))))
 
   -- one comes back
   abbrev pub Back : ℕ → List Entry → List Entry → List Entry → Pr
-  Back out seen x z = guard 𝓤 ((1 ≤ out) × Longer seen x z) ⟦ porter_owns n (out - 1) z ⟧
+  Back out seen x z = guard 𝓤 ((1 ≤ out) × Longer seen x z) ⟦ porter_owns n false (out - 1) z ⟧
 
-  pub porter_takes : (out p : ℕ) (seen x : List Entry) → ⟦ porter_owns n out seen ⟧ ∗ ⟦ pass_owns n p x ⟧ ⊢ H.⇛ (ex 𝓤 (Back out seen x))
-  porter_takes out p seen x = qed 𝓛 (‵ (porter_owns n out seen) ∷ (‵ (knows n) ⊛ ‵ (pass_holds n p x)) ∷ []) ∵ updating ! $ fsplit ! $ move ! (2 ∷ []) $ split ! $
+  pub porter_takes : (home : Bool) (out p : ℕ) (seen x : List Entry) → ⟦ porter_owns n home out seen ⟧ ∗ ⟦ pass_owns n p x ⟧ ⊢ H.⇛ (ex 𝓤 (Back out seen x))
+  porter_takes home out p seen x = qed 𝓛 (‵ (porter_owns n home out seen) ∷ (‵ (knows n) ⊛ ‵ (pass_holds n p x)) ∷ []) ∵ updating ! $
+      use1 𝓛 (later (‵ (porter_owns n false out seen))) (porter_off home out seen) $ await ! tt $ fsplit ! $ move ! (2 ∷ []) $ split ! $
       -- [the book; the pass; the book; the porter]
-      move ! (3 ∷ []) $ use1 𝓛 (taken out seen) (takes out seen) $ pick ! (λ own. learn ! (λ past. split3 ! $ move ! (4 ∷ []) $
+      move ! (3 ∷ []) $ use1 𝓛 (taken false out seen) (takes false out seen) $ pick ! (λ own. learn ! (λ past. split3 ! $ move ! (4 ∷ []) $
       use1 𝓛 (some (λ (b : List Entry). given (Idle 𝓛 n p b x) (‵ (rights 𝓛 n (pass_key p b ∷ [])) ⊛ ‵ (had x) ⊛ ‵ (gives p x)))) (apart 𝓛 n p x) $ pick ! (λ b. learn ! (λ past'. split3 ! $
       -- [the pass's key; x was reached; its ticket; the porter's key; what it has seen; the gate; the book, twice]
       let held : List (Held Entry) = pass_key 0 own ∷ pass_key p b ∷ [] in move ! (3 ∷ []) $ fsplit ! $ move ! (0 ∷ 2 ∷ []) $ fjoin ! $
       use1 𝓛 (given (AllApart held) (‵ (rights 𝓛 n held))) (all_apart entry_coded (rows n) 𝓛 held) $ learn ! (λ differ. let other : ¬ (p ≡ 0) = λ e. differ.0.0 (refl, sym e) in
       -- [both keys; nothing; x was reached; its ticket; what the porter has seen; the gate; the book, twice]
-      move ! (5 ∷ 3 ∷ []) $ use2 𝓛 (given (1 ≤ out) (‵ (leaves (out - 1)))) (takes_one 𝓛 n.gate out p x other) $ learn ! (λ less.
-      -- [the gate; both keys; nothing; x was reached; what the porter has seen; the book, twice]
-      move ! (4 ∷ 3 ∷ []) $ use2 𝓛 (some (λ (z : List Entry). given (Least IsPrefix seen x z) (‵ (had z)))) (at_least_join (logs entry_coded) 𝓛 n.log seen x) $ pick ! (λ z. learn ! (λ least.
-      use1 𝓛 (‵ (had z) ⊛ ‵ (had z)) (at_least_dup (logs entry_coded) 𝓛 n.log z) $ split ! $
+      move ! (4 ∷ 2 ∷ []) $ use2 𝓛 (some (λ (z : List Entry). given (Least IsPrefix seen x z) (‵ (had z)))) (at_least_join (logs entry_coded) 𝓛 n.log seen x) $ pick ! (λ z. learn ! (λ least.
+      -- [z was reached; both keys; nothing; the pass's ticket; the gate; the book, twice]
+      move ! (4 ∷ 3 ∷ []) $ use2 𝓛 (given (1 ≤ out) (‵ (leaves false (out - 1) z))) (takes_one 𝓛 n.gate out p x seen z other) $ learn ! (λ less.
+      move ! (1 ∷ []) $ use1 𝓛 (‵ (had z) ⊛ ‵ (had z)) (at_least_dup (logs entry_coded) 𝓛 n.log z) $ split ! $
       -- [z was reached, twice; the gate; both keys; nothing; the book, twice]
       move ! (5 ∷ 3 ∷ 0 ∷ []) $ use3 𝓛 (later (some (λ (log : List Entry). given (Known (rules st) held z log) (‵ (rights 𝓛 n held) ⊛ ‵ (had log))))) (peeks 𝓛 n held z (omega arith, (omega arith, tt))) $ await ! tt $ pick ! (λ log. learn ! (λ known. split ! $
       -- [both keys; what was reached; z was; the gate; nothing; the book]
       let same : mine st 0 z ≡ mine st 0 own = between st 0 own z log (prefix_trans own seen z past.0 least.0) known.1 known.2.0.1 in
-      fsplit ! $ move ! (0 ∷ 5 ∷ []) $ fjoin ! $ move ! (0 ∷ 3 ∷ 4 ∷ []) $ use3 𝓛 (‵ (holds (out - 1) z)) (whole (out - 1) z own (prefix_trans own seen z past.0 least.0, sym same)) $
+      fsplit ! $ move ! (0 ∷ 5 ∷ []) $ fjoin ! $ move ! (0 ∷ 3 ∷ 4 ∷ []) $ use3 𝓛 (‵ (holds false (out - 1) z)) (whole false (out - 1) z own (prefix_trans own seen z past.0 least.0, sym same)) $
       -- [the porter; the pass's key; what was reached; the book]
       move ! (3 ∷ 0 ∷ []) $ fjoin ! $ now ! $ show ! (Back out seen x) z $ check ! (less, longer seen x z least) $ keep ! (0 ∷ []) $ done !))))))))))

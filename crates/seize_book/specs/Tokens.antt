@@ -6,7 +6,8 @@
 --     chunk_label n k c   that of a chunk of the book's store with the home k and the cell c
 --     inside        what stands in its invariant;  knows   that there is this invariant, for good
 --     pass_owns     a pass: its key, a beginning of the list that it has seen, and where it alone may append the list itself
---     porter_owns   a porter: the key of the first pass, a beginning of the list that it has seen, and how many passes are out
+--     porter_owns   a porter: the key of the first pass, a beginning of the list that it has seen, and how many passes are out; and where
+--                   it is at home, that what it has seen is the whole list
 --     IsSole g p    at this gate pass p alone may append, whenever someone has it;  IsTurns g   passes come from a porter there
 --     leads n v     the value's number leads to the label of its home and cell, in the store where the book's blocks lie; and nothing where
 --                   they lie in none
@@ -201,11 +202,12 @@ gate_gives (sole η) p seen = latest (logs entry_coded) three_quarters η seen
 gate_gives (turns η κ) zero seen = latest (logs entry_coded) three_quarters η seen
 gate_gives (turns η κ) (suc p) seen = one_out κ
 
--- what a porter has while so many passes are out
-abbrev pub gate_leaves : Gate → ℕ → Fml
-gate_leaves many out = fact ⊥
-gate_leaves (sole η) out = fact ⊥
-gate_leaves (turns η κ) out = all_but κ out
+-- what a porter has: while so many passes are out, the other tickets; or, at home, what the first pass has, and no pass is out
+abbrev pub gate_leaves : Gate → Bool → ℕ → List Entry → Fml
+gate_leaves many home out seen = fact ⊥
+gate_leaves (sole η) home out seen = fact ⊥
+gate_leaves (turns η κ) true out seen = fsep (latest (logs entry_coded) three_quarters η seen) (fact (out ≡ 0))
+gate_leaves (turns η κ) false out seen = all_but κ out
 
 -- a number leads to one label and one content for good, since a chunk of a store keeps its header and its content
 abbrev pub leads_in : Option (List ℕ) → ℕ → ℕ × ℕ → Fml
@@ -281,14 +283,14 @@ abbrev pub pass_owns : Name → ℕ → List Entry → Fml
 pass_owns n p seen = fsep (knows n) (pass_holds n p seen)
 
 -- it keeps the key of the first pass, which nobody has meanwhile
-abbrev pub porter_at : Name → ℕ → List Entry → List Entry → Fml
-porter_at n out seen own =
+abbrev pub porter_at : Name → Bool → ℕ → List Entry → List Entry → Fml
+porter_at n home out seen own =
     fsep (key n passes 0 own)
     (fsep (reached entry_coded n.log seen)
-    (fsep (gate_leaves n.gate out) (fact (IsPrefix own seen × (mine (start n) 0 own ≡ mine (start n) 0 seen)))))
+    (fsep (gate_leaves n.gate home out seen) (fact (IsPrefix own seen × (mine (start n) 0 own ≡ mine (start n) 0 seen)))))
 
-abbrev pub porter_owns : Name → ℕ → List Entry → Fml
-porter_owns n out seen = fsep (knows n) (fex (List Entry) (porter_at n out seen))
+abbrev pub porter_owns : Name → Bool → ℕ → List Entry → Fml
+porter_owns n home out seen = fsep (knows n) (fex (List Entry) (porter_at n home out seen))
 
 abbrev pub rights_own : Name → List (Held Entry) → Fml
 rights_own n held = rights entry_coded (rows n) held

@@ -2,20 +2,24 @@
 --     HasTurn pass              it is the first pass of a book whose passes come from a porter: while someone has it, no other is out
 --     GivesOut porter porter' pass     one more pass is out, with which nothing was made, and which has seen what the porter has
 --     TakesBack porter pass porter'    one less is out, and the porter has seen what this one has, or had seen more
---     Shuts porter pass         the first pass, which is alone: it has seen the whole list, and nothing was made with it meanwhile
+--     IsWhole name seen seen'   nobody may add: the list is seen', which goes on from seen, and nothing was made with the first pass
+--                               meanwhile
+--     ComesHome porter porter'  no pass is out, and the porter has seen the whole list; it had, where it was at home
+--     Shuts porter pass         the first pass, which is alone: it has seen the whole list; just what the porter had, where that was at home
 --     IsFirstTurn book pass     the same of a book that has just begun
---     OpensAgain pass porter    none is out yet, and the porter has seen what the pass had
---     IsFullPorter book porter  the porter of a book that has just begun: no pass is out
+--     OpensAgain pass porter    none is out, and the porter, which is at home, has seen what the pass had
+--     IsFullPorter book porter  the porter of a book that has just begun: no pass is out, and it is at home
 --     OpensInTurns book porter keys links size store table     a new book whose passes come from this porter, with so many links, which
 --                               are empty; and its keys
-use Rattle.std.specs.Prelude.{◌≡◌, ℕ, ◌+◌, true, Option, List, []}
+use Rattle.std.specs.Prelude.{◌≡◌, ℕ, ◌+◌, Bool, true, false, Option, List, []}
 use mathlib.Core.List.{IsPrefix}
 use Rattle.seize_machine.specs.Machine.State.{are_distinct, linked}
 use Rattle.seize_book.specs.Book.{IsLegalList, after, mine}
 use Rattle.seize_book.specs.Books.{HasKeys, IsNew}
 use Rattle.seize_book.specs.Homes.{IsSound}
-use Rattle.seize_book.specs.Passes.{Longer, mine_of}
-use Rattle.seize_book.specs.Tokens.{AllLentIn, IsSole, IsTurns, start}
+use Rattle.seize_book.specs.Entry.{Entry}
+use Rattle.seize_book.specs.Passes.{Longer}
+use Rattle.seize_book.specs.Tokens.{AllLentIn, IsSole, IsTurns, Name, start}
 use Rattle.seize_book.specs.declared.book.book_keys.BookKeys.{BookKeys}
 use Rattle.seize_book.specs.declared.book.pass.Pass.{Pass}
 use Rattle.seize_book.specs.declared.book.porter.Porter.{Porter}
@@ -26,33 +30,49 @@ HasTurn pass = IsTurns pass.name.gate × (pass.id ≡ 0)
 
 abbrev pub GivesOut : Porter → Porter → Pass → Type 0
 GivesOut porter porter' pass =
-    ((porter'.name ≡ porter.name) × (porter'.seen ≡ porter.seen) × (porter'.out ≡ porter.out + 1))
+    ((porter'.name ≡ porter.name) × (porter'.seen ≡ porter.seen) × (porter'.out ≡ porter.out + 1) × (porter'.home ≡ false))
     × (pass.name ≡ porter.name) × IsNew pass × IsPrefix porter.seen pass.seen × (¬ (IsSole pass.name.gate pass.id))
 
 abbrev pub TakesBack : Porter → Pass → Porter → Type 0
 TakesBack porter pass porter' =
-    (porter'.name ≡ porter.name) × (porter'.out + 1 ≡ porter.out) × Longer porter.seen pass.seen porter'.seen
+    (porter'.name ≡ porter.name) × (porter'.out + 1 ≡ porter.out) × Longer porter.seen pass.seen porter'.seen × (porter'.home ≡ false)
+
+pub record IsWhole (name : Name) (seen seen' : List Entry) : Type 0 where
+  pub grows : IsPrefix seen seen'
+  pub none_made : mine (start name) 0 seen' ≡ mine (start name) 0 seen
+  pub legal : IsLegalList (start name) seen'
+  pub sound : IsSound (after (start name) seen')
+  pub lent : AllLentIn name (after (start name) seen').named
+  pub distinct : are_distinct (linked name.links) ≡ true
+
+-- the porter's list is the whole list already, if it is at home
+abbrev pub IsStill : Bool → List Entry → List Entry → Type 0
+IsStill home seen seen' = home ≡ true → seen' ≡ seen
+
+pub record ComesHome (porter porter' : Porter) : Type 0 where
+  pub book : porter'.name ≡ porter.name
+  pub none_out : porter'.out ≡ 0
+  pub home : porter'.home ≡ true
+  pub whole : IsWhole porter.name porter.seen porter'.seen
+  pub still : IsStill porter.home porter.seen porter'.seen
 
 pub record Shuts (porter : Porter) (pass : Pass) : Type 0 where
   pub book : pass.name ≡ porter.name
   pub turn : HasTurn pass
   pub alone : IsSole pass.name.gate pass.id
-  pub grows : IsPrefix porter.seen pass.seen
-  pub none_made : mine_of pass ≡ mine (start porter.name) 0 porter.seen
-  pub legal : IsLegalList (start pass.name) pass.seen
-  pub sound : IsSound (after (start pass.name) pass.seen)
-  pub lent : AllLentIn pass.name (after (start pass.name) pass.seen).named
-  pub distinct : are_distinct (linked pass.name.links) ≡ true
+  pub whole : IsWhole porter.name porter.seen pass.seen
+  pub still : IsStill porter.home porter.seen pass.seen
 
 -- the first pass of a book that has just begun
 abbrev pub IsFirstTurn : Book → Pass → Type 0
 IsFirstTurn book pass = HasTurn pass × (pass.name ≡ book.name) × (pass.seen ≡ [])
 
 abbrev pub OpensAgain : Pass → Porter → Type 0
-OpensAgain pass porter = (porter.name ≡ pass.name) × (porter.seen ≡ pass.seen) × (porter.out ≡ 0)
+OpensAgain pass porter = (porter.name ≡ pass.name) × (porter.seen ≡ pass.seen) × (porter.out ≡ 0) × (porter.home ≡ true)
 
 abbrev pub IsFullPorter : Book → Porter → Type 0
-IsFullPorter book porter = IsTurns porter.name.gate × (porter.name ≡ book.name) × (porter.seen ≡ []) × (porter.out ≡ 0)
+IsFullPorter book porter =
+    IsTurns porter.name.gate × (porter.name ≡ book.name) × (porter.seen ≡ []) × (porter.out ≡ 0) × (porter.home ≡ true)
 
 abbrev pub OpensInTurns : Book → Porter → BookKeys → ℕ → ℕ → Option (List ℕ) → Option (List ℕ) → Type 0
 OpensInTurns book porter keys links size store table = IsFullPorter book porter × HasKeys book keys links size store table

@@ -1,6 +1,7 @@
 //! Porters: who has a book's porter gives passes out, takes them back, and is alone when all are back. It uses passes beside it.
-ghost use Rattle.std.specs.Prelude.{◌≡◌, ℕ, List};
+ghost use Rattle.std.specs.Prelude.{◌≡◌, ℕ, Bool, List};
 ghost use base.Stored.{coded_list};
+ghost use Rattle.std.specs.Coded.{coded_bool};
 ghost use Rattle.seize_book.specs.Entry.{Entry, entry_coded};
 ghost use Rattle.seize_book.specs.Tokens.{Name, name_coded, porter_owns};
 
@@ -17,16 +18,18 @@ pub struct Porter {
     pub ghost seen: { List Entry } by { coded_list entry_coded },
     /// How many passes are out.
     pub ghost out: { ℕ },
+    /// Whether it is at home: no pass is out, nobody may add to the list, and the whole of it is what the porter has seen.
+    pub ghost home: { Bool } by { coded_bool },
 }
 
 impl Model for Porter {
-    ghost also_owns = { λ p. porter_owns p.name p.out p.seen };
+    ghost also_owns = { λ p. porter_owns p.name p.home p.out p.seen };
 }
 
 impl Porter {
-    ghost use Rattle.seize_book.specs.Turns.{GivesOut, HasTurn, OpensAgain, Shuts, TakesBack};
+    ghost use Rattle.seize_book.specs.Turns.{ComesHome, GivesOut, HasTurn, OpensAgain, Shuts, TakesBack};
 
-    /// A new pass, which has seen what the porter has. It is out until it is laid back.
+    /// A new pass, which has seen what the porter has. It is out until it is laid back, and the porter is no more at home.
     pub fn pass(&mut self) -> Pass
         ensures { GivesOut self.old self.new result }
     {
@@ -43,6 +46,12 @@ impl Porter {
         pass.lay_back(self);
     }
 
+    /// Comes home, where no pass is out: nobody may add to the list until a pass goes out, and the porter has seen the whole of it.
+    pub fn come_home(&mut self)
+        requires { self.old.out ≡ 0 }
+        ensures { ComesHome self.old self.new }
+    {}
+
     /// Shuts the gate, where no pass is out: nobody else can add to the list until it is opened again. The first pass of the book has seen
     /// the whole list then, and what is added with it is all that is added.
     pub fn shut(self) -> Pass
@@ -55,7 +64,7 @@ impl Porter {
         }
     }
 
-    /// Opens the gate again, to which the first pass was alone.
+    /// Opens the gate again, to which the first pass was alone. The porter is at home.
     pub fn again(pass: Pass) -> Porter
         requires { HasTurn pass }
         ensures { OpensAgain pass result }

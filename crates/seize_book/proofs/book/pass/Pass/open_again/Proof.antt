@@ -1,11 +1,12 @@
--- `open_again` gives the porter what it has of the gate.
-use Rattle.seize_book.proofs.Kit.{ℕ, [], ◌∷◌, refl, proved, Val, SProp, emp, ftrue, ‵, raw, ◌⊛◌, later, await, ◌$◌, ◌∵◌, !, qed, by, move, keep, split, fsplit, fjoin, use0, use1, rewrite, no_more, and_then, returns, enter, alloc_all, pass_all, free_all, look_at, get, sets, agg, fact, fact_i, heard, tables, yes, owns, types_at, plain, nothing, Stays, stay_dropped, walk_of, Goes-dropped}
+-- `open_again` gives the porter what the pass has of the gate: it is at home.
+use Rattle.seize_book.proofs.Kit.{ℕ, [], ◌∷◌, refl, proved, Val, SProp, emp, ftrue, ‵, raw, ◌⊛◌, ◌$◌, ◌∵◌, !, qed, by, move, keep, split, fsplit, fjoin, use0, use1, rewrite, no_more, and_then, returns, enter, alloc_all, pass_all, free_all, look_at, get, sets, agg, fact, fact_i, heard, tables, yes, owns, types_at, plain, nothing, Stays, stay_dropped, walk_of, Goes-dropped}
+use Rattle.std.proofs.Common.{true}
 use Rattle.seize_book.specs.Tokens.{pass_owns, porter_owns}
 use Rattle.seize_book.specs.Turns.{HasTurn}
 use Rattle.seize_book.specs.contracts.book.pass.Pass as Pass
 use Rattle.seize_book.specs.contracts.book.porter.Porter as Porter
 use Rattle.seize_book.proofs.Fields.{Token, ends, no_bytes, pass_tells, token, token_made}
-use Rattle.seize_book.proofs.Turns.{porter_again}
+use Rattle.seize_book.proofs.Turns.{pass_homes}
 use Rattle.seize_book.specs.contracts.book.pass.Pass.open_again.{ended, clauses}
 use Rattle.seize_book.specs.contracts.book.pass.Pass.open_again.Key.{name as #self}
 use Rattle.seize_book.proofs.book.pass.Pass.open_again.Statement.{statement}
@@ -25,11 +26,11 @@ open_again_spec 𝓤 𝓛 𝓜 𝓡 wired =
     keep ! (1 ∷ []) $
     enter ! 𝓣.C 𝓣.Λ fn (token ∷ []) Post $ alloc_all ! (λ l. pass_all ! refl ((tt, (tt, tt)), tt) $
     rewrite ! 0 (λ (m : ℕ). ‵ (pass_owns p.name m p.seen)) asked.1 refl $
-    use1 𝓛 (later (‵ (porter_owns p.name 0 p.seen))) (porter_again 𝓛 p.name p.seen asked.0) $ await ! tt $
-    let r : Porter.the_row.Denot = record { marker = record {}; name = p.name; seen = p.seen; out = 0 } in
+    use1 𝓛 (‵ (porter_owns p.name true 0 p.seen)) (pass_homes 𝓛 p.name p.seen asked.0) $
+    let r : Porter.the_row.Denot = record { marker = record {}; name = p.name; seen = p.seen; out = 0; home = true } in
     sets ! (agg ! (no_more !)) refl (tt, tt) $ sets ! (agg ! (and_then ! (get ! refl) (no_more !))) refl (tt, (tt, tt)) $
     use0 𝓛 (‵ (Token.own_val (record {}, tt) (token ∷ []))) (token_made 𝓛) $ fjoin ! $
     -- [the result]
     nothing ! $ nothing ! $ fjoin ! $ nothing ! $
     returns ! (look_at ! 0 refl) $ free_all ! refl $ keep ! (0 ∷ 1 ∷ 2 ∷ []) $
-    by ! (ends 𝓛 ended hs c y token r (tt, tt) (tt, tt) (fact_i 𝓤 _ (emp 𝓤) (refl, refl, refl))))))
+    by ! (ends 𝓛 ended hs c y token r (tt, tt) (tt, tt) (fact_i 𝓤 _ (emp 𝓤) (refl, refl, refl, refl))))))

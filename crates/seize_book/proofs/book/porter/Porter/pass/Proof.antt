@@ -1,6 +1,6 @@
 -- `pass` gives out a pass that has made nothing.
 use Rattle.seize_book.proofs.Kit.{◌≡◌, ℕ, List, [], ◌∷◌, refl, proved, named, Val, vptr, SProp, emp, Fml, ftrue, fsep, flft, ‵, raw, ◌⊛◌, some, given, later, await, ◌$◌, ◌∵◌, !, qed, by, move, keep, split, fsplit, fsplit3, fjoin, fjoin3, pick, learn, use0, use1, feq_i, no_more, and_then, returns, enter, alloc_all, pass_all, free_all, look_at, get, sets, agg, fact_i, tables, owns, types_at, plain, mut_vals, mut_Tells, nothing, opens, closes, Stays, stay_ref, walk_of, Goes-ref}
-use Rattle.std.proofs.Common.{suc, arith}
+use Rattle.std.proofs.Common.{suc, false, arith}
 use mathlib.Core.List.{IsPrefix}
 use Rattle.seize_book.specs.Book.{mine}
 use Rattle.seize_book.specs.Entry.{Entry}
@@ -29,9 +29,9 @@ pass_spec 𝓤 𝓛 𝓜 𝓡 wired =
     enter ! 𝓣.C 𝓣.Λ fn (vptr pb po ∷ []) Post $ alloc_all ! (λ l. pass_all ! refl ((tt, tt), tt) $
     opens ! tt Porter.the_row pb po (λ vs. move ! (1 ∷ []) $ fsplit ! $ move ! (1 ∷ []) $
     -- [what the porter owns; the porter; its cell, in four entries]
-    use1 𝓛 (later (some (λ (t : ℕ × List Entry). given (IsTurns b.name.gate × ¬ (t.0 ≡ 0) × IsPrefix b.seen t.1 × (mine (start b.name) t.0 t.1 ≡ [])) (‵ (porter_owns b.name (suc b.out) b.seen) ⊛ ‵ (pass_owns b.name t.0 t.1)))))
-    (porter_gives 𝓛 b.name b.out b.seen) $ await ! tt $ pick ! (λ t. learn ! (λ so. split ! $
-    let r : Pass.the_row.Denot = record { marker = record {}; name = b.name; id = t.0; seen = t.1 } in let b' : Porter.the_row.Denot = record b { out = suc b.out } in
+    use1 𝓛 (later (some (λ (t : ℕ × List Entry). given (IsTurns b.name.gate × ¬ (t.0 ≡ 0) × IsPrefix b.seen t.1 × (mine (start b.name) t.0 t.1 ≡ [])) (‵ (porter_owns b.name false (suc b.out) b.seen) ⊛ ‵ (pass_owns b.name t.0 t.1)))))
+    (porter_gives 𝓛 b.name b.home b.out b.seen) $ await ! tt $ pick ! (λ t. learn ! (λ so. split ! $
+    let r : Pass.the_row.Denot = record { marker = record {}; name = b.name; id = t.0; seen = t.1 } in let b' : Porter.the_row.Denot = record b { out = suc b.out; home = false } in
     -- [what the porter owns; what the pass owns; the porter; its cell, in four entries]
     move ! (2 ∷ 0 ∷ []) $ fjoin ! $ move ! (2 ∷ 0 ∷ 3 ∷ 4 ∷ 5 ∷ []) $ closes ! tt Porter.the_row b' vs pb po $
     -- [the porter, in two; its token; what the pass owns]
@@ -42,4 +42,4 @@ pass_spec 𝓤 𝓛 𝓜 𝓡 wired =
     -- [the tokens; the result; the porter, in two]
     nothing ! $ feq_i ! (List Val) (vptr pb po ∷ []) (vptr pb po ∷ []) refl $ move ! (0 ∷ 4 ∷ 5 ∷ []) $ fjoin3 ! $ fjoin ! $
     returns ! (look_at ! 0 refl) $ free_all ! refl $ keep ! (1 ∷ 0 ∷ 2 ∷ []) $
-    by ! (ends 𝓛 ended hs c y token r (b', tt) (tt, tt) (fact_i 𝓤 _ (emp 𝓤) ((refl, refl, omega arith), refl, so.3, so.2, not_alone b.name.gate t.0 so.0 so.1))))))))
+    by ! (ends 𝓛 ended hs c y token r (b', tt) (tt, tt) (fact_i 𝓤 _ (emp 𝓤) ((refl, refl, omega arith, refl), refl, so.3, so.2, not_alone b.name.gate t.0 so.0 so.1))))))))

@@ -1,11 +1,12 @@
--- `shut` gives the first pass.
+-- `shut` comes home, and gives the first pass what it has there.
 use Rattle.seize_book.proofs.Kit.{◌≡◌, ℕ, List, [], ◌∷◌, refl, proved, Val, SProp, emp, ftrue, ‵, raw, ◌⊛◌, some, given, later, await, ◌$◌, ◌∵◌, !, qed, by, move, keep, split, fsplit, fjoin, pick, learn, use0, use1, rewrite, no_more, and_then, returns, enter, alloc_all, pass_all, free_all, look_at, get, sets, agg, fact, fact_i, heard, tables, yes, owns, types_at, plain, nothing, Stays, stay_dropped, walk_of, Goes-dropped}
+use Rattle.std.proofs.Common.{true}
 use Rattle.seize_book.specs.Entry.{Entry}
-use Rattle.seize_book.specs.Tokens.{IsTurns, pass_owns, porter_owns}
+use Rattle.seize_book.specs.Tokens.{pass_owns, porter_owns}
 use Rattle.seize_book.specs.contracts.book.pass.Pass as Pass
 use Rattle.seize_book.specs.contracts.book.porter.Porter as Porter
 use Rattle.seize_book.proofs.Fields.{Token, ends, no_bytes, porter_tells, token, token_made}
-use Rattle.seize_book.proofs.Turns.{IsShut, porter_shuts, shuts_by}
+use Rattle.seize_book.proofs.Turns.{IsHome, home_passes, porter_home, shut_by}
 use Rattle.seize_book.specs.contracts.book.porter.Porter.shut.{ended, clauses}
 use Rattle.seize_book.specs.contracts.book.porter.Porter.shut.Key.{name as #self}
 use Rattle.seize_book.proofs.book.porter.Porter.shut.Statement.{statement}
@@ -24,12 +25,13 @@ shut_spec 𝓤 𝓛 𝓜 𝓡 wired =
     -- [its marker; what it owns; nothing]
     keep ! (1 ∷ []) $
     enter ! 𝓣.C 𝓣.Λ fn (token ∷ []) Post $ alloc_all ! (λ l. pass_all ! refl ((tt, (tt, tt)), tt) $
-    rewrite ! 0 (λ (m : ℕ). ‵ (porter_owns b.name m b.seen)) asked refl $
-    use1 𝓛 (later (some (λ (log : List Entry). given (IsTurns b.name.gate × IsShut 𝓛 b.name b.seen log) (‵ (pass_owns b.name 0 log))))) (porter_shuts 𝓛 b.name b.seen) $ await ! tt $ pick ! (λ log. learn ! (λ so.
+    rewrite ! 0 (λ (m : ℕ). ‵ (porter_owns b.name b.home m b.seen)) asked refl $
+    use1 𝓛 (later (some (λ (log : List Entry). given (IsHome 𝓛 b.name b.home b.seen log) (‵ (porter_owns b.name true 0 log))))) (porter_home 𝓛 b.name b.home b.seen) $ await ! tt $ pick ! (λ log. learn ! (λ so.
+    use1 𝓛 (‵ (pass_owns b.name 0 log)) (home_passes 𝓛 b.name log so.0) $
     let r : Pass.the_row.Denot = record { marker = record {}; name = b.name; id = 0; seen = log } in
     sets ! (agg ! (no_more !)) refl (tt, tt) $ sets ! (agg ! (and_then ! (get ! refl) (no_more !))) refl (tt, (tt, tt)) $
     use0 𝓛 (‵ (Token.own_val (record {}, tt) (token ∷ []))) (token_made 𝓛) $ fjoin ! $
     -- [the result]
     nothing ! $ nothing ! $ fjoin ! $ nothing ! $
     returns ! (look_at ! 0 refl) $ free_all ! refl $ keep ! (0 ∷ 1 ∷ 2 ∷ []) $
-    by ! (ends 𝓛 ended hs c y token r (tt, tt) (tt, tt) (fact_i 𝓤 _ (emp 𝓤) (shuts_by 𝓛 b.name b.out b.seen log so.0 so.1))))))))
+    by ! (ends 𝓛 ended hs c y token r (tt, tt) (tt, tt) (fact_i 𝓤 _ (emp 𝓤) (shut_by 𝓛 b.name b.home b.out b.seen log so))))))))
