@@ -170,3 +170,31 @@ batch_near st r sound b = let within = counts_near st r b in (omega (arith, ints
 
 pub count_near : (st : State) → IsReached st → IsSound st → (k b : ℕ) → is_in k (batch_at st b) ≡ true → IsNear (count_in st k)
 count_near st r sound k b h = subst IsNear (sym (count_alone st r sound.one k b h)) (batch_near st r sound b)
+
+-- wherever the count stands: where no batch has its first value there, it is 0
+
+abbrev Somewhere : ℕ → List Batch → Type 0
+Somewhere k xs = (b : ℕ) × (is_in k (get_or xs b no_batch) ≡ true)
+
+abbrev Nowhere : ℕ → List Batch → Type 0
+Nowhere k xs = (c : ℕ) → is_in k (get_or xs c no_batch) ≡ false
+
+nowhere : (k : ℕ) (x : Batch) (xs : List Batch) → is_in k x ≡ false → Nowhere k xs → Nowhere k (x ∷ xs)
+nowhere k x xs none out zero = none
+nowhere k x xs none out (suc c) = out c
+
+one_more : (k : ℕ) (x : Batch) (xs : List Batch) → (is_in k x ≡ true) ⊎ (is_in k x ≡ false) → Somewhere k xs ⊎ Nowhere k xs → Somewhere k (x ∷ xs) ⊎ Nowhere k (x ∷ xs)
+one_more k x xs (inl here) rest = inl (zero, here)
+one_more k x xs (inr none) (inl there) = inl (suc there.0, there.1)
+one_more k x xs (inr none) (inr out) = inr (nowhere k x xs none out)
+
+some_in : (k : ℕ) (xs : List Batch) → Somewhere k xs ⊎ Nowhere k xs
+some_in k [] = inr (λ c. refl)
+some_in k (x ∷ xs) = one_more k x xs (is_true (is_in k x)) (some_in k xs)
+
+pub any_near : (st : State) → IsReached st → IsSound st → (k : ℕ) → IsNear (count_in st k)
+any_near st r sound k = go (some_in k st.batches)
+  where
+    go : Somewhere k st.batches ⊎ Nowhere k st.batches → IsNear (count_in st k)
+    go (inl there) = count_near st r sound k there.0 there.1
+    go (inr out) = subst IsNear (sym (counts_none k st.batches out)) (omega (arith, ints), omega (arith, ints))

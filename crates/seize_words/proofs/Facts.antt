@@ -36,6 +36,8 @@ pub use Rattle.seize_book.proofs.Written.{plans_used}
 -- a number may be taken again, or the next one, by which are in use
 pub use Rattle.seize_book.proofs.Numbers.{may_take_by}
 pub use Rattle.seize_words.proofs.Makes.{is_full_by}
+-- a count's word is 0 just where the count is
+pub use Rattle.seize_book.proofs.Counts.{word_zero}
 -- what a call knows that has still to insert its batch
 pub use Rattle.seize_words.proofs.Inserts.{detached_named, knows_used, looked_named, own_reached}
 -- what a sight shows by a value's name is what was lent with the value

@@ -1,6 +1,6 @@
 -- The words in which the contracts of counts speak. A batch's count stands with the block in which its first value lies.
 --     home count                        the block whose count it is;  IsOfBook count pass     it is of the pass's book
---     IsCountOf count key               it is the key's;  count_seen count pass     what its word shows in the list that the pass has seen
+--     IsCountOf count key               it is the key's;  count_seen count pass     the count in the list that the pass has seen
 --     IsAdding, AddsTo key count won    the slot's call is about to add so many insertions won to the count of a batch, which is this one
 --     IsWalking, Walks key count        the slot's call is about to count down the next batch of its walk, whose count is this one
 --     Counts key pass key' pass' event zero     the event was noted, its answer is a count, and this says whether it is 0;
@@ -17,7 +17,7 @@ use Rattle.seize_machine.specs.Machine.State.{State, Add, Rest, slot_at}
 use Rattle.seize_machine.specs.Machine.Event.{Event}
 use Rattle.seize_machine.specs.Machine.Next.{is_zero}
 use Rattle.seize_machine.specs.declared.machine.event.Answer.TheVariants.{Count as Counted}
-use Rattle.seize_book.specs.Blocks.{IsNear, count_word, front_of, no_plan, plans}
+use Rattle.seize_book.specs.Blocks.{IsNear, front_of, no_plan, plans}
 use Rattle.seize_book.specs.Book.{after}
 use Rattle.seize_book.specs.Books.{home_in}
 use Rattle.seize_book.specs.Entry.{Entry}
@@ -39,8 +39,8 @@ home count = count.word.number
 abbrev pub IsOfBook : Count → Pass → Type 0
 IsOfBook count pass = count.word.name ≡ pass.name
 
-abbrev pub count_seen : Count → Pass → ℕ
-count_seen count pass = count_word (count_in (after (start pass.name) pass.seen) (home count))
+abbrev pub count_seen : Count → Pass → ℤ
+count_seen count pass = count_in (after (start pass.name) pass.seen) (home count)
 
 abbrev pub IsCountOf : Count → CountKey → Type 0
 IsCountOf count key = (count.word.name ≡ key.keys.name) × (home count ≡ home_in key)

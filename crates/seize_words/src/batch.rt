@@ -22,6 +22,7 @@ impl Count {
     ghost use Rattle.seize_book.specs.Kept.{AreTold};
     ghost use Rattle.seize_book.specs.Passes.{LooksOn};
     ghost use Rattle.seize_book.specs.Values.{AreOfBook, IsEmpty};
+    ghost use Rattle.seize_book.specs.Blocks.{IsNear, count_word};
     ghost use Rattle.seize_book.specs.Books.{count_known, deposit_known};
     ghost use Rattle.seize_book.specs.Slots.{IsOf, number_of};
 
@@ -37,13 +38,15 @@ impl Count {
     }
 
     /// What the word shows in the list that the pass has seen then: modulo 2^64, the count of the batch whose first value lies in the
-    /// block. It is no event, and nothing is added to the list.
+    /// block. The count lies between minus and plus 2^64 - 32, so the word is 0 just where the count is. It is no event, and nothing is
+    /// added to the list.
     ///
     /// It takes no memory and waits for nobody: one atomic load.
     pub fn load(&self, pass: &mut Pass) -> u64
         requires { IsOfBook self.now pass.old }
         ensures looks { LooksOn pass.old pass.new }
-        ensures shows { result ≡ count_seen self.now pass.new }
+        ensures shows { result ≡ count_word (count_seen self.now pass.new) }
+        ensures near { IsNear (count_seen self.now pass.new) }
     {
         let mut none = Keys::empty(pass);
         self.word.look(&mut none, pass)

@@ -1,4 +1,4 @@
-use Rattle.std.proofs.Common.{◌≡◌, [], ◌∷◌, refl, subst, true}
+use Rattle.std.proofs.Common.{◌≡◌, refl, subst, true}
 use Rattle.seize_machine.specs.Machine.State.{slot_at, is_idle}
 use Rattle.seize_book.specs.Book.{after}
 use Rattle.seize_book.specs.Others.{MayBegin}
