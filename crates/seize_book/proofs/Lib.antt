@@ -52,4 +52,5 @@ pub mod Sent
 pub mod Loans
 pub mod Lending
 pub mod LentValues
+pub mod Facts
 pub mod Noted

@@ -12,7 +12,7 @@ use Rattle.seize_book.specs.Entry.{Deed, Entry, Made, Used, deeds, maker, timed}
 use Rattle.seize_book.specs.Passes.{IsSame, LooksOn, events_by, events_in, mine_of}
 use Rattle.seize_book.specs.Tokens.{IsSole, Name, Noted, start}
 use Rattle.seize_book.specs.declared.book.pass.Pass.{Pass}
-use Rattle.seize_book.proofs.Lists.{deeds_append}
+use Rattle.seize_book.proofs.Facts.{deeds_append}
 use Rattle.seize_calls.specs.Alone.{AddsAlone, AllBy}
 
 abbrev pub alone_none : (pass : Pass) → AddsAlone pass pass

@@ -16,7 +16,7 @@ use Rattle.seize_book.specs.Tokens.{IsSole}
 use Rattle.seize_book.specs.declared.book.pass.Pass.{Pass}
 use Rattle.seize_book.specs.declared.book.slot_key.SlotKey.{SlotKey}
 use Rattle.seize_book.specs.declared.book.value_keys.ValueKeys.{ValueKeys}
-use Rattle.seize_book.proofs.Lists.{deeds_append}
+use Rattle.seize_book.proofs.Facts.{deeds_append}
 use Rattle.seize_book.specs.Values.{values_of}
 use Rattle.seize_calls.specs.Calls.{RetiresOne}
 use Rattle.seize_calls.specs.Settling.{Stand, Stays, done}

@@ -17,7 +17,7 @@ use Rattle.seize_book.specs.Homesteads.{state_seen}
 use Rattle.seize_book.specs.Passes.{IsSame, LooksOn, events_by, events_in}
 use Rattle.seize_book.specs.Tokens.{IsSole, Name, Noted, start}
 use Rattle.seize_book.specs.declared.book.pass.Pass.{Pass}
-use Rattle.seize_book.proofs.Lists.{deeds_append, unequal}
+use Rattle.seize_book.proofs.Facts.{deeds_append, unequal}
 use Rattle.seize_calls.proofs.Alone.{made_alone, made_there}
 use Rattle.seize_calls.proofs.Handed.{handed_append}
 use Rattle.seize_calls.specs.Alone.{AddsAlone, AllBy}

@@ -21,7 +21,7 @@ use Rattle.seize_book.specs.Turns.{HasTurn}
 use Rattle.seize_book.specs.declared.book.pass.Pass.{Pass}
 use Rattle.seize_book.specs.declared.book.slot_key.SlotKey.{SlotKey}
 use Rattle.seize_book.specs.declared.book.value_keys.ValueKeys.{ValueKeys}
-use Rattle.seize_book.proofs.Lists.{as_legal, reached_after}
+use Rattle.seize_book.proofs.Facts.{as_legal, reached_after}
 use Rattle.seize_book.proofs.Turns.{turn_alone}
 use Rattle.seize_calls.specs.Calls.{Flushes, Leaves, RetiresOne, Returns}
 use Rattle.seize_calls.specs.Settling.{Drains, Round, Settles, Stand}

@@ -31,7 +31,7 @@ use Rattle.seize_words.specs.declared.blocks.Blocks.{Blocks}
 use Rattle.seize_words.specs.declared.chunk.Header.{Header}
 use Rattle.seize_words.specs.declared.chunk.Part.{Part}
 use Rattle.seize_book.proofs.Renames.{follows_value}
-use Rattle.seize_book.proofs.Sound.{named_later}
+use Rattle.seize_book.proofs.Facts.{named_later}
 
 -- labels that are equal say one family and one home
 

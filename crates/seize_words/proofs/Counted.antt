@@ -29,17 +29,8 @@ use Rattle.seize_book.specs.declared.book.pass.Pass.{Pass}
 use Rattle.seize_book.specs.declared.book.slot_key.SlotKey.{SlotKey}
 use mathlib.Core.List.{IsPrefix}
 use Rattle.seize_book.specs.Kept.{AreToldIn}
-use Rattle.seize_book.proofs.Kept.{all_told_later, all_told_renewed, none_told}
+use Rattle.seize_book.proofs.Facts.{all_told_later, all_told_renewed, none_told, count_alone, count_subtracted, word_zero, deposit_added, deposit_subtracted, held_values, after_push, equal, reached_after, unequal, moves, plan_stays, after_one, only, only_is, blocks_later, keys_later, labels_later, none_of, are_later, none_joined, none_linked, still_closed}
 use Rattle.seize_words.proofs.Counting.{Counting, adding, at_count, come, deposited, kept_past, same, subtracting, told_then}
-use Rattle.seize_book.proofs.Counts.{count_alone, count_subtracted, word_zero}
-use Rattle.seize_book.proofs.Deposits.{deposit_added, deposit_subtracted}
-use Rattle.seize_book.proofs.Fronts.{held_values}
-use Rattle.seize_book.proofs.Lists.{after_push, equal, reached_after, unequal}
-use Rattle.seize_book.proofs.Moves.{moves}
-use Rattle.seize_book.proofs.Plans.{plan_stays}
-use Rattle.seize_book.proofs.Private.{after_one, only, only_is}
-use Rattle.seize_book.proofs.Values.{blocks_later, keys_later, labels_later, none_of}
-use Rattle.seize_book.proofs.Linked.{are_later, none_joined, none_linked, still_closed}
 use Rattle.seize_book.specs.Linked.{are_joined, are_linked}
 
 -- a count's word, named by the pass's book

@@ -26,18 +26,8 @@ use Rattle.seize_book.specs.Private.{Tag, is_one, key_of, tag_of, own_of, AreKey
 use Rattle.seize_words.specs.Stepping.{EndsAmong, FoundAs, IsStep, MayStep, in_step}
 use Rattle.seize_book.specs.Tokens.{Name, start}
 use Rattle.seize_words.specs.Words.{Site}
-use Rattle.seize_book.proofs.Chains.{unled}
+use Rattle.seize_book.proofs.Facts.{unled, all_told_later, all_told_renewed, none_told, batch_near, count_added, count_alone, count_near, count_subtracted, in_range, word_added, word_subtracted, word_zero, deposit_added, deposit_subtracted, added_held, front_grows, front_there, held_front, held_values, walked_held, none_joined, none_linked, after_push, reached_after, plan_stays, differ, only_is, makes_none, no_place, no_labels, none_named, sound_push, blocks_within, keys_later, none_of}
 use Rattle.seize_book.specs.Kept.{AreToldIn}
-use Rattle.seize_book.proofs.Kept.{all_told_later, all_told_renewed, none_told}
-use Rattle.seize_book.proofs.Counts.{batch_near, count_added, count_alone, count_near, count_subtracted, in_range, word_added, word_subtracted, word_zero}
-use Rattle.seize_book.proofs.Deposits.{deposit_added, deposit_subtracted}
-use Rattle.seize_book.proofs.Fronts.{added_held, front_grows, front_there, held_front, held_values, walked_held}
-use Rattle.seize_book.proofs.Linked.{none_joined, none_linked}
-use Rattle.seize_book.proofs.Lists.{after_push, reached_after}
-use Rattle.seize_book.proofs.Plans.{plan_stays}
-use Rattle.seize_book.proofs.Private.{differ, only_is, makes_none, no_place}
-use Rattle.seize_book.proofs.Sound.{no_labels, none_named, sound_push}
-use Rattle.seize_book.proofs.Values.{blocks_within, keys_later, none_of}
 
 abbrev pub at_count : Name → ℕ → Site
 at_count n k = record { name = n; kind = counts; number = k }

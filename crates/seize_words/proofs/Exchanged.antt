@@ -27,8 +27,7 @@ use Rattle.seize_book.specs.declared.book.pass.Pass.{Pass}
 use Rattle.seize_words.specs.declared.link.Link.{Link}
 use Rattle.seize_words.proofs.Exchanges.{within}
 use Rattle.seize_words.proofs.Links.{kept_right, key_later, same, still_new, still_vacant}
-use Rattle.seize_book.proofs.Lists.{equal, reached_after}
-use Rattle.seize_book.proofs.Sound.{has_last}
+use Rattle.seize_book.proofs.Facts.{equal, reached_after, has_last}
 
 -- the word of a link, named by the pass's book
 pub is_at : (word : Site) (n : Name) → word.name ≡ n → word.kind ≡ links → word ≡ at_link n word.number

@@ -21,7 +21,7 @@ use Rattle.seize_book.specs.Ledger.{Held, WithKinds}
 use Rattle.seize_words.specs.Links.{IsNewIn, IsWithin, at_link, compared, is_at_most_one, value_in}
 use Rattle.seize_words.specs.Stepping.{FoundAs, IsStep, MayStep}
 use Rattle.seize_book.specs.Tokens.{Name, start}
-use Rattle.seize_book.proofs.Lists.{after_push, equal, unequal}
+use Rattle.seize_book.proofs.Facts.{after_push, equal, unequal}
 use Rattle.seize_book.proofs.Loans.{found_now}
 use Rattle.seize_words.proofs.Activations.{still}
 use Rattle.seize_words.proofs.Links.{legal_link, miss_does, miss_step, read_step, same, store_step}

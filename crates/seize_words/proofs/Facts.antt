@@ -26,48 +26,46 @@ use Rattle.seize_book.specs.Passes.{IsSame, LooksOn, events_by, events_in, mine_
 use Rattle.seize_book.specs.Slots.{IsOf, Moves, NotesAs, life_of, number_of, own_list, size_of, slot_of, start_of}
 use Rattle.seize_book.specs.Tokens.{IsLentIn, Name, Noted, start}
 use Rattle.seize_words.specs.Totals.{slots_seen}
-use Rattle.seize_book.proofs.Fronts.{front_there}
+use Rattle.seize_book.proofs.Facts.{front_there, legal_front, reached_after, AllLess, blocks_stay, legal_prefix, plan_stays, plans_append, plans_long, saw_there, tried_there}
 use Rattle.seize_words.proofs.Heads.{slots_grow}
-use Rattle.seize_book.proofs.Lists.{legal_front, reached_after}
-pub use Rattle.seize_book.proofs.Lists.{after_used}
+pub use Rattle.seize_book.proofs.Facts.{after_used}
 -- the keys of values that were never named, put together, and what the key of one knows that was put
-pub use Rattle.seize_book.proofs.Further.{none_new, first_new, pushed_new, next_known}
-pub use Rattle.seize_book.proofs.Written.{plans_used}
+pub use Rattle.seize_book.proofs.Facts.{none_new, first_new, pushed_new, next_known}
+pub use Rattle.seize_book.proofs.Facts.{plans_used}
 -- a number may be taken again, or the next one, by which are in use
-pub use Rattle.seize_book.proofs.Numbers.{may_take_by}
+pub use Rattle.seize_book.proofs.Facts.{may_take_by}
 pub use Rattle.seize_words.proofs.Makes.{is_full_by}
 -- a count's word is 0 just where the count is
-pub use Rattle.seize_book.proofs.Counts.{word_zero}
+pub use Rattle.seize_book.proofs.Facts.{word_zero}
 -- what a call knows that has still to insert its batch
 pub use Rattle.seize_words.proofs.Inserts.{detached_named, knows_used, looked_named, own_reached}
 -- what a sight shows by a value's name is what was lent with the value
 pub use Rattle.seize_words.proofs.Contents.{is_lent, same_content}
 -- what is known of a value that a slot's call is about to hand, and when it was handed: what was lent with it comes back in between, and then
 -- the key may be settled
-pub use Rattle.seize_book.proofs.Hands.{hands_gone, hands_soon, settles_after, soon_named}
+pub use Rattle.seize_book.proofs.Facts.{hands_gone, hands_soon, settles_after, soon_named}
 pub use Rattle.seize_book.proofs.Renames.{follows_value}
 pub use Rattle.seize_words.proofs.Chunked.{settles_block, settles_hollow, takes_block}
 -- keys lead on: in a book without a store, where there are none, and where the last one's note says the next one's word; so the next block is
 -- found, and the keys are closed where it says none
-pub use Rattle.seize_book.proofs.Leading.{closed_anywhere, has_noted, last_closes, last_leads, leads_next, none_closed, one_leads}
-pub use Rattle.seize_book.proofs.Linked.{closed_after, none_joined, parted_joined}
-pub use Rattle.seize_book.proofs.Firsts.{noted_one, one_label, others_closed, others_know, own_is, unchanged_last, unchanged_value}
-pub use Rattle.seize_book.proofs.Values.{labels_append}
+pub use Rattle.seize_book.proofs.Facts.{closed_anywhere, has_noted, last_closes, last_leads, leads_next, none_closed, one_leads}
+pub use Rattle.seize_book.proofs.Facts.{closed_after, none_joined, parted_joined}
+pub use Rattle.seize_book.proofs.Facts.{noted_one, one_label, others_closed, others_know, own_is, unchanged_last, unchanged_value}
+pub use Rattle.seize_book.proofs.Facts.{labels_append}
 -- what the list says is kept of values: of keys that are put together or apart, and of those that were retired or put
-pub use Rattle.seize_book.proofs.Kept.{alike_told, all_of_told, all_told_append, all_told_grow, all_told_later, all_told_renewed, both_told, first_told, joined_told, none_told, pushed_told, put_told, retired_told, told_apart, told_later}
+pub use Rattle.seize_book.proofs.Facts.{alike_told, all_of_told, all_told_append, all_told_grow, all_told_later, all_told_renewed, both_told, first_told, joined_told, none_told, pushed_told, put_told, retired_told, told_apart, told_later}
 -- and there is but one such word of a value in a legal list
-pub use Rattle.seize_book.proofs.Once.{told_once}
+pub use Rattle.seize_book.proofs.Facts.{told_once}
 -- the blocks of a store have cells for notes, and what was noted there is what is read
 pub use Rattle.seize_words.proofs.Noted.{blocks_stored, noted_back, same_note}
 -- with a value that was named something is lent, if the blocks of its book lie in a store
-pub use Rattle.seize_book.proofs.LentValues.{gone_lent, lent_in, lent_key, named_lent}
+pub use Rattle.seize_book.proofs.Facts.{gone_lent, lent_in, lent_key, named_lent}
 -- a value that was named stays so, and one that was reclaimed
-pub use Rattle.seize_book.proofs.Sound.{gone_later, named_later}
+pub use Rattle.seize_book.proofs.Facts.{gone_later, named_later}
 -- what was found in a link stands while its activation lasts, and so a won exchange takes out what it takes the link to hold
 pub use Rattle.seize_words.proofs.Standing.{found_later, found_stands, took_current, was_found, word_back}
 -- looks, a slot's key, and the walk of its call, in what the key knows later
 pub use Rattle.seize_words.proofs.Traversals.{batch_next, hand_leaves, handing_named, knows_noted, knows_still, looks_twice, same_key, walk_kept, word_stays}
-use Rattle.seize_book.proofs.Plans.{AllLess, blocks_stay, legal_prefix, plan_stays, plans_append, plans_long, saw_there, tried_there}
 use Rattle.seize_words.proofs.Stepped.{life_push}
 use Rattle.seize_words.specs.declared.activation.Activation.{Activation}
 use Rattle.seize_book.specs.declared.book.pass.Pass.{Pass}

@@ -22,11 +22,7 @@ use Rattle.seize_book.specs.Slots.{IsOf, number_of, own_list, slot_of, start_of}
 use Rattle.seize_book.specs.Tokens.{Name, chunk_label, start}
 use Rattle.seize_book.specs.declared.book.pass.Pass.{Pass}
 use Rattle.seize_book.specs.declared.book.slot_key.SlotKey.{SlotKey}
-use Rattle.seize_book.proofs.Fronts.{held_values}
-use Rattle.seize_book.proofs.Lists.{reached_after}
-use Rattle.seize_book.proofs.Plans.{legal_prefix}
-use Rattle.seize_book.proofs.Serves.{marked_after, serving_in, slots_in, walks_marked}
-use Rattle.seize_book.proofs.Sound.{named_later}
+use Rattle.seize_book.proofs.Facts.{held_values, reached_after, legal_prefix, marked_after, serving_in, slots_in, walks_marked, named_later}
 
 -- it was named, and not reclaimed
 abbrev pub IsLiving : ℕ → State → Type 0

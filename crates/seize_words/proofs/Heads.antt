@@ -30,10 +30,7 @@ use Rattle.seize_words.specs.Stepping.{EndsAmong, FoundAs, IsStep, MayStep, in_s
 use Rattle.seize_book.specs.Tokens.{Name, start}
 use Rattle.seize_words.specs.Words.{Site}
 use Rattle.seize_book.proofs.Lives.{legal_first, life_kept}
-use Rattle.seize_book.proofs.Lists.{equal, unequal, after_push, legal_push, reached_after}
-use Rattle.seize_book.proofs.Plans.{AllLess, block_stays, blocks_stay, head_stays, legal_prefix, plan_stays, plans_long, saw_there, tried_there}
-use Rattle.seize_book.proofs.Private.{differ, only_is, makes_none, no_place}
-use Rattle.seize_book.proofs.Sound.{no_labels, none_named}
+use Rattle.seize_book.proofs.Facts.{equal, unequal, after_push, legal_push, reached_after, AllLess, block_stays, blocks_stay, head_stays, legal_prefix, plan_stays, plans_long, saw_there, tried_there, differ, only_is, makes_none, no_place, no_labels, none_named}
 
 abbrev pub at_head : Name → ℕ → Site
 at_head n m = record { name = n; kind = heads; number = m }

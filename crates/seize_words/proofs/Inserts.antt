@@ -18,10 +18,7 @@ use Rattle.seize_words.specs.Walks.{Knows}
 use Rattle.seize_book.specs.declared.book.pass.Pass.{Pass}
 use Rattle.seize_book.specs.declared.book.slot_key.SlotKey.{SlotKey}
 use Rattle.seize_words.proofs.Finds.{held_living, values_of}
-use Rattle.seize_book.proofs.Lists.{reached_after}
-use Rattle.seize_book.proofs.Plans.{legal_prefix}
-use Rattle.seize_book.proofs.Serves.{AtAll, CallMarked, marked_after, serving_in, slots_in}
-use Rattle.seize_book.proofs.Sound.{named_later}
+use Rattle.seize_book.proofs.Facts.{reached_after, legal_prefix, AtAll, CallMarked, marked_after, serving_in, slots_in, named_later}
 
 -- what the key knows after a use, the pass has seen
 pub knows_used : (key key' : SlotKey) (pass pass' : Pass) (f v : ℕ) → Uses key pass key' pass' f v → Knows key' pass'

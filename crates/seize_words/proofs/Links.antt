@@ -18,9 +18,7 @@ use Rattle.seize_words.specs.Links.{at_link, IsNewIn}
 use Rattle.seize_words.specs.Stepping.{FoundAs, IsStep, in_step}
 use Rattle.seize_book.specs.Tokens.{IsLentIn, Name, start}
 use Rattle.seize_words.specs.Words.{IsKeyOf}
-use Rattle.seize_book.proofs.Lists.{after_push}
-use Rattle.seize_book.proofs.Private.{differ}
-use Rattle.seize_book.proofs.Sound.{new_named, old_named, pushed, vacant_later}
+use Rattle.seize_book.proofs.Facts.{after_push, differ, new_named, old_named, pushed, vacant_later}
 
 -- the keys of what a link holds, later
 pub key_later : (o : Option ℕ) (vs : List (Held Entry)) (log : List Entry) → IsKeyOf o vs → IsKeyOf o (renewed vs log)

@@ -17,11 +17,7 @@ use Rattle.seize_words.specs.Stepping.{LooksAt}
 use Rattle.seize_book.specs.Tokens.{Name, start}
 use Rattle.seize_book.specs.declared.book.pass.Pass.{Pass}
 use Rattle.seize_book.specs.declared.book.slot_key.SlotKey.{SlotKey}
-use Rattle.seize_book.proofs.Lists.{reached_after}
-use Rattle.seize_book.proofs.Chains.{walking_there}
-use Rattle.seize_book.proofs.Plans.{AllLess, blocks_stay, plan_stays, plans_long}
-use Rattle.seize_book.proofs.Fronts.{held_values, walked_held}
-use Rattle.seize_book.proofs.Private.{one_kept}
+use Rattle.seize_book.proofs.Facts.{reached_after, walking_there, AllLess, blocks_stay, plan_stays, plans_long, held_values, walked_held, one_kept}
 use Rattle.seize_words.proofs.Uses.{at_field, own_legal, served_stays, shown}
 
 module _ (f : ℕ) (key : SlotKey) (pass pass' : Pass) (v : ℕ) (looks : LooksAt (at_field pass.name f) pass.id pass.seen pass'.seen key.keys.held v) (book : IsOf key pass) where

@@ -24,9 +24,7 @@ use Rattle.seize_book.specs.Private.{Tag, is_one, key_of, label_of, note_of, tag
 use Rattle.seize_words.specs.Stepping.{FoundAs, IsStepWith, MayStepWith, in_step}
 use Rattle.seize_book.specs.Tokens.{Name, start}
 use Rattle.seize_words.specs.Words.{Site}
-use Rattle.seize_book.proofs.Lists.{after_push, equal}
-use Rattle.seize_book.proofs.Gives.{free_by, the_only}
-use Rattle.seize_book.proofs.Private.{only, only_is, differ}
+use Rattle.seize_book.proofs.Facts.{after_push, equal, free_by, the_only, only, only_is, differ}
 
 -- all numbers are in use, as the key of the numbers knows
 pub is_full_by : (its : NumbersKey) → least_unused (in_use its) ≡ length (in_use its) → made_of its < all_numbers → IsFull its

@@ -2,7 +2,7 @@
 use Rattle.std.proofs.Common.{◌≡◌, refl, ◌∙◌}
 use Rattle.seize_book.specs.Notes.{HasNoted, IsStored}
 use Rattle.seize_book.specs.declared.book.value_key.ValueKey.{ValueKey}
-use Rattle.seize_book.proofs.Leading.{has_noted}
+use Rattle.seize_book.proofs.Facts.{has_noted}
 use Rattle.seize_store.specs.Named.{name_of}
 use Rattle.seize_words.specs.Chunks.{book_in}
 use Rattle.seize_words.specs.Noted.{IsNoted, note_code}

@@ -14,9 +14,9 @@ use Rattle.seize_book.specs.Entry.{Deed, Entry, Made}
 use Rattle.seize_book.specs.Laws.{Reader, life}
 use Rattle.seize_book.specs.Tokens.{Name, start}
 use Rattle.seize_book.specs.Passes.{LooksOn}
-use Rattle.seize_book.proofs.Lists.{equal, reached_after}
+use Rattle.seize_book.proofs.Facts.{equal, reached_after}
 use Rattle.seize_book.proofs.Loans.{found_named, found_now, reader_later}
-use Rattle.seize_book.proofs.Standing as standing
+use Rattle.seize_book.proofs.Facts as facts
 use Rattle.seize_words.specs.Activations.{IsLasting}
 use Rattle.seize_words.specs.Chunks.{StandsAt}
 use Rattle.seize_words.specs.LinkWords.{IsStepOn, Takes, WasFound, held_before, number}
@@ -52,7 +52,7 @@ found_later a v pass pass' name grows found =
 pub found_stands : (a : Activation) (v : ℕ) (pass : Pass) → are_distinct (linked pass.name.links) ≡ true → IsLegalList (start pass.name) pass.seen → IsLasting a pass → WasFound a v pass → StandsAt v (block_of v) pass
 found_stands a v pass distinct legal lasts found = (
   found_named (start pass.name) pass.seen found.1 v found.0 (reached_after pass.name [] distinct refl) legal found.2,
-  standing.found_stands pass.name pass.seen distinct legal v a.life found lasts,
+  facts.found_stands pass.name pass.seen distinct legal v a.life found lasts,
   refl,
 )
 

@@ -18,9 +18,7 @@ use Rattle.seize_book.specs.declared.book.keys.Keys.{Keys}
 use Rattle.seize_book.specs.declared.book.pass.Pass.{Pass}
 use Rattle.seize_book.specs.declared.book.slot_key.SlotKey.{SlotKey}
 use Rattle.seize_words.proofs.Heads.{at_head, found_word}
-use Rattle.seize_book.proofs.Lists.{deeds_append}
-use Rattle.seize_book.proofs.Moves.{moves}
-use Rattle.seize_book.proofs.Private.{after_one, one_kept, same_kind}
+use Rattle.seize_book.proofs.Facts.{deeds_append, moves, after_one, one_kept, same_kind}
 
 -- a head's word, named by the pass's book
 pub is_at_head : (word : Site) (n : Name) → word.name ≡ n → word.kind ≡ heads → word ≡ at_head n word.number

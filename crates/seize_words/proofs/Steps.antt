@@ -22,7 +22,7 @@ use Rattle.seize_book.specs.Private.{is_one}
 use Rattle.seize_words.specs.Stepping.{in_step, FoundAs, NoneEnded, beside_then, held_then, staying, with_births, IsStepWith, LooksAt, MayStepWith, SteppedWith}
 use Rattle.seize_book.specs.Tokens.{Name, start, inside, knows, keys_own, over, pass_holds, pass_owns}
 use Rattle.seize_words.specs.Words.{Site, Shows, ShowsOf, Stands, StandsOf, IsKeyOf, word_knows, word_lies, word_reading}
-use Rattle.seize_book.proofs.Values.{blocks_within}
+use Rattle.seize_book.proofs.Facts.{blocks_within}
 use Rattle.seize_book.proofs.Lives.{ends_those, living, none_over}
 use Rattle.seize_book.proofs.Looks.{peeks}
 use Rattle.seize_book.proofs.Notes.{knows_twice}

@@ -20,7 +20,7 @@ use Rattle.seize_book.specs.declared.book.keys.Keys.{Keys}
 use Rattle.seize_book.specs.declared.book.numbers_key.NumbersKey.{NumbersKey}
 use Rattle.seize_book.specs.declared.book.pass.Pass.{Pass}
 use Rattle.seize_book.specs.declared.book.slot_key.SlotKey.{SlotKey}
-use Rattle.seize_book.proofs.Lists.{reached_after}
+use Rattle.seize_book.proofs.Facts.{reached_after}
 use Rattle.seize_words.proofs.Makes.{MayMakeIt, all_keys, at_total, may_make, new_full, new_head, new_slot, next_head, takes}
 
 own_first : (a b : List (Held Entry)) → is_one numbers a ≡ true → own_of (a ++ b) ≡ own_of a

@@ -36,10 +36,7 @@ use Rattle.seize_book.specs.declared.book.slot_key.SlotKey.{SlotKey}
 use Rattle.seize_words.specs.declared.chunk.Header.{Header}
 use Rattle.seize_words.proofs.Chunked.{named_seen}
 use Rattle.seize_words.proofs.Finds.{IsLiving, first_contained, front_living, held_living, values_of, walked_living}
-use Rattle.seize_book.proofs.Hands.{soon_named}
-use Rattle.seize_book.proofs.Plans.{block_stays, legal_prefix}
-use Rattle.seize_book.proofs.Serves.{marked_after, slots_in, walks_marked}
-use Rattle.seize_book.proofs.Sound.{named_later}
+use Rattle.seize_book.proofs.Facts.{soon_named, block_stays, legal_prefix, marked_after, slots_in, walks_marked, named_later}
 
 -- a slot's key is its keys
 pub same_key : (key key' : SlotKey) → IsStill key key' → key' ≡ key

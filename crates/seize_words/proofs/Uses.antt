@@ -22,12 +22,8 @@ use Rattle.seize_book.specs.Tokens.{Name, start}
 use Rattle.seize_words.specs.Words.{Site}
 use Rattle.seize_book.specs.declared.book.pass.Pass.{Pass}
 use Rattle.seize_book.specs.declared.book.slot_key.SlotKey.{SlotKey}
-use Rattle.seize_book.proofs.Lists.{after_used, deeds_used, reached_after}
+use Rattle.seize_book.proofs.Facts.{after_used, deeds_used, reached_after, fields_apart, legal_prefix, plan_stays, plans_long, tried_there, after_one, differ, one_kept, only_is, plans_used, told_other, told_push}
 use Rattle.seize_book.proofs.Lives.{life_kept}
-use Rattle.seize_book.proofs.Chains.{fields_apart}
-use Rattle.seize_book.proofs.Plans.{legal_prefix, plan_stays, plans_long, tried_there}
-use Rattle.seize_book.proofs.Private.{after_one, differ, one_kept, only_is}
-use Rattle.seize_book.proofs.Written.{plans_used, told_other, told_push}
 
 abbrev pub at_field : Name → ℕ → Site
 at_field n f = record { name = n; kind = fields; number = f }

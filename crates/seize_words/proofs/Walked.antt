@@ -20,9 +20,7 @@ use Rattle.seize_book.specs.declared.book.pass.Pass.{Pass}
 use Rattle.seize_book.specs.declared.book.slot_key.SlotKey.{SlotKey}
 use Rattle.seize_words.proofs.Counting.{in_slots}
 use Rattle.seize_words.proofs.Heads.{at_head, found_word}
-use Rattle.seize_book.proofs.Lists.{reached_after}
-use Rattle.seize_book.proofs.Plans.{AllLess, blocks_stay, plans_long, waiting_there}
-use Rattle.seize_book.proofs.Private.{one_kept}
+use Rattle.seize_book.proofs.Facts.{reached_after, AllLess, blocks_stay, plans_long, waiting_there, one_kept}
 use Rattle.seize_words.proofs.Stepped.{moved}
 
 shows_list : (block : ℕ → ℕ) (h : Head) → is_active h ≡ true → word_of block h ≡ list_word block (waiting_at h)

@@ -19,7 +19,7 @@ use Rattle.seize_words.proofs.Facts.{is_lent}
 use Rattle.seize_words.specs.Joined.{IsNewTo, words_book}
 use Rattle.seize_words.specs.LinkWords.{IsKeyIn, Takes, held_before, holds, number}
 use Rattle.seize_words.specs.Links.{IsNewIn, compared, value_in}
-use Rattle.seize_book.proofs.Lists.{equal}
+use Rattle.seize_book.proofs.Facts.{equal}
 use Rattle.seize_book.specs.Homes.{IsVacant, home_of}
 use Rattle.seize_book.specs.Private.{label_of, own_of}
 use Rattle.seize_book.specs.declared.book.keys.Keys.{Keys}

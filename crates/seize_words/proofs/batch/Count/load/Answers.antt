@@ -7,8 +7,7 @@ use Rattle.seize_words.specs.Counts.{home}
 use Rattle.seize_words.specs.Stepping.{LooksAt}
 use Rattle.seize_words.specs.Words.{Site}
 use Rattle.seize_book.specs.declared.book.pass.Pass.{Pass}
-use Rattle.seize_book.proofs.Counts.{any_near}
-use Rattle.seize_book.proofs.Lists.{reached_after}
+use Rattle.seize_book.proofs.Facts.{any_near, reached_after}
 use Rattle.seize_words.proofs.Counted.{is_at_count}
 use Rattle.seize_words.proofs.Counting.{same}
 use Rattle.seize_words.proofs.batch.Count.load.Goals as goal

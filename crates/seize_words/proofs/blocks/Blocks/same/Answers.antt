@@ -3,7 +3,7 @@ use Rattle.seize_book.specs.Blocks.{block_of}
 use Rattle.seize_book.specs.Book.{after}
 use Rattle.seize_book.specs.Homes.{IsSound}
 use Rattle.seize_book.specs.Tokens.{Name, start}
-use Rattle.seize_book.proofs.Lists.{equal}
+use Rattle.seize_book.proofs.Facts.{equal}
 use Rattle.seize_words.specs.Chunks.{StandsAt}
 use Rattle.seize_words.proofs.Chunked.{stands_once}
 use Rattle.seize_words.proofs.LinkRows.{is_equal}

@@ -2,7 +2,7 @@ use Rattle.std.proofs.Common.{subst}
 use Rattle.seize_words.specs.Headers.{number}
 use Rattle.seize_words.specs.Stepping.{LooksAt}
 use Rattle.seize_words.specs.Words.{Site}
-use Rattle.seize_book.proofs.Private.{one_within}
+use Rattle.seize_book.proofs.Facts.{one_within}
 use Rattle.seize_words.proofs.Uses.{is_at_field}
 use Rattle.seize_words.proofs.Loads.{loaded, shows_first, shows_next}
 use Rattle.seize_words.proofs.header.Field.load.Goals as goal

@@ -12,7 +12,7 @@ use Rattle.seize_words.specs.Links.{IsNewIn, at_link, compared}
 use Rattle.seize_words.specs.Stepping.{MayStep}
 use Rattle.seize_book.specs.Tokens.{Name, start}
 use Rattle.seize_words.specs.Words.{Site}
-use Rattle.seize_book.proofs.Lists.{equal, unequal}
+use Rattle.seize_book.proofs.Facts.{equal, unequal}
 use Rattle.seize_words.proofs.Exchanged.{came_out, is_at, is_out, knows_all, link_kept, stayed, still_may, still_one, taken}
 use Rattle.seize_words.proofs.Exchanges.{compare_finds, hit, may_compare_link, missed}
 use Rattle.seize_words.proofs.link.Link.compare_exchange.Goals as goal

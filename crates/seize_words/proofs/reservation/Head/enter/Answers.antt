@@ -11,7 +11,7 @@ use Rattle.seize_book.specs.Tokens.{Name, start}
 use Rattle.seize_words.specs.Words.{Site}
 use Rattle.seize_book.specs.declared.book.keys.Keys.{Keys}
 use Rattle.seize_book.specs.declared.book.pass.Pass.{Pass}
-use Rattle.seize_book.proofs.Lists.{equal}
+use Rattle.seize_book.proofs.Facts.{equal}
 use Rattle.seize_words.proofs.Heads.{at_head, may_enter}
 use Rattle.seize_words.proofs.Stepped.{activation_is, is_at_head, noted_by}
 use Rattle.seize_words.proofs.reservation.Head.enter.Goals as goal

@@ -11,7 +11,7 @@ use Rattle.seize_book.specs.Private.{key_of, own_of}
 use Rattle.seize_book.specs.Tokens.{Name, Noted}
 use Rattle.seize_words.specs.Totals.{made_of}
 use Rattle.seize_book.specs.declared.book.keys.Keys.{Keys}
-use Rattle.seize_book.proofs.Private.{only_is}
+use Rattle.seize_book.proofs.Facts.{only_is}
 use Rattle.seize_words.proofs.Taken.{AreBoth, may_take, now_at, told}
 use Rattle.seize_words.proofs.total.Total.add.Goals as goal
 

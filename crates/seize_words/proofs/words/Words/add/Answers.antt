@@ -2,7 +2,7 @@ use Rattle.std.proofs.Common.{arith, sym, ◌∙◌}
 use Rattle.seize_machine.specs.Machine.Event.{AddCount}
 use Rattle.seize_book.specs.Adding.{private}
 use Rattle.seize_book.specs.Slots.{number_of}
-use Rattle.seize_book.proofs.Kept.{all_told_later}
+use Rattle.seize_book.proofs.Facts.{all_told_later}
 use Rattle.seize_words.proofs.Joined.{adds_there, counts_on, held_adding, its_number}
 use Rattle.seize_words.proofs.Traversals.{knows_noted}
 use Rattle.seize_words.proofs.words.Words.add.Goals as goal
