@@ -10,6 +10,7 @@ pub mod entrants;
 pub mod exchanges;
 pub mod flushing;
 pub mod further;
+pub mod homing;
 pub mod joined_run;
 pub mod leaving;
 pub mod lent_run;
