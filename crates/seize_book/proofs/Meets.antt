@@ -44,7 +44,7 @@ longer a b c l =
     ⊎_elim (λ p. inl (p, prefix_anti c b (l.2 b p (prefix_refl b)) l.1)) (λ p. inr (p, prefix_anti c a (l.2 a (prefix_refl a) p) l.0)) (in_line a b c l.0 l.1)
 
 -- where one of them is all that there is
-least_all : (a c log : List Entry) → IsPrefix a c → IsPrefix c log → log ≡ a → a ≡ c
+pub least_all : (a c log : List Entry) → IsPrefix a c → IsPrefix c log → log ≡ a → a ≡ c
 least_all a c log more past is = prefix_anti a c more (subst (IsPrefix c) is past)
 
 module _ {M : Type 1} {𝓤 : Ura M} (𝓛 : Logic 𝓤) (n : Name) where

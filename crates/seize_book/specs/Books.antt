@@ -3,6 +3,7 @@
 --     OpensAlone book pass keys links size store table     a new book to which this pass alone may append
 --     AreFirst keys, AreApart keys all         those that a book begins with;  the same, each by itself
 --     IsNew pass                               nothing was made with it
+--     Learns pass book pass'                   it has seen the longer of what it had and the book has, and nothing was made with it
 --     IsNextIn value number                    it was never named, all values that lay in its block before were reclaimed, and this is the
 --                                              number by which words hold the block
 --     IsFirstIn value number                   and no value of its home was ever named
@@ -27,7 +28,7 @@ use Rattle.seize_book.specs.Others.{IsLastIn, book_of, is_named, state_of, value
 use Rattle.seize_book.specs.Tokens.{many, IsSole, start}
 use Rattle.seize_book.specs.Private.{key_of, own_of}
 use Rattle.seize_book.specs.Begin.{BeganWith, first_keys, first_links}
-use Rattle.seize_book.specs.Passes.{LooksOn, mine_of}
+use Rattle.seize_book.specs.Passes.{IsSame, Longer, LooksOn, MadeNone, mine_of}
 use Rattle.seize_book.specs.declared.book.block_keys.BlockKeys.{BlockKeys}
 use Rattle.seize_book.specs.declared.book.book_keys.BookKeys.{BookKeys}
 use Rattle.seize_book.specs.declared.book.count_key.CountKey.{CountKey}
@@ -44,6 +45,9 @@ Begins book keys links size store table =
 
 abbrev pub IsNew : Pass → Type 0
 IsNew pass = mine_of pass ≡ []
+
+abbrev pub Learns : Pass → Book → Pass → Type 0
+Learns pass book pass' = IsSame pass pass' × MadeNone pass pass' × Longer pass.seen book.seen pass'.seen
 
 abbrev pub IsMany : Book → Type 0
 IsMany book = book.name.gate ≡ many

@@ -27,6 +27,7 @@ impl Model for Pass {
 }
 
 impl Pass {
+    ghost use Rattle.seize_book.specs.Books.{Learns};
     ghost use Rattle.seize_book.specs.Homesteads.{AreAt, HasNumber, state_seen};
     ghost use Rattle.seize_book.specs.Passes.{LooksOn, Meets};
     ghost use Rattle.seize_book.specs.Tables.{AreSlotsOf};
@@ -37,6 +38,13 @@ impl Pass {
     pub fn meet(&mut self, other: &mut Pass)
         requires { other.old.name ≡ self.old.name }
         ensures { Meets self.old other.old self.new other.new }
+    {}
+
+    /// The pass learns what the book has seen: afterwards it has seen the longer of the two beginnings. So whoever shares a book by `&` may
+    /// tell others what it has seen, such as that an activation began. No event is made with the pass.
+    pub fn learn(&mut self, book: &Book)
+        requires { book.now.name ≡ self.old.name }
+        ensures { Learns self.old book.now self.new }
     {}
 
     /// A book of the pass's family is its book. It does nothing: its contract is the law.
