@@ -48,6 +48,7 @@ pub mod Further
 pub mod Once
 pub mod Meets
 pub mod Turns
+pub mod Shares
 pub mod Sent
 pub mod Loans
 pub mod Lending
