@@ -1,5 +1,5 @@
 -- Turns: whoever has a porter by `&` is lent a pass, and lays it back; and a `&` to a porter is made of a borrow of it. Assumes `Logic`.
-use Rattle.std.proofs.Common.{◌≡◌, ℕ, zero, suc, ◌+◌, ◌-◌, ◌≤◌, Bool, true, false, List, [], ◌∷◌, ◌++◌, length, set, refl, sym, ap, Option, Some, slice_get, arith}
+use Rattle.std.proofs.Common.{◌≡◌, ℕ, zero, suc, ◌+◌, ◌-◌, ◌≤◌, Bool, true, false, List, [], ◌∷◌, ◌++◌, length, set, refl, ap, Option, Some, slice_get, arith}
 use mathlib.Core.List.{IsPrefix}
 use seplogic.Ra.Ura.{Ura}
 use base.Before.{before}
@@ -20,7 +20,7 @@ use ghost.Rules.{span, thinned}
 use prog.Model.{Model}
 use types.Growing.{at_least_dup}
 use types.Keyed.{entries_new}
-use types.Kit.{‵, raw, ◌⊛◌, some, given, later, ◌$◌, ◌∵◌, !, qed, by, move, keep, drop, use0, use1, use2, use3, split, split3, group, fsplit, fsplit3, fjoin, fjoin3, fpick, fpack, frame, show, check, pick, learn, assume, rewrite, suffices, settle, await, updating, now, done}
+use types.Kit.{‵, raw, ◌⊛◌, some, given, later, ◌$◌, ◌∵◌, !, qed, by, move, keep, use0, use1, use2, use3, split, split3, group, fsplit, fsplit3, fjoin, fjoin3, fpick, fpack, frame, show, check, pick, learn, assume, rewrite, suffices, settle, await, updating, now, done}
 use types.Logic.{Logic, sem, lfts}
 use types.Na.{before-Incl, before_dup}
 use types.Owned.{basic, named_past}

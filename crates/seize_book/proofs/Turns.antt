@@ -177,7 +177,7 @@ module _ {M : Type 1} {𝓤 : Ura M} (𝓛 : Logic 𝓤) (n : Name) where
       move ! (2 ∷ []) $ use1 𝓛 (‵ (leaves true 0 seen)) (first_comes 𝓛 n.gate seen is) $ move ! (1 ∷ 2 ∷ 0 ∷ []) $ use3 𝓛 (‵ (holds true 0 seen)) (whole true 0 seen own past) $ move ! (1 ∷ 0 ∷ []) $ fjoin ! $ done !))
 
   -- a porter that is at home goes off
-  porter_off : (home : Bool) (out : ℕ) (seen : List Entry) → ⟦ porter_owns n home out seen ⟧ ⊢ H.⇛ ⟦ porter_owns n false out seen ⟧
+  pub porter_off : (home : Bool) (out : ℕ) (seen : List Entry) → ⟦ porter_owns n home out seen ⟧ ⊢ H.⇛ ⟦ porter_owns n false out seen ⟧
   porter_off home out seen = let X : Fml = leaves home out seen in let Y : List Entry → Fml = λ _. leaves false out seen in
       qed 𝓛 (‵ (porter_owns n home out seen) ∷ []) ∵ updating ! $ fsplit ! $ use1 𝓛 (‵ (knows n) ⊛ ‵ (knows n)) (knows_twice 𝓛 n) $ split ! $
       move ! (2 ∷ []) $ use1 𝓛 (taken home out seen) (takes home out seen) $ pick ! (λ own. learn ! (λ past. split3 ! $

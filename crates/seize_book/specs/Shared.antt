@@ -1,11 +1,11 @@
--- What a `&` to a porter is: whoever has it has turns, each with a pass of its own that is back when the turn is over. A turn leaves a share
--- of the sharing's lifetime, which it takes out again when its pass is laid back; so none is under way when nobody shares the porter any
--- more. Each turn has a key of its own, which says the share that it left.
+-- What a `&` to a porter is: whoever has it has turns, each with a pass of its own that is back when the turn is over. A turn leaves a
+-- share of the sharing's lifetime, which it takes out again when its pass is laid back; so none is under way when nobody shares the porter
+-- any more. Each turn has a key of its own, which says the share that it left.
 --     under_way rows         how many turns are under way, by what the keys say, a row each
 --     left_by ν rows         the shares that they left
 --     stock n out seen δ ν   what stands in the porter's invariant: those passes are out beside the ones that are out for good
 --     porter_shares          what a `&` to a porter is; one that is at home has no turns
-use Rattle.std.specs.Prelude.{ℕ, zero, ◌+◌, Bool, true, false, List, [], ◌∷◌, length}
+use Rattle.std.specs.Prelude.{ℕ, ◌+◌, Bool, true, false, List, [], ◌∷◌, length}
 use base.Before.{before}
 use base.Fml.{Lft, Share, Fml, ftrue, fsep, fex, flft, fbor, fnamed}
 use base.SetCodes.{coded_share}

@@ -5,6 +5,7 @@
 --     IsTurnOf porter pass      a new pass of the porter's book, which has seen what the porter has, and is not alone
 --     MayTurn may porter        the work may be done with any such pass
 --     HadTurn gave porter       it was done with such a pass, and one of the same book came back
+--     LeavesHome porter porter'     it is the same, but not at home
 --     IsWhole name seen seen'   nobody may add: the list is seen', which goes on from seen, and nothing was made with the first pass
 --                               meanwhile
 --     ComesHome porter porter'  no pass is out, and the porter has seen the whole list; it had, where it was at home
@@ -48,6 +49,9 @@ pub record HadTurn (gave : Pass → Pass → Type 0) (porter : Porter) : Type 0 
   pub new : IsTurnOf porter lent
   pub same : back.name ≡ lent.name
   pub gives : gave lent back
+
+abbrev pub LeavesHome : Porter → Porter → Type 0
+LeavesHome porter porter' = (porter'.name ≡ porter.name) × (porter'.seen ≡ porter.seen) × (porter'.out ≡ porter.out) × (porter'.home ≡ false)
 
 abbrev pub TakesBack : Porter → Pass → Porter → Type 0
 TakesBack porter pass porter' =

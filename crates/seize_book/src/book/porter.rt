@@ -52,7 +52,7 @@ pub trait Turn<R> {
 }
 
 impl Porter {
-    ghost use Rattle.seize_book.specs.Turns.{ComesHome, GivesOut, HadTurn, HasTurn, MayTurn, OpensAgain, Shuts, TakesBack};
+    ghost use Rattle.seize_book.specs.Turns.{ComesHome, GivesOut, HadTurn, HasTurn, LeavesHome, MayTurn, OpensAgain, Shuts, TakesBack};
 
     /// A new pass, which has seen what the porter has. It is out until it is laid back, and the porter is no more at home.
     pub fn pass(&mut self) -> Pass
@@ -71,8 +71,8 @@ impl Porter {
         pass.lay_back(self);
     }
 
-    /// A turn: has the work done with a pass of its own, which is lent for it and back when it is done, whatever becomes of who had it done.
-    /// Any number of threads may have turns at the same time.
+    /// A turn: has the work done with a pass of its own, which is lent for it and is back when it is done, whatever becomes of who had it
+    /// done. Any number of threads may have turns at the same time.
     pub fn turn<W: Turn<R>, R>(&self, work: W) -> R
         requires off { self.now.home ≡ false }
         requires may { MayTurn (W.may work) self.now }
@@ -86,6 +86,11 @@ impl Porter {
         let Place { marker: _ } = place;
         result
     }
+
+    /// Is no more at home: whoever has it by `&` may have turns.
+    pub fn leave_home(&mut self)
+        ensures { LeavesHome self.old self.new }
+    {}
 
     /// Comes home, where no pass is out: nobody may add to the list until a pass goes out, and the porter has seen the whole of it.
     pub fn come_home(&mut self)

@@ -1,11 +1,10 @@
 -- `turn` takes a pass out of the porter's invariant, has the work done with it where it lies, and lays back there which one it finds then.
-use Rattle.seize_book.proofs.Kit.{◌≡◌, ℕ, List, [], ◌∷◌, ◌++◌, refl, sym, subst, leaves, named, fm, Val, vptr, SProp, ent, sep, emp, sem, apply∗, Lft, Share, Fml, ftrue, flft, fex, ‵, raw, ◌⊛◌, some, given, later, at_ret, ◌$◌, ◌∵◌, !, qed, by, move, keep, split, split3, join, fsplit, fjoin, fpack, pick, learn, use0, use1, use2, use3, await, rewrite, stop, addr, of_opd, no_more, and_then, first, blocks, exec, returns, enter, alloc_all, pass_all, free_all, look_at, get, through, sets, env, agg, fact, fact_i, tables, yes, RattleType, owns, types_at, plain, RefOf, shr_Tells, unhide, nothing, heard, Stays, stay_dropped, walk_of, Goes-dropped}
-use Rattle.std.proofs.Common.{Bool, true, false}
+use Rattle.seize_book.proofs.Kit.{◌≡◌, ℕ, List, [], ◌∷◌, ◌++◌, refl, sym, subst, leaves, named, fm, Val, vptr, SProp, ent, emp, sem, apply∗, Lft, Share, Fml, ftrue, flft, ‵, raw, ◌⊛◌, some, given, later, at_ret, ◌$◌, ◌∵◌, !, qed, by, move, keep, split, split3, join, fsplit, fjoin, fpack, pick, learn, use0, use1, use2, use3, await, rewrite, stop, addr, of_opd, no_more, and_then, first, blocks, exec, returns, enter, alloc_all, pass_all, free_all, look_at, get, through, sets, env, agg, fact, fact_i, tables, yes, RattleType, owns, types_at, plain, RefOf, shr_Tells, unhide, nothing, heard, Stays, stay_dropped, walk_of, Goes-dropped}
+use Rattle.std.proofs.Common.{Bool, false}
 use Rattle.std.proofs.raw_atomic.Walks.{proved_at}
-use mathlib.Core.List.{IsPrefix}
 use mir.Syntax.{Ty, a_type, dcons, dnil}
 use mir.MapTy.{inst_fn}
-use base.Fml.{GName, fat, fdead, flent}
+use base.Fml.{GName, fat, flent}
 use base.Fraction.{full_share}
 use base.Logic.{id⊢}
 use borrow.Table.OneValue.{part_in_at, part_out_at}
