@@ -49,6 +49,7 @@ pub mod Once
 pub mod Meets
 pub mod Turns
 pub mod Learning
+pub mod Shares
 pub mod Sent
 pub mod Loans
 pub mod Lending

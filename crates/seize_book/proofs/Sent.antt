@@ -2,9 +2,11 @@
 use Rattle.std.proofs.Common.{ℕ, zero, suc, Bool, true, false, ◌==◌, List, [], ◌∷◌, length, Option, Some, None}
 use base.Growing.{latest, at_least}
 use base.Stored.{Gv}
-use base.Fml.{Lft}
+use base.Fml.{Lft, Share}
+use base.SetCodes.{coded_share}
 use base.Shift.{Keyless}
 use types.Keyed.{entry_keyless, entries_keyless, token}
+use Rattle.core.proofs.atomic.Sent.{chain-Keyless}
 use Rattle.seize_table.specs.Filled.{all_from}
 use Rattle.seize_book.specs.Ledger.{Held, halved, roster, rosters, first, rest}
 use Rattle.seize_book.specs.Entry.{Entry, entry_coded}
@@ -15,6 +17,7 @@ use Rattle.seize_machine.specs.Machine.State.{State}
 use Rattle.seize_book.specs.Laws.{ended}
 use Rattle.seize_book.specs.Loans.{cell_of, loan_if, loan_of, readers}
 use Rattle.seize_book.specs.Peeks.{keys_show, show_if, sight_if}
+use Rattle.seize_book.specs.Shared.{each_left, left_by, porter_shares}
 use Rattle.seize_book.specs.Tokens.{Name, rows, start, inside, over, Gate, many, sole, turns, all_but, turned, tickets, gate_keeps, gate_gives, gate_leaves, porter_owns, leads_in, all_lead, lies_in, all_lie_in, lies_if, is_placed, slot_labels, note_if, note_in, notes_own, way_if, rights_own, keys_own, pass_owns}
 use Rattle.seize_book.specs.Begin.{book_owns}
 
@@ -114,6 +117,25 @@ pass_keyless n p seen = ((inside_keyless n, (tt, λ _. tt)), λ own. (entry_keyl
 pub porter_keyless : (n : Name) (home : Bool) (out : ℕ) (seen : List Entry) → Keyless (porter_owns n home out seen)
 unfolding at_least
 porter_keyless n home out seen = ((inside_keyless n, (tt, λ _. tt)), λ own. (entry_keyless (halved entry_coded) _ 0 _, (tt, (leaves_keyless n.gate home out seen, λ _. tt))))
+
+each_left_keyless : (ν : Lft) (rs : List Share) → Keyless (each_left ν rs)
+each_left_keyless ν [] = tt
+each_left_keyless ν (r ∷ rs) = (tt, each_left_keyless ν rs)
+
+left_keyless : (ν : Lft) (rows : List (List Share)) → Keyless (left_by ν rows)
+left_keyless ν [] = tt
+left_keyless ν (rs ∷ rows) = (each_left_keyless ν rs, left_keyless ν rows)
+
+turns_keyless : (δ k : ℕ) (rows : List (List Share)) → Keyless (roster coded_share δ k rows)
+turns_keyless δ k [] = entries_keyless (halved coded_share) δ k _
+turns_keyless δ k (rs ∷ rows) = (entry_keyless (halved coded_share) δ k _, turns_keyless δ (suc k) rows)
+
+-- and so may what is shared of a porter
+pub porter_shown : (n : Name) (home : Bool) (out : ℕ) (seen : List Entry) (κ : Lft) → Keyless (porter_shares n home out seen κ)
+unfolding at_least
+porter_shown n true out seen κ = tt
+porter_shown n false out seen κ = λ t.
+    ((λ νs. chain-Keyless νs κ t.0), ((λ rows. (turns_keyless t.1.1 0 rows, (left_keyless t.0 rows, porter_keyless n false _ seen))), ((inside_keyless n, (tt, λ _. tt)), tt)))
 
 note_in_keyless : (store : Option (List ℕ)) (c : ℕ) (g : Gv) → Keyless (note_in store c g)
 note_in_keyless None c g = tt

@@ -177,7 +177,7 @@ module _ {M : Type 1} {𝓤 : Ura M} (𝓛 : Logic 𝓤) (n : Name) where
       move ! (2 ∷ []) $ use1 𝓛 (‵ (leaves true 0 seen)) (first_comes 𝓛 n.gate seen is) $ move ! (1 ∷ 2 ∷ 0 ∷ []) $ use3 𝓛 (‵ (holds true 0 seen)) (whole true 0 seen own past) $ move ! (1 ∷ 0 ∷ []) $ fjoin ! $ done !))
 
   -- a porter that is at home goes off
-  porter_off : (home : Bool) (out : ℕ) (seen : List Entry) → ⟦ porter_owns n home out seen ⟧ ⊢ H.⇛ ⟦ porter_owns n false out seen ⟧
+  pub porter_off : (home : Bool) (out : ℕ) (seen : List Entry) → ⟦ porter_owns n home out seen ⟧ ⊢ H.⇛ ⟦ porter_owns n false out seen ⟧
   porter_off home out seen = let X : Fml = leaves home out seen in let Y : List Entry → Fml = λ _. leaves false out seen in
       qed 𝓛 (‵ (porter_owns n home out seen) ∷ []) ∵ updating ! $ fsplit ! $ use1 𝓛 (‵ (knows n) ⊛ ‵ (knows n)) (knows_twice 𝓛 n) $ split ! $
       move ! (2 ∷ []) $ use1 𝓛 (taken home out seen) (takes home out seen) $ pick ! (λ own. learn ! (λ past. split3 ! $
@@ -238,3 +238,48 @@ module _ {M : Type 1} {𝓤 : Ura M} (𝓛 : Logic 𝓤) (n : Name) where
       fsplit ! $ move ! (0 ∷ 5 ∷ []) $ fjoin ! $ move ! (0 ∷ 3 ∷ 4 ∷ []) $ use3 𝓛 (‵ (holds false (out - 1) z)) (whole false (out - 1) z own (prefix_trans own seen z past.0 least.0, sym same)) $
       -- [the porter; the pass's key; what was reached; the book]
       move ! (3 ∷ 0 ∷ []) $ fjoin ! $ now ! $ show ! (Back out seen x) z $ check ! (less, longer seen x z least) $ keep ! (0 ∷ []) $ done !))))))))))
+
+  -- In a turn the porter stays what it is, but for how many are out.
+
+  -- what it knows can be had beside it
+  pub porter_knows : (home : Bool) (out : ℕ) (seen : List Entry) → ⟦ porter_owns n home out seen ⟧ ⊢ ⟦ porter_owns n home out seen ⟧ ∗ ⟦ knows n ⟧ ∗ ⟦ had seen ⟧
+  porter_knows home out seen = qed 𝓛 (‵ (porter_owns n home out seen) ∷ []) ∵ fsplit ! $ use1 𝓛 (‵ (knows n) ⊛ ‵ (knows n)) (knows_twice 𝓛 n) $ split ! $
+      move ! (2 ∷ []) $ use1 𝓛 (taken home out seen) (takes home out seen) $ pick ! (λ own. learn ! (λ past. split3 ! $
+      -- [its key; what it has seen; the gate; the book, twice]
+      move ! (1 ∷ []) $ use1 𝓛 (‵ (had seen) ⊛ ‵ (had seen)) (at_least_dup (logs entry_coded) 𝓛 n.log seen) $ split ! $
+      move ! (2 ∷ 0 ∷ 3 ∷ []) $ use3 𝓛 (‵ (holds home out seen)) (whole home out seen own past) $
+      -- [the porter; what it has seen; the book, twice]
+      move ! (2 ∷ 0 ∷ []) $ fjoin ! $ move ! (0 ∷ 2 ∷ 1 ∷ []) $ done !))
+
+  abbrev its_key : ℕ → List Entry → Fml
+  its_key p own = rights 𝓛 n (pass_key p own ∷ [])
+
+  -- whoever has a new key is given a ticket
+  pub out_one : (m p : ℕ) (seen own x : List Entry) → ⟦ porter_owns n false m seen ⟧ ∗ ⟦ its_key p own ⟧ ⊢ guard 𝓤 (IsTurns n.gate × ¬ (p ≡ 0)) (⟦ porter_owns n false (suc m) seen ⟧ ∗ ⟦ its_key p own ⟧ ∗ ⟦ gives p x ⟧)
+  out_one m p seen own x = qed 𝓛 (‵ (porter_owns n false m seen) ∷ ‵ (its_key p own) ∷ []) ∵ fsplit ! $ move ! (1 ∷ []) $ use1 𝓛 (taken false m seen) (takes false m seen) $ pick ! (λ b. learn ! (λ past. split3 ! $
+      -- [its key; what it has seen; the gate; the book; the pass's key]
+      move ! (2 ∷ []) $ use1 𝓛 (given (IsTurns n.gate) (‵ (leaves false m seen))) (is_turns false m seen) $ learn ! (λ is.
+      let held : List (Held Entry) = pass_key 0 b ∷ pass_key p own ∷ [] in move ! (1 ∷ []) $ fsplit ! $ move ! (0 ∷ 5 ∷ []) $ fjoin ! $
+      use1 𝓛 (given (AllApart held) (‵ (rights 𝓛 n held))) (all_apart entry_coded (rows n) 𝓛 held) $ learn ! (λ differ. let other : ¬ (p ≡ 0) = λ e. differ.0.0 (refl, sym e) in
+      -- [both keys; nothing; the gate; what it has seen; the book]
+      move ! (2 ∷ []) $ use1 𝓛 (‵ (leaves false (suc m) seen) ⊛ ‵ (gives p x)) (gives_one 𝓛 n.gate m p x seen other) $ split ! $ move ! (2 ∷ []) $ fsplit ! $
+      -- [its key; the pass's; the gate; the ticket; nothing; what it has seen; the book]
+      move ! (0 ∷ 4 ∷ []) $ fjoin ! $ move ! (0 ∷ 4 ∷ 2 ∷ []) $ use3 𝓛 (‵ (holds false (suc m) seen)) (whole false (suc m) seen b past) $
+      -- [the porter; the pass's key; the ticket; the book]
+      move ! (3 ∷ 0 ∷ []) $ fjoin ! $ check ! (is, other) $ done !))))
+
+  -- and lays a pass back
+  pub back_one : (m p : ℕ) (seen x : List Entry) → ⟦ porter_owns n false m seen ⟧ ∗ ⟦ pass_owns n p x ⟧ ⊢ guard 𝓤 (1 ≤ m) ⟦ porter_owns n false (m - 1) seen ⟧
+  back_one m p seen x = qed 𝓛 (‵ (porter_owns n false m seen) ∷ (‵ (knows n) ⊛ ‵ (pass_holds n p x)) ∷ []) ∵ fsplit ! $ move ! (2 ∷ []) $ split ! $
+      -- [the book; the pass; the book; the porter]
+      move ! (3 ∷ []) $ use1 𝓛 (taken false m seen) (takes false m seen) $ pick ! (λ own. learn ! (λ past. split3 ! $ move ! (4 ∷ []) $
+      use1 𝓛 (some (λ (b : List Entry). given (Idle 𝓛 n p b x) (‵ (its_key p b) ⊛ ‵ (had x) ⊛ ‵ (gives p x)))) (apart 𝓛 n p x) $ pick ! (λ b. learn ! (λ past'. split3 ! $
+      -- [the pass's key; x was reached; its ticket; the porter's key; what it has seen; the gate; the book, twice]
+      let held : List (Held Entry) = pass_key 0 own ∷ pass_key p b ∷ [] in move ! (3 ∷ []) $ fsplit ! $ move ! (0 ∷ 2 ∷ []) $ fjoin ! $
+      use1 𝓛 (given (AllApart held) (‵ (rights 𝓛 n held))) (all_apart entry_coded (rows n) 𝓛 held) $ learn ! (λ differ. let other : ¬ (p ≡ 0) = λ e. differ.0.0 (refl, sym e) in
+      -- [both keys; nothing; x was reached; the ticket; what the porter has seen; the gate; the book, twice]
+      move ! (5 ∷ 3 ∷ []) $ use2 𝓛 (given (1 ≤ m) (‵ (leaves false (m - 1) seen))) (takes_one 𝓛 n.gate m p x seen seen other) $ learn ! (λ less.
+      -- [the gate; both keys; nothing; x was reached; what the porter has seen; the book, twice]
+      move ! (1 ∷ []) $ fsplit ! $ move ! (0 ∷ 3 ∷ []) $ fjoin ! $ move ! (0 ∷ 4 ∷ 2 ∷ []) $ use3 𝓛 (‵ (holds false (m - 1) seen)) (whole false (m - 1) seen own past) $
+      -- [the porter; the pass's key; x was reached; the book, twice]
+      move ! (3 ∷ 0 ∷ []) $ fjoin ! $ check ! less $ keep ! (0 ∷ []) $ done !))))))

@@ -7,6 +7,7 @@ pub mod Book
 pub mod Laws
 pub mod Loans
 pub mod Tokens
+pub mod Shared
 pub mod Begin
 pub mod Fair
 pub mod Linked

@@ -2,6 +2,10 @@
 --     HasTurn pass              it is the first pass of a book whose passes come from a porter: while someone has it, no other is out
 --     GivesOut porter porter' pass     one more pass is out, with which nothing was made, and which has seen what the porter has
 --     TakesBack porter pass porter'    one less is out, and the porter has seen what this one has, or had seen more
+--     IsTurnOf porter pass      a new pass of the porter's book, which has seen what the porter has, and is not alone
+--     MayTurn may porter        the work may be done with any such pass
+--     HadTurn gave porter       it was done with such a pass, and one of the same book came back
+--     LeavesHome porter porter'     it is the same, but not at home
 --     IsWhole name seen seen'   nobody may add: the list is seen', which goes on from seen, and nothing was made with the first pass
 --                               meanwhile
 --     ComesHome porter porter'  no pass is out, and the porter has seen the whole list; it had, where it was at home
@@ -32,6 +36,22 @@ abbrev pub GivesOut : Porter → Porter → Pass → Type 0
 GivesOut porter porter' pass =
     ((porter'.name ≡ porter.name) × (porter'.seen ≡ porter.seen) × (porter'.out ≡ porter.out + 1) × (porter'.home ≡ false))
     × (pass.name ≡ porter.name) × IsNew pass × IsPrefix porter.seen pass.seen × (¬ (IsSole pass.name.gate pass.id))
+
+abbrev pub IsTurnOf : Porter → Pass → Type 0
+IsTurnOf porter pass = (pass.name ≡ porter.name) × IsNew pass × IsPrefix porter.seen pass.seen × (¬ (IsSole pass.name.gate pass.id))
+
+abbrev pub MayTurn : (Pass → Type 0) → Porter → Type 0
+MayTurn may porter = (pass : Pass) → IsTurnOf porter pass → may pass
+
+pub record HadTurn (gave : Pass → Pass → Type 0) (porter : Porter) : Type 0 where
+  pub lent : Pass
+  pub back : Pass
+  pub new : IsTurnOf porter lent
+  pub same : back.name ≡ lent.name
+  pub gives : gave lent back
+
+abbrev pub LeavesHome : Porter → Porter → Type 0
+LeavesHome porter porter' = (porter'.name ≡ porter.name) × (porter'.seen ≡ porter.seen) × (porter'.out ≡ porter.out) × (porter'.home ≡ false)
 
 abbrev pub TakesBack : Porter → Pass → Porter → Type 0
 TakesBack porter pass porter' =

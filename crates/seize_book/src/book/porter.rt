@@ -1,7 +1,9 @@
-//! Porters: who has a book's porter gives passes out, takes them back, and is alone when all are back. It uses passes beside it.
-ghost use Rattle.std.specs.Prelude.{◌≡◌, ℕ, Bool, List};
+//! Porters: who has a book's porter gives passes out, takes them back, and is alone when all are back; who shares it has turns. It uses
+//! passes beside it.
+ghost use Rattle.std.specs.Prelude.{◌≡◌, ℕ, Bool, false, List};
 ghost use base.Stored.{coded_list};
 ghost use Rattle.std.specs.Coded.{coded_bool};
+ghost use Rattle.seize_book.specs.Shared.{porter_shares};
 ghost use Rattle.seize_book.specs.Entry.{Entry, entry_coded};
 ghost use Rattle.seize_book.specs.Tokens.{Name, name_coded, porter_owns};
 
@@ -24,10 +26,33 @@ pub struct Porter {
 
 impl Model for Porter {
     ghost also_owns = { λ p. porter_owns p.name p.home p.out p.seen };
+
+    ghost also_shares = { λ p _ κ. porter_shares p.name p.home p.out p.seen κ };
+}
+
+// Where a turn's pass lies while it is lent.
+struct Place {
+    marker: PhantomData<()>,
+}
+
+/// What is done in a turn, with a pass that is lent for it. It leaves another in its place at most, of the same book.
+pub trait Turn<R> {
+    ghost use Rattle.seize_book.specs.declared.book.pass.Pass.{Pass};
+
+    /// With which passes it may be done.
+    ghost may: { Self → Pass → Type 0 };
+
+    /// What it does, from the pass that is lent to the one that comes back.
+    ghost gives: { Self → Pass → Pass → R → Type 0 };
+
+    /// Does it.
+    fn turn(self, pass: &mut Pass) -> R
+        requires { may self pass.old }
+        ensures { (pass.new.name ≡ pass.old.name) × gives self pass.old pass.new result };
 }
 
 impl Porter {
-    ghost use Rattle.seize_book.specs.Turns.{ComesHome, GivesOut, HasTurn, OpensAgain, Shuts, TakesBack};
+    ghost use Rattle.seize_book.specs.Turns.{ComesHome, GivesOut, HadTurn, HasTurn, LeavesHome, MayTurn, OpensAgain, Shuts, TakesBack};
 
     /// A new pass, which has seen what the porter has. It is out until it is laid back, and the porter is no more at home.
     pub fn pass(&mut self) -> Pass
@@ -45,6 +70,27 @@ impl Porter {
     {
         pass.lay_back(self);
     }
+
+    /// A turn: has the work done with a pass of its own, which is lent for it and is back when it is done, whatever becomes of who had it
+    /// done. Any number of threads may have turns at the same time.
+    pub fn turn<W: Turn<R>, R>(&self, work: W) -> R
+        requires off { self.now.home ≡ false }
+        requires may { MayTurn (W.may work) self.now }
+        ensures { HadTurn (λ p q. W.gives work p q result) self.now }
+    {
+        let mut place = Place {
+            marker: PhantomData,
+        };
+        let at = (&mut place as *mut Place).cast::<Pass>();
+        let result = work.turn(unsafe { &mut *at });
+        let Place { marker: _ } = place;
+        result
+    }
+
+    /// Is no more at home: whoever has it by `&` may have turns.
+    pub fn leave_home(&mut self)
+        ensures { LeavesHome self.old self.new }
+    {}
 
     /// Comes home, where no pass is out: nobody may add to the list until a pass goes out, and the porter has seen the whole of it.
     pub fn come_home(&mut self)
@@ -74,3 +120,5 @@ impl Porter {
 }
 
 unsafe impl Send for Porter {}
+
+unsafe impl Sync for Porter {}
