@@ -20,5 +20,6 @@ pub mod Shared
 pub mod SharedNumbers
 pub mod Lent
 pub mod Puts
+pub mod Replacements
 pub mod Reclaimed
 pub mod Told

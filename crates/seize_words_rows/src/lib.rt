@@ -22,6 +22,7 @@ pub mod numbered_run;
 pub mod numbers;
 pub mod reads;
 pub mod reclaiming;
+pub mod replacing;
 pub mod row;
 pub mod second_value;
 pub mod shared_numbers;

@@ -304,3 +304,46 @@ fn passes_that_met_know_both_activations(rt: HostRuntime) {
     assert!(rt; put_1 != put_2);
     assert_eq!(rt; read_both(&rt, &words, one, two), (put_2, put_1));
 }
+
+// Two threads replace what one link holds. It gives the sum of the words put in, less those that came out.
+fn replace_both<R: Threads + Wait + Sync>(
+    rt: &R,
+    words: &Words<u64>,
+    a: Entrant,
+    b: Entrant,
+) -> Option<u64>
+    requires { MayEnter words.now a × MayEnter words.now b }
+{
+    let (one, two) = thread::join(
+        rt,
+        move || -> Option<u64>
+            requires { MayEnter words.now a }
+        { a.replace_many(words, 3, SWAPS) },
+        move || -> Option<u64>
+            requires { MayEnter words.now b }
+        { b.replace_many(words, 3, SWAPS) },
+    );
+    Some(one?.wrapping_add(two?))
+}
+
+// Each of two threads puts the values of 5,000 new blocks into one link, in place of what it read there just before, and tries again where
+// the other was in between. Each block's number comes out once, or is in the link in the end.
+#[test]
+fn replacements_lose_and_invent_no_block(rt: HostRuntime) {
+    let Some((words, source)) = open(rt.alloc()) else {
+        panic!(rt; "no memory");
+    };
+    let Some((a, source)) = source.make(&words) else {
+        panic!(rt; "no memory");
+    };
+    let Some((b, source)) = source.make(&words) else {
+        panic!(rt; "no memory");
+    };
+    let Some((last, _)) = source.make(&words) else {
+        panic!(rt; "no memory");
+    };
+    let Some(left) = replace_both(&rt, &words, a, b) else {
+        panic!(rt; "no memory");
+    };
+    assert_eq!(rt; last.empty_links(&words), (left, 1));
+}
