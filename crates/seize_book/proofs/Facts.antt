@@ -1,6 +1,6 @@
--- What other crates may build on: facts of lists and of keys. Beside them the crate of words uses the steps of the book in an atomic step
--- (`Passes`, `Looks`, `Lives`, `Loans`, `Ways`, `Peeks`, `Tables`, `Notes`, `Turns`, `Renames`), and how walks of its tokens go (`Kit`,
--- `Fields`, `Tuples`, `Sent`). All else in `proofs` is no interface, and may change.
+-- What other crates may build on: facts of lists, of keys and of passes. Beside them the crate of words uses the steps of the book inside
+-- an atomic step (`Passes`, `Looks`, `Lives`, `Loans`, `Ways`, `Peeks`, `Tables`, `Notes`, `Renames`), and whoever walks code by hand what
+-- tokens are (`Kit`, `Fields`, `Tuples`, `Sent`). All else in `proofs` is no interface, and may change.
 -- lists of entries: an entry or a use more, a legal list's beginnings, and that its states are reached
 pub use Rattle.seize_book.proofs.Lists.{after_push, after_used, as_legal, deeds_append, deeds_used, equal, legal_front, legal_push}
 pub use Rattle.seize_book.proofs.Lists.{reached_after, unequal}
@@ -52,3 +52,7 @@ pub use Rattle.seize_book.proofs.Hands.{hands_gone, hands_soon, settles_after, s
 pub use Rattle.seize_book.proofs.LentValues.{gone_lent, lent_in, lent_key, named_lent}
 -- a value that was found in an activation which has not ended was not reclaimed
 pub use Rattle.seize_book.proofs.Standing.{found_stands, gone_over}
+-- the first pass of a book whose passes come from a porter is alone, and no other one is
+pub use Rattle.seize_book.proofs.Turns.{not_alone, turn_alone}
+-- of two beginnings one is the longer, and has seen what the other has
+pub use Rattle.seize_book.proofs.Meets.{longer}

@@ -17,7 +17,7 @@ use Rattle.seize_book.specs.Book.{after, kinds, mine, passes, rules}
 use Rattle.seize_book.specs.Fair.{pass_key}
 use Rattle.seize_book.specs.Passes.{Longer}
 use Rattle.seize_book.specs.Tokens.{AllLentIn, Gate, IsSole, IsTurns, Name, turns, beside, found, gate_gives, gate_keeps, gate_leaves, inside, knows, pass_holds, pass_owns, porter_at, porter_owns, rows, start}
-use Rattle.seize_book.specs.Turns.{ComesHome, IsStill, IsWhole, Shuts}
+use Rattle.seize_book.specs.Turns.{ComesHome, WasWhole, GoesOnTo, Shuts}
 use Rattle.seize_book.proofs.Append.{looks_beside}
 use Rattle.seize_book.proofs.Apart.{all_apart}
 use Rattle.seize_book.proofs.Gates.{comes_home, first_comes, first_goes, gives_one, goes_off, takes_one}
@@ -132,13 +132,13 @@ module _ {M : Type 1} {𝓤 : Ura M} (𝓛 : Logic 𝓤) (n : Name) where
 
   -- no pass is out, and it has seen all that there is
   abbrev pub IsHome : Bool → List Entry → List Entry → Type 0
-  IsHome home seen log = IsTurns n.gate × IsWhole n seen log × IsStill home seen log
+  IsHome home seen log = IsTurns n.gate × GoesOnTo n seen log × WasWhole home seen log
 
   abbrev pub Home : Bool → List Entry → List Entry → Pr
   Home home seen log = guard 𝓤 (IsHome home seen log) ⟦ porter_owns n true 0 log ⟧
 
   pub porter_home : (home : Bool) (seen : List Entry) → ⟦ porter_owns n home 0 seen ⟧ ⊢ H.⇛ (ex 𝓤 (Home home seen))
-  porter_home home seen = let Has : List Entry → Fml = λ log. base.Fml.fsep (leaves true 0 log) (fact (IsStill home seen log)) in
+  porter_home home seen = let Has : List Entry → Fml = λ log. base.Fml.fsep (leaves true 0 log) (fact (WasWhole home seen log)) in
       qed 𝓛 (‵ (porter_owns n home 0 seen) ∷ []) ∵ updating ! $ fsplit ! $ use1 𝓛 (given (IsDistinct 𝓛 n) (‵ (knows n))) (distinct_links 𝓛 n) $ learn ! (λ distinct.
       use1 𝓛 (‵ (knows n) ⊛ ‵ (knows n)) (knows_twice 𝓛 n) $ split ! $ move ! (2 ∷ []) $ use1 𝓛 (taken home 0 seen) (takes home 0 seen) $ pick ! (λ own. learn ! (λ past. split3 ! $
       -- [its key; what it has seen; the gate; the book, twice]
@@ -147,22 +147,22 @@ module _ {M : Type 1} {𝓤 : Ura M} (𝓛 : Logic 𝓤) (n : Name) where
       use3 𝓛 (changed held seen Has) (changes held seen (leaves home 0 seen) Has (still_home home seen is) (omega arith, tt)) $ await ! tt $ pick ! (λ log. learn ! (λ known. split3 ! $
       -- [its key; what was reached; the gate, and that it was so; the book]
       move ! (2 ∷ []) $ fsplit ! $ move ! (1 ∷ []) $ fpick ! (λ still. drop ! $
-      let same : mine st 0 own ≡ mine st 0 log = known.0.2.0.1 in let is_so : IsWhole n seen log = record { grows = known.0.1; none_made = sym same ∙ past.1; legal = known.0.0.0; sound = known.0.0.1; lent = known.1; distinct = distinct } in
+      let same : mine st 0 own ≡ mine st 0 log = known.0.2.0.1 in let is_so : GoesOnTo n seen log = record { grows = known.0.1; none_made = sym same ∙ past.1; legal = known.0.0.0; sound = known.0.0.1; lent = known.1; distinct = distinct } in
       move ! (1 ∷ 2 ∷ 0 ∷ []) $ use3 𝓛 (‵ (holds true 0 log)) (whole true 0 log own (prefix_trans own seen log past.0 known.0.1, same)) $
       -- [the porter; the book]
       now ! $ show ! (Home home seen) log $ check ! (is, is_so, still) $ move ! (1 ∷ 0 ∷ []) $ fjoin ! $ done !)))))))
     where
-      still_home : (home : Bool) (seen : List Entry) → IsTurns n.gate → (log : List Entry) → ⟦ keeps log ⟧ ∗ ⟦ leaves home 0 seen ⟧ ⊢ ⟦ keeps log ⟧ ∗ ⟦ base.Fml.fsep (leaves true 0 log) (fact (IsStill home seen log)) ⟧
-      still_home home seen is log = qed 𝓛 (‵ (keeps log) ∷ ‵ (leaves home 0 seen) ∷ []) ∵ use2 𝓛 (given (IsStill home seen log) (‵ (keeps log) ⊛ ‵ (leaves true 0 log))) (comes_home 𝓛 n.gate home log seen is) $
-          learn ! (λ still. split ! $ move ! (1 ∷ []) $ nothing ! $ fpack ! (IsStill home seen log) (λ _. ftrue) still $ move ! (1 ∷ 0 ∷ []) $ fjoin ! $ move ! (1 ∷ 0 ∷ []) $ done !)
+      still_home : (home : Bool) (seen : List Entry) → IsTurns n.gate → (log : List Entry) → ⟦ keeps log ⟧ ∗ ⟦ leaves home 0 seen ⟧ ⊢ ⟦ keeps log ⟧ ∗ ⟦ base.Fml.fsep (leaves true 0 log) (fact (WasWhole home seen log)) ⟧
+      still_home home seen is log = qed 𝓛 (‵ (keeps log) ∷ ‵ (leaves home 0 seen) ∷ []) ∵ use2 𝓛 (given (WasWhole home seen log) (‵ (keeps log) ⊛ ‵ (leaves true 0 log))) (comes_home 𝓛 n.gate home log seen is) $
+          learn ! (λ still. split ! $ move ! (1 ∷ []) $ nothing ! $ fpack ! (WasWhole home seen log) (λ _. ftrue) still $ move ! (1 ∷ 0 ∷ []) $ fjoin ! $ move ! (1 ∷ 0 ∷ []) $ done !)
 
   pub home_by : (home : Bool) (out : ℕ) (seen log : List Entry) → IsHome home seen log
       → ComesHome (record { marker = record {}; name = n; seen = seen; out = out; home = home }) (record { marker = record {}; name = n; seen = log; out = 0; home = true })
-  home_by home out seen log is = record { book = refl; none_out = refl; home = refl; whole = is.1; still = is.2 }
+  home_by home out seen log is = record { book = refl; none_out = refl; home = refl; goes_on = is.1; was = is.2 }
 
   pub shut_by : (home : Bool) (out : ℕ) (seen log : List Entry) → IsHome home seen log
       → Shuts (record { marker = record {}; name = n; seen = seen; out = out; home = home }) (record { marker = record {}; name = n; id = 0; seen = log })
-  shut_by home out seen log is = record { book = refl; turn = (is.0, refl); alone = turn_alone n.gate is.0; whole = is.1; still = is.2 }
+  shut_by home out seen log is = record { book = refl; turn = (is.0, refl); alone = turn_alone n.gate is.0; goes_on = is.1; was = is.2 }
 
   -- what it has at home is what the first pass has
   pub home_passes : (seen : List Entry) → IsTurns n.gate → ⟦ porter_owns n true 0 seen ⟧ ⊢ ⟦ pass_owns n 0 seen ⟧
@@ -215,7 +215,7 @@ module _ {M : Type 1} {𝓤 : Ura M} (𝓛 : Logic 𝓤) (n : Name) where
 
   -- one comes back
   abbrev pub Back : ℕ → List Entry → List Entry → List Entry → Pr
-  Back out seen x z = guard 𝓤 ((1 ≤ out) × Longer seen x z) ⟦ porter_owns n false (out - 1) z ⟧
+  Back out seen x z = guard 𝓤 ((1 ≤ out) × Longer seen x z × (mine st 0 z ≡ mine st 0 seen)) ⟦ porter_owns n false (out - 1) z ⟧
 
   pub porter_takes : (home : Bool) (out p : ℕ) (seen x : List Entry) → ⟦ porter_owns n home out seen ⟧ ∗ ⟦ pass_owns n p x ⟧ ⊢ H.⇛ (ex 𝓤 (Back out seen x))
   porter_takes home out p seen x = qed 𝓛 (‵ (porter_owns n home out seen) ∷ (‵ (knows n) ⊛ ‵ (pass_holds n p x)) ∷ []) ∵ updating ! $
@@ -237,7 +237,7 @@ module _ {M : Type 1} {𝓤 : Ura M} (𝓛 : Logic 𝓤) (n : Name) where
       let same : mine st 0 z ≡ mine st 0 own = between st 0 own z log (prefix_trans own seen z past.0 least.0) known.1 known.2.0.1 in
       fsplit ! $ move ! (0 ∷ 5 ∷ []) $ fjoin ! $ move ! (0 ∷ 3 ∷ 4 ∷ []) $ use3 𝓛 (‵ (holds false (out - 1) z)) (whole false (out - 1) z own (prefix_trans own seen z past.0 least.0, sym same)) $
       -- [the porter; the pass's key; what was reached; the book]
-      move ! (3 ∷ 0 ∷ []) $ fjoin ! $ now ! $ show ! (Back out seen x) z $ check ! (less, longer seen x z least) $ keep ! (0 ∷ []) $ done !))))))))))
+      move ! (3 ∷ 0 ∷ []) $ fjoin ! $ now ! $ show ! (Back out seen x) z $ check ! (less, longer seen x z least, same ∙ past.1) $ keep ! (0 ∷ []) $ done !))))))))))
 
   -- In a turn the porter stays what it is, but for how many are out.
 

@@ -1,15 +1,16 @@
 -- The words in which the contracts of porters speak.
 --     HasTurn pass              it is the first pass of a book whose passes come from a porter: while someone has it, no other is out
 --     GivesOut porter porter' pass     one more pass is out, with which nothing was made, and which has seen what the porter has
---     TakesBack porter pass porter'    one less is out, and the porter has seen what this one has, or had seen more
+--     TakesBack porter pass porter'    one less is out, and the porter has seen what this one has, or had seen more; nothing was made with
+--                               the first pass meanwhile
 --     IsTurnOf porter pass      a new pass of the porter's book, which has seen what the porter has, and is not alone
 --     MayTurn may porter        the work may be done with any such pass
 --     HadTurn gave porter       it was done with such a pass, and one of the same book came back
 --     LeavesHome porter porter'     it is the same, but not at home
---     IsWhole name seen seen'   nobody may add: the list is seen', which goes on from seen, and nothing was made with the first pass
---                               meanwhile
---     ComesHome porter porter'  no pass is out, and the porter has seen the whole list; it had, where it was at home
---     Shuts porter pass         the first pass, which is alone: it has seen the whole list; just what the porter had, where that was at home
+--     GoesOnTo name seen seen'  seen' is a legal list that goes on from seen, and nothing was made with the first pass meanwhile
+--     WasWhole home seen seen'  it is seen still, if the porter was at home: then that was the whole list, and nobody could add
+--     ComesHome porter porter'  no pass is out, and the porter is at home: it owns the copy of the whole list (`gate_leaves` in `Tokens`)
+--     Shuts porter pass         the first pass, which is alone (`IsSole`), in the porter's place
 --     IsFirstTurn book pass     the same of a book that has just begun
 --     OpensAgain pass porter    none is out, and the porter, which is at home, has seen what the pass had
 --     IsFullPorter book porter  the porter of a book that has just begun: no pass is out, and it is at home
@@ -51,13 +52,15 @@ pub record HadTurn (gave : Pass → Pass → Type 0) (porter : Porter) : Type 0 
   pub gives : gave lent back
 
 abbrev pub LeavesHome : Porter → Porter → Type 0
-LeavesHome porter porter' = (porter'.name ≡ porter.name) × (porter'.seen ≡ porter.seen) × (porter'.out ≡ porter.out) × (porter'.home ≡ false)
+LeavesHome porter porter' =
+    (porter'.name ≡ porter.name) × (porter'.seen ≡ porter.seen) × (porter'.out ≡ porter.out) × (porter'.home ≡ false)
 
 abbrev pub TakesBack : Porter → Pass → Porter → Type 0
 TakesBack porter pass porter' =
     (porter'.name ≡ porter.name) × (porter'.out + 1 ≡ porter.out) × Longer porter.seen pass.seen porter'.seen × (porter'.home ≡ false)
+    × (mine (start porter.name) 0 porter'.seen ≡ mine (start porter.name) 0 porter.seen)
 
-pub record IsWhole (name : Name) (seen seen' : List Entry) : Type 0 where
+pub record GoesOnTo (name : Name) (seen seen' : List Entry) : Type 0 where
   pub grows : IsPrefix seen seen'
   pub none_made : mine (start name) 0 seen' ≡ mine (start name) 0 seen
   pub legal : IsLegalList (start name) seen'
@@ -65,23 +68,22 @@ pub record IsWhole (name : Name) (seen seen' : List Entry) : Type 0 where
   pub lent : AllLentIn name (after (start name) seen').named
   pub distinct : are_distinct (linked name.links) ≡ true
 
--- the porter's list is the whole list already, if it is at home
-abbrev pub IsStill : Bool → List Entry → List Entry → Type 0
-IsStill home seen seen' = home ≡ true → seen' ≡ seen
+abbrev pub WasWhole : Bool → List Entry → List Entry → Type 0
+WasWhole home seen seen' = home ≡ true → seen' ≡ seen
 
 pub record ComesHome (porter porter' : Porter) : Type 0 where
   pub book : porter'.name ≡ porter.name
   pub none_out : porter'.out ≡ 0
   pub home : porter'.home ≡ true
-  pub whole : IsWhole porter.name porter.seen porter'.seen
-  pub still : IsStill porter.home porter.seen porter'.seen
+  pub goes_on : GoesOnTo porter.name porter.seen porter'.seen
+  pub was : WasWhole porter.home porter.seen porter'.seen
 
 pub record Shuts (porter : Porter) (pass : Pass) : Type 0 where
   pub book : pass.name ≡ porter.name
   pub turn : HasTurn pass
   pub alone : IsSole pass.name.gate pass.id
-  pub whole : IsWhole porter.name porter.seen pass.seen
-  pub still : IsStill porter.home porter.seen pass.seen
+  pub goes_on : GoesOnTo porter.name porter.seen pass.seen
+  pub was : WasWhole porter.home porter.seen pass.seen
 
 -- the first pass of a book that has just begun
 abbrev pub IsFirstTurn : Book → Pass → Type 0

@@ -21,20 +21,18 @@ use Rattle.seize_book.specs.Turns.{HasTurn}
 use Rattle.seize_book.specs.declared.book.pass.Pass.{Pass}
 use Rattle.seize_book.specs.declared.book.slot_key.SlotKey.{SlotKey}
 use Rattle.seize_book.specs.declared.book.value_keys.ValueKeys.{ValueKeys}
-use Rattle.seize_book.proofs.Facts.{as_legal, reached_after}
-use Rattle.seize_book.proofs.Turns.{turn_alone}
+use Rattle.seize_book.proofs.Facts.{as_legal, reached_after, turn_alone}
 use Rattle.seize_calls.specs.Calls.{Flushes, Leaves, RetiresOne, Returns}
 use Rattle.seize_calls.specs.Settling.{Drains, Round, Settles, Stand}
 use Rattle.seize_book.specs.Kept.{AllTold, kepts_of}
 use Rattle.seize_calls.specs.Batches.{keys_in}
-use Rattle.seize_words.proofs.Facts.{all_told_append, all_told_grow, all_told_later}
+use Rattle.seize_words.proofs.Facts.{all_told_append, all_told_grow, all_told_later, more_slots}
 use Rattle.seize_calls.specs.Handing.{Had, Handings, HasHad, values_handed}
 use Rattle.seize_calls.specs.Marks.{actives, readings}
 use Rattle.seize_calls_rows.specs.Turns.{AllBack, EmptyBelow, Gave, Holds, KeepsLinks, LeavesNothing, NoneLost}
 use Rattle.seize_calls_rows.specs.Workers.{GoesOn, Shared, Works}
 use Rattle.seize_calls_rows.specs.declared.seat.Holder.{Holder}
 use Rattle.seize_calls.specs.declared.batch.Batch.{Batch}
-use Rattle.seize_words.proofs.Facts.{more_slots}
 use Rattle.seize_calls_rows.proofs.Links.{IsNone, Since, at_first, gone_since, handed_hands, handed_read, handed_turns, handed_walked, more_since, none_changed, none_handed, none_read, none_turns, none_walked, on_since, since_twice}
 use Rattle.seize_calls_rows.proofs.Loose.{none_lost_by, retired_since}
 use Rattle.seize_machine.specs.declared.machine.event.Answer.{Answer}

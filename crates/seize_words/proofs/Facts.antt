@@ -45,7 +45,7 @@ pub use Rattle.seize_words.proofs.Contents.{is_lent, same_content}
 -- the key may be settled
 pub use Rattle.seize_book.proofs.Facts.{hands_gone, hands_soon, settles_after, soon_named}
 pub use Rattle.seize_book.proofs.Renames.{follows_value}
-pub use Rattle.seize_words.proofs.Chunked.{settles_block, settles_hollow, takes_block}
+pub use Rattle.seize_words.proofs.Chunked.{named_seen, settles_block, settles_hollow, takes_block}
 -- keys lead on: in a book without a store, where there are none, and where the last one's note says the next one's word; so the next block is
 -- found, and the keys are closed where it says none
 pub use Rattle.seize_book.proofs.Facts.{closed_anywhere, has_noted, last_closes, last_leads, leads_next, none_closed, one_leads}

@@ -125,13 +125,8 @@ impl<T: Drop> Words<T> {
         let (book, porter, keys) = Words::open_in_turns::<Brand>(
             &store, &table, unopened, links, size,
         );
-        match Words::of(alloc, store, table, book, keys, links) {
-            Ok((words, numbers, next)) => Ok((words, porter, numbers, next)),
-            Err(refusal) => {
-                porter.shut();
-                Err(refusal)
-            }
-        }
+        let (words, numbers, next) = Words::of(alloc, store, table, book, keys, links)?;
+        Ok((words, porter, numbers, next))
     }
 
     // A book whose blocks lie in this store, and whose heads lie in this table.

@@ -127,7 +127,7 @@ named_down n pass v sees =
     has_first x = grind arith
 
 -- the word of the batch's count
-pub word_down : (n : Name) (pass : Pass) (count : Count) (v : ℕ) → Sees n pass (counted_down v) → home_of v ≡ home count → count_seen count pass ≡ 2 ^ 64 - 1
+pub word_down : (n : Name) (pass : Pass) (count : Count) (v : ℕ) → Sees n pass (counted_down v) → home_of v ≡ home count → count_word (count_seen count pass) ≡ 2 ^ 64 - 1
 word_down n pass count v sees its =
     ap (λ (m : Name). count_word (count_in (after (start m) pass.seen) (home count))) sees.book
     ∙ ap (λ (st : State). count_word (count_in st (home count))) sees.leads.state

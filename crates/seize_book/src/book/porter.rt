@@ -10,8 +10,8 @@ ghost use Rattle.seize_book.specs.Tokens.{Name, name_coded, porter_owns};
 use crate::book::pass::Pass;
 use std::marker::{Model, PhantomData};
 
-/// What passes of a book come from whose gate is `turns`. There is one, and it has no `Drop`: it is spent by [`Porter::shut`],
-/// which gives a pass; who drops that leaves the book shut.
+/// What passes of a book come from whose gate is `turns`. There is one. Who drops it leaves the book as it is: the passes that are out may
+/// be used on, but none comes out or back any more, and the gate is never shut.
 pub struct Porter {
     pub(super) marker: PhantomData<()>,
     /// The book.
@@ -116,6 +116,12 @@ impl Porter {
         ensures { OpensAgain pass result }
     {
         pass.open_again()
+    }
+}
+
+impl Drop for Porter {
+    fn drop(self) {
+        let Self { marker: _ } = self;
     }
 }
 

@@ -13,8 +13,7 @@ use Rattle.seize_book.specs.declared.book.pass.Pass.{Pass}
 use Rattle.seize_book.specs.declared.book.slot_key.SlotKey.{SlotKey}
 use Rattle.seize_store.specs.Named.{bare_value, name_of}
 use Rattle.seize_store.specs.declared.known.Title.{Title}
-use Rattle.seize_words.proofs.Chunked.{named_seen, settles_hollow, takes_block}
-use Rattle.seize_words.proofs.Facts.{all_told_later, handing_named, joined_told, knows_still, looks_twice, none_new, put_told, same_key, seen_grows, settles_after, unchanged_last, unchanged_value}
+use Rattle.seize_words.proofs.Facts.{named_seen, settles_hollow, takes_block, all_told_later, handing_named, joined_told, knows_still, looks_twice, none_new, put_told, same_key, seen_grows, settles_after, unchanged_last, unchanged_value}
 use Rattle.seize_words.specs.Chunks.{IsLentAs}
 use Rattle.seize_book.specs.Kept.{AreToldIn, kept_in, kepts_of}
 use Rattle.seize_calls.specs.Furthers.{further_in}

@@ -4,8 +4,7 @@ use Rattle.seize_book.specs.Entry.{Entry}
 use Rattle.seize_book.specs.Ledger.{Held}
 use Rattle.seize_book.specs.Private.{labels_of}
 use Rattle.seize_words.specs.Reservations.{slot}
-use Rattle.seize_words.proofs.Chunked.{named_seen}
-use Rattle.seize_words.proofs.Facts.{knows_still, looks_twice, more_seen}
+use Rattle.seize_words.proofs.Facts.{named_seen, knows_still, looks_twice, more_seen}
 use Rattle.seize_calls.specs.Batches.{slot_noted}
 use Rattle.seize_calls.specs.Inserts.{Inserted, IsAtSlot}
 use Rattle.seize_calls.proofs.Rounds.{number_of_first}

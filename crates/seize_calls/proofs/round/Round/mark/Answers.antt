@@ -9,8 +9,7 @@ use Rattle.seize_book.specs.Private.{label_of, labels_of, note_of}
 use Rattle.seize_book.specs.Tokens.{Name}
 use Rattle.seize_calls.specs.Numbered.{starts_at}
 use Rattle.seize_calls.proofs.Rounds.{first_label, leads_past, leads_to, next_starts, number_of_first}
-use Rattle.seize_words.proofs.Facts.{noted_one, others_closed}
-use Rattle.seize_words.proofs.Chunked.{named_seen}
+use Rattle.seize_words.proofs.Facts.{noted_one, others_closed, named_seen}
 use Rattle.seize_calls.proofs.round.Round.mark.Goals as goal
 
 -- the header is that of the first value's block

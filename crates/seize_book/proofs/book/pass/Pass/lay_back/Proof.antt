@@ -1,9 +1,10 @@
 -- `lay_back` gives the porter the pass's ticket.
 use Rattle.seize_book.proofs.Kit.{◌≡◌, ℕ, List, [], ◌∷◌, refl, proved, named, Val, vptr, vunit, SProp, emp, Fml, ftrue, fsep, flft, ‵, raw, ◌⊛◌, some, given, later, await, ◌$◌, ◌∵◌, !, qed, by, move, keep, split, fsplit, fsplit3, fjoin, fjoin3, pick, learn, use2, rewrite, feq_i, unit_lit, of_opd, returns, enter, alloc_all, pass_all, free_all, look_at, sets, fact, fact_i, heard, tables, yes, owns, types_at, plain, mut_vals, mut_Tells, nothing, opens, closes, Stays, stay_ref, stay_dropped, walk_of, Goes-ref, Goes-dropped}
 use Rattle.std.proofs.Common.{◌≤◌, ◌-◌, false, arith}
+use Rattle.seize_book.specs.Book.{mine}
 use Rattle.seize_book.specs.Entry.{Entry}
 use Rattle.seize_book.specs.Passes.{Longer}
-use Rattle.seize_book.specs.Tokens.{Name, pass_owns, porter_owns}
+use Rattle.seize_book.specs.Tokens.{Name, pass_owns, porter_owns, start}
 use Rattle.seize_book.specs.contracts.book.pass.Pass as Pass
 use Rattle.seize_book.specs.contracts.book.porter.Porter as Porter
 use Rattle.seize_book.proofs.Fields.{ends, no_bytes, pass_tells, token}
@@ -30,7 +31,7 @@ lay_back_spec 𝓤 𝓛 𝓜 𝓡 wired =
     opens ! tt Porter.the_row pb po (λ vs. move ! (1 ∷ []) $ fsplit ! $ move ! (1 ∷ []) $
     -- [what the porter owns; the porter; its cell, in four entries; what the pass owns]
     move ! (6 ∷ []) $ rewrite ! 0 (λ (z : Name). ‵ (pass_owns z p.id p.seen)) asked refl $ move ! (1 ∷ 0 ∷ []) $
-    use2 𝓛 (later (some (λ (z : List Entry). given ((1 ≤ b.out) × Longer b.seen p.seen z) (‵ (porter_owns b.name false (b.out - 1) z))))) (porter_takes 𝓛 b.name b.home b.out p.id b.seen p.seen) $ await ! tt $ pick ! (λ z. learn ! (λ so.
+    use2 𝓛 (later (some (λ (z : List Entry). given ((1 ≤ b.out) × Longer b.seen p.seen z × (mine (start b.name) 0 z ≡ mine (start b.name) 0 b.seen)) (‵ (porter_owns b.name false (b.out - 1) z))))) (porter_takes 𝓛 b.name b.home b.out p.id b.seen p.seen) $ await ! tt $ pick ! (λ z. learn ! (λ so.
     let b' : Porter.the_row.Denot = record b { seen = z; out = b.out - 1; home = false } in
     move ! (1 ∷ 0 ∷ []) $ fjoin ! $ move ! (1 ∷ 0 ∷ 2 ∷ 3 ∷ 4 ∷ []) $ closes ! tt Porter.the_row b' vs pb po $
     -- [the porter, in two; its token]
@@ -39,4 +40,4 @@ lay_back_spec 𝓤 𝓛 𝓜 𝓡 wired =
     -- [the tokens; the result; the porter, in two]
     nothing ! $ feq_i ! (List Val) (vptr pb po ∷ []) (vptr pb po ∷ []) refl $ move ! (0 ∷ 4 ∷ 5 ∷ []) $ fjoin3 ! $ fjoin ! $ nothing ! $ fjoin ! $
     returns ! (look_at ! 0 refl) $ free_all ! refl $ keep ! (1 ∷ 0 ∷ 2 ∷ []) $
-    by ! (ends 𝓛 ended hs c y vunit tt (tt, (b', tt)) (tt, (tt, tt)) (fact_i 𝓤 _ (emp 𝓤) (refl, omega (arith, so.0), so.1, refl)))))))))
+    by ! (ends 𝓛 ended hs c y vunit tt (tt, (b', tt)) (tt, (tt, tt)) (fact_i 𝓤 _ (emp 𝓤) (refl, omega (arith, so.0), so.1, refl, so.2)))))))))
