@@ -12,13 +12,13 @@
 --                                      list says is kept of it; the pass has seen what it had seen
 --     IsShut porter shut               it is the pass of the gate that was shut, and has seen what the porter had
 --     IsShutBy porter first second shut     and has seen what the passes of the two seats had
---     Regains before pass had had'     all that are gone since went so to the reclaimer, no link holds anything, and nothing is lost of
---                                      what came out of a link
+--     Regains before pass had had'     all that are gone since went so to the reclaimer, none of the 1024 links holds anything, and
+--                                      nothing is lost of what came out of a link
 --     LeavesNothing pass s             slot s has no call, is not active, and has no batch, as the pass has seen
 --     AreAll first second pass         these are the holders of slots 0 and 1, in this order, and there are no others
---     AllBack pass                     nobody else can add to the list while somebody has the pass. No link holds anything, no call is
---                                      under way, no slot is active and none has a batch, as it has seen. So each value that was ever
---                                      retired is gone
+--     AllBack pass                     nobody else can add to the list while somebody has the pass. None of the 1024 links holds anything,
+--                                      no call is under way, no slot is active and none has a batch, as it has seen. So each value that was
+--                                      ever retired is gone
 use Rattle.std.specs.Prelude.{◌≡◌, ℕ, ◌+◌, ◌<◌, true, false, List, [], ◌++◌, None, is_some}
 use mathlib.Core.List.{IsPrefix}
 use Rattle.seize_machine.specs.Machine.History.{Reclaimed, Retired}

@@ -1,5 +1,5 @@
 -- What is known of a porter that is at home.
---     IsAtHome porter           no pass is out, and what it has seen is the whole list
+--     IsAtHome porter           no pass is out, and it is at home
 --     IsSameList one other      they are of one book, and have seen the same
 use Rattle.std.specs.Prelude.{◌≡◌, true}
 use Rattle.seize_book.specs.declared.book.porter.Porter.{Porter}
