@@ -26,7 +26,7 @@ use std::marker::Brand;
 /// Else it was lost, and the key is of the value that would have gone in, which may be tried again.
 ///
 /// It takes no memory and waits for nobody: one load to find the link each time, one atomic load, and one atomic compare and exchange. What
-/// it asks after these does nothing when the program runs.
+/// it asks after these only compares numbers.
 pub fn replace(
     words: &Words<u64>,
     link: usize,
