@@ -29,5 +29,6 @@ pub mod shared_numbers;
 pub mod spotted;
 #[cfg(test)]
 mod tests;
+pub mod turning;
 pub mod walking;
 pub mod worked_run;

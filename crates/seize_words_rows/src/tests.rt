@@ -2,6 +2,7 @@
 ghost use Rattle.seize_words_rows.specs.Exchanges.{IsLinkOf, MayShare, MaySwap};
 ghost use Rattle.seize_words_rows.specs.Flushers.{MayFlush, MayGrow, grown};
 ghost use Rattle.seize_words_rows.specs.Making.{CanMake, TakesPart};
+ghost use Rattle.seize_words_rows.specs.Turning.{IsReady};
 ghost use Rattle.seize_words_rows.specs.Visits.{MayVisit};
 ghost use Rattle.std.specs.Prelude.{◌≡◌};
 
@@ -11,6 +12,7 @@ use crate::leaving::{Visitor, leave_head};
 use crate::making::{Maker, open};
 use crate::reads::{meet_and_read, read_with_each};
 use crate::row::{open_row, read_row, visit_many};
+use crate::turning::open_in_turns;
 use crate::walking::block_at;
 use crate::{block_run, flushing, further, linked, noted_run, second_value, spotted, worked_run};
 use seize_words::activation::Activation;
@@ -527,6 +529,24 @@ fn two_slots_enter_and_leave(rt: HostRuntime) {
     );
     assert_eq!(rt; turns, (20_000, 20_000));
     drop((links, maker));
+}
+
+// The same in turns, with one porter that both share. Then no pass is out, and the gate is shut.
+#[test]
+fn threads_share_a_porter(rt: HostRuntime) {
+    let (porter, one, two) = open_in_turns();
+    let shared = &porter;
+    let turns = thread::join(
+        &rt,
+        move || -> u64
+            requires { IsReady one shared.now }
+        { one.visit(shared, 20_000) },
+        move || -> u64
+            requires { IsReady two shared.now }
+        { two.visit(shared, 20_000) },
+    );
+    assert_eq!(rt; turns, (20_000, 20_000));
+    drop(porter.shut());
 }
 
 // One thread flushes its batch again and again: each flush reads the heads of as many slots as there are by then, and gives up. Another one
