@@ -4,7 +4,7 @@ use Rattle.std.specs.Prelude.{slice_index_or}
 use base.Growing.{prefix_trans}
 use mathlib.Core.List.{IsPrefix}
 use Rattle.seize_machine.specs.Machine.State.{Mark, State, are_distinct, has, link_at, linked, slot_at}
-use Rattle.seize_machine.specs.Machine.Event.{Event, ReadLink}
+use Rattle.seize_machine.specs.Machine.Event.{Event}
 use Rattle.seize_machine.specs.Machine.History.{IsReached, first_of}
 use Rattle.seize_machine.specs.Machine.Next.{next}
 use Rattle.seize_machine.specs.declared.machine.event.Answer.{Answer}
@@ -20,7 +20,7 @@ use Rattle.seize_words.specs.Heads.{IsTrying}
 use Rattle.seize_book.specs.Homes.{home_of}
 use Rattle.seize_book.specs.Homesteads.{state_seen}
 use Rattle.seize_book.specs.Laws.{life, starts}
-use Rattle.seize_words.specs.LinkWords.{IsIn, Sees, Takes, held_before, number}
+use Rattle.seize_words.specs.LinkWords.{IsIn, Takes, held_before, number}
 use Rattle.seize_words.specs.Links.{IsWithin}
 use Rattle.seize_book.specs.Passes.{IsSame, LooksOn, events_by, events_in, mine_of}
 use Rattle.seize_book.specs.Slots.{IsOf, Moves, NotesAs, life_of, number_of, own_list, size_of, slot_of, start_of}
