@@ -1,9 +1,11 @@
 -- What a `&` to a porter is: whoever has it has turns, each with a pass of its own that is back when the turn is over. A turn leaves a
 -- share of the sharing's lifetime, which it takes out again when its pass is laid back; so none is under way when nobody shares the porter
 -- any more. Each turn has a key of its own, which says the share that it left.
---     under_way rows         how many turns are under way, by what the keys say, a row each
---     left_by ν rows         the shares that they left
+--     under_way rows         how many turns are under way: the shares in all rows. A turn that has ended leaves an empty row
+--     each_left, left_by ν rows      the shares that they left
+--     turning n out seen δ ν rows    what the invariant has where the rows are these
 --     stock n out seen δ ν   what stands in the porter's invariant: those passes are out beside the ones that are out for good
+--     porter_lent n out seen κ       what a `&` has of the invariant
 --     porter_shares          what a `&` to a porter is; one that is at home has no turns
 use Rattle.std.specs.Prelude.{ℕ, ◌+◌, Bool, true, false, List, [], ◌∷◌, length}
 use base.Before.{before}

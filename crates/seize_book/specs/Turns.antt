@@ -5,7 +5,7 @@
 --                               the first pass meanwhile
 --     IsTurnOf porter pass      a new pass of the porter's book, which has seen what the porter has, and is not alone
 --     MayTurn may porter        the work may be done with any such pass
---     HadTurn gave porter       it was done with such a pass, and one of the same book came back
+--     HadTurn gave porter       it was done with such a pass, which came back
 --     LeavesHome porter porter'     it is the same, but not at home
 --     GoesOnTo name seen seen'  seen' is a legal list that goes on from seen, and nothing was made with the first pass meanwhile
 --     WasWhole home seen seen'  it is seen still, if the porter was at home: then that was the whole list, and nobody could add
@@ -23,7 +23,7 @@ use Rattle.seize_book.specs.Book.{IsLegalList, after, mine}
 use Rattle.seize_book.specs.Books.{HasKeys, IsNew}
 use Rattle.seize_book.specs.Homes.{IsSound}
 use Rattle.seize_book.specs.Entry.{Entry}
-use Rattle.seize_book.specs.Passes.{Longer}
+use Rattle.seize_book.specs.Passes.{IsSame, Longer}
 use Rattle.seize_book.specs.Tokens.{AllLentIn, IsSole, IsTurns, Name, start}
 use Rattle.seize_book.specs.declared.book.book_keys.BookKeys.{BookKeys}
 use Rattle.seize_book.specs.declared.book.pass.Pass.{Pass}
@@ -48,7 +48,7 @@ pub record HadTurn (gave : Pass → Pass → Type 0) (porter : Porter) : Type 0 
   pub lent : Pass
   pub back : Pass
   pub new : IsTurnOf porter lent
-  pub same : back.name ≡ lent.name
+  pub same : IsSame lent back
   pub gives : gave lent back
 
 abbrev pub LeavesHome : Porter → Porter → Type 0

@@ -1,7 +1,7 @@
 //! A porter that comes home. While it is there nobody adds to the list, which is what the porter has seen: so is that of the gate when it
 //! is shut from there, and of the next porter. A pass that went out meanwhile has to come back first.
-ghost use Rattle.std.specs.Prelude.{◌≡◌};
-ghost use Rattle.seize_book.specs.Turns.{ComesHome, HasTurn};
+ghost use Rattle.std.specs.Prelude.{◌≡◌, false};
+ghost use mathlib.Core.List.{IsPrefix};
 ghost use Rattle.seize_words_rows.specs.Homing.{IsAtHome, IsSameList};
 
 use seize_words::book::{Pass, Porter, Unopened};
@@ -38,4 +38,14 @@ pub fn shut_and_open(porter: Porter) -> Porter
     let mut porter = Porter::again(pass);
     porter.come_home();
     porter
+}
+
+/// The porter comes home and leaves it again. It has seen all that was added by then, so each turn that follows begins with that.
+pub fn catch_up(porter: &mut Porter)
+    requires none { porter.old.out ≡ 0 }
+    ensures grows { IsPrefix porter.old.seen porter.new.seen }
+    ensures ready { (porter.new.name ≡ porter.old.name) × (porter.new.out ≡ 0) × (porter.new.home ≡ false) }
+{
+    porter.come_home();
+    porter.leave_home();
 }

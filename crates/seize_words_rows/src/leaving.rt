@@ -2,6 +2,7 @@
 //! to be walked.
 ghost use Rattle.std.specs.Prelude.{◌≡◌, true};
 ghost use Rattle.seize_words.specs.Reservations.{IsLastOf, IsOfBook, IsOwn};
+ghost use Rattle.seize_book.specs.Passes.{IsSame};
 ghost use Rattle.seize_book.specs.Slots.{IsOf};
 ghost use Rattle.seize_words_rows.specs.Leaves.{GoesOut, IsInside, IsOutside};
 ghost use Rattle.seize_words_rows.specs.Making.{CanMake, HasOneMore, TakesPart};
@@ -18,6 +19,7 @@ pub fn leave_head(head: &Head, activation: Activation, key: &mut SlotKey, pass: 
     requires inside { IsInside key.old }
     requires last { IsLastOf key.old activation }
     ensures out { GoesOut head.now pass.new key.old key.new result }
+    ensures same { IsSame pass.old pass.new }
 {
     key.begin_leave(pass);
     head.leave(activation, key, pass)
@@ -29,6 +31,7 @@ pub fn enter_and_leave(head: &Head, key: &mut SlotKey, pass: &mut Pass) -> bool
     requires outside { IsOutside key.old }
     ensures book { IsOf key.new pass.new × IsOfBook head.now pass.new × IsOwn head.now key.new }
     ensures outside { result ≡ true → IsOutside key.new }
+    ensures same { IsSame pass.old pass.new }
 {
     let activation = head.enter(key, pass);
     if leave_head(head, activation, key, pass) != 1 {

@@ -3,9 +3,10 @@ ghost use Rattle.std.specs.Prelude.{◌≡◌};
 ghost use Rattle.seize_machine.specs.Machine.Event.{ReadLink};
 ghost use Rattle.seize_words.specs.LinkWords.{IsIn, Reads, number};
 ghost use Rattle.seize_words_rows.specs.Calls.{HasMadeOne};
+ghost use Rattle.seize_words_rows.specs.Exchanges.{HasBegunBy};
 
 use seize_words::activation::Activation;
-use seize_words::book::Pass;
+use seize_words::book::{Book, Pass};
 use seize_words::link::Link;
 
 /// Reads the link with the one pass, and then with the other. It gives the words that it found, in this order.
@@ -34,4 +35,15 @@ pub fn meet_and_read(link: &Link, activation: &Activation, one: &mut Pass, two: 
 {
     two.meet(one);
     link.read(activation, two)
+}
+
+/// The pass learns what the book has seen, and then the link is read with it, which need not have seen that the activation began. So
+/// threads that share a book and an activation by `&` may each read with a pass of their own.
+pub fn learn_and_read(link: &Link, activation: &Activation, book: &Book, pass: &mut Pass) -> u64
+    requires begun { HasBegunBy link.now activation.now book.now }
+    requires book { pass.old.name ≡ book.now.name }
+    ensures made { HasMadeOne pass.old pass.new (ReadLink activation.now.slot (number link.now)) }
+{
+    pass.learn(book);
+    link.read(activation, pass)
 }

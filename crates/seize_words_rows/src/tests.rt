@@ -8,9 +8,10 @@ ghost use Rattle.std.specs.Prelude.{◌≡◌};
 
 use crate::exchanges::{EACH, Exchanged, Swapper, TURNS, read_many, share_many};
 use crate::flushing::Signs;
+use crate::homing::catch_up;
 use crate::leaving::{Visitor, leave_head};
 use crate::making::{Maker, open};
-use crate::reads::{meet_and_read, read_with_each};
+use crate::reads::{learn_and_read, meet_and_read, read_with_each};
 use crate::row::{open_row, read_row, visit_many};
 use crate::turning::open_in_turns;
 use crate::walking::block_at;
@@ -165,6 +166,7 @@ fn a_link_is_read_with_two_passes(rt: HostRuntime) {
         read_with_each(&link, &one.activation, &mut one.pass, &mut two),
         (6, 6)
     );
+    assert_eq!(rt; learn_and_read(&link, &one.activation, &book, &mut two), 6);
     drop((links, maker, one, two));
 }
 
@@ -531,7 +533,8 @@ fn two_slots_enter_and_leave(rt: HostRuntime) {
     drop((links, maker));
 }
 
-// The same in turns, with one porter that both share. Then no pass is out, and the gate is shut.
+// The same in turns, with one porter that both share. What each had is let go then, slot and all; still no pass is out, so the porter comes
+// home, and the gate is shut.
 #[test]
 fn threads_share_a_porter(rt: HostRuntime) {
     let (porter, one, two) = open_in_turns();
@@ -546,6 +549,8 @@ fn threads_share_a_porter(rt: HostRuntime) {
         { two.visit(shared, 20_000) },
     );
     assert_eq!(rt; turns, (20_000, 20_000));
+    let mut porter = porter;
+    catch_up(&mut porter);
     drop(porter.shut());
 }
 

@@ -11,7 +11,7 @@ use crate::book::pass::Pass;
 use std::marker::{Model, PhantomData};
 
 /// What passes of a book come from whose gate is `turns`. There is one. Who drops it leaves the book as it is: the passes that are out may
-/// be used on, but none comes out or back any more, and the gate is never shut.
+/// be used on, but none comes out or back any more, and the gate is never shut. Where it is dropped at home, nobody may add any more.
 pub struct Porter {
     pub(super) marker: PhantomData<()>,
     /// The book.
@@ -35,8 +35,9 @@ struct Place {
     marker: PhantomData<()>,
 }
 
-/// What is done in a turn, with a pass that is lent for it. It leaves another in its place at most, of the same book.
+/// What is done in a turn, with a pass that is lent for it, and that it leaves there.
 pub trait Turn<R> {
+    ghost use Rattle.seize_book.specs.Passes.{IsSame};
     ghost use Rattle.seize_book.specs.declared.book.pass.Pass.{Pass};
 
     /// With which passes it may be done.
@@ -48,7 +49,7 @@ pub trait Turn<R> {
     /// Does it.
     fn turn(self, pass: &mut Pass) -> R
         requires { may self pass.old }
-        ensures { (pass.new.name ≡ pass.old.name) × gives self pass.old pass.new result };
+        ensures { IsSame pass.old pass.new × gives self pass.old pass.new result };
 }
 
 impl Porter {
@@ -71,8 +72,10 @@ impl Porter {
         pass.lay_back(self);
     }
 
-    /// A turn: has the work done with a pass of its own, which is lent for it and is back when it is done, whatever becomes of who had it
-    /// done. Any number of threads may have turns at the same time.
+    /// A turn, where the porter is not at home: has the work done with a pass of its own, which is lent for it and is back when it is done,
+    /// whatever becomes of who had it done. Any number of threads may have turns at the same time, and a turn within a turn.
+    ///
+    /// It takes no memory and waits for nobody, but for what the work does.
     pub fn turn<W: Turn<R>, R>(&self, work: W) -> R
         requires off { self.now.home ≡ false }
         requires may { MayTurn (W.may work) self.now }
@@ -92,7 +95,7 @@ impl Porter {
         ensures { LeavesHome self.old self.new }
     {}
 
-    /// Comes home, where no pass is out: nobody may add to the list until a pass goes out, and the porter has seen the whole of it.
+    /// Comes home, where no pass is out: nobody may add to the list until the porter is no more at home, and it has seen the whole of it.
     pub fn come_home(&mut self)
         requires { self.old.out ≡ 0 }
         ensures { ComesHome self.old self.new }

@@ -32,4 +32,5 @@ returns c =
         inactive = out.1;
         walks = c.leave.ensures.walks ([], ap (λ slot. slot.call) stands);
       };
+      same = (last.0.0 ∙ first.0.0, last.0.1 ∙ first.0.1);
     }

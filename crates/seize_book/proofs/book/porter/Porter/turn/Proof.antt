@@ -88,7 +88,7 @@ turn_spec 𝓤 𝓛 𝓜 𝓡 wired W R LW LR w dict met =
     let called : Lets.Ghost = (((β, (κw, (κr, tt))), (full_share, (qw, (qr, tt))), tt, (y, (ref δ, tt)), (vy ∷ [], (vptr (l 3) 0 ∷ [], tt))), tt) in
     use1 𝓛 (raw (Lets.pre called)) (id⊢ 𝓤 _) $
     calls_at ! (fm 𝓛 𝓜 𝓡) Lets met.turn called (and_then ! (get ! refl) (and_then ! (get ! refl) (no_more !))) (λ u.
-    let Gave : P.Denot → R.Denot → Type 0 = λ x' o'. (x'.name ≡ b.name) × w.gives y x x' o' in
+    let Gave : P.Denot → R.Denot → Type 0 = λ x' o'. ((x'.name ≡ b.name) × (x'.id ≡ t.0)) × w.gives y x x' o' in
     use1 𝓛 (later (some (λ (o' : R.Denot). ((‵ (flft β full_share) ⊛ ‵ (flft κw qw) ⊛ ‵ (flft κr qr) ⊛ ‵ ftrue) ⊛ ‵ ((param 1 R).own_val o' (u ∷ []))) ⊛
     some (λ (ws : Unit {0} × (P.Denot × Unit {0})). ‵ (lasts (with.ended W R w dict) called.0.0 called.0.3 ws) ⊛ raw (fact 𝓤 (Gave ws.1.0 o')))))) (id⊢ 𝓤 _) $ await ! tt $ pick ! (λ o'. split ! $ split ! $
     move ! (2 ∷ []) $ pick ! (λ ws. split ! $ move ! (1 ∷ []) $ heard ! (Gave ws.1.0 o') (λ gave. let x' : P.Denot = ws.1.0 in
@@ -99,7 +99,7 @@ turn_spec 𝓤 𝓛 𝓜 𝓡 wired W R LW LR w dict met =
     move ! (0 ∷ 9 ∷ 4 ∷ []) $ use3 𝓛 (later (‵ (part_at P full_share x' (l 3) 0))) (ref_back 𝓛 P β δ x' (l 3) 0) $ await ! tt $
     use1 𝓛 (some (λ (v : Val). ‵ (fat full_share τ (l 3) 0 v) ⊛ ‵ (P.own_val x' (v ∷ [])))) (part_out_at 𝓛 P refl full_share x' (l 3) 0 τ refl) $ pick ! (λ v. split ! $ give_at ! 3 $
     -- [the pass; R's token; nothing; W's; the borrow; nothing, twice; the result; the way back; the fields]
-    fsplit ! $ move ! (1 ∷ []) $ rewrite ! 0 (λ (m : Name). ‵ (pass_owns m x'.id x'.seen)) gave.0 refl $ fpack ! (ℕ × List Entry) (λ s. pass_owns b.name s.0 s.1) (x'.id, x'.seen) $
+    fsplit ! $ move ! (1 ∷ []) $ rewrite ! 0 (λ (m : Name). ‵ (pass_owns m x'.id x'.seen)) gave.0.0 refl $ fpack ! (ℕ × List Entry) (λ s. pass_owns b.name s.0 s.1) (x'.id, x'.seen) $
     let Any : Fml = some_pass 𝓛 b.name b.out b.seen 𝓜 𝓡 κ q in move ! (0 ∷ 9 ∷ []) $ use2 𝓛 (later (‵ (flft κ q))) (apply∗ 𝓤 (sem 𝓛 Any) (H.⇛ (𝓛.A.lft κ q))) $ await ! tt $
     -- [the porter's token; the marker; R's token; nothing; W's; the borrow; nothing, twice; the result; the fields]
     move ! (8 ∷ []) $ peeks ! (param 1 R) (Is (param 1 R)) (shows 𝓛 (param 1 R)) o' (u ∷ []) (λ is. let good = (((param_laws 1 R LR).lawful 𝓛).typed o' (u ∷ []) is).0 in
