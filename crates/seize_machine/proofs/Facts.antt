@@ -12,7 +12,7 @@ use Rattle.seize_machine.specs.Machine.State.{State, Mark, Look, Try, Add, Out, 
 use Rattle.seize_machine.specs.Machine.Event.{Event, Put, SwapOut, slot_of}
 use Rattle.seize_machine.specs.Machine.Next.{next, set_slot, can_link}
 use Rattle.seize_machine.specs.Machine.History.{Timed, is_legal, Legal, IsReached, handed_value, is_link_event, history}
-use Rattle.seize_machine.specs.Machine.Laws.{HoldsOfAll, AtMostOnce, After, Quiet, Protection, Parts, Gone, Holders, NoLaterHolders, Tries, detached_by, Lists, Walks, IsHeld}
+use Rattle.seize_machine.specs.Machine.Laws.{HoldsOfAll, AtMostOnce, After, Quiet, Protection, Whereabouts, Gone, Holders, NoLaterHolders, Tries, detached_by, Lists, Walks, IsHeld}
 use Rattle.seize_machine.specs.Machine.Frames.{changes_slot, used, changes_used, changes_head_of, changes_link, changes_batch, changes_value, slots_added, batches_added, begins_retiring}
 use Rattle.seize_machine.specs.Machine.Kept.{KeptIn}
 use Rattle.seize_machine.specs.declared.machine.event.Answer.{Answer}
@@ -33,7 +33,7 @@ use Rattle.seize_machine.proofs.Laws.AtMostOnce as at_most_once
 use Rattle.seize_machine.proofs.Laws.After as after
 use Rattle.seize_machine.proofs.Laws.Protection as protection
 use Rattle.seize_machine.proofs.Laws.Quiet as quiet
-use Rattle.seize_machine.proofs.Laws.Parts as parts
+use Rattle.seize_machine.proofs.Laws.Whereabouts as whereabouts
 use Rattle.seize_machine.proofs.Laws.Gone as gone
 use Rattle.seize_machine.proofs.Laws.Holders as holders
 use Rattle.seize_machine.proofs.Laws.LaterHolders as later_holders
@@ -141,8 +141,8 @@ law_quiet = lists.of_all Quiet quiet.law_quiet
 pub law_protection : HoldsOfAll Protection
 law_protection = lists.of_all Protection protection.law_protection
 
-pub law_parts : HoldsOfAll Parts
-law_parts = lists.of_all Parts parts.law_parts
+pub law_whereabouts : HoldsOfAll Whereabouts
+law_whereabouts = lists.of_all Whereabouts whereabouts.law_whereabouts
 
 pub law_gone : HoldsOfAll Gone
 law_gone = lists.of_all Gone gone.law_gone

@@ -10,7 +10,7 @@ use Rattle.seize_machine.specs.declared.machine.event.Exchange.{Exchange}
 use Rattle.seize_machine.specs.declared.machine.event.Try.TheVariants.{Lost}
 use Rattle.seize_machine.specs.declared.machine.event.Job.TheVariants.{Leave}
 use Rattle.seize_machine.specs.Machine.History.{Timed, history, Legal, is_link_event}
-use Rattle.seize_machine.specs.Machine.Laws.{AtMostOnce, After, Quiet, Protection, Parts, Gone, Holders, NoLaterHolders, Tries, detached_by, Lists, Walks, IsHeld}
+use Rattle.seize_machine.specs.Machine.Laws.{AtMostOnce, After, Quiet, Protection, Whereabouts, Gone, Holders, NoLaterHolders, Tries, detached_by, Lists, Walks, IsHeld}
 use Rattle.seize_machine.specs.Machine.Frames.{changes_slot, used, changes_used, changes_head_of, changes_link, changes_batch, changes_value, slots_added, batches_added, begins_retiring}
 
 -- what an event leaves as it was
@@ -89,7 +89,7 @@ pub record Obeys (st : State) (events : List Timed) : Type 0 where
   pub after : After st (history next st events)
   pub quiet : Quiet st (history next st events)
   pub protection : Protection st (history next st events)
-  pub parts : Parts st (history next st events)
+  pub whereabouts : Whereabouts st (history next st events)
   pub gone : Gone st (history next st events)
   pub holders : Holders st (history next st events)
   pub no_later_holders : NoLaterHolders st (history next st events)
