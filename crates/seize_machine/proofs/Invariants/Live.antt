@@ -314,7 +314,7 @@ values_kept b size st event _ (Step.subtracted s a walk queue d e h) r =
 values_kept b size st event _ _ r = inl refl
 
 -- whether a value is in a list, by how often it stands there
-has_if : (v : ℕ) (xs : List ℕ) → 1 ≤ occ v xs → has v xs ≡ true
+pub has_if : (v : ℕ) (xs : List ℕ) → 1 ≤ occ v xs → has v xs ≡ true
 has_if v xs some = go (is_true (has v xs))
   where
     go : (has v xs ≡ true) ⊎ (has v xs ≡ false) → has v xs ≡ true

@@ -1,16 +1,19 @@
 -- The law of whereabouts: each value that was named is in one place, and each value that was retired is in one of those for retired values.
 use Rattle.std.proofs.Common.{◌≡◌, ℕ, ◌+◌, ◌≤◌, true, List, [], ◌∷◌, ◌++◌, Option, Some, None, refl, ◌∙◌, ap, arith}
+use Rattle.std.specs.Prelude.{◌↔◌}
 use Rattle.std.specs.List.{Contains, flat_map}
 use Rattle.std.proofs.lemmas.List.Sums.{sum_by-cons}
-use Rattle.seize_machine.specs.Machine.State.{State, Slot, Call, Place, Append, Mark, Look, Try, Add, Out, Rest, linked, are_distinct, opening}
-use Rattle.seize_machine.specs.Machine.History.{Timed, end_of, WasNamed, Retired}
+use Rattle.seize_machine.specs.Machine.State.{State, Slot, Call, Place, Append, Mark, Look, Try, Add, Out, Rest, has, linked, are_distinct, opening}
+use Rattle.seize_machine.specs.Machine.History.{Timed, end_of, IsReached, WasNamed, Retired}
 use Rattle.seize_machine.specs.Machine.Laws.{Whereabouts, to_retire, before_retirement, given_up, from_retirement, places as all_places}
-use Rattle.seize_machine.proofs.Counting.Sums.{occ, occ-append}
+use Rattle.seize_machine.proofs.Counting.Sums.{occ, occ-append, has_some}
 use Rattle.seize_machine.proofs.Counting.Occurrences.{contains_some, some_contained, distinct_if, occ-flat_map}
 use Rattle.seize_machine.proofs.Invariants.Kept.{given}
 use Rattle.seize_machine.proofs.Invariants.Parts.{parts, kept_in, slot_keeps}
 use Rattle.seize_machine.proofs.Invariants.Once.{places, Once, call_has, slot_has, in_slots, in_links}
 use Rattle.seize_machine.proofs.Invariants.Always.{opening_inv, in_links_is}
+use Rattle.seize_machine.proofs.Invariants.Reached.{reached_inv}
+use Rattle.seize_machine.proofs.Invariants.Live.{has_if}
 use Rattle.seize_machine.proofs.Lists.Histories.{run}
 use Rattle.seize_machine.proofs.Laws.After.{none_retired}
 use Rattle.seize_machine.proofs.Lists.Ends.{end_inv, named_if, if_named, retired_if, if_retired}
@@ -71,6 +74,22 @@ occ-before v st =
 
 occ-places : (v : ℕ) (st : State) → occ v (all_places st) ≡ places v st
 occ-places v st = omega (arith, occ-append v (before_retirement st) (from_retirement st), occ-before v st, occ-from v st)
+
+-- the places of a reached state have just its named values, each once
+pub named_placed : (st : State) → IsReached st → (are_distinct (all_places st) ≡ true) × ((v : ℕ) → Contains (all_places st) v ↔ (has v st.named ≡ true))
+named_placed st r = (distinct_if (all_places st) once, λ v. (named v, placed v))
+  where
+    stands : (v : ℕ) → Once v st
+    stands v = (reached_inv st r).once v
+
+    once : (v : ℕ) → occ v (all_places st) ≤ 1
+    once v = omega (arith, occ-places v st, (stands v).once)
+
+    named : (v : ℕ) → Contains (all_places st) v → has v st.named ≡ true
+    named v c = has_if v st.named (omega (arith, occ-places v st, (stands v).all, some_contained v (all_places st) c))
+
+    placed : (v : ℕ) → has v st.named ≡ true → Contains (all_places st) v
+    placed v h = contains_some v (all_places st) (omega (arith, occ-places v st, (stands v).all, has_some v st.named h))
 
 pub law_whereabouts : (slots : ℕ) (links : List (Option ℕ)) (ts : List Timed) → are_distinct (linked links) ≡ true → Whereabouts (opening slots links) (run (opening slots links) ts)
 law_whereabouts slots links ts distinct = (distinct_if (all_places end) once, λ v. (named v, placed v), λ v. (into v, out v))
