@@ -12,8 +12,18 @@ use Rattle.seize_book.specs.Entry.{Entry}
 use Rattle.seize_book.specs.Slots.{Moves, active_of, number_of, size_of, slot_of, start_of}
 use Rattle.seize_book.specs.declared.book.slot_key.SlotKey.{SlotKey}
 use Rattle.seize_words.proofs.Facts.{moved}
-use Rattle.seize_words_rows.proofs.Flushes.{same_slot}
 use Rattle.seize_words_rows.specs.Leaves.{IsInside}
+
+-- a slot in use is one of those made
+made : (slots : List Slot) (s : ℕ) → (get_or slots s no_slot).used ≡ true → s < length slots
+made slots s used = go (cases_lt s (length slots))
+  where
+    go : (s < length slots) ⊎ (length slots ≤ s) → s < length slots
+    go (inl l) = l
+    go (inr le) = absurd (let x : false ≡ true = sym (ap (λ (z : Slot). z.used) (get_or_past slots s no_slot le)) ∙ used in cc)
+
+same_slot : (st : State) (s : ℕ) (slot : Slot) → (slot_at st s).used ≡ true → slot_at (set_slot st s slot) s ≡ slot
+same_slot st s slot used = get_or-set_same st.slots s slot no_slot (made st.slots s used)
 
 pub begun_out : (key key' : SlotKey) (log : List Entry) (later : State) (answer : Answer) → Moves key key' log (Begin (number_of key) Leave) later answer → IsInside key → slot_of key' ≡ begun_at (slot_of key) (Out false)
 begun_out key key' log later answer moves inside =

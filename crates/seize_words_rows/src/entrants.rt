@@ -1,19 +1,21 @@
 //! Slots over all words of one book, as each of several threads has one: it enters, swaps the values of new blocks into links, reads links
 //! and sees what is lent with the values there, and leaves. All words are found by their numbers.
-ghost use Rattle.std.specs.Prelude.{◌≡◌, ◌<◌, IfSome, length, true};
+ghost use Rattle.std.specs.Prelude.{◌≡◌, ◌+◌, ◌<◌, IfSome, length, true};
+ghost use Rattle.seize_table.specs.Place.{all_numbers};
 ghost use Rattle.seize_words.specs.Joined.{IsHolder, IsInAt, words_book};
 ghost use Rattle.seize_words.specs.Reservations.{IsLastOf};
 ghost use Rattle.seize_words_rows.specs.Entrants.{CanMake, GoesOn, HasLinks, HasOneMore, IsOutOrOver, MayCross, MayEnter, MayRead, MayReadAll, made_by};
 ghost use Rattle.seize_words_rows.specs.Leaves.{IsInside, IsOutside};
 
-use crate::block_run::lend;
 use crate::exchanges::TURNS;
+use crate::lending::lend;
 use seize_words::activation::Activation;
 use seize_words::book::{NumbersKey, Pass, SlotKey};
 use seize_words::link::MaybeKey;
 use seize_words::slots::NextSlot;
 use seize_words::words::Words;
 use std::alloc::Global;
+use std::sync::atomic::{AtomicU64, Ordering};
 use std::thread;
 
 /// How many links the book has.
@@ -44,7 +46,8 @@ pub struct Entered {
 
 /// The words of a new book, and what its slots are made with. Nothing comes where memory was refused.
 pub fn open(alloc: Global) -> Option<(Words<u64>, Source)>
-    ensures { IfSome result (λ opened. CanMake opened.1 opened.0 × (made_by opened.1 ≡ 0)) }
+    ensures can { IfSome result (λ opened. CanMake opened.1 opened.0 × (made_by opened.1 ≡ 0)) }
+    ensures links { IfSome result (λ opened. HasLinks opened.0) }
 {
     let Ok((words, numbers, next)) = Words::new(alloc, 0, LINKS as usize, 32) else {
         return None;
@@ -198,6 +201,58 @@ impl Source {
         };
         Some((entrant, source))
     }
+}
+
+// Waits until the sign is set. It says whether it ever was.
+fn wait_until(sign: &AtomicU64) -> bool {
+    for _ in 0..TURNS {
+        if sign.load(Ordering::SeqCst) != 0 {
+            return true;
+        }
+        thread::yield_now();
+    }
+    false
+}
+
+impl Source {
+    /// Waits for the sign, and makes so many slots then, or as many as there is memory for. It says how many.
+    pub fn make_many(self, words: &Words<u64>, count: usize, sign: &AtomicU64) -> usize
+        requires can { CanMake self words.now }
+        requires few { made_by self + count < all_numbers }
+    {
+        if !wait_until(sign) {
+            return 0;
+        }
+        let mut source = self;
+        for made in 0..count {
+            source = match source.make(words) {
+                Some((_, then)) => then,
+                None => return made,
+            };
+        }
+        count
+    }
+}
+
+/// Walks the heads of all slots that there are, again and again until there are so many, and sets the sign after the first time. It says
+/// how many there were first, and last. Nothing comes where there never were so many, or a walk found fewer heads than there were slots.
+pub fn walk_heads(words: &Words<u64>, count: usize, sign: &AtomicU64) -> Option<(usize, usize)>
+    requires links { HasLinks words.now }
+{
+    let mut pass = words.blocks.book.pass();
+    let (first, _) = words.slots.load(&mut pass);
+    for _ in 0..TURNS {
+        let (there, all) = words.slots.load(&mut pass);
+        if words.slots.heads(there, &all).count() != there {
+            return None;
+        }
+        if there >= count {
+            return Some((first, there));
+        }
+        sign.store(1, Ordering::SeqCst);
+        thread::yield_now();
+    }
+    None
 }
 
 impl Entrant {
