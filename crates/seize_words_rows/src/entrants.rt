@@ -15,6 +15,7 @@ use seize_words::link::MaybeKey;
 use seize_words::slots::NextSlot;
 use seize_words::words::Words;
 use std::alloc::Global;
+use std::marker::Brand;
 use std::sync::atomic::{AtomicU64, Ordering};
 use std::thread;
 
@@ -203,6 +204,32 @@ impl Source {
     }
 }
 
+// Exchanges at the link what it takes to be nothing for the value of a new block. Where the link holds something that is lost, and it sees
+// what is lent there. Nothing comes where a growth of the store was refused, or the exchange was won.
+//
+// What would have gone in was not retired, so its chunk stays out.
+fn see_lost(
+    words: &Words<u64>,
+    link: usize,
+    value: u64,
+    activation: &Activation,
+    pass: &mut Pass,
+) -> Option<u64>
+    requires within { (words_book words.now ≡ pass.old.name) × IsInAt activation.now pass.old link }
+{
+    let Ok((mut key, block)) = words.blocks.add(value, pass) else {
+        return None;
+    };
+    let lent = lend(&words.blocks, &mut key, block);
+    let word = lent.number + 1;
+    let mut new = MaybeKey::some(key);
+    let (found, glimpse) = words.exchange_link::<Brand>(link, 0, word, &mut new, activation, pass);
+    if found != 0 {
+        return Some(*words.blocks.see(found - 1, glimpse, pass));
+    }
+    None
+}
+
 // Waits until the sign is set. It says whether it ever was.
 fn wait_until(sign: &AtomicU64) -> bool {
     for _ in 0..TURNS {
@@ -319,6 +346,21 @@ impl Entrant {
         } else {
             None
         }
+    }
+
+    /// Enters, swaps a value into the link, and loses an exchange there for another one. It gives what it saw that the link held then.
+    pub fn put_and_lose(self, words: &Words<u64>, link: usize, value: u64) -> Option<u64>
+        requires may { MayEnter words.now self }
+        requires link { link < 8 }
+    {
+        let Entrant {
+            slot,
+            mut key,
+            mut pass,
+        } = self;
+        let activation = words.enter_head(slot, &mut key, &mut pass);
+        put_in(words, link, value, &activation, &mut pass)?;
+        see_lost(words, link, value.wrapping_add(1), &activation, &mut pass)
     }
 
     /// Enters, and swaps a value into the link. It gives the word that it put in, and 0 where memory was refused.

@@ -144,6 +144,18 @@ fn each_thread_sees_what_the_other_put_in(rt: HostRuntime) {
     assert_eq!(rt; (saw_1, saw_2), (Some(71), Some(70)));
 }
 
+// An exchange that takes a link to hold nothing is lost where it holds something, and that is seen.
+#[test]
+fn what_a_lost_exchange_found_is_seen(rt: HostRuntime) {
+    let Some((words, source)) = open(rt.alloc()) else {
+        panic!(rt; "no memory");
+    };
+    let Some((one, _)) = source.make(&words) else {
+        panic!(rt; "no memory");
+    };
+    assert_eq!(rt; one.put_and_lose(&words, 0, 70), Some(70));
+}
+
 // Two threads swap. It gives the sum of the words put in, less those that came out.
 fn swap_both<R: Threads + Wait + Sync>(
     rt: &R,
