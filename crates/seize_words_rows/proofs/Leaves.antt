@@ -1,8 +1,10 @@
 -- Where a slot's record stands after the events of a leave where nothing was waiting.
-use Rattle.std.proofs.Common.{◌≡◌, ℕ, zero, suc, true, false, List, [], ◌∷◌, get_or, set, Some, refl, sym, ap, ◌∙◌, inr}
-use Rattle.seize_machine.specs.Machine.State.{State, Slot, Head, Inactive, Out, Rest, slot_at, head_at, is_active, is_idle, waiting_at}
+use Rattle.std.proofs.Common.{◌≡◌, ℕ, zero, suc, ◌<◌, ◌≤◌, true, false, List, [], ◌∷◌, length, get_or, set, Some, refl, sym, ap, ◌∙◌, ◌⊎◌, inl, inr}
+use Rattle.std.proofs.lemmas.Bool.{cases_lt}
+use Rattle.std.proofs.lemmas.List.{get_or-set_same, get_or_past}
+use Rattle.seize_machine.specs.Machine.State.{State, Slot, Head, Inactive, Out, Rest, slot_at, head_at, is_active, is_idle, no_slot, waiting_at}
 use Rattle.seize_machine.specs.Machine.Event.{Begin, SwapOut}
-use Rattle.seize_machine.specs.Machine.Next.{begun, begun_at, next, set_head}
+use Rattle.seize_machine.specs.Machine.Next.{begun, begun_at, next, set_head, set_slot}
 use Rattle.seize_machine.specs.declared.machine.event.Answer.{Answer}
 use Rattle.seize_machine.specs.declared.machine.event.Answer.TheVariants.{Done}
 use Rattle.seize_machine.specs.declared.machine.event.Job.TheVariants.{Leave}
