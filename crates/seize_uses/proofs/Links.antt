@@ -1,10 +1,10 @@
--- What a swap and a retirement do to the links, and that a slot that was not refused a swap may retire.
-use Rattle.std.proofs.Common.{◌≡◌, ℕ, zero, suc, ◌<◌, nat_le, max, Bool, true, false, if◌then◌else◌, List, [], ◌∷◌, ◌++◌, length, Option, Some, None, Ok, Err, refl, ◌∙◌, ap, sym, subst, slice_set}
+-- What a swap and a retirement do to the links of the model.
+use Rattle.std.proofs.Common.{◌≡◌, ℕ, zero, suc, ◌<◌, nat_le, max, Bool, true, false, if◌then◌else◌, List, [], ◌∷◌, ◌++◌, length, Option, Some, None, Ok, refl, ◌∙◌, sym, subst, slice_set}
 use Rattle.std.proofs.lemmas.List.{get_or-set_same}
 use Rattle.seize.specs.Waiting.State.{State, slot_at, is_kept}
 use Rattle.seize.specs.Waiting.Attempt.{Outcome, release, attempt, gives_up, with_batch_retired, put, with_value}
 use Rattle.seize.specs.Waiting.Further.{settle, further, with_further}
-use Rattle.seize.specs.Waiting.Calls.{Response, unless, unused, no_guard, first, retire, swap, link_at}
+use Rattle.seize.specs.Waiting.Calls.{unless, unused, no_guard, retire, swap, link_at}
 
 -- what holds of both outcomes of a test
 either : {A : Type 0} (P : A → Type 0) (b : Bool) (x y : A) → P x → P y → P (if b then x else y)
@@ -12,7 +12,7 @@ either P true x y p q = p
 either P false x y p q = q
 
 module _ {T R : Type 0} where
-  SameLinks : State T R → Outcome T R → Type 0
+  abbrev SameLinks : State T R → Outcome T R → Type 0
   SameLinks st o = o.0.links ≡ st.links
 
   release_links : (st : State T R) (b : ℕ) → (release st b).0.links ≡ st.links
@@ -35,36 +35,19 @@ module _ {T R : Type 0} where
   settle_links puts (suc n) st s (v ∷ queue) =
       settle_links puts n (put st s v).0 s (queue ++ further puts (put st s v).1) ∙ put_links st s v
 
+  retired_links : (puts : R → T → List T) (weight : T → ℕ) (st : State T R) (s : ℕ) (v : T × R) (refusal : Option _)
+      → (unless {A = Unit {0}} refusal st (Ok tt, with_further puts weight s (put st s v))).1.0.links ≡ st.links
+  retired_links puts weight st s v None = settle_links puts _ (put st s v).0 s (further puts (put st s v).1) ∙ put_links st s v
+  retired_links puts weight st s v (Some refusal) = refl
+
   -- a retirement leaves the links
   pub retire_links : (puts : R → T → List T) (weight : T → ℕ) (st : State T R) (s : ℕ) (value : T) (reclaim : R)
       → (retire puts weight st s value reclaim).1.0.links ≡ st.links
-  retire_links puts weight st s value reclaim = go (unused st s)
-    where
-      o : Outcome T R
-      o = put st s (value, reclaim)
-      go : (refusal : Option _) → (unless refusal st (Ok tt, with_further puts weight s o)).1.0.links ≡ st.links
-      go None = settle_links puts _ o.0 s (further puts o.1) ∙ put_links st s (value, reclaim)
-      go (Some refusal) = refl
+  retire_links puts weight st s value reclaim = retired_links puts weight st s (value, reclaim) (unused st s)
 
-  -- a slot in use may retire
-  pub retires : (puts : R → T → List T) (weight : T → ℕ) (st : State T R) (s : ℕ) (value : T) (reclaim : R)
-      → unused st s ≡ None → (retire puts weight st s value reclaim).0 ≡ Ok tt
-  retires puts weight st s value reclaim used =
-      ap (λ refusal. (unless refusal st (Ok tt, with_further puts weight s (put st s (value, reclaim)))).0) used
-
-  -- no refusal for want of a guard: nor is there one for a number that is not in use
-  guarded_used : (a b : Option _) → first a b ≡ None → a ≡ None
-  guarded_used None b e = refl
-  guarded_used (Some refusal) b e = absurd (cc)
-
-  -- where a swap is not refused, the link holds the new value, and the slot may retire
+  -- where a swap is not refused, the link holds the new value
   pub swapped_at : (st : State T R) (s link : ℕ) (new : Option T) → no_guard st s ≡ None → link < length st.links
       → link_at (swap st s link new).1.0 link ≡ new
   swapped_at st s link new guarded there =
       subst (λ refusal. link_at (unless refusal st (Ok (link_at st link), (record st { links = slice_set st.links link new }, []))).1.0 link ≡ new)
       (sym guarded) (get_or-set_same st.links link new None there)
-
-  pub swapped_used : (st : State T R) (s link : ℕ) (new : Option T) → no_guard st s ≡ None → unused (swap st s link new).1.0 s ≡ None
-  swapped_used st s link new guarded =
-      subst (λ refusal. unused (unless refusal st (Ok (link_at st link), (record st { links = slice_set st.links link new }, []))).1.0 s ≡ None)
-      (sym guarded) (guarded_used (unused st s) _ guarded)

@@ -42,7 +42,7 @@ pub fn retire_under_guard<'c>(
     requires own { owner_of (block_of number) ≡ (whose alone.old).name }
     requires used { unused (state_of alone.old) slot ≡ None }
     requires active { is_active (slot_at (state_of alone.old) slot) ≡ true }
-    ensures { IfOk result (λ _. newest.new ≡ newest.old) }
+    ensures { IfOk result (λ _. newest.new.0 ≡ newest.old.0) }
 {
     batches::<Number, Boxed>();
     match alone.retire(slot, number, Boxed, newest) {
