@@ -10,6 +10,7 @@ pub mod entrants;
 pub mod exchanges;
 pub mod flushing;
 pub mod further;
+pub mod guests;
 pub mod homing;
 pub mod joined_run;
 pub mod leaving;
@@ -29,6 +30,5 @@ pub mod shared_numbers;
 pub mod spotted;
 #[cfg(test)]
 mod tests;
-pub mod turning;
 pub mod walking;
 pub mod worked_run;
