@@ -31,6 +31,5 @@ appended_named st r s v there = go (is_true (has v st.named))
     go (inl named) = named
     go (inr unnamed) =
         let once : Once v st = (reached_inv st r).once v in
-        let nowhere = once.unnamed (has_none v st.named unnamed) in
         let here : slot_has v (slot_at st s) ≤ sum_by (slot_has v) st.slots = get_or-le-sum_by (slot_has v) st.slots s no_slot within in
-        absurd (omega (arith, some, nowhere, here))
+        absurd (omega (arith, some, has_none v st.named unnamed, once.all, here))

@@ -7,12 +7,13 @@ pub use Rattle.seize_machine.proofs.Steps.Forced.{Forced}
 pub use Rattle.seize_machine.proofs.Steps.Relation.{if_some, and_true, not_true, is_true, eq_true, lt_true, some_is}
 pub use Rattle.seize_machine.proofs.Counting.Sums.{one, occ, has_none, has_some, distinct_once}
 use Rattle.std.proofs.Common.{◌≡◌, ◌≢◌, ℕ, ◌+◌, ◌<◌, ◌≤◌, pos, neg_ℤ, ◌≤ℤ◌, Bool, true, false, List, [], ◌∷◌, ◌++◌, length, take, drop, Option, Some, ◌⊎◌, arith, subst}
+use Rattle.std.specs.Prelude.{◌↔◌}
 use Rattle.std.specs.List.{Contains, slice_get}
 use Rattle.seize_machine.specs.Machine.State.{State, Mark, Look, Try, Add, Out, slot_at, head_at, link_at, batch_at, is_active, has, linked, are_distinct, opening, Place, Append, Rest}
 use Rattle.seize_machine.specs.Machine.Event.{Event, Put, SwapOut, slot_of}
 use Rattle.seize_machine.specs.Machine.Next.{next, set_slot, can_link}
 use Rattle.seize_machine.specs.Machine.History.{Timed, is_legal, Legal, IsReached, handed_value, is_link_event, history}
-use Rattle.seize_machine.specs.Machine.Laws.{HoldsOfAll, AtMostOnce, After, Quiet, Protection, Parts, Gone, Holders, NoLaterHolders, Tries, detached_by, Lists, Walks, IsHeld}
+use Rattle.seize_machine.specs.Machine.Laws.{HoldsOfAll, AtMostOnce, After, Quiet, Protection, places, Whereabouts, Gone, Holders, NoLaterHolders, Tries, detached_by, Lists, Walks, IsHeld}
 use Rattle.seize_machine.specs.Machine.Frames.{changes_slot, used, changes_used, changes_head_of, changes_link, changes_batch, changes_value, slots_added, batches_added, begins_retiring}
 use Rattle.seize_machine.specs.Machine.Kept.{KeptIn}
 use Rattle.seize_machine.specs.declared.machine.event.Answer.{Answer}
@@ -33,7 +34,7 @@ use Rattle.seize_machine.proofs.Laws.AtMostOnce as at_most_once
 use Rattle.seize_machine.proofs.Laws.After as after
 use Rattle.seize_machine.proofs.Laws.Protection as protection
 use Rattle.seize_machine.proofs.Laws.Quiet as quiet
-use Rattle.seize_machine.proofs.Laws.Parts as parts
+use Rattle.seize_machine.proofs.Laws.Whereabouts as whereabouts
 use Rattle.seize_machine.proofs.Laws.Gone as gone
 use Rattle.seize_machine.proofs.Laws.Holders as holders
 use Rattle.seize_machine.proofs.Laws.LaterHolders as later_holders
@@ -141,8 +142,8 @@ law_quiet = lists.of_all Quiet quiet.law_quiet
 pub law_protection : HoldsOfAll Protection
 law_protection = lists.of_all Protection protection.law_protection
 
-pub law_parts : HoldsOfAll Parts
-law_parts = lists.of_all Parts parts.law_parts
+pub law_whereabouts : HoldsOfAll Whereabouts
+law_whereabouts = lists.of_all Whereabouts whereabouts.law_whereabouts
 
 pub law_gone : HoldsOfAll Gone
 law_gone = lists.of_all Gone gone.law_gone
@@ -274,6 +275,10 @@ pub empty_zero : (st : State) → IsReached st → (b : ℕ) → (batch_at st b)
 empty_zero = live.empty_zero
 
 -- Values in a reached state.
+
+-- the places of a value have just the named ones, each once
+pub named_placed : (st : State) → IsReached st → (are_distinct (places st) ≡ true) × ((v : ℕ) → Contains (places st) v ↔ (has v st.named ≡ true))
+named_placed = whereabouts.named_placed
 
 -- a batch that is held has values
 pub held_full : (st : State) → IsReached st → (b : ℕ) → IsHeld st b → 1 ≤ length (batch_at st b).values

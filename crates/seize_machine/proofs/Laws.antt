@@ -2,7 +2,7 @@
 pub mod AtMostOnce
 pub mod After
 pub mod Gone
-pub mod Parts
+pub mod Whereabouts
 pub mod Holders
 pub mod LaterHolders
 pub mod Quiet

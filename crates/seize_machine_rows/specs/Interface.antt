@@ -1,5 +1,5 @@
 -- What the tests of the machine's facts say.
-use Rattle.std.specs.Prelude.{◌≡◌, ◌≢◌, ◌⊎◌, ℕ, ◌+◌, ◌<◌, ◌≤◌, pos, neg_ℤ, ◌+ℤ◌, ◌≤ℤ◌, Bool, true, false, List, [], ◌∷◌, length, Some, Option}
+use Rattle.std.specs.Prelude.{◌≡◌, ◌≢◌, ◌⊎◌, ◌↔◌, ℕ, ◌+◌, ◌<◌, ◌≤◌, pos, neg_ℤ, ◌+ℤ◌, ◌≤ℤ◌, Bool, true, false, List, [], ◌∷◌, length, Some, Option}
 use Rattle.std.specs.List.{Contains}
 use Rattle.seize_machine.specs.Machine.State.{State, Place, Active, Append, Mark, Look, Try, Add, Out, slot_at, is_idle, head_at, link_at, batch_at, is_active, has, are_distinct, opening}
 use Rattle.seize_machine.specs.Machine.Event.{Event, Begin, Put, Insert, AddCount, ExchangeLink, slot_of}
@@ -10,7 +10,7 @@ use Rattle.seize_machine.specs.declared.machine.event.Exchange.{Exchange}
 use Rattle.seize_machine.specs.declared.machine.event.Try.TheVariants.{Lost}
 use Rattle.seize_machine.specs.declared.machine.event.Job.TheVariants.{Leave}
 use Rattle.seize_machine.specs.Machine.History.{Timed, history, Legal, is_link_event}
-use Rattle.seize_machine.specs.Machine.Laws.{AtMostOnce, After, Quiet, Protection, Parts, Gone, Holders, NoLaterHolders, Tries, detached_by, Lists, Walks, IsHeld}
+use Rattle.seize_machine.specs.Machine.Laws.{AtMostOnce, After, Quiet, Protection, places, Whereabouts, Gone, Holders, NoLaterHolders, Tries, detached_by, Lists, Walks, IsHeld}
 use Rattle.seize_machine.specs.Machine.Frames.{changes_slot, used, changes_used, changes_head_of, changes_link, changes_batch, changes_value, slots_added, batches_added, begins_retiring}
 
 -- what an event leaves as it was
@@ -59,6 +59,8 @@ pub record CallsTidy (st : State) : Type 0 where
 
 -- where values stand
 pub record ValuesStand (st : State) : Type 0 where
+  pub distinct : are_distinct (places st) ≡ true
+  pub named : (v : ℕ) → Contains (places st) v ↔ (has v st.named ≡ true)
   pub held : (b : ℕ) → IsHeld st b → 1 ≤ length (batch_at st b).values
   pub empty : (b : ℕ) → (batch_at st b).values ≡ [] → (batch_at st b).count ≡ pos 0
   pub batched : (b v : ℕ) → Contains (batch_at st b).values v → (has v st.named ≡ true) × (has v st.gone ≡ false)
@@ -89,7 +91,7 @@ pub record Obeys (st : State) (events : List Timed) : Type 0 where
   pub after : After st (history next st events)
   pub quiet : Quiet st (history next st events)
   pub protection : Protection st (history next st events)
-  pub parts : Parts st (history next st events)
+  pub whereabouts : Whereabouts st (history next st events)
   pub gone : Gone st (history next st events)
   pub holders : Holders st (history next st events)
   pub no_later_holders : NoLaterHolders st (history next st events)

@@ -1,8 +1,10 @@
 -- Where a slot's record stands after the events of a leave where nothing was waiting.
-use Rattle.std.proofs.Common.{◌≡◌, ℕ, zero, suc, true, false, List, [], ◌∷◌, get_or, set, Some, refl, sym, ap, ◌∙◌, inr}
-use Rattle.seize_machine.specs.Machine.State.{State, Slot, Head, Inactive, Out, Rest, slot_at, head_at, is_active, is_idle, waiting_at}
+use Rattle.std.proofs.Common.{◌≡◌, ℕ, zero, suc, ◌<◌, ◌≤◌, true, false, List, [], ◌∷◌, length, get_or, set, Some, refl, sym, ap, ◌∙◌, ◌⊎◌, inl, inr}
+use Rattle.std.proofs.lemmas.Bool.{cases_lt}
+use Rattle.std.proofs.lemmas.List.{get_or-set_same, get_or_past}
+use Rattle.seize_machine.specs.Machine.State.{State, Slot, Head, Inactive, Out, Rest, slot_at, head_at, is_active, is_idle, no_slot, waiting_at}
 use Rattle.seize_machine.specs.Machine.Event.{Begin, SwapOut}
-use Rattle.seize_machine.specs.Machine.Next.{begun, begun_at, next, set_head}
+use Rattle.seize_machine.specs.Machine.Next.{begun, begun_at, next, set_head, set_slot}
 use Rattle.seize_machine.specs.declared.machine.event.Answer.{Answer}
 use Rattle.seize_machine.specs.declared.machine.event.Answer.TheVariants.{Done}
 use Rattle.seize_machine.specs.declared.machine.event.Job.TheVariants.{Leave}
@@ -12,8 +14,18 @@ use Rattle.seize_book.specs.Entry.{Entry}
 use Rattle.seize_book.specs.Slots.{Moves, active_of, number_of, size_of, slot_of, start_of}
 use Rattle.seize_book.specs.declared.book.slot_key.SlotKey.{SlotKey}
 use Rattle.seize_words.proofs.Facts.{moved}
-use Rattle.seize_words_rows.proofs.Flushes.{same_slot}
 use Rattle.seize_words_rows.specs.Leaves.{IsInside}
+
+-- a slot in use is one of those made
+made : (slots : List Slot) (s : ℕ) → (get_or slots s no_slot).used ≡ true → s < length slots
+made slots s used = go (cases_lt s (length slots))
+  where
+    go : (s < length slots) ⊎ (length slots ≤ s) → s < length slots
+    go (inl l) = l
+    go (inr le) = absurd (let x : false ≡ true = sym (ap (λ (z : Slot). z.used) (get_or_past slots s no_slot le)) ∙ used in cc)
+
+same_slot : (st : State) (s : ℕ) (slot : Slot) → (slot_at st s).used ≡ true → slot_at (set_slot st s slot) s ≡ slot
+same_slot st s slot used = get_or-set_same st.slots s slot no_slot (made st.slots s used)
 
 pub begun_out : (key key' : SlotKey) (log : List Entry) (later : State) (answer : Answer) → Moves key key' log (Begin (number_of key) Leave) later answer → IsInside key → slot_of key' ≡ begun_at (slot_of key) (Out false)
 begun_out key key' log later answer moves inside =

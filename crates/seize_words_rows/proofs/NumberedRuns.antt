@@ -3,33 +3,44 @@ use Rattle.std.proofs.Common.{◌≡◌, ℕ, ◌+◌, ◌-◌, ◌<◌, ◌^◌
 use Rattle.std.specs.Prelude.{slice_index_or}
 use mathlib.Core.List.{IsPrefix}
 use base.Growing.{prefix_refl}
-use denote.Builtin.{u64}
-use Rattle.seize_machine.specs.Machine.State.{Slot, State, are_distinct, has, linked, slot_at}
+use Rattle.seize_machine.specs.Machine.State.{Slot, State, are_distinct, has, linked}
+use Rattle.seize_machine.specs.Machine.Event.{Take}
 use Rattle.seize_machine.specs.Machine.History.{first_of}
+use Rattle.seize_machine.specs.declared.machine.event.Answer.TheVariants.{Done}
+use Rattle.seize_book.specs.Adding.{private}
 use Rattle.seize_book.specs.Blocks.{Plan, block_in, block_of, count_word, no_plan}
 use Rattle.seize_book.specs.Book.{IsLegalList, after}
 use Rattle.seize_book.specs.Chains.{served}
 use Rattle.seize_book.specs.Entry.{Entry}
 use Rattle.seize_book.specs.Homes.{count_in, home_of}
 use Rattle.seize_book.specs.Homesteads.{state_seen}
-use Rattle.seize_book.specs.Slots.{IsOf, Looks, hands_next, written_of}
+use Rattle.seize_book.specs.Passes.{LooksOn}
+use Rattle.seize_book.specs.Slots.{IsOf, Looks, number_of, written_of}
 use Rattle.seize_book.specs.Tokens.{Name, start}
+use Rattle.seize_book.specs.declared.book.numbers_key.NumbersKey.{NumbersKey}
 use Rattle.seize_book.specs.declared.book.pass.Pass.{Pass}
 use Rattle.seize_book.specs.declared.book.slot_key.SlotKey.{SlotKey}
+use Rattle.seize_words.specs.Chunks.{IsHeaderOf, header_home}
 use Rattle.seize_words.specs.Counts.{count_seen, home}
-use Rattle.seize_words.specs.Heads.{reads}
 use Rattle.seize_words.specs.Headers.{Stores}
-use Rattle.seize_words.specs.Joined.{IsAddingAt, IsCountingAt, IsHolder, MayReadAt, TriesAtSlot}
-use Rattle.seize_words.specs.Totals.{slots_seen}
+use Rattle.seize_words.specs.Joined.{IsAddingAt, IsHolder, TriesAtSlot}
+use Rattle.seize_words.specs.Reserved.{MakesNext, next_key}
+use Rattle.seize_words.specs.Totals.{made_of, slots_seen}
 use Rattle.seize_words.specs.Walks as walks
 use Rattle.seize_words.specs.declared.batch.Count.{Count}
-use Rattle.seize_words.proofs.Facts.{is_lent}
-use Rattle.seize_words_rows.specs.NumberedRuns.{IsOne, value_in}
-use Rattle.seize_words_rows.specs.Reclaiming.{IsNextAt}
-use Rattle.seize_words_rows.specs.declared.numbered_run.Retired.{Retired}
-use Rattle.seize_words_rows.specs.Runs.{counted_down, counted_up, left, looked, reader_over}
-use Rattle.seize_words_rows.specs.Stages.{IsAt, Knows, Leads, Sees, Stage}
-use Rattle.seize_words_rows.proofs.Stages.{front_is, planned_is, record_is, sees_on}
+use Rattle.seize_words.specs.declared.chunk.Header.{Header}
+use Rattle.seize_words.specs.declared.slots.next.NextSlot.{NextSlot}
+use Rattle.seize_words_rows.specs.Runs.{counted_down, looked, reader_over}
+use Rattle.seize_words_rows.specs.Stages.{Goes, IsAt, Knows, Leads, Sees, Stage}
+use Rattle.seize_words_rows.proofs.Stages.{front_is, looks_on, passes, planned_is, record_is, sees_on}
+
+-- a slot is made, whose head lies in the table
+pub makes_slot : (n : Name) (numbers numbers' : NumbersKey) (next next' : NextSlot) (pass pass' : Pass) (key : SlotKey) (s : ℕ) (from to : Stage) → MakesNext numbers next pass numbers' key next' pass' → made_of numbers ≡ s → (next_key next).keys.name ≡ n
+    → Sees n pass from → Goes from (Take s) to Done → Leads n pass' key s to
+makes_slot n numbers numbers' next next' pass pass' key s from to makes is book sees goes =
+    let m = makes.made in let its : number_of (next_key next) ≡ s = sym m.seen_by.1 ∙ makes.number ∙ is in
+    let now = passes n pass pass' (private pass (Take (number_of (next_key next)))) from to Done m.same m.noted refl sees (subst (λ (k : ℕ). Goes from (Take k) to Done) (sym its) goes) in
+    (now, record { book = m.seen_by.0 ∙ book; number = makes.number ∙ is; leads = subst (λ (log : List Entry). IsAt n log to) (sym m.seen_by.2) now.leads })
 
 -- the key is of the pass's book
 pub is_of : (n : Name) (key : SlotKey) (pass : Pass) (s : ℕ) (now known : Stage) → Sees n pass now → Knows n key s known → IsOf key pass
@@ -42,10 +53,6 @@ is_there n pass now m sees less =
 
 pub holder : (n : Name) (key : SlotKey) (pass : Pass) (s : ℕ) (now known : Stage) → Sees n pass now → Knows n key s known → s < length now.state.slots → IsHolder key pass s
 holder n key pass s now known sees knows less = (is_of n key pass s now known sees knows, knows.number, is_there n pass now s sees less)
-
-pub may_read : (n : Name) (key : SlotKey) (pass : Pass) (s m : ℕ) (now known : Stage) → Sees n pass now → Knows n key s known → reads (slot_at known.state s) m ≡ true → m < length now.state.slots → MayReadAt key pass m
-may_read n key pass s m now known sees knows reads_it less =
-    (is_of n key pass s now known sees knows, ap (λ (r : Slot). reads r m) (record_is n key s known knows) ∙ reads_it, is_there n pass now m sees less)
 
 -- the slot's call is about to store in the block's fields, and to insert its batch with the block
 module _ (n : Name) (key : SlotKey) (v : ℕ) (knows : Knows n key 1 (looked v)) where
@@ -89,16 +96,7 @@ looked_at n key key' pass pass' s now known looks sees knows =
       },
     )
 
--- the batch's first value lies in the block, where the slot's call is about to count
-abbrev pub counts_at : (n : Name) (key : SlotKey) (v block : ℕ) → Knows n key 0 (left v) → block_of v ≡ block → IsCountingAt key block
-counts_at n key v block knows is = record {
-  batch = 0;
-  walk = [];
-  queue = [];
-  walking = ap (λ (r : Slot). r.call) (record_is n key 0 (left v) knows);
-  front = (v, front_is n key 0 0 v (left v) knows refl, sym is);
-}
-
+-- the batch's first value lies in the block, and the slot's call is about to add
 abbrev pub adds_at : (n : Name) (key : SlotKey) (v block : ℕ) → Knows n key 1 (reader_over v) → block_of v ≡ block → IsAddingAt key block 1
 adds_at n key v block knows is = record {
   batch = 0;
@@ -107,24 +105,19 @@ adds_at n key v block knows is = record {
   front = (v, front_is n key 1 0 v (reader_over v) knows refl, sym is);
 }
 
--- the one value is what its call is about to hand
-abbrev pub next_here : (n : Name) (key : SlotKey) (retired : Retired) → IsOne n retired → Knows n key 1 (counted_up (value_in retired)) → IsNextAt retired.values retired.lent.number key
-next_here n key retired is knows = record {
-  value = value_in retired;
-  rest = [];
-  are = is.one;
-  soon = ap hands_next (record_is n key 1 (counted_up (value_in retired)) knows);
-  lent = is_lent (value_in retired) (u64.coded.code retired.lent.value) is.its.code;
-  numbered = is.its.number;
-}
-
 -- the value was named, as the pass has seen
-pub named_down : (n : Name) (pass : Pass) (v : ℕ) → Sees n pass (counted_down v) → has v (state_seen pass).named ≡ true
-named_down n pass v sees =
-    ap (λ (m : Name). has v (after (start m) pass.seen).named) sees.book ∙ ap (λ (st : State). has v st.named) sees.leads.state ∙ has_first v
-  where
-    has_first : (x : ℕ) → has x (x ∷ []) ≡ true
-    has_first x = grind arith
+pub has_first : (v : ℕ) → has v (v ∷ []) ≡ true
+has_first v = grind arith
+
+pub is_named : (n : Name) (pass : Pass) (stage : Stage) (v : ℕ) → Sees n pass stage → has v stage.state.named ≡ true → has v (state_seen pass).named ≡ true
+is_named n pass stage v sees named = ap (λ (m : Name). has v (after (start m) pass.seen).named) sees.book ∙ (ap (λ (st : State). has v st.named) sees.leads.state ∙ named)
+
+-- the header that is found by the number of a value is that of its block
+pub header_at : (n : Name) (key : SlotKey) (pass pass' : Pass) (s : ℕ) (stage : Stage) (v number : ℕ) (header : Header) → LooksOn pass pass' → Sees n pass stage → Knows n key s stage → has v stage.state.named ≡ true → block_of v ≡ number
+    → IsHeaderOf header number pass' → (home_of v ≡ header_home header) × Sees n pass' stage
+header_at n key pass pass' s stage v number header looks sees knows named numbered its =
+    let after = looks_on n key key pass pass' s stage looks refl sees knows in
+    (its.1 v (is_named n pass' stage v after.0 named) numbered, after.0)
 
 -- the word of the batch's count
 pub word_down : (n : Name) (pass : Pass) (count : Count) (v : ℕ) → Sees n pass (counted_down v) → home_of v ≡ home count → count_word (count_seen count pass) ≡ 2 ^ 64 - 1

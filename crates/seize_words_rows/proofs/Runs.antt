@@ -1,11 +1,11 @@
 -- The steps of the worked run, from stage to stage.
-use Rattle.std.proofs.Common.{ℕ, pos, negsuc, true, false, [], refl}
-use Rattle.seize_machine.specs.Machine.Event.{Take, Enter, Begin, Put, ReadHead, Detach, Insert, SwapOut, SubCount, AddCount, Hand, Return}
+use Rattle.std.proofs.Common.{ℕ, pos, negsuc, true, false, refl}
+use Rattle.seize_machine.specs.Machine.Event.{Take, Enter, Begin, Put, ReadHead, Detach, Insert, SwapOut, SubCount, AddCount, Return}
 use Rattle.seize_machine.specs.declared.machine.event.Job.TheVariants.{Retire, Leave}
 use Rattle.seize_machine.specs.declared.machine.event.Try.TheVariants.{Won}
-use Rattle.seize_machine.specs.declared.machine.event.Answer.TheVariants.{Done, Head as HeadRead, Count, Handed}
+use Rattle.seize_machine.specs.declared.machine.event.Answer.TheVariants.{Done, Head as HeadRead, Count}
 use Rattle.seize_words_rows.specs.Stages.{Goes}
-use Rattle.seize_words_rows.specs.Runs.{begun, counted_down, counted_up, detached, entered, handed, inserted, leaving, left, looked, marked, one_made, one_read, opened, over, put, reader_over, two_made}
+use Rattle.seize_words_rows.specs.Runs.{begun, counted_down, counted_up, detached, entered, inserted, leaving, left, looked, marked, one_made, one_read, opened, put, reader_over, two_made}
 
 pub makes_one : Goes opened (Take 0) one_made Done
 makes_one = record { size = refl; legal = refl; planned = refl }
@@ -51,9 +51,3 @@ returns_reader v = record { size = refl; legal = refl; planned = refl }
 
 pub counts_up : (v : ℕ) → Goes (reader_over v) (AddCount 1) (counted_up v) (Count (pos 0))
 counts_up v = record { size = refl; legal = refl; planned = refl }
-
-pub hands : (v : ℕ) → Goes (counted_up v) (Hand 1 []) (handed v) (Handed v)
-hands v = record { size = refl; legal = refl; planned = refl }
-
-pub returns_last : (v : ℕ) → Goes (handed v) (Return 1) (over v) Done
-returns_last v = record { size = refl; legal = refl; planned = refl }

@@ -3,7 +3,7 @@ use Rattle.std.proofs.Common.{◌≡◌, ℕ, ◌<◌, ◌≤◌, true, false, L
 use base.Growing.{prefix_trans}
 use mathlib.Core.List.{IsPrefix}
 use Rattle.seize_machine.proofs.Facts.{and_true}
-use Rattle.seize_machine.specs.Machine.State.{Rest, head_at, is_active}
+use Rattle.seize_machine.specs.Machine.State.{Rest}
 use Rattle.seize_machine.specs.Machine.Event.{Begin, SwapOut}
 use Rattle.seize_machine.specs.declared.machine.event.Job.TheVariants.{Leave}
 use Rattle.seize_book.specs.Blocks.{list_word}
@@ -12,11 +12,11 @@ use Rattle.seize_book.specs.Entry.{Deed, Entry}
 use Rattle.seize_book.specs.Laws.{starts}
 use Rattle.seize_book.specs.Passes.{IsSame, Longer, LooksOn}
 use Rattle.seize_book.specs.Private.{IsOver}
-use Rattle.seize_book.specs.Slots.{Notes, NotesAs, active_of, number_of, own_list, slot_of}
+use Rattle.seize_book.specs.Slots.{Notes, NotesAs, active_of, number_of, slot_of}
 use Rattle.seize_book.specs.Tokens.{Name, Noted, start}
 use Rattle.seize_words.specs.Joined.{IsHolder, IsInAt, OnHead}
 use Rattle.seize_words.specs.Links.{IsWithin}
-use Rattle.seize_words.specs.Reservations.{IsActivationOf, IsLastOf, IsOut, WalksOn}
+use Rattle.seize_words.specs.Reservations.{IsLastOf, IsOut, WalksOn}
 use Rattle.seize_words.specs.Totals.{slots_seen}
 use Rattle.seize_words.specs.declared.activation.Activation.{Activation}
 use Rattle.seize_book.specs.declared.book.pass.Pass.{Pass}
@@ -78,19 +78,6 @@ holder_still key pass pass' s goes its =
 pub holder_after : (key key' : SlotKey) (pass pass' : Pass) (s : ℕ) → GoesOn pass pass' → (key'.keys.name ≡ key.keys.name) × (number_of key' ≡ number_of key) → IsHolder key pass s → IsHolder key' pass' s
 holder_after key key' pass pass' s goes same its =
     let still = holder_still key pass pass' s goes its in (same.0 ∙ still.0, same.1 ∙ still.1, still.2)
-
--- an activation that has just begun may step on each link
-pub begun_in : (key : SlotKey) (a : Activation) (pass : Pass) (l : ℕ) → IsActivationOf key a → key.keys.name ≡ pass.name → own_list key ≡ pass.seen → l < length pass.name.links → IsInAt a pass l
-begun_in key a pass l begun book own is =
-    let its : a.name ≡ pass.name = begun.book ∙ book in (
-      its,
-      record {
-        active = subst (λ (m : Name). is_active (head_at (after (start m) a.since) a.slot) ≡ true) its begun.active;
-        its = begun.its;
-        known = ([], append-nil a.since ∙ (begun.since ∙ own));
-        is_link = is;
-      },
-    )
 
 -- an entry that begins no activation leaves the slot's last one
 pub last_still : (key key' : SlotKey) (pass pass' : Pass) (a : Activation) (d : Deed) → NotesAs key pass key' pass' d → starts (number_of key) d.event ≡ false → IsLastOf key a → IsLastOf key' a

@@ -3,37 +3,31 @@ use Rattle.std.proofs.Common.{◌≡◌, ℕ, Bool, true, false, if◌then◌els
 use Rattle.std.specs.Prelude.{slice_index_or}
 use mathlib.Core.List.{cons≢nil}
 use Rattle.seize_machine.specs.Machine.State.{Call, Place, Rest, State, slot_at, head_at}
-use Rattle.seize_machine.specs.Machine.Event.{Event, ReadHead, Take}
+use Rattle.seize_machine.specs.Machine.Event.{Event}
 use Rattle.seize_machine.specs.Machine.Next.{next}
 use Rattle.seize_machine.specs.Machine.History.{first_of}
 use Rattle.seize_machine.specs.declared.machine.event.Answer.{Answer}
-use Rattle.seize_machine.specs.declared.machine.event.Answer.TheVariants.{Done}
 use Rattle.seize_machine.proofs.Facts.{some_is}
-use Rattle.seize_book.specs.Adding.{private, telling}
+use Rattle.seize_book.specs.Adding.{telling}
 use Rattle.seize_book.specs.Blocks.{Plan, block_in, front_of, head_word, no_plan, planned_by, plans, word_of}
 use Rattle.seize_book.specs.Book.{after}
-use Rattle.seize_words.specs.Counts.{Leaves, values_in}
+use Rattle.seize_words.specs.Counts.{values_in}
 use Rattle.seize_book.specs.Entry.{Deed, Entry, Made, Use, Used}
 use Rattle.seize_words.specs.Headers.{Uses}
 use Rattle.seize_book.specs.Ledger.{Held, renewed}
-use Rattle.seize_words.specs.Named.{values_state}
 use Rattle.seize_book.specs.Others.{Follows, value_of}
 use Rattle.seize_book.specs.Passes.{IsSame, LooksOn}
-use Rattle.seize_book.specs.Private.{key_of, label_of, own_of, labels_of}
+use Rattle.seize_book.specs.Private.{key_of, label_of, own_of}
 use Rattle.seize_words.specs.Reservations.{FoundBefore, Shows, beginning, slot}
-use Rattle.seize_book.specs.Slots.{IsStill, Notes, NotesAs, number_of, own_list, slot_of, start_of}
+use Rattle.seize_book.specs.Slots.{IsStill, NotesAs, number_of, own_list, slot_of, start_of}
 use Rattle.seize_book.specs.Tokens.{IsSole, Name, Noted, start}
-use Rattle.seize_book.specs.Values.{Nexts, Pushes, book_in, values_of}
 use Rattle.seize_book.specs.declared.book.keys.Keys.{Keys}
 use Rattle.seize_book.specs.declared.book.pass.Pass.{Pass}
 use Rattle.seize_book.specs.declared.book.slot_key.SlotKey.{SlotKey}
 use Rattle.seize_book.specs.declared.book.value_key.ValueKey.{ValueKey}
-use Rattle.seize_book.specs.declared.book.value_keys.ValueKeys.{ValueKeys}
 use Rattle.seize_words.specs.declared.reservation.Head.{Head}
 use Rattle.seize_words.proofs.Facts.{after_used, planned_after, plans_used}
-use Rattle.seize_words_rows.specs.Attempts.{UsesBoth}
-use Rattle.seize_words_rows.specs.Making.{MakesOne, made_by}
-use Rattle.seize_words_rows.specs.declared.making.Maker.{Maker}
+use Rattle.seize_words_rows.specs.NumberedRuns.{UsesBoth}
 use Rattle.seize_words_rows.specs.Stages.{Goes, IsAt, Knows, Leads, Sees, Stage, word_at}
 
 -- the event was legal there
@@ -180,23 +174,6 @@ found n head pass pass' e m v stage book number noted sees was =
     let before : was.0 ≡ pass.seen = same_front was.0 pass.seen was.1 e (sym was.2 ∙ noted_in.appended ∙ ap (λ (log : List Entry). log ++ e ∷ []) (noted_in.alone sees.alone)) in
     shown n head pass m v stage book number sees (subst (λ (log : List Entry). Shows head log v) before was.3)
 
--- Slots are made.
-
-pub makes : (n : Name) (maker maker' : Maker) (pass pass' : Pass) (key : SlotKey) (head : Head) (s : ℕ) (from to : Stage) → MakesOne maker pass key head maker' pass' → made_by maker ≡ s → Sees n pass from → Goes from (Take s) to Done
-    → Leads n pass' key s to
-makes n maker maker' pass pass' key head s from to made number sees goes =
-    let now = passes n pass pass' (private pass (Take (made_by maker))) from to Done made.same made.noted refl sees (subst (λ (k : ℕ). Goes from (Take k) to Done) (sym number) goes) in (
-      now,
-      record { book = made.book.0 ∙ sees.book; number = made.number.0 ∙ number; leads = subst (λ (log : List Entry). IsAt n log to) (sym made.own) now.leads },
-    )
-
--- Heads are read.
-
-pub head_read : (n : Name) (key key' : SlotKey) (head : Head) (pass pass' : Pass) (s m : ℕ) (from known to : Stage) (answer : Answer) → Notes key pass key' pass' (ReadHead (number_of key) (slot head)) → slot head ≡ m
-    → Sees n pass from → Knows n key s known → Goes from (ReadHead s m) to answer → Leads n pass' key' s to
-head_read n key key' head pass pass' s m from known to answer notes number sees knows goes =
-    steps n key key' pass pass' s 0 (λ k. ReadHead k (slot head)) from known to answer notes sees knows (subst (λ (k : ℕ). Goes from (ReadHead s k) to answer) (sym number) goes)
-
 -- Values keep their names.
 
 same_labels : (held : List (Held Entry)) (log : List Entry) → label_of (renewed held log) ≡ label_of held
@@ -220,29 +197,6 @@ values_are n key s b stage knows = ap (λ (ps : List Plan). (slice_index_or ps b
 pub sees_still : (n : Name) (pass pass' : Pass) (stage : Stage) → pass' ≡ pass → Sees n pass stage → Sees n pass' stage
 sees_still n pass pass' stage same sees = subst (λ (p : Pass). Sees n p stage) (sym same) sees
 
--- Keys of values.
-
-same_all : (held : List (Held Entry)) (log : List Entry) → labels_of (renewed held log) ≡ labels_of held
-same_all [] log = refl
-same_all (h ∷ held) log = ap (λ (ls : List ℕ). h.label ∷ ls) (same_all held log)
-
--- those that stay with whoever adds to a count that is 0 then
-pub keys_stay : (n : Name) (values values' : ValueKeys) (pass' : Pass) (zero : Bool) → zero ≡ true → Leaves values pass' values' zero → pass'.name ≡ n
-    → (label_of values'.keys.held ≡ label_of values.keys.held) × (book_in values' ≡ n) × (values_of values' ≡ values_of values)
-keys_stay n values values' pass' zero is leaves book =
-    let held : values'.keys.held ≡ renewed values.keys.held pass'.seen = leaves.1 ∙ ap (λ (b : Bool). renewed (if b then values.keys.held else []) pass'.seen) is in
-    (ap label_of held ∙ same_labels values.keys.held pass'.seen, leaves.0 ∙ book, ap labels_of held ∙ same_all values.keys.held pass'.seen)
-
--- and what they know
-pub state_known : (n : Name) (values values' : ValueKeys) (pass' : Pass) (zero : Bool) (v : ℕ) → zero ≡ true → Leaves values pass' values' zero → pass'.name ≡ n → values_of values ≡ v ∷ [] → values_state values' ≡ after (start n) pass'.seen
-state_known n values values' pass' zero v is leaves book one =
-    let held : values'.keys.held ≡ renewed values.keys.held pass'.seen = leaves.1 ∙ ap (λ (b : Bool). renewed (if b then values.keys.held else []) pass'.seen) is in
-    ap (λ (t : Name × List Entry). after (start t.0) t.1) (λ i. ((leaves.0 ∙ book) i, (ap own_of held ∙ own_renewed values.keys.held pass'.seen one) i))
-  where
-    own_renewed : (held : List (Held Entry)) (log : List Entry) → labels_of held ≡ v ∷ [] → own_of (renewed held log) ≡ log
-    own_renewed [] log e = absurd (cons≢nil (sym e))
-    own_renewed (h ∷ held) log e = refl
-
 -- a batch whose values are given up came to 0
 abbrev pub rests : List ℕ → List ℕ → List ℕ → Option Call
 rests given walk queue = Some (record { place = Rest given walk; queue = queue })
@@ -254,22 +208,3 @@ came_to_zero false values given v walk queue e = absurd (let none : [] ≡ v ∷
     gives : Place → List ℕ
     gives (Rest given walk) = given
     gives _ = []
-
--- the one key, taken out and put back
-pub taken_and_back : (values : ValueKeys) (value : ValueKey) (rest : ValueKeys) (value' : ValueKey) (values' : ValueKeys) → Nexts values value rest → Pushes rest value' values' → values_of values ≡ label_of values.keys.held ∷ []
-    → label_of values'.keys.held ≡ value_of value'
-taken_and_back values value rest value' values' nexts pushes one =
-    let none : values_of rest ≡ [] = ap tail_of (sym nexts.2 ∙ one) in
-    first_label values'.keys.held (value_of value') (pushes.1 ∙ ap (λ (ls : List ℕ). ls ++ value_of value' ∷ []) none)
-  where
-    tail_of : List ℕ → List ℕ
-    tail_of [] = []
-    tail_of (x ∷ xs) = xs
-
-    first_label : (held : List (Held Entry)) (v : ℕ) → labels_of held ≡ v ∷ [] → label_of held ≡ v
-    first_label [] v e = absurd (cons≢nil (sym e))
-    first_label (h ∷ held) v e = ap head_of e
-      where
-        head_of : List ℕ → ℕ
-        head_of [] = 0
-        head_of (x ∷ xs) = x

@@ -1,26 +1,25 @@
--- What the list says is kept of values, as a pass sees it: it stays so, and it goes with keys that are put together or left by a count.
-use Rattle.std.proofs.Common.{◌≡◌, ℕ, Bool, true, if◌then◌else◌, List, [], ◌∷◌, Option, Some, None, sym, ap, ◌∙◌, subst}
+-- What the list says is kept of values, as a pass sees it: it stays so, and it goes with keys that are put together.
+use Rattle.std.proofs.Common.{◌≡◌, ℕ, true, List, [], ◌∷◌, Option, Some, None, sym, subst}
 use base.Growing.{prefix_trans}
 use mathlib.Core.List.{IsPrefix}
 use Rattle.seize_book.specs.Book.{blocks}
 use Rattle.seize_book.specs.Entry.{Deed, Entry, Made}
 use Rattle.seize_book.specs.Kept.{AreTold, AreToldIn, IsTold, kept_in}
-use Rattle.seize_book.specs.Ledger.{Held, renewed}
+use Rattle.seize_book.specs.Ledger.{Held}
 use Rattle.seize_book.specs.Notes.{noted_in}
 use Rattle.seize_book.specs.Others.{value_of}
 use Rattle.seize_book.specs.Passes.{LooksOn}
 use Rattle.seize_book.specs.Private.{is_one, label_of, note_of}
 use Rattle.seize_book.specs.Slots.{NotesAs}
 use Rattle.seize_book.specs.Tokens.{Name}
-use Rattle.seize_book.specs.Values.{IsKeyOfOne, Nexts, Pushes, book_in}
+use Rattle.seize_book.specs.Values.{Pushes, book_in}
 use Rattle.seize_book.specs.declared.book.pass.Pass.{Pass}
 use Rattle.seize_book.specs.declared.book.slot_key.SlotKey.{SlotKey}
 use Rattle.seize_book.specs.declared.book.value_key.ValueKey.{ValueKey}
 use Rattle.seize_book.specs.declared.book.value_keys.ValueKeys.{ValueKeys}
-use Rattle.seize_words.specs.Counts.{Leaves}
 use Rattle.seize_words.specs.Headers.{using}
-use Rattle.seize_words.proofs.Facts.{all_told_later, all_told_renewed, both_told, none_told, seen_grows, told_apart, told_later}
-use Rattle.seize_words_rows.specs.Attempts.{UsesBoth}
+use Rattle.seize_words.proofs.Facts.{all_told_later, both_told, none_told, seen_grows, told_later}
+use Rattle.seize_words_rows.specs.NumberedRuns.{UsesBoth}
 
 -- What a pass has seen grows with each event, use and look.
 
@@ -50,10 +49,6 @@ told_used keys key key' pass pass' f g v w uses told = told_on keys pass pass' (
 pub is_told_on : (key key' : SlotKey) (pass pass' : Pass) (e : Deed) (v kept : ℕ) → NotesAs key pass key' pass' e → IsTold pass.seen v kept → IsTold pass'.seen v kept
 is_told_on key key' pass pass' e v kept notes told = told_later pass.seen pass'.seen v kept (noted_grows key key' pass pass' e notes) told
 
--- Where the blocks of the book lie in no store, nothing is asked.
-pub told_anywhere : (keys : ValueKeys) (pass : Pass) → (book_in keys).store ≡ None → AreTold keys pass
-told_anywhere keys pass none = subst (λ (s : Option (List ℕ)). AreToldIn s pass.seen keys.keys.held) (sym none) tt
-
 -- Keys of one value, put together.
 
 one_told : (store : Option (List ℕ)) (log : List Entry) (held : List (Held Entry)) (kept : ℕ) → is_one blocks held ≡ true → kept_in (note_of held) ≡ kept → IsTold log (label_of held) kept → AreToldIn store log held
@@ -62,10 +57,6 @@ one_told (Some store) log [] kept one is told = absurd (cc)
 one_told (Some store) log (h ∷ []) kept one is told = (subst (λ (k : ℕ). IsTold log h.label k) (sym is) told, tt)
 one_told (Some store) log (h ∷ g ∷ held) kept one is told = absurd (cc)
 
-pub first_told : (value : ValueKey) (keys : ValueKeys) (pass : Pass) (kept : ℕ) → IsKeyOfOne value keys → kept_in (noted_in value) ≡ kept → IsTold pass.seen (value_of value) kept → AreTold keys pass
-first_told value keys pass kept is noted told =
-    subst (λ k. AreToldIn (book_in keys).store pass.seen k.held) (sym is.0) (one_told (book_in keys).store pass.seen value.keys.held kept value.one noted told)
-
 pub pushed_told : (keys : ValueKeys) (value : ValueKey) (keys' : ValueKeys) (pass : Pass) (kept : ℕ) → Pushes keys value keys' → kept_in (noted_in value) ≡ kept → IsTold pass.seen (value_of value) kept → AreTold keys pass → AreTold keys' pass
 pushed_told keys value keys' pass kept pushes noted its told =
     subst (λ (t : Name × List (Held Entry)). AreToldIn t.0.store pass.seen t.1) (λ j. (sym pushes.0 j, sym pushes.2 j))
@@ -73,16 +64,3 @@ pushed_told keys value keys' pass kept pushes noted its told =
 
 pub nothing_told : (keys : ValueKeys) (pass : Pass) → keys.keys.held ≡ [] → AreTold keys pass
 nothing_told keys pass none = subst (AreToldIn (book_in keys).store pass.seen) (sym none) (none_told (book_in keys).store pass.seen)
-
--- the others, where the first is taken out
-pub rest_told : (keys : ValueKeys) (value : ValueKey) (rest : ValueKeys) (pass : Pass) → Nexts keys value rest → AreTold keys pass → AreTold rest pass
-rest_told keys value rest pass nexts told =
-    subst (λ (n : Name). AreToldIn n.store pass.seen rest.keys.held) (sym nexts.0)
-    (told_apart (book_in keys).store pass.seen value.keys.held rest.keys.held (subst (AreToldIn (book_in keys).store pass.seen) nexts.3 told)).1
-
--- and those that stay with whoever adds to a count that is 0 then
-pub left_told : (values values' : ValueKeys) (pass pass' : Pass) (ended : Bool) → ended ≡ true → Leaves values pass' values' ended → book_in values ≡ pass'.name → IsPrefix pass.seen pass'.seen → AreTold values pass → AreTold values' pass'
-left_told values values' pass pass' ended is leaves book grows told =
-    let held : values'.keys.held ≡ renewed values.keys.held pass'.seen = leaves.1 ∙ ap (λ (b : Bool). renewed (if b then values.keys.held else []) pass'.seen) is in
-    subst (λ (t : Name × List (Held Entry)). AreToldIn t.0.store pass'.seen t.1) (λ j. (sym (leaves.0 ∙ sym book) j, sym held j))
-    (all_told_renewed (book_in values).store pass'.seen values.keys.held pass'.seen (told_on values pass pass' grows told))

@@ -1,19 +1,22 @@
 //! Slots over all words of one book, as each of several threads has one: it enters, swaps the values of new blocks into links, reads links
 //! and sees what is lent with the values there, and leaves. All words are found by their numbers.
-ghost use Rattle.std.specs.Prelude.{◌≡◌, ◌<◌, IfSome, length, true};
+ghost use Rattle.std.specs.Prelude.{◌≡◌, ◌+◌, ◌<◌, IfSome, length, true};
+ghost use Rattle.seize_table.specs.Place.{all_numbers};
 ghost use Rattle.seize_words.specs.Joined.{IsHolder, IsInAt, words_book};
 ghost use Rattle.seize_words.specs.Reservations.{IsLastOf};
 ghost use Rattle.seize_words_rows.specs.Entrants.{CanMake, GoesOn, HasLinks, HasOneMore, IsOutOrOver, MayCross, MayEnter, MayRead, MayReadAll, made_by};
 ghost use Rattle.seize_words_rows.specs.Leaves.{IsInside, IsOutside};
 
-use crate::block_run::lend;
 use crate::exchanges::TURNS;
+use crate::lending::lend;
 use seize_words::activation::Activation;
 use seize_words::book::{NumbersKey, Pass, SlotKey};
 use seize_words::link::MaybeKey;
 use seize_words::slots::NextSlot;
 use seize_words::words::Words;
 use std::alloc::Global;
+use std::marker::Brand;
+use std::sync::atomic::{AtomicU64, Ordering};
 use std::thread;
 
 /// How many links the book has.
@@ -44,7 +47,8 @@ pub struct Entered {
 
 /// The words of a new book, and what its slots are made with. Nothing comes where memory was refused.
 pub fn open(alloc: Global) -> Option<(Words<u64>, Source)>
-    ensures { IfSome result (λ opened. CanMake opened.1 opened.0 × (made_by opened.1 ≡ 0)) }
+    ensures can { IfSome result (λ opened. CanMake opened.1 opened.0 × (made_by opened.1 ≡ 0)) }
+    ensures links { IfSome result (λ opened. HasLinks opened.0) }
 {
     let Ok((words, numbers, next)) = Words::new(alloc, 0, LINKS as usize, 32) else {
         return None;
@@ -200,6 +204,84 @@ impl Source {
     }
 }
 
+// Exchanges at the link what it takes to be nothing for the value of a new block. Where the link holds something that is lost, and it sees
+// what is lent there. Nothing comes where a growth of the store was refused, or the exchange was won.
+//
+// What would have gone in was not retired, so its chunk stays out.
+fn see_lost(
+    words: &Words<u64>,
+    link: usize,
+    value: u64,
+    activation: &Activation,
+    pass: &mut Pass,
+) -> Option<u64>
+    requires within { (words_book words.now ≡ pass.old.name) × IsInAt activation.now pass.old link }
+{
+    let Ok((mut key, block)) = words.blocks.add(value, pass) else {
+        return None;
+    };
+    let lent = lend(&words.blocks, &mut key, block);
+    let word = lent.number + 1;
+    let mut new = MaybeKey::some(key);
+    let (found, glimpse) = words.exchange_link::<Brand>(link, 0, word, &mut new, activation, pass);
+    if found != 0 {
+        return Some(*words.blocks.see(found - 1, glimpse, pass));
+    }
+    None
+}
+
+// Waits until the sign is set. It says whether it ever was.
+fn wait_until(sign: &AtomicU64) -> bool {
+    for _ in 0..TURNS {
+        if sign.load(Ordering::SeqCst) != 0 {
+            return true;
+        }
+        thread::yield_now();
+    }
+    false
+}
+
+impl Source {
+    /// Waits for the sign, and makes so many slots then, or as many as there is memory for. It says how many.
+    pub fn make_many(self, words: &Words<u64>, count: usize, sign: &AtomicU64) -> usize
+        requires can { CanMake self words.now }
+        requires few { made_by self + count < all_numbers }
+    {
+        if !wait_until(sign) {
+            return 0;
+        }
+        let mut source = self;
+        for made in 0..count {
+            source = match source.make(words) {
+                Some((_, then)) => then,
+                None => return made,
+            };
+        }
+        count
+    }
+}
+
+/// Walks the heads of all slots that there are, again and again until there are so many, and sets the sign after the first time. It says
+/// how many there were first, and last. Nothing comes where there never were so many, or a walk found fewer heads than there were slots.
+pub fn walk_heads(words: &Words<u64>, count: usize, sign: &AtomicU64) -> Option<(usize, usize)>
+    requires links { HasLinks words.now }
+{
+    let mut pass = words.blocks.book.pass();
+    let (first, _) = words.slots.load(&mut pass);
+    for _ in 0..TURNS {
+        let (there, all) = words.slots.load(&mut pass);
+        if words.slots.heads(there, &all).count() != there {
+            return None;
+        }
+        if there >= count {
+            return Some((first, there));
+        }
+        sign.store(1, Ordering::SeqCst);
+        thread::yield_now();
+    }
+    None
+}
+
 impl Entrant {
     /// Enters, swaps the value of a new block into a link, and leaves, so often, with one link after the other. It gives the sum of the
     /// words that it put in, less those that came out, modulo 2^64. Nothing comes where memory was refused, or something waited.
@@ -264,6 +346,21 @@ impl Entrant {
         } else {
             None
         }
+    }
+
+    /// Enters, swaps a value into the link, and loses an exchange there for another one. It gives what it saw that the link held then.
+    pub fn put_and_lose(self, words: &Words<u64>, link: usize, value: u64) -> Option<u64>
+        requires may { MayEnter words.now self }
+        requires link { link < 8 }
+    {
+        let Entrant {
+            slot,
+            mut key,
+            mut pass,
+        } = self;
+        let activation = words.enter_head(slot, &mut key, &mut pass);
+        put_in(words, link, value, &activation, &mut pass)?;
+        see_lost(words, link, value.wrapping_add(1), &activation, &mut pass)
     }
 
     /// Enters, and swaps a value into the link. It gives the word that it put in, and 0 where memory was refused.

@@ -2,7 +2,7 @@
 //! one that it shares.
 ghost use Rattle.std.specs.Prelude.{◌≡◌, ◌<◌, ◌^◌, None};
 ghost use Rattle.seize_words.specs.LinkWords.{IsIn};
-ghost use Rattle.seize_words_rows.specs.Exchanges.{IsLinkOf, MayShare, MaySwap};
+ghost use Rattle.seize_words_rows.specs.Exchanges.{HasBegunBy, IsLinkOf, MayShare, MaySwap};
 ghost use Rattle.seize_words_rows.specs.Making.{CanMake, HasOneMore, TakesPart};
 
 use crate::making::Maker;
@@ -171,4 +171,14 @@ pub fn read_many(book: &Book, link: &Link, activation: &Activation, turns: u64) 
         sum = sum.wrapping_add(link.read(activation, &mut pass));
     }
     sum
+}
+
+/// The pass learns what the book has seen, and then the link is read with it, which need not have seen that the activation began. So
+/// threads that share a book and an activation by `&` may each read with a pass of their own.
+pub fn learn_and_read(link: &Link, activation: &Activation, book: &Book, pass: &mut Pass) -> u64
+    requires begun { HasBegunBy link.now activation.now book.now }
+    requires book { pass.old.name ≡ book.now.name }
+{
+    pass.learn(book);
+    link.read(activation, pass)
 }

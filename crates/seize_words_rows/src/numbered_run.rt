@@ -1,24 +1,28 @@
-//! The worked run again, over all words of one book, each found by its number: the value lies in a block of a store, where it is lent, and
-//! the heads in a table. One slot reads, and another retires the value. The batch is detached, inserted at the reader's head, counted down
-//! below 0 by the reader and up to 0 by the other, which gives it up and hands its value to its reclaimer.
+//! A worked run over all words of one book, each found by its number: the value lies in a block of a store, where it is lent, and the heads
+//! in a table. One slot reads, and another retires the value. The batch is detached, inserted at the reader's head, counted down below 0 by
+//! the reader, which gives nothing up, and up to 0 by the other, which gives it up. What whole calls do with a batch that is given up shows
+//! `seize_calls_rows`.
 //!
-//! The stages are those of `worked_run`. No contract fixes the block's number: it is the one that the store gave.
-ghost use Rattle.std.specs.Prelude.{◌≡◌, ◌+◌, ◌-◌, ◌^◌, ℕ, IfSome, false, true};
+//! Each function makes one or two of the events. The book is open to one pass alone, so its holder knows the whole list: how many slots
+//! there are when the value is put, which of them are active, and what waits in a list that comes out. So the contracts say which words are
+//! found. No contract fixes the block's number: it is the one that the store gave.
+ghost use Rattle.std.specs.Prelude.{◌≡◌, ◌+◌, ◌-◌, ◌^◌, IfSome, Some, false, true};
+ghost use Rattle.seize_book.specs.Chains.{first_field, next_field};
+ghost use Rattle.seize_book.specs.Slots.{IsOf, written_of};
+ghost use Rattle.seize_words.specs.Headers.{IsOfBook, Stores, number};
 ghost use Rattle.seize_words.specs.Joined.{words_book};
 ghost use Rattle.seize_words.specs.Named.{numbers_book};
 ghost use Rattle.seize_words.specs.Reservations.{IsLastOf};
 ghost use Rattle.seize_words.specs.Reserved.{HasNext};
 ghost use Rattle.seize_words.specs.Totals.{made_of};
-ghost use Rattle.seize_words_rows.specs.NumberedRuns.{StandsAt};
-ghost use Rattle.seize_words_rows.specs.Reclaiming.{AreReady};
-ghost use Rattle.seize_words_rows.specs.Runs.{counted_up, entered, inserted, left, looked, marked, one_made, opened, over, put, reader_over, two_made};
+ghost use Rattle.seize_words_rows.specs.NumberedRuns.{StandsAt, UsesBoth};
+ghost use Rattle.seize_words_rows.specs.Runs.{entered, inserted, left, looked, marked, one_made, opened, put, reader_over, two_made};
 ghost use Rattle.seize_words_rows.specs.Stages.{Knows, Leads, Sees};
 
-use crate::attempts::prepare;
-use crate::block_run::{Lent, lend};
-use crate::reclaiming::reclaim_next;
+use crate::lending::{Lent, lend};
 use seize_words::activation::Activation;
 use seize_words::book::{NumbersKey, Pass, SlotKey, ValueKeys};
+use seize_words::header::Field;
 use seize_words::note::Note;
 use seize_words::slots::NextSlot;
 use seize_words::words::Words;
@@ -33,7 +37,7 @@ pub struct Retired {
 
 /// The words of a new book with one link, and two slots. It gives the key of the slot that reads, that of the one that retires, and the one
 /// pass. Nothing comes where memory was refused.
-pub fn begin(alloc: Global) -> Option<(Words<u64>, SlotKey, SlotKey, Pass)>
+pub fn begin(alloc: Global) -> Option<(Words<u64>, SlotKey, SlotKey, Pass<'static>)>
     ensures reader { IfSome result (λ begun. Knows (words_book begun.0) begun.1 0 one_made) }
     ensures retirer { IfSome result (λ begun. Leads (words_book begun.0) begun.3 begun.2 1 two_made) }
 {
@@ -129,6 +133,18 @@ pub fn detach(words: &Words<u64>, retired: &Retired, retirer: &mut SlotKey, pass
     words.read_head(0, retirer, pass)
 }
 
+// Stores in the block's next field what was seen of the head, and in its first field the number of the batch's first block. An insertion
+// with the block may be tried then.
+fn prepare(next: &Field, first: &Field, seen: u64, front: u64, key: &mut SlotKey, pass: &mut Pass)
+    requires book { IsOf key.old pass.old × IsOfBook next.now pass.old × IsOfBook first.now pass.old }
+    requires stores { Stores next_field (number next.now) key.old × Stores first_field (number first.now) key.old }
+    ensures uses { UsesBoth key.old pass.old key.new pass.new (number next.now) seen (number first.now) front }
+    ensures written { written_of key.new ≡ Some (seen, front) }
+{
+    next.store(seen, key, pass);
+    first.store(front, key, pass);
+}
+
 /// It stores in the block's fields the word that it saw, and the block's number, and inserts the batch with the block. It gives the word
 /// that it found, which is the one that it saw.
 pub fn insert(words: &Words<u64>, retired: &Retired, retirer: &mut SlotKey, pass: &mut Pass) -> u64
@@ -180,7 +196,7 @@ pub fn count_down(
     (zero, word)
 }
 
-/// The other slot adds its one insertion. The count is 0 with that, and the batch is given up, with the key of its value.
+/// The other slot adds its one insertion. The count is 0 with that, and the batch is given up.
 pub fn count_up(
     words: &Words<u64>,
     retired: &mut Retired,
@@ -189,23 +205,7 @@ pub fn count_up(
 ) -> bool
     requires stands { StandsAt words.now retired.old pass.old reader_over retirer.old 1 inserted }
     ensures zero { result ≡ true }
-    ensures lent { retired.new.lent ≡ retired.old.lent }
-    ensures ready { AreReady retired.new.values retirer.new pass.new }
-    ensures stands { StandsAt words.now retired.new pass.new counted_up retirer.new 1 counted_up }
 {
     retirer.look(pass);
     words.add(retired.lent.number, 1, retirer, &mut retired.values, pass)
-}
-
-/// It hands the value to its reclaimer, its block goes back into the store, and its call is over. It gives the value.
-pub fn hand(words: &Words<u64>, retired: Retired, retirer: &mut SlotKey, pass: &mut Pass) -> u64
-    requires stands { StandsAt words.now retired pass.old counted_up retirer.old 1 counted_up }
-    requires ready { AreReady retired.values retirer.old pass.old }
-    ensures value { result ≡ retired.lent.value }
-    ensures over { (v : ℕ) × Leads (words_book words.now) pass.new retirer.new 1 (over v) }
-{
-    let Retired { lent, mut values } = retired;
-    let (value, _) = reclaim_next(&words.blocks, lent.number, &mut values, retirer, pass);
-    retirer.finish(pass);
-    value
 }

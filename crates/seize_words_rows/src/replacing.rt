@@ -10,9 +10,9 @@ ghost use Rattle.seize_words.specs.Joined.{IsInAt, IsNewTo, OnLink, words_book};
 ghost use Rattle.seize_words_rows.specs.Entrants.{GoesOn, MayEnter};
 ghost use Rattle.seize_words_rows.specs.Replacing.{Replaces};
 
-use crate::block_run::lend;
 use crate::entrants::Entrant;
 use crate::exchanges::TURNS;
+use crate::lending::lend;
 use seize_words::activation::Activation;
 use seize_words::book::Pass;
 use seize_words::link::MaybeKey;

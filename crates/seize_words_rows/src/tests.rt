@@ -1,23 +1,15 @@
-//! Books, passes and keys in hand, the worked run, and threads that step on words.
-ghost use Rattle.seize_words_rows.specs.Exchanges.{IsLinkOf, MayShare, MaySwap};
-ghost use Rattle.seize_words_rows.specs.Flushers.{MayFlush, MayGrow, grown};
-ghost use Rattle.seize_words_rows.specs.Making.{CanMake, TakesPart};
+//! Books, passes and keys in hand, and threads that step on words.
+ghost use Rattle.seize_words_rows.specs.Exchanges.{MayShare, MaySwap};
 ghost use Rattle.seize_words_rows.specs.Guests.{IsReady};
 ghost use Rattle.seize_words_rows.specs.Visits.{MayVisit};
-ghost use Rattle.std.specs.Prelude.{◌≡◌};
 
-use crate::exchanges::{EACH, Exchanged, Swapper, TURNS, read_many, share_many};
-use crate::flushing::Signs;
+use crate::exchanges::{EACH, Exchanged, Swapper, learn_and_read, read_many, share_many};
 use crate::guests::open_off;
 use crate::leaving::{Visitor, leave_head};
-use crate::making::{Maker, open};
-use crate::reads::{learn_and_read, meet_and_read, read_with_each};
+use crate::making::open;
 use crate::row::{open_row, read_row, visit_many};
-use crate::walking::block_at;
-use crate::{block_run, flushing, further, linked, noted_run, second_value, spotted, worked_run};
 use seize_words::activation::Activation;
 use seize_words::batch::Count;
-use seize_words::blocks::Blocks;
 use seize_words::book::{
     BareKey, BlockKeys, Book, BookKeys, ChunkKeys, CountKey, FieldKey, HeadKey, LinkKeys,
     NumbersKey, Pass, SlotKey, SlotKeys, TotalKey, Unopened, ValueKey, ValueKeys,
@@ -35,31 +27,6 @@ use std::thread;
 use std::thread::Threads;
 
 mod joined;
-
-// How many slots a thread makes: the last of them lie in the table's third bucket.
-const MADE: u64 = 100;
-
-// Two passes go to threads. On one of these a slot is made and enters, of which the other pass has seen nothing. They come back and meet,
-// and then the link is read with the other pass in that slot's activation.
-#[test]
-fn passes_go_to_threads_and_meet(rt: HostRuntime) {
-    let (book, maker, mut links) = open(1);
-    let link = Link::next(&mut links);
-    let other = book.again().pass();
-    let (shared, words) = (&book, &link);
-    let ((one, maker), two) = thread::join(
-        &rt,
-        move || -> (Swapper, Maker)
-            requires { TakesPart shared.now maker × IsLinkOf words.now shared.now × CanMake maker }
-            ensures { MaySwap words.entry.now result.0 }
-        { Swapper::enter(shared, maker, words) },
-        move || other,
-    );
-    let (mut one, mut two) = (one, two);
-    let word = meet_and_read(&link, &one.activation, &mut one.pass, &mut two);
-    assert_eq!(rt; word, 0);
-    drop((links, maker, one, two));
-}
 
 #[test]
 fn tokens_have_no_bytes(rt: HostRuntime) {
@@ -152,21 +119,20 @@ fn a_swapped_value_comes_out(rt: HostRuntime) {
     drop((links, maker, one, value, none));
 }
 
-// Two passes that have both seen the activation begin read the same word.
+// A pass that was made before the activation began learns of it from the book, and reads the link.
 #[test]
-fn a_link_is_read_with_two_passes(rt: HostRuntime) {
+fn a_link_is_read_with_a_pass_that_learned(rt: HostRuntime) {
     let (mut book, maker, mut links) = open(1);
     let link = Link::next(&mut links);
+    let mut other = book.pass();
     let (mut one, maker) = Swapper::enter(&book, maker, &link);
     book.learn(&mut one.pass);
     share_many(&book, &link, &one.activation, 5, 1);
-    let mut two = book.pass();
     assert_eq!(rt;
-        read_with_each(&link, &one.activation, &mut one.pass, &mut two),
-        (6, 6)
+        learn_and_read(&link, &one.activation, &book, &mut other),
+        6
     );
-    assert_eq!(rt; learn_and_read(&link, &one.activation, &book, &mut two), 6);
-    drop((links, maker, one, two));
+    drop((links, maker, one));
 }
 
 // Two threads swap. It gives the sum of the words put in, less those that came out.
@@ -273,93 +239,6 @@ fn four_threads_lose_and_invent_no_value(rt: HostRuntime) {
     drop((links, maker, last, none));
 }
 
-#[test]
-fn a_last_insertion_is_added(rt: HostRuntime) {
-    let (mut reader, mut retirer, mut words, mut pass) = worked_run::begin();
-    let activation = worked_run::enter(&words.heads, &mut reader, &mut pass);
-    worked_run::retire(&words.heads, &mut retirer, &mut words.block, &mut pass);
-    worked_run::mark(&words, &mut retirer, &mut pass);
-    worked_run::detach(&words, &mut retirer, &mut pass);
-    let done = worked_run::insert_and_add(&mut words, &mut retirer, &mut pass);
-    assert_eq!(rt; done, Some(false));
-    drop((reader, retirer, words, activation));
-}
-
-// Two batches of values in blocks of a store wait for one slot. It leaves, and walks from block to block by the words in their headers;
-// the values come out as they went in, and the store finds the blocks again.
-#[test]
-fn blocks_of_two_batches_are_laid_back(rt: HostRuntime) {
-    let (mut reader, activation, mut retirer, run, mut pass) = block_run::begin(rt.alloc());
-    let Some((pair, one, other)) = block_run::take(&run.blocks, 70, 71, &mut pass) else {
-        panic!(rt; "no memory");
-    };
-    let front = pair.first.number;
-    let batch = block_run::retire(&run, None, pair, one, other, &mut retirer, &mut pass);
-    assert_eq!(rt;
-        block_run::mark(&run, None, &batch, &mut retirer, &mut pass),
-        (1, 0)
-    );
-    assert_eq!(rt;
-        block_run::detach(&run, None, &batch, &mut retirer, &mut pass),
-        1
-    );
-    assert_eq!(rt;
-        block_run::insert(&run, None, &batch, 1, &mut retirer, &mut pass),
-        1
-    );
-    let (first, zero) = block_run::add(&run, None, batch, &mut retirer, &mut pass);
-    assert!(rt; !zero);
-    let second = block_run::retire_both(&run, Some(&first), 72, 73, &mut retirer, &mut pass);
-    let Some(second) = second else {
-        panic!(rt; "no memory");
-    };
-    let last = second.first.number;
-    let word = block_run::leave(&run, &first, &second, &mut reader, activation, &mut pass);
-    assert_eq!(rt; word, last + 2);
-    let walked = block_run::walk_on(&run, Some(&first), second, word, &mut reader, &mut pass);
-    assert_eq!(rt; walked, (72, 73, front + 2));
-    let ended = block_run::walk_on(&run, None, first, walked.2, &mut reader, &mut pass);
-    assert_eq!(rt; ended, (70, 71, 1));
-    block_run::finish(&run, ended.2, &mut reader, &mut pass);
-    let Some((pair, one, other)) = block_run::take(&run.blocks, 74, 75, &mut pass) else {
-        panic!(rt; "no memory");
-    };
-    assert_eq!(rt; pair.first.number, front);
-    let block_run::Pair { first, second } = pair;
-    assert_eq!(rt;
-        block_run::give_back(&run.blocks, one, first, &mut pass),
-        74
-    );
-    assert_eq!(rt;
-        block_run::give_back(&run.blocks, other, second, &mut pass),
-        75
-    );
-    drop((reader, retirer, run));
-}
-
-// Three values of a store are retired, and of the block of each the number of the next is noted. Their batch is given up, and from the
-// first number alone all blocks are found, as the values that come out of them show. Then the store finds the blocks again.
-#[test]
-fn a_noted_batch_is_found_from_its_first_block(rt: HostRuntime) {
-    let (mut key, run, mut pass) = noted_run::begin(rt.alloc());
-    let taken = noted_run::take(&run.blocks, (70, 71, 72), &mut pass);
-    let Some((three, one, two, last)) = taken else {
-        panic!(rt; "no memory");
-    };
-    let mut values = noted_run::retire_noted(&run, three, one, two, last, &mut key, &mut pass);
-    assert!(rt; noted_run::give_up(&run, three, &mut values, &mut key, &mut pass));
-    let front = three.first.number;
-    let out = noted_run::hand_all(&run, front, three, &mut values, &mut key, &mut pass);
-    assert_eq!(rt; out, (70, 71, 72));
-    let Some((again, one, two, last)) = noted_run::take(&run.blocks, (73, 74, 75), &mut pass) else {
-        panic!(rt; "no memory");
-    };
-    assert_eq!(rt; again.first.number, front);
-    assert_eq!(rt; again.second.number, three.second.number);
-    assert_eq!(rt; again.third.number, three.third.number);
-    drop((key, run, values, one, two, last));
-}
-
 // Each of the links of a row is read, with an activation that is shared and by a slot that enters and leaves.
 #[test]
 fn a_row_is_read_whole(rt: HostRuntime) {
@@ -426,93 +305,6 @@ fn each_thread_sees_what_the_other_put_in(rt: HostRuntime) {
     drop((links, maker));
 }
 
-// The block of a value gone stays with the holder of a list of spots: its next value lies there, and goes back into the store with it.
-#[test]
-fn a_spot_of_a_value_gone_is_used_again(rt: HostRuntime) {
-    let (blocks, mut pass, keys) = Blocks::<u64>::new_alone(rt.alloc(), 0, 1);
-    let Ok(mut spots) = blocks.spots(rt.alloc()) else {
-        panic!(rt; "no memory");
-    };
-    for value in 0..200 {
-        let Some((one, other, out)) = spotted::make_again(&blocks, &mut spots, value, 7, &mut pass)
-        else {
-            panic!(rt; "no memory");
-        };
-        assert_eq!(rt; (one, out), (other, value));
-        assert_eq!(rt; spots.len(), 0);
-    }
-    drop(keys);
-}
-
-// One slot reads while another retires a value: the batch goes into the reader's list, which leads to its block and ends there, is counted
-// down to -1, and up to 0, which gives it up.
-#[test]
-fn a_batch_is_counted_down_and_up(rt: HostRuntime) {
-    let (mut reader, mut retirer, mut words, mut pass) = worked_run::begin();
-    let activation = worked_run::enter(&words.heads, &mut reader, &mut pass);
-    worked_run::retire(&words.heads, &mut retirer, &mut words.block, &mut pass);
-    assert_eq!(rt; worked_run::mark(&words, &mut retirer, &mut pass), (1, 0));
-    assert_eq!(rt; worked_run::detach(&words, &mut retirer, &mut pass), 1);
-    worked_run::store(&words, &mut retirer, &mut pass);
-    assert_eq!(rt; worked_run::insert(&words, &mut retirer, &mut pass), 1);
-    let list = worked_run::leave(&words, &mut reader, activation, &mut pass);
-    assert_eq!(rt; (list, block_at(list)), (7, Some(5)));
-    let fields = worked_run::load(&words, &mut reader, &mut pass);
-    assert_eq!(rt; (fields, block_at(fields.0)), ((1, 5), None));
-    assert!(rt; !worked_run::count_down(&words, &mut reader, &mut pass));
-    assert!(rt; worked_run::count_up(&mut words, &mut retirer, &mut pass));
-    worked_run::hand(&words, &mut retirer, &mut pass);
-    drop((reader, retirer, words));
-}
-
-// The same up to where the batch is given up. The reclaimer of its value puts another one, and the call that handed the first retires that
-// too: it fills a batch, which waits for nobody, since no slot is active by then, and is given up at once.
-#[test]
-fn a_further_value_is_retired_by_the_same_call(rt: HostRuntime) {
-    let (reader, mut retirer, words, mut put, mut pass) = further::give_up();
-    further::hand(&words, &mut put, &mut retirer, &mut pass);
-    assert_eq!(rt;
-        further::mark(&words, &put, &mut retirer, &mut pass),
-        (0, 0)
-    );
-    assert!(rt; further::count_up(&words, &mut put, &mut retirer, &mut pass));
-    further::finish(&words, &put, &mut retirer, &mut pass);
-    drop((reader, retirer, words, put));
-}
-
-// A value goes through a link, and is retired while a slot is active, which refreshed before. It is gone, and then the block's second value
-// is retired too, and waits for no slot.
-#[test]
-fn two_values_of_one_block_are_retired(rt: HostRuntime) {
-    let (mut reader, mut retirer, linked, value, mut pass) = linked::begin();
-    let mut activation = worked_run::enter(&linked.heads, &mut reader, &mut pass);
-    assert_eq!(rt;
-        linked::refresh(&linked, &mut reader, &mut activation, &mut pass),
-        1
-    );
-    let (before, found, value) = linked::pass_through(&linked, value, &activation, &mut pass);
-    assert_eq!(rt; (before, found), (0, 6));
-    let mut words = linked::retire(linked, value, &mut retirer, &mut pass);
-    assert_eq!(rt; worked_run::mark(&words, &mut retirer, &mut pass), (1, 0));
-    assert_eq!(rt; worked_run::detach(&words, &mut retirer, &mut pass), 1);
-    worked_run::store(&words, &mut retirer, &mut pass);
-    assert_eq!(rt; worked_run::insert(&words, &mut retirer, &mut pass), 1);
-    assert_eq!(rt;
-        worked_run::leave(&words, &mut reader, activation, &mut pass),
-        7
-    );
-    assert_eq!(rt; worked_run::load(&words, &mut reader, &mut pass), (1, 5));
-    assert!(rt; !worked_run::count_down(&words, &mut reader, &mut pass));
-    assert!(rt; worked_run::count_up(&mut words, &mut retirer, &mut pass));
-    worked_run::hand(&words, &mut retirer, &mut pass);
-    second_value::next(&mut words, &mut pass);
-    second_value::retire(&mut words, &mut retirer, &mut pass);
-    assert_eq!(rt; second_value::mark(&words, &mut retirer, &mut pass), (0, 0));
-    assert!(rt; second_value::count_up(&mut words, &mut retirer, &mut pass));
-    second_value::hand(&words, &mut retirer, &mut pass);
-    drop((reader, retirer, words));
-}
-
 // Slots enter and leave side by side, each by steps on its own head, and nothing ever waits for one.
 #[test]
 fn two_slots_enter_and_leave(rt: HostRuntime) {
@@ -551,33 +343,6 @@ fn threads_share_a_porter(rt: HostRuntime) {
     let mut porter = porter;
     porter.come_home();
     drop(porter.shut());
-}
-
-// One thread flushes its batch again and again: each flush reads the heads of as many slots as there are by then, and gives up. Another one
-// makes slots meanwhile, whose heads go into the table: it waits for the first flush, and a last flush comes after it has ended. So all
-// slots are made between two flushes, of which the first reads 2 heads, and the last all of them.
-#[test]
-fn slots_are_made_while_others_mark(rt: HostRuntime) {
-    let Some((slots, growth, flusher)) = flushing::begin(rt.alloc()) else {
-        panic!(rt; "no memory");
-    };
-    let signs = Signs::new();
-    let (shared, signs) = (&slots, &signs);
-    let (made, saw) = thread::join(
-        &rt,
-        move || -> u64
-            requires { MayGrow shared.now growth × (grown growth ≡ 2) }
-        { growth.grow_beside(shared, signs, MADE, TURNS) },
-        move || -> Option<(u64, u64)>
-            requires { MayFlush shared.now flusher }
-        { flusher.flush_beside(shared, signs, 100 * TURNS) },
-    );
-    assert_eq!(rt; (made, saw), (MADE, Some((2, MADE + 2))));
-    let mut pass = slots.book.pass();
-    let (count, all) = slots.load(&mut pass);
-    assert_eq!(rt; count as u64, MADE + 2);
-    assert_eq!(rt; slots.heads(count, &all).count() as u64, MADE + 2);
-    assert_eq!(rt; slots.heads(count.min(1), &all).count(), 1);
 }
 
 fn four_visits<R: Threads + Wait + Sync>(

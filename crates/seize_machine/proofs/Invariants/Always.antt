@@ -61,7 +61,7 @@ pub sum_replicate : {X : Type 0} (f : X → ℕ) (n : ℕ) (x : X) → f x ≡ 0
 sum_replicate f zero x e = refl
 sum_replicate f (suc n) x e = omega (arith, sum_by-cons f x (replicate n x), sum_replicate f n x e)
 
-in_links_is : (v : ℕ) (links : List (Option ℕ)) → in_links v links ≡ occ v (linked links)
+pub in_links_is : (v : ℕ) (links : List (Option ℕ)) → in_links v links ≡ occ v (linked links)
 in_links_is v [] = refl
 in_links_is v (link ∷ links) = omega (arith, sum_by-cons (λ link. occ v (option_to_list link)) link links, occ-append v (option_to_list link) (linked links), in_links_is v links)
 
@@ -69,7 +69,7 @@ pub opening_inv : (slots : ℕ) (links : List (Option ℕ)) → are_distinct (li
 opening_inv slots links distinct =
     record {
       sound = record { counts = λ b. counts b; lengths = length-replicate slots Inactive ∙ sym (length-replicate slots no_slot) };
-      once = λ v. record { once = omega (arith, sum_replicate (slot_has v) slots no_slot refl, in_links_is v links, distinct_once v (linked links) distinct); unnamed = λ h. omega (arith, sum_replicate (slot_has v) slots no_slot refl, in_links_is v links) };
+      once = λ v. record { once = omega (arith, sum_replicate (slot_has v) slots no_slot refl, in_links_is v links, distinct_once v (linked links) distinct); all = omega (arith, sum_replicate (slot_has v) slots no_slot refl, in_links_is v links) };
     }
   where
     counts : (b : ℕ) → CountedIn b (opening slots links)

@@ -314,7 +314,7 @@ values_kept b size st event _ (Step.subtracted s a walk queue d e h) r =
 values_kept b size st event _ _ r = inl refl
 
 -- whether a value is in a list, by how often it stands there
-has_if : (v : ℕ) (xs : List ℕ) → 1 ≤ occ v xs → has v xs ≡ true
+pub has_if : (v : ℕ) (xs : List ℕ) → 1 ≤ occ v xs → has v xs ≡ true
 has_if v xs some = go (is_true (has v xs))
   where
     go : (has v xs ≡ true) ⊎ (has v xs ≡ false) → has v xs ≡ true
@@ -370,13 +370,13 @@ pub batched_named : (st : State) → IsReached st → (b v : ℕ) → Contains (
 batched_named st r b v h =
     let c : Once v st = (reached_inv st r).once v in
     let some : 1 ≤ in_batches v st.batches = batched st b v h in
-    (named_if v _ st.named some (λ none. omega (arith, c.unnamed none)), hasnt_if v st.gone (omega (arith, c.once)))
+    (named_if v _ st.named some (λ none. omega (arith, c.all)), hasnt_if v st.gone (omega (arith, c.once)))
 
 pub linked_named : (st : State) → IsReached st → (l v : ℕ) → link_at st l ≡ Some v → (has v st.named ≡ true) × (has v st.gone ≡ false)
 linked_named st r l v e =
     let c : Once v st = (reached_inv st r).once v in
     let some : 1 ≤ in_links v st.links = in_link st l v e in
-    (named_if v _ st.named some (λ none. omega (arith, c.unnamed none)), hasnt_if v st.gone (omega (arith, c.once)))
+    (named_if v _ st.named some (λ none. omega (arith, c.all)), hasnt_if v st.gone (omega (arith, c.once)))
 
 pub linked_not_loose : (st : State) → IsReached st → (l v : ℕ) → link_at st l ≡ Some v → has v st.loose ≡ false
 linked_not_loose st r l v e = hasnt_if v st.loose (omega (arith, in_link st l v e, ((reached_inv st r).once v).once))
@@ -385,12 +385,12 @@ pub loose_named : (st : State) → IsReached st → (v : ℕ) → has v st.loose
 loose_named st r v h =
     let c : Once v st = (reached_inv st r).once v in
     let some : 1 ≤ occ v st.loose = has_some v st.loose h in
-    (named_if v _ st.named some (λ none. omega (arith, c.unnamed none)), hasnt_if v st.gone (omega (arith, c.once)))
+    (named_if v _ st.named some (λ none. omega (arith, c.all)), hasnt_if v st.gone (omega (arith, c.once)))
 
 pub gone_named : (st : State) → IsReached st → (v : ℕ) → has v st.gone ≡ true → has v st.named ≡ true
 gone_named st r v h =
     let c : Once v st = (reached_inv st r).once v in
-    named_if v _ st.named (has_some v st.gone h) (λ none. omega (arith, c.unnamed none))
+    named_if v _ st.named (has_some v st.gone h) (λ none. omega (arith, c.all))
 
 -- two retired batches with a value are one, since it stands in one place
 pub batched_once : (st : State) → IsReached st → (b c v : ℕ) → Contains (batch_at st b).values v → Contains (batch_at st c).values v → b ≡ c

@@ -1,4 +1,4 @@
--- Each value stands in one place at most.
+-- Each value that was named stands in one place, and no other value stands in any.
 use Rattle.std.proofs.Common.{◌≡◌, ◌≢◌, ℕ, ◌+◌, ◌<◌, ◌≤◌, ℤ, pos, Bool, true, false, not, ◌==◌, if◌then◌else◌, nat_lt, List, [], ◌∷◌, ◌++◌, length, get_or, set, Option, Some, None, refl, ap, subst, ◌⊎◌, inl, inr, arith}
 use Rattle.std.specs.Prelude.{option_to_list}
 use Rattle.std.specs.List.{sum_by, filter}
@@ -39,7 +39,7 @@ places v st = in_slots v st.slots + in_batches v st.batches + in_links v st.link
 
 pub record Once (v : ℕ) (st : State) : Type 0 where
   pub once : places v st ≤ 1
-  pub unnamed : occ v st.named ≡ 0 → places v st ≡ 0
+  pub all : places v st ≡ occ v st.named
 
 move : (v : ℕ) (st : State) (s : ℕ) (new : Slot) → s < length st.slots → in_slots v (set st.slots s new) + slot_has v (slot_at st s) ≡ in_slots v st.slots + slot_has v new
 move v st s new h = sum_by-set (slot_has v) st.slots s new no_slot h
@@ -93,53 +93,63 @@ settles v st s a from up count walk queue e none c =
     let g : _ ≡ _ = gives v st.batches a up count in
     let x : _ ≡ _ = move v st s (record (slot_at st s) { call = Some (record { place = Rest (if up then (batch_at st a).values else []) walk; queue = queue }) }) (in_range st s _ e) in
     let y : _ ≡ _ = had v st s _ e in
-    record { once = omega (arith, c.once); unnamed = λ h. omega (arith, c.unnamed h) }
+    record { once = omega (arith, c.once); all = omega (arith, c.all) }
 
 -- a value that joins where it is new
 joins : (total more : ℕ) → total ≤ 1 → more ≤ 1 → (1 ≤ more → total ≡ 0) → total + more ≤ 1
 joins total more le one new = grind arith
 
-named_after : (v w : ℕ) (named : List ℕ) → (occ v (if has w named then named else named ++ w ∷ []) ≡ 0 → (occ v named ≡ 0) × (one (w == v) ≡ 0))
-named_after v w named = go (has w named) refl
-  where
-    go : (b : Bool) → has w named ≡ b → (occ v (if b then named else named ++ w ∷ []) ≡ 0 → (occ v named ≡ 0) × (one (w == v) ≡ 0))
-    go true e h = (h, same (is_true (w == v)))
-      where
-        same : ((w == v) ≡ true) ⊎ ((w == v) ≡ false) → one (w == v) ≡ 0
-        same (inl t) = absurd (let k : 1 ≤ occ v named = subst (λ k. 1 ≤ occ k named) (eq_true w v t) (has_some w named e) in omega arith)
-        same (inr t) = ap one t
-    go false e h = omega (arith, occ-push v named w)
+named_after : (v w : ℕ) (named : List ℕ) (b : Bool) → has w named ≡ b → occ v (if b then named else named ++ w ∷ []) ≡ occ v named + (if b then 0 else one (w == v))
+named_after v w named true e = omega arith
+named_after v w named false e = omega (arith, occ-push v named w)
 
 begun_once : (v : ℕ) (st : State) (s w : ℕ) → is_idle (slot_at st s) ≡ true → (has w st.named ≡ false) ⊎ (has w st.loose ≡ true) → Once v st → Once v (begun (retiring st w) s (Append w))
 begun_once v st s w e new c =
     let x : _ ≡ _ = move v st s (record (slot_at st s) { call = Some (record { place = Append w; queue = [] }) }) (idle_range st s e) in
     let y : _ ≡ _ = had v st s None (idle_call (slot_at st s) e) in
-    let k : one (w == v) + occ v (filter (λ x. not (x == w)) st.loose) + in_slots v st.slots + in_batches v st.batches + in_links v st.links + occ v st.gone ≤ 1 = go (is_true (w == v)) in
-    record {
-      once = omega arith;
-      unnamed = λ h. let n : (occ v st.named ≡ 0) × (one (w == v) ≡ 0) = named_after v w st.named h in omega (arith, c.unnamed n.0, le v w st.loose);
-    }
+    let k : (rest ≡ occ v named) × (occ v named ≤ 1) = go (is_true (w == v)) in
+    record { once = omega (arith, k.0, k.1); all = omega (arith, k.0) }
   where
-    le : (v w : ℕ) (xs : List ℕ) → occ v (filter (λ x. not (x == w)) xs) ≤ occ v xs
-    le v w [] = omega arith
-    le v w (x ∷ xs) = grind (arith, le v w xs)
+    named : List ℕ
+    named = if has w st.named then st.named else st.named ++ w ∷ []
 
-    go : ((w == v) ≡ true) ⊎ ((w == v) ≡ false) → one (w == v) + occ v (filter (λ x. not (x == w)) st.loose) + in_slots v st.slots + in_batches v st.batches + in_links v st.links + occ v st.gone ≤ 1
-    go (inl t) =
-        let same : w ≡ v = eq_true w v t in
-        let own : one (w == v) ≡ 1 = ap one t in
-        let gone : occ v (filter (λ x. not (x == w)) st.loose) ≡ 0 = rw same (occ-filter_same v st.loose) in
-        let was : places v st ≤ occ v st.loose = from new in
-        omega (arith, c.once)
+    rest : ℕ
+    rest = one (w == v) + occ v (filter (λ x. not (x == w)) st.loose) + in_slots v st.slots + in_batches v st.batches + in_links v st.links + occ v st.gone
+
+    go : ((w == v) ≡ true) ⊎ ((w == v) ≡ false) → (rest ≡ occ v named) × (occ v named ≤ 1)
+    go (inl t) = from new (is_true (has w st.named))
       where
-        from : (has w st.named ≡ false) ⊎ (has w st.loose ≡ true) → places v st ≤ occ v st.loose
-        from (inl n) = omega (arith, c.unnamed (subst (λ k. occ k st.named ≡ 0) (eq_true w v t) (has_none w st.named n)))
-        from (inr n) = let k : 1 ≤ occ v st.loose = subst (λ k. 1 ≤ occ k st.loose) (eq_true w v t) (has_some w st.loose n) in omega (arith, c.once)
-    go (inr t) =
-        let other : w ≢ v = grind arith in
-        let own : one (w == v) ≡ 0 = ap one t in
-        let gone : _ ≡ _ = occ-filter_other v w st.loose other in
-        omega (arith, c.once)
+        own : one (w == v) ≡ 1
+        own = ap one t
+
+        gone : occ v (filter (λ x. not (x == w)) st.loose) ≡ 0
+        gone = let same : w ≡ v = eq_true w v t in rw same (occ-filter_same v st.loose)
+
+        more : (b : Bool) → has w st.named ≡ b → occ v named ≡ occ v st.named + (if b then 0 else one (w == v))
+        more b h = rw h (named_after v w st.named b h)
+
+        none : has w st.named ≡ false → occ v st.named ≡ 0
+        none h = subst (λ k. occ k st.named ≡ 0) (eq_true w v t) (has_none w st.named h)
+
+        from : (has w st.named ≡ false) ⊎ (has w st.loose ≡ true) → (has w st.named ≡ true) ⊎ (has w st.named ≡ false) → (rest ≡ occ v named) × (occ v named ≤ 1)
+        from (inl n) b = (omega (arith, own, gone, more false n, none n, c.all), omega (arith, own, more false n, none n))
+        from (inr n) (inl b) =
+            let k : 1 ≤ occ v st.loose = subst (λ k. 1 ≤ occ k st.loose) (eq_true w v t) (has_some w st.loose n) in
+            (omega (arith, own, gone, more true b, c.once, c.all), omega (arith, more true b, c.once, c.all))
+        from (inr n) (inr b) =
+            let k : 1 ≤ occ v st.loose = subst (λ k. 1 ≤ occ k st.loose) (eq_true w v t) (has_some w st.loose n) in
+            absurd (omega (arith, none b, c.all))
+    go (inr t) = (omega (arith, own, gone, same (has w st.named) refl, c.all), omega (arith, same (has w st.named) refl, c.once, c.all))
+      where
+        own : one (w == v) ≡ 0
+        own = ap one t
+
+        gone : occ v (filter (λ x. not (x == w)) st.loose) ≡ occ v st.loose
+        gone = let other : w ≢ v = grind arith in occ-filter_other v w st.loose other
+
+        same : (b : Bool) → has w st.named ≡ b → occ v named ≡ occ v st.named
+        same true h = rw h refl
+        same false h = rw h (omega (arith, own, occ-push v st.named w))
 
 swapped_once : (v : ℕ) (st : State) (l : ℕ) (new : Option ℕ) → l < length st.links → is_none_or_fresh st new ≡ true → Once v st → Once v (swapped st l new)
 swapped_once v st l new r fresh c =
@@ -147,8 +157,8 @@ swapped_once v st l new r fresh c =
     let y : _ ≡ _ = occ-append v st.loose (option_to_list (link_at st l)) in
     let z : _ ≡ _ = occ-append v st.named (option_to_list new) in
     let n : (occ v (option_to_list new) ≤ 1) × (1 ≤ occ v (option_to_list new) → occ v st.named ≡ 0) = newly new fresh in
-    let j : places v st + occ v (option_to_list new) ≤ 1 = joins _ _ c.once n.0 (λ h. c.unnamed (n.1 h)) in
-    record { once = omega arith; unnamed = λ h. omega (arith, c.unnamed (omega arith)) }
+    let j : places v st + occ v (option_to_list new) ≤ 1 = joins _ _ c.once n.0 (λ h. omega (arith, c.all, n.1 h)) in
+    record { once = omega arith; all = omega (arith, c.all) }
   where
     newly : (new : Option ℕ) → is_none_or_fresh st new ≡ true → (occ v (option_to_list new) ≤ 1) × (1 ≤ occ v (option_to_list new) → occ v st.named ≡ 0)
     newly None fresh = (omega arith, λ h. absurd (omega arith))
@@ -161,58 +171,58 @@ swapped_once v st l new r fresh c =
 pub once_step : (v size : ℕ) (st : State) (event : Event) (d : State × Answer) → Step size st event d → Once v st → Once v d.0
 once_step v size st event _ (Step.took_new s e least) c =
     let x : _ ≡ _ = sum_by_push (slot_has v) st.slots (record { used = true; batch = []; call = None }) in
-    record { once = omega (arith, c.once); unnamed = λ h. omega (arith, c.unnamed h) }
+    record { once = omega (arith, c.once); all = omega (arith, c.all) }
 once_step v size st event _ (Step.took_old s r e least) c =
     let x : _ ≡ _ = same_place v st s (record (slot_at st s) { used = true }) r refl in
-    record { once = omega (arith, c.once); unnamed = λ h. omega (arith, c.unnamed h) }
+    record { once = omega (arith, c.once); all = omega (arith, c.all) }
 once_step v size st event _ (Step.gave s e off) c =
     let x : _ ≡ _ = same_place v st s (record (slot_at st s) { used = false }) (idle_range st s e) refl in
-    record { once = omega (arith, c.once); unnamed = λ h. omega (arith, c.unnamed h) }
-once_step v size st event _ (Step.entered s e off) c = record { once = c.once; unnamed = c.unnamed }
+    record { once = omega (arith, c.once); all = omega (arith, c.all) }
+once_step v size st event _ (Step.entered s e off) c = record { once = c.once; all = c.all }
 once_step v size st event _ (Step.begun_retire s w e new) c = begun_once v st s w e new c
 once_step v size st event _ (Step.begun_other s job place e which exact) c =
     let k : place_has v place ≡ 0 = grind arith in
     let x : _ ≡ _ = move v st s (record (slot_at st s) { call = Some (record { place = place; queue = [] }) }) (idle_range st s e) in
     let y : _ ≡ _ = had v st s None (idle_call (slot_at st s) e) in
-    record { once = omega (arith, c.once); unnamed = λ h. omega (arith, c.unnamed h) }
+    record { once = omega (arith, c.once); all = omega (arith, c.all) }
 once_step v size st event _ (Step.put s w from before after place e which to after_is) c =
     let k : place_has v place ≡ 0 = grind arith in
     let f : occ v before + place_has v from ≡ occ v after + one (w == v) = grind arith in
     let p : _ ≡ _ = occ-push v (slot_at st s).batch w in
     let x : _ ≡ _ = move v st s (record { used = (slot_at st s).used; batch = (slot_at st s).batch ++ w ∷ []; call = Some (record { place = place; queue = after }) }) (in_range st s _ e) in
     let y : _ ≡ _ = had v st s _ e in
-    record { once = omega (arith, c.once); unnamed = λ h. omega (arith, c.unnamed h) }
+    record { once = omega (arith, c.once); all = omega (arith, c.all) }
 once_step v size st event _ (Step.marked s n next note marks queue e r k) c =
     let q : _ ≡ _ = mark_has v (is_active (head_at st n)) n note marks (slot_at st s).batch in
     let x : _ ≡ _ = move v st s (record (slot_at st s) { call = Some (record { place = marked_place (is_active (head_at st n)) n note marks (slot_at st s).batch; queue = queue }) }) (in_range st s _ e) in
     let y : _ ≡ _ = had v st s _ e in
-    record { once = omega (arith, c.once); unnamed = λ h. omega (arith, c.unnamed h) }
+    record { once = omega (arith, c.once); all = omega (arith, c.all) }
 once_step v size st event _ (Step.looked_at s a won m later queue e) c =
     let q : _ ≡ _ = looked_has v (head_at st m) a won m later in
     let x : _ ≡ _ = move v st s (record (slot_at st s) { call = Some (record { place = looked (head_at st m) a won m later; queue = queue }) }) (in_range st s _ e) in
     let y : _ ≡ _ = had v st s _ e in
-    record { once = omega (arith, c.once); unnamed = λ h. omega (arith, c.unnamed h) }
+    record { once = omega (arith, c.once); all = omega (arith, c.all) }
 once_step v size st event _ (Step.detached s next note marks queue e le) c =
     let q : _ ≡ _ = look_has v (length st.batches) 0 marks in
     let x : _ ≡ _ = move v st s (record { used = (slot_at st s).used; batch = []; call = Some (record { place = look (length st.batches) 0 marks; queue = queue }) }) (in_range st s _ e) in
     let z : _ ≡ _ = sum_by_push (λ batch. occ v batch.values) st.batches (record { values = (slot_at st s).batch; count = pos 0 }) in
     let y : _ ≡ _ = had v st s _ e in
-    record { once = omega (arith, c.once); unnamed = λ h. omega (arith, c.unnamed h) }
+    record { once = omega (arith, c.once); all = omega (arith, c.all) }
 once_step v size st event _ (Step.inserted s m a won later saw queue waiting e head_is) c =
     let q : _ ≡ _ = look_has v a (won + 1) later in
     let x : _ ≡ _ = move v st s (record (slot_at st s) { call = Some (record { place = look a (won + 1) later; queue = queue }) }) (in_range st s _ e) in
     let y : _ ≡ _ = had v st s _ e in
-    record { once = omega (arith, c.once); unnamed = λ h. omega (arith, c.unnamed h) }
+    record { once = omega (arith, c.once); all = omega (arith, c.all) }
 once_step v size st event _ (Step.lost s m a won later saw queue e differs) c =
     let x : _ ≡ _ = move v st s (record (slot_at st s) { call = Some (record { place = Look a won m later; queue = queue }) }) (in_range st s _ e) in
     let y : _ ≡ _ = had v st s _ e in
-    record { once = omega (arith, c.once); unnamed = λ h. omega (arith, c.unnamed h) }
+    record { once = omega (arith, c.once); all = omega (arith, c.all) }
 once_step v size st event _ (Step.added s a won queue d e h) c = subst (λ d. Once v d.0) (some_is _ _ h) (settles v st s a (Add a won) _ _ [] queue e refl c)
 once_step v size st event _ (Step.subtracted s a walk queue d e h) c = subst (λ d. Once v d.0) (some_is _ _ h) (settles v st s a (Rest [] (a ∷ walk)) _ _ walk queue e refl c)
 once_step v size st event _ (Step.swapped_out s stays queue e) c =
     let x : _ ≡ _ = move v st s (record (slot_at st s) { call = Some (record { place = Rest [] (waiting_at (head_at st s)); queue = queue }) }) (in_range st s _ e) in
     let y : _ ≡ _ = had v st s _ e in
-    record { once = omega (arith, c.once); unnamed = λ h. omega (arith, c.unnamed h) }
+    record { once = omega (arith, c.once); all = omega (arith, c.all) }
 once_step v size st event _ (Step.handed s w puts given walk queue e new) c =
     let n : (occ v puts ≤ 1) × (1 ≤ occ v puts → occ v st.named ≡ 0) = are_fresh-occ v st.named puts new in
     let q : _ ≡ _ = occ-append v queue puts in
@@ -220,12 +230,12 @@ once_step v size st event _ (Step.handed s w puts given walk queue e new) c =
     let m : _ ≡ _ = occ-append v st.named puts in
     let x : _ ≡ _ = move v st s (record (slot_at st s) { call = Some (record { place = Rest given walk; queue = queue ++ puts }) }) (in_range st s _ e) in
     let y : _ ≡ _ = had v st s _ e in
-    let j : places v st + occ v puts ≤ 1 = joins _ _ c.once n.0 (λ h. c.unnamed (n.1 h)) in
-    record { once = omega arith; unnamed = λ h. omega (arith, c.unnamed (omega arith)) }
+    let j : places v st + occ v puts ≤ 1 = joins _ _ c.once n.0 (λ h. omega (arith, c.all, n.1 h)) in
+    record { once = omega arith; all = omega (arith, c.all) }
 once_step v size st event _ (Step.returned s e) c =
     let x : _ ≡ _ = move v st s (record (slot_at st s) { call = None }) (in_range st s _ e) in
     let y : _ ≡ _ = had v st s _ e in
-    record { once = omega (arith, c.once); unnamed = λ h. omega (arith, c.unnamed h) }
+    record { once = omega (arith, c.once); all = omega (arith, c.all) }
 once_step v size st event _ (Step.read s l e) c = c
 once_step v size st event _ (Step.exchanged s l exchange new e fresh exact) c = swapped_once v st l new (lt_true _ _ (and_true _ _ e).1) fresh c
 once_step v size st event _ (Step.compared s l exchange e exact) c = c

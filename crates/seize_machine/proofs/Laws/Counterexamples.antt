@@ -1,13 +1,13 @@
 -- That the wrong machines break the laws: each list is legal, and what breaks the law is found by computation.
-use Rattle.std.proofs.Common.{ℕ, List, [], ◌∷◌, Option, Some, refl, arith}
+use Rattle.std.proofs.Common.{ℕ, List, [], ◌∷◌, Option, Some, refl, inl, arith}
 use Rattle.seize_machine.specs.Machine.State.{State, opening}
 use Rattle.seize_machine.specs.Machine.Event.{Event}
 use Rattle.seize_machine.specs.Machine.Next.{Transition}
 use Rattle.seize_machine.specs.Machine.History.{Moment, at_size, history}
-use Rattle.seize_machine.specs.Machine.Laws.{AtMostOnce, After, Quiet, Protection, Parts, Gone, Holders, NoLaterHolders, Tries, Breaks}
+use Rattle.seize_machine.specs.Machine.Laws.{AtMostOnce, After, Quiet, Protection, Whereabouts, Gone, Holders, NoLaterHolders, Tries, Breaks}
 use Rattle.seize_machine.specs.Machine.Rows.{added_beside_active}
-use Rattle.seize_machine.specs.Machine.Counterexamples.{nothing_given_up, retired_alone, given_up_unless_active, given_up_below_zero, counted_down_early, given_up_and_kept, counted_alone, handed_twice, given_up_and_forgotten, skipped_and_counted, skipped_and_added, one_value_more, retired_at_a_smaller_size, rest_passed_over, retired_beside_two, number_passed_over, read_last_alone, given_up_when_full, found_and_retired, fixed_note, made_before_put, retired_again, retired_twice, given_up_unretired, begun_alone, handed_alone, lost_at_any_time, lost_alone, left_in_the_link, found_after_its_retirement, joined_at_entry, entered_after_add, left_after_add, kept_by_a_refresh, refreshed_after_add, recorded_in_front, handed_in_order}
-use Rattle.seize_machine.proofs.Laws.Refuting.{not_once, not_after, not_before, not_just_once, not_protection, not_retired_since, not_quiet, not_parts, not_distinct, not_retired, not_gone, not_holders, not_listed, not_unparted, not_held, not_tries}
+use Rattle.seize_machine.specs.Machine.Counterexamples.{nothing_given_up, retired_alone, given_up_unless_active, given_up_below_zero, counted_down_early, given_up_and_kept, counted_alone, handed_twice, given_up_and_forgotten, skipped_and_counted, skipped_and_added, one_value_more, retired_at_a_smaller_size, rest_passed_over, retired_beside_two, number_passed_over, read_last_alone, given_up_when_full, found_and_retired, fixed_note, made_before_put, retired_again, retired_twice, given_up_unretired, begun_alone, handed_alone, lost_at_any_time, lost_alone, left_in_the_link, found_after_its_retirement, taken_out, out_and_forgotten, another_stored, joined_at_entry, entered_after_add, left_after_add, kept_by_a_refresh, refreshed_after_add, recorded_in_front, handed_in_order}
+use Rattle.seize_machine.proofs.Laws.Refuting.{not_once, not_after, not_before, not_just_once, not_protection, not_retired_since, not_quiet, not_distinct, not_forgotten, not_unretired, not_lost, not_unnamed, not_gone, not_holders, not_listed, not_unparted, not_held, not_tries}
 
 abbrev start : List (Option ℕ) → State
 start links = opening 0 links
@@ -30,11 +30,11 @@ given_up_below_zero_breaks_after = (refl, refl, not_after (start []) (moments gi
 pub retired_again_breaks_at_most_once : Breaks retired_again [] (at_size 2 handed_twice) AtMostOnce
 retired_again_breaks_at_most_once = (refl, refl, not_once (start []) (moments retired_again [] 2 handed_twice) 7 9 10 (_, refl, refl) (_, refl, refl) refl)
 
-pub given_up_and_kept_breaks_parts : Breaks given_up_and_kept [] (at_size 1 counted_alone) Parts
-given_up_and_kept_breaks_parts = (refl, refl, not_distinct (start []) (moments given_up_and_kept [] 1 counted_alone) refl)
+pub given_up_and_kept_breaks_whereabouts : Breaks given_up_and_kept [] (at_size 1 counted_alone) Whereabouts
+given_up_and_kept_breaks_whereabouts = (refl, refl, not_distinct (start []) (moments given_up_and_kept [] 1 counted_alone) refl)
 
-pub given_up_and_forgotten_breaks_parts : Breaks given_up_and_forgotten [] (at_size 1 retired_alone) Parts
-given_up_and_forgotten_breaks_parts = (refl, refl, not_parts (start []) (moments given_up_and_forgotten [] 1 retired_alone) 7 2 (_, refl, refl) refl)
+pub given_up_and_forgotten_breaks_whereabouts : Breaks given_up_and_forgotten [] (at_size 1 retired_alone) Whereabouts
+given_up_and_forgotten_breaks_whereabouts = (refl, refl, not_forgotten (start []) (moments given_up_and_forgotten [] 1 retired_alone) 7 2 (_, refl, refl) refl)
 
 pub skipped_and_counted_breaks_quiet : Breaks skipped_and_counted [] (at_size 1 skipped_and_added) Quiet
 skipped_and_counted_breaks_quiet = (refl, refl, not_quiet (start []) (moments skipped_and_counted [] 1 skipped_and_added) 7 4 refl (_, refl, refl) refl 1 refl refl)
@@ -63,8 +63,8 @@ retired_again_breaks_after = (refl, refl, not_just_once (start []) (moments reti
 pub given_up_unretired_breaks_after : Breaks given_up_unretired [] (at_size 1 handed_alone) After
 given_up_unretired_breaks_after = (refl, refl, not_before (start []) (moments given_up_unretired [] 1 handed_alone) 7 2 (_, refl, refl) refl)
 
-pub given_up_unretired_breaks_parts : Breaks given_up_unretired [] (at_size 1 begun_alone) Parts
-given_up_unretired_breaks_parts = (refl, refl, not_retired (start []) (moments given_up_unretired [] 1 begun_alone) 7 (0, omega arith, refl) refl)
+pub given_up_unretired_breaks_whereabouts : Breaks given_up_unretired [] (at_size 1 begun_alone) Whereabouts
+given_up_unretired_breaks_whereabouts = (refl, refl, not_unretired (start []) (moments given_up_unretired [] 1 begun_alone) 7 (0, omega arith, refl) refl)
 
 pub lost_at_any_time_breaks_tries : Breaks lost_at_any_time [] (at_size 1 lost_alone) Tries
 lost_at_any_time_breaks_tries = (refl, refl, not_tries (start []) (moments lost_at_any_time [] 1 lost_alone) 0 1 3 _ refl refl refl)
@@ -72,6 +72,15 @@ lost_at_any_time_breaks_tries = (refl, refl, not_tries (start []) (moments lost_
 pub left_in_the_link_breaks_protection : Breaks left_in_the_link (Some 7 ∷ []) (at_size 1 found_after_its_retirement) Protection
 left_in_the_link_breaks_protection =
     (refl, refl, not_retired_since (start (Some 7 ∷ [])) (moments left_in_the_link (Some 7 ∷ []) 1 found_after_its_retirement) 1 7 10 20 (_, refl, refl, refl) (_, refl, refl) refl)
+
+pub left_in_the_link_breaks_whereabouts : Breaks left_in_the_link (Some 7 ∷ []) (at_size 1 taken_out) Whereabouts
+left_in_the_link_breaks_whereabouts = (refl, refl, not_distinct (start (Some 7 ∷ [])) (moments left_in_the_link (Some 7 ∷ []) 1 taken_out) refl)
+
+pub out_and_forgotten_breaks_whereabouts : Breaks out_and_forgotten (Some 7 ∷ []) (at_size 1 taken_out) Whereabouts
+out_and_forgotten_breaks_whereabouts = (refl, refl, not_lost (start (Some 7 ∷ [])) (moments out_and_forgotten (Some 7 ∷ []) 1 taken_out) 7 (inl (0, omega arith, refl)) refl)
+
+pub another_stored_breaks_whereabouts : Breaks another_stored (Some 7 ∷ []) (at_size 1 taken_out) Whereabouts
+another_stored_breaks_whereabouts = (refl, refl, not_unnamed (start (Some 7 ∷ [])) (moments another_stored (Some 7 ∷ []) 1 taken_out) 9 (0, omega arith, refl) refl refl)
 
 pub joined_at_entry_breaks_no_later_holders : Breaks joined_at_entry [] (at_size 1 entered_after_add) NoLaterHolders
 joined_at_entry_breaks_no_later_holders = (refl, refl, not_listed (start []) (moments joined_at_entry [] 1 entered_after_add) 0 10 0 _ refl refl (0, omega arith, refl) refl)

@@ -4,9 +4,9 @@ use Rattle.std.specs.Prelude.{take, drop, slice_get, zero, suc}
 use Rattle.std.specs.List.{Contains, list_any, count_by}
 use Rattle.std.proofs.lemmas.List.{get_or_past}
 use Rattle.std.proofs.lemmas.List.Folds.{list_any_at}
-use Rattle.seize_machine.specs.Machine.State.{State, Slot, no_slot, Inactive, slot_at, head_at, batch_at, waiting_at, has, are_distinct}
-use Rattle.seize_machine.specs.Machine.History.{Moment, end_of, answers_of, retired_value, handed_value, handed, is_swap_out, Reclaimed, Retired, Found, IsActiveAt, HasParted}
-use Rattle.seize_machine.specs.Machine.Laws.{AtMostOnce, After, Quiet, is_quiet, bound, PutsWithin, IsBatched, Protection, Parts, parts, Gone, Holders, Lists, Walks, added_by, NoLaterHolders, walk_of, detached_by, IsHeld, begins, during, changes_head, is_lost, Tries}
+use Rattle.seize_machine.specs.Machine.State.{State, Slot, no_slot, Inactive, slot_at, head_at, batch_at, waiting_at, has, linked, are_distinct}
+use Rattle.seize_machine.specs.Machine.History.{Moment, end_of, answers_of, named_by, WasNamed, retired_value, handed_value, handed, is_swap_out, Reclaimed, Retired, Found, IsActiveAt, HasParted}
+use Rattle.seize_machine.specs.Machine.Laws.{AtMostOnce, After, Quiet, is_quiet, bound, PutsWithin, IsBatched, Protection, Whereabouts, places, from_retirement, Gone, Holders, Lists, Walks, added_by, NoLaterHolders, walk_of, detached_by, IsHeld, begins, during, changes_head, is_lost, Tries}
 use Rattle.seize_machine.specs.Machine.Next.{same_list}
 use Rattle.seize_machine.proofs.Steps.Relation.{is_true, some_is, same_list-refl}
 use Rattle.seize_machine.proofs.Lists.Histories.{some_moment, none_in}
@@ -93,13 +93,30 @@ not_quiet st ms v q ends retired never size sizes none quiet = go (quiet ends v 
         (both _ _ (contained (slot_at (end_of st ms) h.0).batch v h.1) (short _ _ (h.2 size sizes))))
         none
 
--- a value is retired and stands nowhere
-pub not_parts : (st : State) (ms : List Moment) (v q : ℕ) → Retired ms v q → has v (parts (end_of st ms)) ≡ false → ¬ (Parts st ms)
-not_parts st ms v q retired none law = not_both (has v (parts (end_of st ms))) (contained (parts (end_of st ms)) v ((law.1 v).1 (q, retired))) none
+-- a value is in two places
+pub not_distinct : (st : State) (ms : List Moment) → are_distinct (places (end_of st ms)) ≡ false → ¬ (Whereabouts st ms)
+not_distinct st ms twice law = not_both (are_distinct (places (end_of st ms))) law.0 twice
 
--- a value stands in two places
-pub not_distinct : (st : State) (ms : List Moment) → are_distinct (parts (end_of st ms)) ≡ false → ¬ (Parts st ms)
-not_distinct st ms twice law = not_both (are_distinct (parts (end_of st ms))) law.0 twice
+-- a value was named and is in no place
+pub not_lost : (st : State) (ms : List Moment) (v : ℕ) → WasNamed st ms v → has v (places (end_of st ms)) ≡ false → ¬ (Whereabouts st ms)
+not_lost st ms v named none law = not_both (has v (places (end_of st ms))) (contained (places (end_of st ms)) v ((law.1 v).1 named)) none
+
+-- whether some event names the value
+abbrev pub named_ever : ℕ → List Moment → Bool
+named_ever v ms = list_any (λ m. has v (named_by m.timed.event m.answer)) ms
+
+-- a value that was never named is in a place
+pub not_unnamed : (st : State) (ms : List Moment) (v : ℕ) → Contains (places (end_of st ms)) v → has v (linked st.links) ≡ false → named_ever v ms ≡ false → ¬ (Whereabouts st ms)
+not_unnamed st ms v stands at_first never law = go ((law.1 v).0 stands)
+  where
+    go : WasNamed st ms v → ⊥
+    go (inl h) = not_both (has v (linked st.links)) (contained (linked st.links) v h) at_first
+    go (inr h) =
+        not_both (named_ever v ms) (some_moment (λ m. has v (named_by m.timed.event m.answer)) ms h.0 h.1 h.2 (contained (named_by h.1.timed.event h.1.answer) v h.3)) never
+
+-- a value was retired and is in no place of retired values
+pub not_forgotten : (st : State) (ms : List Moment) (v q : ℕ) → Retired ms v q → has v (from_retirement (end_of st ms)) ≡ false → ¬ (Whereabouts st ms)
+not_forgotten st ms v q retired none law = not_both (has v (from_retirement (end_of st ms))) (contained (from_retirement (end_of st ms)) v ((law.2 v).1 (q, retired))) none
 
 -- whether some event retires the value
 abbrev pub retired_ever : ℕ → List Moment → Bool
@@ -108,9 +125,9 @@ retired_ever v ms = list_any (λ m. is_value v (retired_value m.before m.timed.e
 has_retired : (ms : List Moment) (v q : ℕ) → Retired ms v q → retired_ever v ms ≡ true
 has_retired ms v q h = some_moment (λ m. is_value v (retired_value m.before m.timed.event)) ms q h.0 h.1 (value_found v (retired_value h.0.before h.0.timed.event) h.2)
 
--- a value that was never retired stands somewhere
-pub not_retired : (st : State) (ms : List Moment) (v : ℕ) → Contains (parts (end_of st ms)) v → retired_ever v ms ≡ false → ¬ (Parts st ms)
-not_retired st ms v stands never law = let r : (q : ℕ) × Retired ms v q = (law.1 v).0 stands in not_both (retired_ever v ms) (has_retired ms v r.0 r.1) never
+-- a value that was never retired is in a place of retired values
+pub not_unretired : (st : State) (ms : List Moment) (v : ℕ) → Contains (from_retirement (end_of st ms)) v → retired_ever v ms ≡ false → ¬ (Whereabouts st ms)
+not_unretired st ms v stands never law = let r : (q : ℕ) × Retired ms v q = (law.2 v).0 stands in not_both (retired_ever v ms) (has_retired ms v r.0 r.1) never
 
 -- a value is handed that was never retired
 pub not_before : (st : State) (ms : List Moment) (v c : ℕ) → Reclaimed ms v c → retired_ever v ms ≡ false → ¬ (After st ms)

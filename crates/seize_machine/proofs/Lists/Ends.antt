@@ -1,15 +1,20 @@
 -- The state at the end of a history: what it shows of its moments.
-use Rattle.std.proofs.Common.{◌≡◌, ℕ, zero, suc, ◌+◌, ◌≤◌, max, Bool, true, false, not, ◌||◌, nat_lt, nat_le, List, [], ◌∷◌, get_or, replicate, Option, Some, None, refl, ◌∙◌, ap, subst, ◌⊎◌, inl, inr, arith}
-use Rattle.std.specs.List.{slice_get, list_all}
+use Rattle.std.proofs.Common.{◌≡◌, ℕ, zero, suc, ◌+◌, ◌≤◌, max, Bool, true, false, not, ◌||◌, nat_lt, nat_le, List, [], ◌∷◌, get_or, replicate, Option, Some, None, refl, sym, ◌∙◌, ap, subst, ◌⊎◌, inl, inr, arith}
+use Rattle.std.specs.Prelude.{if◌then◌else◌, ◌==◌, ◌++◌, option_to_list}
+use Rattle.std.specs.List.{Contains, slice_get, list_all}
 use Rattle.std.proofs.lemmas.List.{get_or-replicate, get_or_past, length-replicate}
-use Rattle.seize_machine.specs.Machine.State.{no_slot, State, opening}
-use Rattle.seize_machine.specs.Machine.Event.{Event}
+use Rattle.seize_machine.specs.Machine.State.{no_slot, State, link_at, has, linked, opening}
+use Rattle.seize_machine.specs.Machine.Event.{Event, Begin, ExchangeLink}
 use Rattle.seize_machine.specs.Machine.Next.{Outcome, next}
-use Rattle.seize_machine.specs.Machine.History.{Timed, Moment, end_of, retired_value, handed_value, Retired, Reclaimed}
+use Rattle.seize_machine.specs.Machine.History.{Timed, Moment, end_of, named_by, WasNamed, retired_value, handed_value, Retired, Reclaimed}
 use Rattle.seize_machine.specs.Machine.Laws.{is_put, PutsWithin}
+use Rattle.seize_machine.specs.declared.machine.event.Job.{Job}
+use Rattle.seize_machine.specs.declared.machine.event.Job.TheVariants.{Retire, Flush, Leave, Refresh}
 use Rattle.seize_machine.specs.declared.machine.event.Answer.{Answer}
-use Rattle.seize_machine.proofs.Steps.Relation.{Step, step_of, is_true, lt_true, le_true, and_true, some_is}
-use Rattle.seize_machine.proofs.Counting.Sums.{occ, occ-push}
+use Rattle.seize_machine.specs.declared.machine.event.Answer.TheVariants.{Done, Link}
+use Rattle.seize_machine.proofs.Steps.Relation.{Step, beginning, step_of, is_true, eq_true, lt_true, le_true, and_true, some_is}
+use Rattle.seize_machine.proofs.Counting.Sums.{one, occ, occ-append, occ-push, has_some}
+use Rattle.seize_machine.proofs.Counting.Occurrences.{contains_some, some_contained}
 use Rattle.seize_machine.proofs.Invariants.Parts.{parts, parts_step, is_value}
 use Rattle.seize_machine.proofs.Invariants.Fits.{Fits, fits_step}
 use Rattle.seize_machine.proofs.Invariants.Always.{Inv, inv_step}
@@ -119,3 +124,98 @@ if_retired v = if_brought v (parts v) (λ m. retired_value m.before m.timed.even
 
 pub reclaimed_if : (v : ℕ) (ts : List Timed) (st : State) → occ v st.gone ≡ 0 → 1 ≤ occ v (end_of st (run st ts)).gone → (c : ℕ) × Reclaimed (run st ts) v c
 reclaimed_if v = brought_if v (λ st. occ v st.gone) (λ m. handed_value m.answer) (gone_grow v)
+
+-- after an event these are named, as is all that was, and nothing else
+abbrev AddsNames : ℕ → State → List ℕ → State → Type 0
+AddsNames v st new later = (occ v st.named ≤ occ v later.named) × (occ v new ≤ occ v later.named) × (occ v later.named ≤ occ v st.named + occ v new)
+
+named_step : (v size : ℕ) (st : State) (event : Event) (d : State × Answer) → Step size st event d → AddsNames v st (named_by event d.1) d.0
+named_step v size st event _ (Step.begun_retire s w e new) = go (has w st.named) refl
+  where
+    go : (b : Bool) → has w st.named ≡ b → AddsNames v st (w ∷ []) (record st { named = if b then st.named else st.named ++ w ∷ [] })
+    go true h = (omega arith, known (is_true (w == v)), omega arith)
+      where
+        known : ((w == v) ≡ true) ⊎ ((w == v) ≡ false) → one (w == v) + 0 ≤ occ v st.named
+        known (inl t) =
+            let own : one (w == v) ≡ 1 = ap one t in
+            let k : 1 ≤ occ v st.named = subst (λ k. 1 ≤ occ k st.named) (eq_true w v t) (has_some w st.named h) in
+            omega arith
+        known (inr t) = let own : one (w == v) ≡ 0 = ap one t in omega arith
+    go false h = let more : _ ≡ _ = occ-push v st.named w in (omega arith, omega arith, omega arith)
+named_step v size st event _ (Step.begun_other s job place e which exact) = rw (none job exact.1) (omega arith, omega arith, omega arith)
+  where
+    none : (job : Job) → beginning st s job ≡ Some place → named_by (Begin s job) Done ≡ []
+    none (Retire w) h = absurd (cc)
+    none Flush h = refl
+    none Leave h = refl
+    none Refresh h = refl
+named_step v size st event _ (Step.handed s w puts given_on walk queue e new) =
+    let more : _ ≡ _ = occ-append v st.named puts in (omega arith, omega arith, omega arith)
+named_step v size st event _ (Step.exchanged s l exchange new e fresh exact) =
+    let same : named_by (ExchangeLink s l exchange) (Link (link_at st l)) ≡ option_to_list new = rw exact.1 (ap option_to_list (sym exact.0)) in
+    let more : _ ≡ _ = occ-append v st.named (option_to_list new) in
+    rw same (omega arith, omega arith, omega arith)
+named_step v size st event _ (Step.compared s l exchange e exact) =
+    let same : named_by (ExchangeLink s l exchange) (Link (link_at st l)) ≡ [] = rw exact.1 refl in
+    rw same (omega arith, omega arith, omega arith)
+named_step v size st event _ (Step.added s a won queue d e k) = subst (λ d. AddsNames v st [] d.0) (some_is _ _ k) (omega arith, omega arith, omega arith)
+named_step v size st event _ (Step.subtracted s a walk queue d e k) = subst (λ d. AddsNames v st [] d.0) (some_is _ _ k) (omega arith, omega arith, omega arith)
+named_step v size st event _ _ = (omega arith, omega arith, omega arith)
+
+-- v was named at first, or an event named it: just then it is named at the end
+abbrev NamedIn : ℕ → State → List Moment → Type 0
+NamedIn v st ms = (1 ≤ occ v st.named) ⊎ ((e : ℕ) × (m : Moment) × (slice_get ms e ≡ Some m) × Contains (named_by m.timed.event m.answer) v)
+
+if_in : (v : ℕ) (ts : List Timed) (st : State) → NamedIn v st (run st ts) → 1 ≤ occ v (end_of st (run st ts)).named
+if_in v [] st (inl n) = n
+if_in v [] st (inr n) = none_in n.0 n.1 n.2
+if_in v (t ∷ ts) st n = go (next t.size st t.event) refl n (λ st. if_in v ts st)
+  where
+    go : (o : Outcome) → next t.size st t.event ≡ o → NamedIn v st (from_first o st t ts)
+        → ((st : State) → NamedIn v st (run st ts) → 1 ≤ occ v (end_of st (run st ts)).named) → 1 ≤ occ v (end_of st (from_first o st t ts)).named
+    go None e (inl n) ih = n
+    go None e (inr n) ih = none_in n.0 n.1 n.2
+    go (Some d) e n ih = ih d.0 (at n)
+      where
+        step : AddsNames v st (named_by t.event d.1) d.0
+        step = named_step v t.size st t.event d (step_of t.size st t.event d e)
+
+        at : NamedIn v st (from_first (Some d) st t ts) → NamedIn v d.0 (run d.0 ts)
+        at (inl n) = inl (omega (arith, step.0))
+        at (inr (zero, m, here, names)) =
+            let m_is : moment_of st t d ≡ m = some_is _ _ here in
+            inl (omega (arith, step.1, some_contained v (named_by t.event d.1) (subst (λ (m : Moment). Contains (named_by m.timed.event m.answer) v) (sym m_is) names)))
+        at (inr (suc q, m, here, names)) = inr (q, m, here, names)
+
+in_if : (v : ℕ) (ts : List Timed) (st : State) → 1 ≤ occ v (end_of st (run st ts)).named → NamedIn v st (run st ts)
+in_if v [] st n = inl n
+in_if v (t ∷ ts) st n = go (next t.size st t.event) refl n (λ st. in_if v ts st)
+  where
+    go : (o : Outcome) → next t.size st t.event ≡ o → 1 ≤ occ v (end_of st (from_first o st t ts)).named
+        → ((st : State) → 1 ≤ occ v (end_of st (run st ts)).named → NamedIn v st (run st ts)) → NamedIn v st (from_first o st t ts)
+    go None e n ih = inl n
+    go (Some d) e n ih = at (ih d.0 n)
+      where
+        step : AddsNames v st (named_by t.event d.1) d.0
+        step = named_step v t.size st t.event d (step_of t.size st t.event d e)
+
+        first : (b : Bool) → nat_lt 0 (occ v st.named) ≡ b → 1 ≤ occ v (d.0).named → NamedIn v st (from_first (Some d) st t ts)
+        first true h n = inl (grind arith)
+        first false h n =
+            let none : occ v st.named ≡ 0 = grind arith in
+            inr (zero, moment_of st t d, refl, contains_some v (named_by t.event d.1) (omega (arith, step.2)))
+
+        at : NamedIn v d.0 (run d.0 ts) → NamedIn v st (from_first (Some d) st t ts)
+        at (inl n) = first (nat_lt 0 (occ v st.named)) refl n
+        at (inr n) = inr (suc n.0, n.1, n.2, n.3)
+
+pub named_if : (v : ℕ) (ts : List Timed) (slots : ℕ) (links : List (Option ℕ)) → 1 ≤ occ v (end_of (opening slots links) (run (opening slots links) ts)).named → WasNamed (opening slots links) (run (opening slots links) ts) v
+named_if v ts slots links n = at (in_if v ts (opening slots links) n)
+  where
+    at : NamedIn v (opening slots links) (run (opening slots links) ts) → WasNamed (opening slots links) (run (opening slots links) ts) v
+    at (inl h) = inl (contains_some v (linked links) h)
+    at (inr h) = inr h
+
+pub if_named : (v : ℕ) (ts : List Timed) (slots : ℕ) (links : List (Option ℕ)) → WasNamed (opening slots links) (run (opening slots links) ts) v → 1 ≤ occ v (end_of (opening slots links) (run (opening slots links) ts)).named
+if_named v ts slots links (inl h) = if_in v ts (opening slots links) (inl (some_contained v (linked links) h))
+if_named v ts slots links (inr h) = if_in v ts (opening slots links) (inr h)

@@ -1,6 +1,6 @@
 -- Wrong machines, each the right scheme with one of its choices changed, and for each a list of events, legal under it, on which
 -- it breaks a law.
-use Rattle.std.specs.Prelude.{ℕ, ◌+◌, ℤ, pos, negsuc, ◌+ℤ◌, Bool, true, false, not, ◌&&◌, ◌==◌, if◌then◌else◌, nat_lt, nat_le, List, [], ◌∷◌, ◌++◌, map, length, slice_set, None}
+use Rattle.std.specs.Prelude.{ℕ, ◌+◌, ℤ, pos, negsuc, ◌+ℤ◌, Bool, true, false, not, ◌&&◌, ◌==◌, if◌then◌else◌, nat_lt, nat_le, List, [], ◌∷◌, ◌++◌, map, length, slice_set, Some, None}
 use Rattle.std.specs.List.{list_all}
 use Rattle.seize_machine.specs.Machine.State.{Batch, Head, Inactive, Active, Place, Mark, Try, Rest, is_active, waiting_at}
 use Rattle.seize_machine.specs.Machine.Event.{Event, Take, Enter, Begin, Put, ReadHead, Detach, Insert, AddCount, SwapOut, SubCount, Hand, Return, ReadLink, ExchangeLink}
@@ -181,6 +181,19 @@ found_after_its_retirement =
     Take 0 ∷ Take 1 ∷ Enter 0 ∷ ExchangeLink 0 0 (Swap None) ∷ Begin 0 Leave ∷ SwapOut 0 ∷ Return 0 ∷ Begin 0 (Retire 7) ∷ Put 0
     ∷ Enter 1 ∷ ReadLink 1 0 ∷ ReadHead 0 0 ∷ ReadHead 0 1 ∷ Detach 0 ∷ ReadHead 0 1 ∷ Insert 0 1 Won ∷ AddCount 0
     ∷ Begin 1 Leave ∷ SwapOut 1 ∷ SubCount 1 ∷ Hand 1 [] ∷ []
+
+-- Slot 0 takes 7 out of the only link. With `left_in_the_link` 7 is in the link and out of it.
+abbrev pub taken_out : List Event
+taken_out = Take 0 ∷ Enter 0 ∷ ExchangeLink 0 0 (Swap None) ∷ []
+
+-- **Out and forgotten.** What comes out of a link is nowhere: after `taken_out` 7 was named and is in no place.
+abbrev pub out_and_forgotten : Transition
+out_and_forgotten = next_by (record scheme { let_out = λ loose held. loose })
+
+-- **Another stored.** A link that is exchanged holds 9 in place of the value given. After `taken_out` 9 is in the link and was never
+-- named.
+abbrev pub another_stored : Transition
+another_stored = next_by (record scheme { stored = λ old new. Some 9 })
 
 -- the numbers of the batches that are not given up, counted from n, and the same batches with counts one higher
 abbrev pub live_from : ℕ → List Batch → List ℕ

@@ -1,9 +1,10 @@
 -- Lists of events: what becomes of them, which are legal, and positions in them, counted from 0.
-use Rattle.std.specs.Prelude.{◌≡◌, ℕ, ◌<◌, Bool, true, false, ◌==◌, List, [], ◌∷◌, map, slice_get, Option, Some, None, option_to_list}
-use Rattle.std.specs.List.{list_all, flat_map}
+use Rattle.std.specs.Prelude.{◌≡◌, ℕ, ◌<◌, ◌⊎◌, Bool, true, false, ◌==◌, if◌then◌else◌, List, [], ◌∷◌, map, slice_get, Option, Some, None, option_to_list}
+use Rattle.std.specs.List.{Contains, list_all, flat_map}
 use Rattle.seize_machine.specs.Machine.State.{State, Call, Place, Append, Rest, slot_at, head_at, is_active, linked, are_distinct, opening}
-use Rattle.seize_machine.specs.Machine.Event.{Event, Put, SwapOut, ReadLink, ExchangeLink}
-use Rattle.seize_machine.specs.Machine.Next.{Outcome, Transition, next}
+use Rattle.seize_machine.specs.Machine.Event.{Event, Begin, Put, SwapOut, Hand, ReadLink, ExchangeLink}
+use Rattle.seize_machine.specs.Machine.Next.{Outcome, Transition, next, new_link, is_stored}
+use Rattle.seize_machine.specs.declared.machine.event.Job.TheVariants.{Retire}
 use Rattle.seize_machine.specs.declared.machine.event.Answer.{Answer}
 use Rattle.seize_machine.specs.declared.machine.event.Answer.TheVariants.{Handed, Link, Illegal}
 
@@ -111,6 +112,20 @@ is_link_event s _ = false
 abbrev pub is_swap_out : ℕ → Event → Bool
 is_swap_out s (SwapOut i) = i == s
 is_swap_out s _ = false
+
+-- the values that an event with this answer names: the one that a call begins to retire, those that a reclaimer puts, the one that is
+-- stored in a link
+abbrev pub named_by : Event → Answer → List ℕ
+named_by (Begin s (Retire v)) answer = v ∷ []
+named_by (Hand s puts) answer = puts
+named_by (ExchangeLink s l exchange) answer = if is_stored (linked_value answer) exchange then option_to_list (new_link exchange) else []
+named_by event answer = []
+
+-- v was in a link at the opening, or an event named it
+abbrev pub WasNamed : State → List Moment → ℕ → Type 0
+WasNamed st ms v =
+    Contains (linked st.links) v
+    ⊎ ((e : ℕ) × (m : Moment) × (slice_get ms e ≡ Some m) × Contains (named_by m.timed.event m.answer) v)
 
 -- event q retires v: it appends v to a batch
 abbrev pub Retired : List Moment → ℕ → ℕ → Type 0

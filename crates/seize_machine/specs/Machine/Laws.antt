@@ -2,10 +2,10 @@
 -- of a legal list is a legal list, so what a law says of the end of a list, it says before every event.
 use Rattle.std.specs.Prelude.{◌≡◌, ℕ, ◌<◌, ◌≤◌, ◌↔◌, ◌⊎◌, Bool, true, false, not, ◌&&◌, ◌||◌, ◌==◌, nat_le, max, List, [], ◌∷◌, ◌++◌, length, slice_get, Option, Some, None, is_some}
 use Rattle.std.specs.List.{Contains, list_all, flat_map, count_by, take_while}
-use Rattle.seize_machine.specs.Machine.State.{State, Call, Head, Inactive, Active, Look, Try, Add, Rest, slot_at, head_at, batch_at, is_active, waiting_at, linked, are_distinct, opening}
+use Rattle.seize_machine.specs.Machine.State.{State, Call, Head, Inactive, Active, Append, Look, Try, Add, Rest, slot_at, head_at, batch_at, is_active, waiting_at, linked, are_distinct, opening}
 use Rattle.seize_machine.specs.Machine.Event.{Event, Begin, Put, Insert, AddCount, Return, slot_of}
 use Rattle.seize_machine.specs.Machine.Next.{Transition, next, same_list}
-use Rattle.seize_machine.specs.Machine.History.{Timed, Moment, history, answers_of, end_of, are_legal, Legal, handed, Retired, Reclaimed, Found, IsActiveAt, HasParted}
+use Rattle.seize_machine.specs.Machine.History.{Timed, Moment, history, answers_of, end_of, are_legal, Legal, handed, WasNamed, Retired, Reclaimed, Found, IsActiveAt, HasParted}
 use Rattle.seize_machine.specs.declared.machine.event.Answer.{Answer}
 use Rattle.seize_machine.specs.declared.machine.event.Try.TheVariants.{Lost}
 
@@ -52,21 +52,33 @@ Protection st ms =
     (s v e c : ℕ) → Found ms s v e → Reclaimed ms v c
     → ((q : ℕ) × (e < q) × (q < c) × Retired ms v q) × HasParted ms s e c
 
--- **Parts.** The values retired so far are, without overlap, those in slots' batches, those in retired batches, those
--- given up that wait for their reclaimer within a call, and those reclaimed.
+-- **Whereabouts.** Each value that was named is in exactly one place, and no other value is in any. Until it is retired, it is in a
+-- link, out of a link, or with a call that is to retire it. From then on it is in a slot's batch, in a retired batch, given up to a call
+-- that is to hand it to its reclaimer, or reclaimed.
+abbrev pub to_retire : Option Call → List ℕ
+to_retire None = []
+to_retire (Some call) = elim call.place [ Append v ↦ v ∷ call.queue | _ ↦ call.queue ]
+
+abbrev pub before_retirement : State → List ℕ
+before_retirement st = linked st.links ++ st.loose ++ flat_map (λ slot. to_retire slot.call) st.slots
+
 abbrev pub given_up : Option Call → List ℕ
 given_up None = []
 given_up (Some call) = elim call.place [ Rest given walk ↦ given | _ ↦ [] ]
 
-abbrev pub parts : State → List ℕ
-parts st =
+abbrev pub from_retirement : State → List ℕ
+from_retirement st =
     flat_map (λ slot. slot.batch) st.slots ++ flat_map (λ batch. batch.values) st.batches
     ++ flat_map (λ slot. given_up slot.call) st.slots ++ st.gone
 
-abbrev pub Parts : State → List Moment → Type 0
-Parts st ms =
-    (are_distinct (parts (end_of st ms)) ≡ true)
-    × ((v : ℕ) → Contains (parts (end_of st ms)) v ↔ ((q : ℕ) × Retired ms v q))
+abbrev pub places : State → List ℕ
+places st = before_retirement st ++ from_retirement st
+
+abbrev pub Whereabouts : State → List Moment → Type 0
+Whereabouts st ms =
+    (are_distinct (places (end_of st ms)) ≡ true)
+    × ((v : ℕ) → Contains (places (end_of st ms)) v ↔ WasNamed st ms v)
+    × ((v : ℕ) → Contains (from_retirement (end_of st ms)) v ↔ ((q : ℕ) × Retired ms v q))
 
 -- **Gone.** The values reclaimed are those handed to their reclaimers, in order.
 abbrev pub Gone : State → List Moment → Type 0

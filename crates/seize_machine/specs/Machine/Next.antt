@@ -45,6 +45,8 @@ pub record Scheme : Type 0 where
   pub left_by : Head → Bool → Head × List ℕ
   -- what a link holds in which a value, or none, is exchanged for another
   pub stored : (old new : Option ℕ) → Option ℕ
+  -- the values out of links, and what comes out of one more
+  pub let_out : List ℕ → Option ℕ → List ℕ
   -- the values reclaimed, and one more
   pub recorded : List ℕ → ℕ → List ℕ
 
@@ -365,7 +367,7 @@ abbrev pub swapped : Scheme → State → ℕ → Option ℕ → State
 swapped scheme st l new =
     record st {
       links = slice_set st.links l (scheme.stored (link_at st l) new);
-      loose = st.loose ++ option_to_list (link_at st l);
+      loose = scheme.let_out st.loose (link_at st l);
       named = st.named ++ option_to_list new;
     }
 
@@ -457,6 +459,7 @@ scheme =
       settled = λ st count values. all_if (is_zero count) values;
       left_by = swapped_head;
       stored = λ old new. new;
+      let_out = λ loose held. loose ++ option_to_list held;
       recorded = λ gone v. gone ++ v ∷ [];
     }
 

@@ -4,10 +4,10 @@ ghost use Rattle.std.specs.Prelude.{◌≡◌, Some, [], ◌∷◌, true};
 ghost use Rattle.seize_machine.specs.Machine.State.{opening, head_at, is_active};
 ghost use Rattle.seize_machine.specs.Machine.Event.{Give};
 ghost use Rattle.seize_machine.specs.Machine.History.{at_size, end_of, answers_of};
-ghost use Rattle.seize_machine.specs.Machine.Laws.{AtMostOnce, After, Quiet, Protection, Parts, Gone, Holders, NoLaterHolders, Tries, Breaks};
+ghost use Rattle.seize_machine.specs.Machine.Laws.{AtMostOnce, After, Quiet, Protection, Whereabouts, Gone, Holders, NoLaterHolders, Tries, Breaks};
 ghost use Rattle.seize_machine.specs.Machine.Rows.{run, walker_first, walker_first_answers, left_before_insertion, left_before_insertion_answers, back_before_insertion, back_before_insertion_answers, two_insertions, two_insertions_answers, added_beside_active, entered_before_add, entered_before_add_answers, is_illegal_throughout};
 ghost use Rattle.seize_machine.specs.Machine.Schedules.{retire_first, retire_first_answers, left_before_put, left_before_put_answers, left_before_attempt, left_before_attempt_answers, second_finishes_first, second_finishes_first_answers, left_before_both, left_before_both_answers};
-ghost use Rattle.seize_machine.specs.Machine.Counterexamples.{nothing_given_up, retired_alone, given_up_unless_active, given_up_below_zero, counted_down_early, given_up_and_kept, counted_alone, handed_twice, given_up_and_forgotten, skipped_and_counted, skipped_and_added, one_value_more, retired_at_a_smaller_size, rest_passed_over, retired_beside_two, number_passed_over, read_last_alone, given_up_when_full, found_and_retired, fixed_note, made_before_put, retired_again, retired_twice, given_up_unretired, begun_alone, handed_alone, lost_at_any_time, lost_alone, left_in_the_link, found_after_its_retirement, joined_at_entry, entered_after_add, left_after_add, kept_by_a_refresh, refreshed_after_add, recorded_in_front, handed_in_order};
+ghost use Rattle.seize_machine.specs.Machine.Counterexamples.{nothing_given_up, retired_alone, given_up_unless_active, given_up_below_zero, counted_down_early, given_up_and_kept, counted_alone, handed_twice, given_up_and_forgotten, skipped_and_counted, skipped_and_added, one_value_more, retired_at_a_smaller_size, rest_passed_over, retired_beside_two, number_passed_over, read_last_alone, given_up_when_full, found_and_retired, fixed_note, made_before_put, retired_again, retired_twice, given_up_unretired, begun_alone, handed_alone, lost_at_any_time, lost_alone, left_in_the_link, found_after_its_retirement, taken_out, out_and_forgotten, another_stored, joined_at_entry, entered_after_add, left_after_add, kept_by_a_refresh, refreshed_after_add, recorded_in_front, handed_in_order};
 
 /// Worked runs at size 1, from the opening with no slot made: the answers to their events.
 ///
@@ -46,8 +46,8 @@ pub fn counterexamples()
     ensures given_up_unless_active_breaks_holders { Breaks given_up_unless_active [] (at_size 1 added_beside_active) Holders }
     ensures given_up_below_zero_breaks_after { Breaks given_up_below_zero [] (at_size 2 counted_down_early) After }
     ensures retired_again_breaks_at_most_once { Breaks retired_again [] (at_size 2 handed_twice) AtMostOnce }
-    ensures given_up_and_kept_breaks_parts { Breaks given_up_and_kept [] (at_size 1 counted_alone) Parts }
-    ensures given_up_and_forgotten_breaks_parts { Breaks given_up_and_forgotten [] (at_size 1 retired_alone) Parts }
+    ensures given_up_and_kept_breaks_whereabouts { Breaks given_up_and_kept [] (at_size 1 counted_alone) Whereabouts }
+    ensures given_up_and_forgotten_breaks_whereabouts { Breaks given_up_and_forgotten [] (at_size 1 retired_alone) Whereabouts }
     ensures skipped_and_counted_breaks_quiet { Breaks skipped_and_counted [] (at_size 1 skipped_and_added) Quiet }
     ensures one_value_more_breaks_quiet { Breaks one_value_more [] retired_at_a_smaller_size Quiet }
     ensures rest_passed_over_breaks_after { Breaks rest_passed_over [] (at_size 1 retired_beside_two) After }
@@ -57,7 +57,10 @@ pub fn counterexamples()
     ensures fixed_note_breaks_after { Breaks fixed_note [] (at_size 1 made_before_put) After }
     ensures retired_again_breaks_after { Breaks retired_again [] (at_size 2 retired_twice) After }
     ensures given_up_unretired_breaks_after { Breaks given_up_unretired [] (at_size 1 handed_alone) After }
-    ensures given_up_unretired_breaks_parts { Breaks given_up_unretired [] (at_size 1 begun_alone) Parts }
+    ensures given_up_unretired_breaks_whereabouts { Breaks given_up_unretired [] (at_size 1 begun_alone) Whereabouts }
+    ensures left_in_the_link_breaks_whereabouts { Breaks left_in_the_link (Some 7 ∷ []) (at_size 1 taken_out) Whereabouts }
+    ensures out_and_forgotten_breaks_whereabouts { Breaks out_and_forgotten (Some 7 ∷ []) (at_size 1 taken_out) Whereabouts }
+    ensures another_stored_breaks_whereabouts { Breaks another_stored (Some 7 ∷ []) (at_size 1 taken_out) Whereabouts }
     ensures lost_at_any_time_breaks_tries { Breaks lost_at_any_time [] (at_size 1 lost_alone) Tries }
     ensures left_in_the_link_breaks_protection { Breaks left_in_the_link (Some 7 ∷ []) (at_size 1 found_after_its_retirement) Protection }
     ensures joined_at_entry_breaks_no_later_holders { Breaks joined_at_entry [] (at_size 1 entered_after_add) NoLaterHolders }

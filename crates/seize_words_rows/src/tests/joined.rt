@@ -1,54 +1,57 @@
 //! All words of one book, found by their numbers: by one caller, and by threads that share them.
-ghost use Rattle.seize_words_rows.specs.Entrants.{HasLinks, MayEnter, MayRead, MayReadAll};
+ghost use Rattle.seize_words_rows.specs.Entrants.{CanMake, HasLinks, MayEnter, MayRead, MayReadAll, made_by};
+ghost use Rattle.std.specs.Prelude.{◌≡◌};
 
-use crate::entrants::{Entered, Entrant, LINKS, meet, open, read_under};
-use crate::{joined_run, numbered_run, shared_numbers};
+use crate::entrants::{Entered, Entrant, LINKS, meet, open, read_under, walk_heads};
+use crate::lending::{lend_and_give_back, lend_and_note};
+use crate::{numbered_run, shared_numbers};
 use seize_words::note::Note;
 use seize_words::words::Words;
 use std::sync::Wait;
+use std::sync::atomic::AtomicU64;
 use std::test::*;
 use std::thread;
 use std::thread::Threads;
 
+// How many slots a thread makes.
+const MADE: usize = 100;
+
 // How often each thread swaps.
 const SWAPS: u64 = 5_000;
 
-// Two slots enter by their heads in the table. A value in a block of the store, which is lent, goes into one of two links, is found and
-// seen there, stays where an exchange loses, and comes out where one wins. What was lent for the exchange that loses is had back. Both
-// slots leave, and nothing waited.
+// A block is lent, read by its key, and had back, since its value was never named; then the store finds it again.
 #[test]
-fn a_block_goes_through_a_link(rt: HostRuntime) {
-    let Some((words, mut finder, mut other, mut pass)) = joined_run::begin(rt.alloc()) else {
+fn a_block_that_is_lent_is_had_back(rt: HostRuntime) {
+    let Some((words, _)) = open(rt.alloc()) else {
         panic!(rt; "no memory");
     };
-    let (first, second) = joined_run::enter(&words, &mut finder, &mut other, &mut pass);
-    let Some((before, lent)) = joined_run::put_in(&words, 70, &second, &mut pass) else {
+    let mut pass = words.blocks.book.pass();
+    let Some((number, seen, back)) = lend_and_give_back(&words.blocks, 70, &mut pass) else {
         panic!(rt; "no memory");
     };
-    let word = lent.number + 1;
-    assert_eq!(rt; (before, lent.value), (0, 70));
-    assert_eq!(rt;
-        joined_run::find(&words, lent, &first, &mut pass),
-        (0, word, 70)
-    );
-    let Some(lost) = joined_run::lose(&words, lent, 71, &second, &mut pass) else {
+    assert_eq!(rt; (seen, back), (70, 70));
+    let again = lend_and_give_back(&words.blocks, 71, &mut pass);
+    assert_eq!(rt; again, Some((number, 71, 71)));
+}
+
+// A block whose value was never named is noted while it is lent.
+#[test]
+fn a_block_that_is_lent_is_noted(rt: HostRuntime) {
+    let Some((words, _)) = open(rt.alloc()) else {
         panic!(rt; "no memory");
     };
-    assert_eq!(rt; (lost.found, lost.seen, lost.value), (word, 70, 71));
-    let (found, _) = joined_run::take_out(&words, lent, &second, &mut pass);
-    assert_eq!(rt; found, word);
-    assert_eq!(rt;
-        joined_run::leave(&words, 0, first, &mut finder, &mut pass),
-        1
-    );
-    assert_eq!(rt;
-        joined_run::leave(&words, 1, second, &mut other, &mut pass),
-        1
-    );
+    let mut pass = words.blocks.book.pass();
+    let note = Note {
+        next: 5,
+        slot: 6,
+        kept: 7,
+    };
+    let had = lend_and_note(&words.blocks, 70, note, &mut pass);
+    assert_eq!(rt; had, Some((70, note)));
 }
 
 // A value is retired over words that are found by their numbers. The reader counts its batch down first, below 0, and nothing is given up
-// with that; the other slot's one insertion brings it up to 0, and then the value goes to its reclaimer.
+// with that; the other slot's one insertion brings it up to 0, and gives it up.
 #[test]
 fn a_batch_is_counted_by_the_number_of_its_block(rt: HostRuntime) {
     let Some((words, mut reader, mut retirer, mut pass)) = numbered_run::begin(rt.alloc()) else {
@@ -68,8 +71,6 @@ fn a_batch_is_counted_by_the_number_of_its_block(rt: HostRuntime) {
     let counted = numbered_run::count_down(&words, &retired, &mut reader, &mut pass);
     assert_eq!(rt; counted, (false, u64::MAX));
     assert!(rt; numbered_run::count_up(&words, &mut retired, &mut retirer, &mut pass));
-    let value = numbered_run::hand(&words, retired, &mut retirer, &mut pass);
-    assert_eq!(rt; value, 70);
 }
 
 // Where many may append, the number of the first of two slots goes back, and is taken again as the least that is not in use. So the third
@@ -97,46 +98,25 @@ fn a_number_goes_back_and_is_taken_again(rt: HostRuntime) {
     assert_eq!(rt; (third.number, next.number()), (2, 3));
 }
 
-// A block is noted while a reader sees its value: the value comes out of the link meanwhile, and is what it was.
+// One thread makes 100 slots, whose heads go into the table, the last of them into its third bucket. Another walks the heads of all slots
+// that there are, first when there is none: each walk finds as many as the word says.
 #[test]
-fn a_seen_block_is_noted(rt: HostRuntime) {
-    let Some((words, mut finder, mut other, mut pass)) = joined_run::begin(rt.alloc()) else {
+fn heads_are_found_while_slots_are_made(rt: HostRuntime) {
+    let Some((words, source)) = open(rt.alloc()) else {
         panic!(rt; "no memory");
     };
-    let (first, second) = joined_run::enter(&words, &mut finder, &mut other, &mut pass);
-    let Some((_, lent)) = joined_run::put_in(&words, 70, &second, &mut pass) else {
-        panic!(rt; "no memory");
-    };
-    let note = Note {
-        next: 5,
-        slot: 6,
-        kept: 7,
-    };
-    let (seen, noted, key) = joined_run::note_beside(
-        &words, lent, &first, &second, note, &mut pass,
+    let sign = AtomicU64::new(0);
+    let (words, sign) = (&words, &sign);
+    let (made, walked) = thread::join(
+        &rt,
+        move || -> usize
+            requires { CanMake source words.now × (made_by source ≡ 0) }
+        { source.make_many(words, MADE, sign) },
+        move || -> Option<(usize, usize)>
+            requires { HasLinks words.now }
+        { walk_heads(words, MADE, sign) },
     );
-    assert_eq!(rt; (seen, noted), (70, note));
-    let left = joined_run::leave(&words, 0, first, &mut finder, &mut pass);
-    assert_eq!(rt; left, 1);
-    drop((key, other, second));
-}
-
-// A value that came out of a link is seen by its key, while a reader sees it by its activation: both see what went in.
-#[test]
-fn a_value_that_came_out_is_seen_by_its_key(rt: HostRuntime) {
-    let Some((words, mut finder, mut other, mut pass)) = joined_run::begin(rt.alloc()) else {
-        panic!(rt; "no memory");
-    };
-    let (first, second) = joined_run::enter(&words, &mut finder, &mut other, &mut pass);
-    let Some((_, lent)) = joined_run::put_in(&words, 70, &second, &mut pass) else {
-        panic!(rt; "no memory");
-    };
-    let (seen, peeked, key) = joined_run::peek_beside(&words, lent, &first, &second, &mut pass);
-    assert_eq!(rt; (seen, peeked), (70, 70));
-    let left = joined_run::leave(&words, 0, first, &mut finder, &mut pass);
-    assert_eq!(rt; left, 1);
-    assert_eq!(rt; joined_run::peek(&words, lent, &key), 70);
-    drop((key, other, second));
+    assert_eq!(rt; (made, walked), (MADE, Some((0, MADE))));
 }
 
 // Each of two threads swaps a value into one link, and then waits for that of the other and sees it: it holds only where both run.
@@ -162,6 +142,18 @@ fn each_thread_sees_what_the_other_put_in(rt: HostRuntime) {
         { two.swap_and_wait(words, 1, 0, 71) },
     );
     assert_eq!(rt; (saw_1, saw_2), (Some(71), Some(70)));
+}
+
+// An exchange that takes a link to hold nothing is lost where it holds something, and that is seen.
+#[test]
+fn what_a_lost_exchange_found_is_seen(rt: HostRuntime) {
+    let Some((words, source)) = open(rt.alloc()) else {
+        panic!(rt; "no memory");
+    };
+    let Some((one, _)) = source.make(&words) else {
+        panic!(rt; "no memory");
+    };
+    assert_eq!(rt; one.put_and_lose(&words, 0, 70), Some(70));
 }
 
 // Two threads swap. It gives the sum of the words put in, less those that came out.

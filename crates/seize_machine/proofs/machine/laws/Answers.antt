@@ -1,4 +1,4 @@
-use Rattle.seize_machine.proofs.Facts.{law_at_most_once, law_after, law_quiet, law_protection, law_parts, law_gone, law_holders, law_no_later_holders, law_tries}
+use Rattle.seize_machine.proofs.Facts.{law_at_most_once, law_after, law_quiet, law_protection, law_whereabouts, law_gone, law_holders, law_no_later_holders, law_tries}
 use Rattle.seize_machine.proofs.machine.laws.Goals as goal
 
 pub returns-clause-at_most_once : goal.returns-clause-at_most_once
@@ -13,8 +13,8 @@ returns-clause-quiet c = law_quiet
 pub returns-clause-protection : goal.returns-clause-protection
 returns-clause-protection c = law_protection
 
-pub returns-clause-parts : goal.returns-clause-parts
-returns-clause-parts c = law_parts
+pub returns-clause-whereabouts : goal.returns-clause-whereabouts
+returns-clause-whereabouts c = law_whereabouts
 
 pub returns-clause-gone : goal.returns-clause-gone
 returns-clause-gone c = law_gone

@@ -5,7 +5,7 @@ use Rattle.seize_book.specs.Kept.{AreTold}
 use Rattle.seize_words.specs.Joined.{words_book}
 use Rattle.seize_words_rows.specs.NumberedRuns.{value_in}
 use Rattle.seize_words_rows.specs.Runs.{counted_down, left, reader_over}
-use Rattle.seize_words_rows.proofs.NumberedRuns.{looked_at, named_down, word_down}
+use Rattle.seize_words_rows.proofs.NumberedRuns.{has_first, is_named, looked_at, word_down}
 use Rattle.seize_words_rows.proofs.Runs.{counts_down, returns_reader}
 use Rattle.seize_words_rows.proofs.Stages.{looks_on, sees_still, steps}
 use Rattle.seize_words_rows.proofs.Told.{told_looked, told_noted}
@@ -34,4 +34,4 @@ returns-clause-word c =
     let header = c.header-header in let load = c.load-word in
     let mid = looks_on n one.new.key one.new.key one.new.pass header.new.pass 0 (counted_down v) header.ensures.looks refl first.0 first.1 in
     let later = looks_on n one.new.key one.new.key header.new.pass load.new.pass 0 (counted_down v) load.ensures.looks refl mid.0 mid.1 in
-    load.ensures.shows ∙ word_down n load.new.pass header.result.now.count v later.0 (header.ensures.header.1 v (named_down n header.new.pass v mid.0) stands.0.its.number)
+    load.ensures.shows ∙ word_down n load.new.pass header.result.now.count v later.0 (header.ensures.header.1 v (is_named n header.new.pass (counted_down v) v mid.0 (has_first v)) stands.0.its.number)

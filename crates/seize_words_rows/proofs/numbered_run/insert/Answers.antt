@@ -1,4 +1,4 @@
-use Rattle.std.proofs.Common.{ℕ, [], arith, sym, subst, ap, ◌∙◌}
+use Rattle.std.proofs.Common.{ℕ, arith, sym, subst, ap, ◌∙◌}
 use Rattle.seize_machine.specs.Machine.Event.{Insert}
 use Rattle.seize_machine.specs.declared.machine.event.Answer.TheVariants.{Done}
 use Rattle.seize_book.specs.Chains.{first_field, next_field}
@@ -8,8 +8,7 @@ use Rattle.seize_words.specs.Joined.{words_book}
 use Rattle.seize_words_rows.specs.NumberedRuns.{value_in}
 use Rattle.seize_words_rows.specs.Runs.{inserted, looked}
 use Rattle.seize_words_rows.specs.Stages.{Goes}
-use Rattle.seize_words_rows.proofs.BlockRuns.{has_among, header_at}
-use Rattle.seize_words_rows.proofs.NumberedRuns.{is_of, is_there, stores, tries}
+use Rattle.seize_words_rows.proofs.NumberedRuns.{has_first, header_at, is_of, is_there, stores, tries}
 use Rattle.seize_words_rows.proofs.Runs.{inserts}
 use Rattle.seize_words_rows.proofs.Stages.{found, steps, uses_both}
 use Rattle.seize_words_rows.proofs.Told.{told_looked, told_noted, told_used}
@@ -18,7 +17,7 @@ use Rattle.seize_words_rows.proofs.numbered_run.insert.Goals as goal
 pub prepare-requires-clause-stores : goal.prepare-requires-clause-stores
 prepare-requires-clause-stores c =
     let n = words_book c.args.words.now in let retired = c.args.retired.now in let v = value_in retired in let key = c.args.retirer.now in let stands = c.requires.stands in let header = c.header-header.result.now in
-    let at = header_at n key c.args.pass.now c.header-header.new.pass 1 (looked v) v retired.lent.number header c.header-header.ensures.looks stands.1 stands.2 (has_among [] v []) stands.0.its.number c.header-header.ensures.header in (
+    let at = header_at n key c.args.pass.now c.header-header.new.pass 1 (looked v) v retired.lent.number header c.header-header.ensures.looks stands.1 stands.2 (has_first v) stands.0.its.number c.header-header.ensures.header in (
       stores n key v stands.2 next_field (number header.next) (header.its_next.1 ∙ ap next_field (sym at.0)),
       stores n key v stands.2 first_field (number header.first) (header.its_first.1 ∙ ap first_field (sym at.0)),
     )
@@ -26,14 +25,14 @@ prepare-requires-clause-stores c =
 pub insert-requires : goal.insert-requires
 insert-requires c =
     let n = words_book c.args.words.now in let retired = c.args.retired.now in let v = value_in retired in let key = c.args.retirer.now in let stands = c.requires.stands in let header = c.header-header.result.now in let one = c.prepare in
-    let at = header_at n key c.args.pass.now c.header-header.new.pass 1 (looked v) v retired.lent.number header c.header-header.ensures.looks stands.1 stands.2 (has_among [] v []) stands.0.its.number c.header-header.ensures.header in
+    let at = header_at n key c.args.pass.now c.header-header.new.pass 1 (looked v) v retired.lent.number header c.header-header.ensures.looks stands.1 stands.2 (has_first v) stands.0.its.number c.header-header.ensures.header in
     let after = uses_both n key one.new.key c.header-header.new.pass one.new.pass 1 _ _ _ _ (looked v) (looked v) one.ensures.uses at.1 stands.2 in
     (omega arith, ((sym after.0.book, is_of n one.new.key one.new.pass 1 (looked v) (looked v) after.0 after.1, is_there n one.new.pass (looked v) 0 after.0 (omega arith)), tries n one.new.key v after.1 retired.lent.number stands.0.its.number stands.0.its.fits one.ensures.written))
 
 pub returns-clause-found : goal.returns-clause-found
 returns-clause-found c =
     let n = words_book c.args.words.now in let retired = c.args.retired.now in let v = value_in retired in let key = c.args.retirer.now in let stands = c.requires.stands in let header = c.header-header.result.now in let one = c.prepare in let two = c.insert in
-    let at = header_at n key c.args.pass.now c.header-header.new.pass 1 (looked v) v retired.lent.number header c.header-header.ensures.looks stands.1 stands.2 (has_among [] v []) stands.0.its.number c.header-header.ensures.header in
+    let at = header_at n key c.args.pass.now c.header-header.new.pass 1 (looked v) v retired.lent.number header c.header-header.ensures.looks stands.1 stands.2 (has_first v) stands.0.its.number c.header-header.ensures.header in
     let after = uses_both n key one.new.key c.header-header.new.pass one.new.pass 1 _ _ _ _ (looked v) (looked v) one.ensures.uses at.1 stands.2 in
     let head = two.ensures.found in
     found n head.0 one.new.pass two.new.pass _ 0 two.result (looked v) head.1.0 head.1.1 two.ensures.noted.2.0 after.0 head.2
@@ -41,7 +40,7 @@ returns-clause-found c =
 pub returns-clause-stands : goal.returns-clause-stands
 returns-clause-stands c =
     let n = words_book c.args.words.now in let retired = c.args.retired.now in let v = value_in retired in let key = c.args.retirer.now in let stands = c.requires.stands in let header = c.header-header.result.now in let one = c.prepare in let two = c.insert in
-    let at = header_at n key c.args.pass.now c.header-header.new.pass 1 (looked v) v retired.lent.number header c.header-header.ensures.looks stands.1 stands.2 (has_among [] v []) stands.0.its.number c.header-header.ensures.header in
+    let at = header_at n key c.args.pass.now c.header-header.new.pass 1 (looked v) v retired.lent.number header c.header-header.ensures.looks stands.1 stands.2 (has_first v) stands.0.its.number c.header-header.ensures.header in
     let after = uses_both n key one.new.key c.header-header.new.pass one.new.pass 1 _ _ _ _ (looked v) (looked v) one.ensures.uses at.1 stands.2 in
     let head = two.ensures.found in
     let word = found n head.0 one.new.pass two.new.pass _ 0 two.result (looked v) head.1.0 head.1.1 two.ensures.noted.2.0 after.0 head.2 in

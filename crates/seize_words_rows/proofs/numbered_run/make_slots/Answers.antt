@@ -1,7 +1,7 @@
 use Rattle.std.proofs.Common.{ap, suc, ◌∙◌}
 use Rattle.seize_words.specs.Joined.{words_book}
 use Rattle.seize_words_rows.specs.Runs.{one_made, opened, two_made}
-use Rattle.seize_words_rows.proofs.JoinedRuns.{makes_slot}
+use Rattle.seize_words_rows.proofs.NumberedRuns.{makes_slot}
 use Rattle.seize_words_rows.proofs.Runs.{makes_one, makes_two}
 use Rattle.seize_words_rows.proofs.numbered_run.make_slots.Goals as goal
 

@@ -10,7 +10,7 @@ use Rattle.seize_book.specs.Others.{value_of}
 use Rattle.seize_book.specs.Private.{label_of, labels_of}
 use Rattle.seize_words.specs.Joined.{words_book}
 use Rattle.seize_words.proofs.Facts.{has_noted, last_closes, retired_told}
-use Rattle.seize_words_rows.specs.BlockRuns.{IsIn}
+use Rattle.seize_words_rows.specs.Lending.{IsIn}
 use Rattle.seize_words_rows.specs.Runs.{begun, entered, put, two_made}
 use Rattle.seize_words_rows.specs.Stages.{Leads}
 use Rattle.seize_words_rows.proofs.Runs.{begins, puts}

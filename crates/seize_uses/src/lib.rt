@@ -1,0 +1,10 @@
+//! Callers of `seize`, as README.md and CALLING.md show them: each says by its contract what a caller may count on.
+#![tactic(auto)]
+
+pub mod alone;
+pub mod list;
+pub mod machine;
+pub mod table;
+#[cfg(test)]
+mod tests;
+pub mod watched;

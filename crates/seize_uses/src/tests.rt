@@ -1,0 +1,84 @@
+//! Each caller once, where memory is there.
+
+use crate::alone::{Number, read_and_retire};
+use crate::list::{Node, PutNext, in_front};
+use crate::machine::with_active_slot;
+use crate::table::loaded_twice;
+use crate::watched::{Newest, retire_under_guard};
+use seize::thread_id::{Numbers, Thread};
+use seize::tls::ThreadLocal;
+use seize::{Collector, IdSource, Watch};
+use std::test::Fail;
+
+#[test]
+fn a_number_is_read_and_retired(rt: HostRuntime) -> Result<(), Fail> {
+    assert_eq!(rt; read_and_retire(rt.alloc(), Number(7))?, Some(Number(7)));
+    Ok(())
+}
+
+#[test]
+fn a_watch_is_told_once_the_guard_leaves(rt: HostRuntime) -> Result<(), Fail> {
+    let mut ids = IdSource::new();
+    let collector: Collector<Number> = Collector::new(rt.alloc(), &mut ids, 1, 0)?;
+    let mut collector = collector.batch_size(1);
+    let mut newest = Newest(None);
+    let mut alone = collector.alone();
+    let slot = alone.enter_owned()?;
+    let block = alone.owned(Number(7)).expect(&rt, "memory");
+    let number = alone.unlinked(block);
+    retire_under_guard(&mut alone, slot, number, &mut newest)?;
+    assert_eq!(rt; newest, Newest(None));
+    alone.leave(slot, &mut newest)?;
+    assert_eq!(rt; newest, Newest(Some(7)));
+    Ok(())
+}
+
+/// Counts nodes.
+#[derive(Drop)]
+struct Ended(u64);
+
+impl Watch<Node> for Ended {
+    ghost Seen = { Unit {0} };
+
+    ghost seen = { λ _. tt };
+
+    ghost told = { λ _ _. tt };
+
+    fn gone(&mut self, _node: &Node) {
+        self.0 = self.0.saturating_add(1);
+    }
+}
+
+#[test]
+fn a_list_ends_with_its_first_node(rt: HostRuntime) -> Result<(), Fail> {
+    let mut ids = IdSource::new();
+    let mut collector: Collector<Node, PutNext> = Collector::new(rt.alloc(), &mut ids, 1, 0)?;
+    let last = in_front(&collector, 2, None)?;
+    let first = in_front(&collector, 1, Some(last))?;
+    let mut alone = collector.alone();
+    let slot = alone.enter_owned()?;
+    let list = alone.unlinked(first);
+    match alone.retire(slot, list, PutNext, &mut ()) {
+        Ok(()) => {}
+        Err((_, _list)) => panic!(rt; "refused"),
+    }
+    let mut ended = Ended(0);
+    alone.reclaim_all(&mut ended);
+    assert_eq!(rt; ended.0, 2);
+    Ok(())
+}
+
+#[test]
+fn an_entry_keeps_its_first_value(rt: HostRuntime) -> Result<(), Fail> {
+    let mut numbers = Numbers::new(rt.alloc());
+    let thread = Thread::new(numbers.take()?).expect(&rt, "a place");
+    let table = ThreadLocal::with_capacity(rt.alloc(), 0)?;
+    assert_eq!(rt; loaded_twice(&table, thread)?, (1, 1));
+    Ok(())
+}
+
+#[test]
+fn a_slot_enters(rt: HostRuntime) -> Result<(), Fail> {
+    assert!(rt; with_active_slot(rt.alloc())?.active(0));
+    Ok(())
+}

@@ -1,0 +1,56 @@
+//! A watch: it is told of each value that is gone.
+ghost use Rattle.std.specs.Prelude.{◌≡◌, true, None, IfOk};
+ghost use Rattle.seize.specs.Waiting.Calls.{unused};
+ghost use Rattle.seize.specs.Waiting.State.{slot_at, is_active};
+ghost use Rattle.seize.specs.Blocks.{owner_of, block_of};
+ghost use Rattle.seize.specs.Collectors.{whose, state_of};
+
+use crate::alone::Number;
+use seize::reclaim::Boxed;
+use seize::waiting::batches;
+use seize::{Alone, Refusal, Unlinked, Watch};
+
+/// The number that was gone last.
+#[derive(Drop, Debug, PartialEq, Eq)]
+pub struct Newest(pub Option<u64>);
+
+impl Watch<Number> for Newest {
+    ghost use Rattle.std.specs.Prelude.{Option, Some, ℕ};
+
+    ghost Seen = { Option ℕ };
+
+    ghost seen = { λ newest. newest.0 };
+
+    ghost told = { λ _ value. Some value.0 };
+
+    fn gone(&mut self, value: &Number) {
+        self.0 = Some(value.0);
+    }
+}
+
+/// Retires a number by a slot that has a guard. Nothing is gone in this call, so the watch is told nothing.
+///
+/// # Errors
+///
+/// `NoMemory` where a growth was refused.
+pub fn retire_under_guard<'c>(
+    alone: &mut Alone<'c, Number>,
+    slot: usize,
+    number: Unlinked<'c, Number>,
+    newest: &mut Newest,
+) -> Result<(), Refusal>
+    requires own { owner_of (block_of number) ≡ (whose alone.old).name }
+    requires used { unused (state_of alone.old) slot ≡ None }
+    requires active { is_active (slot_at (state_of alone.old) slot) ≡ true }
+    ensures { IfOk result (λ _. newest.new.0 ≡ newest.old.0) }
+{
+    batches::<Number, Boxed>();
+    match alone.retire(slot, number, Boxed, newest) {
+        Ok(()) => {}
+        Err((_, _number)) => unreachable!(),
+    }
+    if alone.is_short() {
+        return Err(Refusal::NoMemory);
+    }
+    Ok(())
+}

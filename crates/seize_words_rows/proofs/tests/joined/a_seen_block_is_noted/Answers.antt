@@ -1,6 +1,0 @@
-use Rattle.seize_words_rows.proofs.tests.joined.a_seen_block_is_noted.Goals as goal
-
-pub note_beside-seen-requires-clause-words : goal.note_beside-seen-requires-clause-words
-note_beside-seen-requires-clause-words g c =
-    let both = c.enter-first in let begun = c.put_in.ensures.begun in
-    (c.in-Some.ensures.words, begun both.result.0 0 both.ensures.begun.0, begun both.result.1 1 both.ensures.begun.1)
