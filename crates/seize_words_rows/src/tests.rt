@@ -1,14 +1,13 @@
 //! Books, passes and keys in hand, and threads that step on words.
 ghost use Rattle.seize_words_rows.specs.Exchanges.{MayShare, MaySwap};
-ghost use Rattle.seize_words_rows.specs.Turning.{IsReady};
+ghost use Rattle.seize_words_rows.specs.Guests.{IsReady};
 ghost use Rattle.seize_words_rows.specs.Visits.{MayVisit};
 
 use crate::exchanges::{EACH, Exchanged, Swapper, learn_and_read, read_many, share_many};
-use crate::homing::catch_up;
+use crate::guests::open_off;
 use crate::leaving::{Visitor, leave_head};
 use crate::making::open;
 use crate::row::{open_row, read_row, visit_many};
-use crate::turning::open_in_turns;
 use seize_words::activation::Activation;
 use seize_words::batch::Count;
 use seize_words::book::{
@@ -325,11 +324,11 @@ fn two_slots_enter_and_leave(rt: HostRuntime) {
     drop((links, maker));
 }
 
-// The same in turns, with one porter that both share. What each had is let go then, slot and all; still no pass is out, so the porter comes
-// home, and the gate is shut.
+// The same with passes that one porter lends, which both share. Each pass is forgotten where it was used; still the porter comes home, and
+// the gate is shut.
 #[test]
 fn threads_share_a_porter(rt: HostRuntime) {
-    let (porter, one, two) = open_in_turns();
+    let (porter, one, two) = open_off();
     let shared = &porter;
     let turns = thread::join(
         &rt,
@@ -342,7 +341,7 @@ fn threads_share_a_porter(rt: HostRuntime) {
     );
     assert_eq!(rt; turns, (20_000, 20_000));
     let mut porter = porter;
-    catch_up(&mut porter);
+    porter.come_home();
     drop(porter.shut());
 }
 
