@@ -12,7 +12,8 @@ use seize_table::tls::AllFilled;
 use std::marker::{Model, PhantomData};
 
 /// What its holder has seen of the list, and the right to add entries under its id, for as long as `'p` lasts: that is how long the porter
-/// is shared that lent it. Who drops or forgets it keeps nobody from anything.
+/// is shared that lent it. Who drops or forgets a pass that was lent keeps nobody from anything. Where one that is alone is dropped, nobody
+/// adds to the list any more.
 pub struct Pass<'p> {
     pub(super) marker: PhantomData<&'p ()>,
     /// The book.
