@@ -98,12 +98,12 @@ fn new_value(
 
 // Retires the value of a new block.
 fn retire_new(
-    active: Active,
+    active: Active<'static>,
     words: &Words<u64>,
     value: u64,
     dropping: &mut Dropping,
     rt: &impl Wait,
-) -> Option<Active>
+) -> Option<Active<'static>>
     requires stands { Stands words.now active }
     ensures stands { IfSome result (λ active. Stands words.now active) }
 {
@@ -131,13 +131,13 @@ fn retire_new(
 
 // Puts the value of a new block into the link, and retires what was there.
 fn update(
-    active: Active,
+    active: Active<'static>,
     words: &Words<u64>,
     link: usize,
     value: u64,
     dropping: &mut Dropping,
     rt: &impl Wait,
-) -> Option<Active>
+) -> Option<Active<'static>>
     requires stands { Stands words.now active }
     requires link { link < 1024 }
     ensures stands { IfSome result (λ active. Stands words.now active) }
@@ -151,12 +151,12 @@ fn update(
 
 // Enters, retires so many values of new blocks, and leaves.
 fn retire_many(
-    worker: Worker,
+    worker: Worker<'static>,
     words: &Words<u64>,
     many: u64,
     dropping: &mut Dropping,
     rt: &impl Wait,
-) -> Option<Worker>
+) -> Option<Worker<'static>>
     requires may { MayWork words.now worker }
     ensures may { IfSome result (λ worker. MayWork words.now worker) }
 {
@@ -168,7 +168,7 @@ fn retire_many(
 }
 
 // Enters, puts a value into each link, and leaves.
-fn fill(worker: Worker, words: &Words<u64>, rt: &impl Wait) -> Option<Worker>
+fn fill(worker: Worker<'static>, words: &Words<u64>, rt: &impl Wait) -> Option<Worker<'static>>
     requires may { MayWork words.now worker }
     ensures may { IfSome result (λ worker. MayWork words.now worker) }
 {
@@ -181,7 +181,12 @@ fn fill(worker: Worker, words: &Words<u64>, rt: &impl Wait) -> Option<Worker>
 }
 
 // One turn after the other. It gives the sum of the values read too.
-fn turns(worker: Worker, words: &Words<u64>, job: Job, rt: &impl Wait) -> Option<(Worker, u64)>
+fn turns(
+    worker: Worker<'static>,
+    words: &Words<u64>,
+    job: Job,
+    rt: &impl Wait,
+) -> Option<(Worker<'static>, u64)>
     requires may { MayWork words.now worker }
     ensures may { IfSome result (λ done. MayWork words.now done.0) }
 {
@@ -217,15 +222,15 @@ fn alone<R: Clock + CpuClock + Wait>(
     rt: &R,
     team: &Team,
     words: &Words<u64>,
-    worker: Worker,
+    worker: Worker<'static>,
     job: Job,
-) -> io::Result<(Span, Worker, u64)>
+) -> io::Result<(Span, Worker<'static>, u64)>
     requires may { MayWork words.now worker }
     ensures may { IfOk result (λ done. MayWork words.now done.1) }
 {
     let (span, done) = team.timed(
         rt,
-        move || -> Option<(Worker, u64)>
+        move || -> Option<(Worker<'static>, u64)>
             requires { MayWork words.now worker }
             ensures { IfSome result (λ done. MayWork words.entry.now done.0) }
         { turns(worker, words, job, rt) },
@@ -241,20 +246,20 @@ fn pair<R: Clock + CpuClock + Threads + Wait + Sync>(
     rt: &R,
     team: &Team,
     words: &Words<u64>,
-    a: Worker,
-    b: Worker,
+    a: Worker<'static>,
+    b: Worker<'static>,
     job: Job,
-) -> io::Result<(Span, (Worker, Worker), u64)>
+) -> io::Result<(Span, (Worker<'static>, Worker<'static>), u64)>
     requires may { MayWork words.now a × MayWork words.now b }
     ensures may { IfOk result (λ done. MayWork words.now done.1.0 × MayWork words.now done.1.1) }
 {
     let (one, two) = thread::join(
         rt,
-        move || -> io::Result<(Span, Worker, u64)>
+        move || -> io::Result<(Span, Worker<'static>, u64)>
             requires { MayWork words.now a }
             ensures { IfOk result (λ done. MayWork words.entry.now done.1) }
         { alone(rt, team, words, a, job) },
-        move || -> io::Result<(Span, Worker, u64)>
+        move || -> io::Result<(Span, Worker<'static>, u64)>
             requires { MayWork words.now b }
             ensures { IfOk result (λ done. MayWork words.entry.now done.1) }
         { alone(rt, team, words, b, job) },
@@ -268,7 +273,7 @@ fn pair<R: Clock + CpuClock + Threads + Wait + Sync>(
 fn one_thread<R: Clock + CpuClock + Wait>(
     rt: &R,
     words: &Words<u64>,
-    worker: Worker,
+    worker: Worker<'static>,
     job: Job,
     samples: &mut Samples,
 ) -> io::Result<()>
@@ -287,7 +292,7 @@ fn one_thread<R: Clock + CpuClock + Wait>(
 fn two_threads<R: Clock + CpuClock + Threads + Wait + Sync>(
     rt: &R,
     words: &Words<u64>,
-    workers: (Worker, Worker),
+    workers: (Worker<'static>, Worker<'static>),
     job: Job,
     samples: &mut Samples,
 ) -> io::Result<()>
@@ -307,10 +312,17 @@ fn two_threads<R: Clock + CpuClock + Threads + Wait + Sync>(
 fn four<R: Clock + CpuClock + Threads + Wait + Sync>(
     rt: &R,
     words: &Words<u64>,
-    first: (Worker, Worker),
-    last: (Worker, Worker),
+    first: (Worker<'static>, Worker<'static>),
+    last: (Worker<'static>, Worker<'static>),
     job: Job,
-) -> io::Result<(Span, (Worker, Worker), (Worker, Worker), u64)>
+) -> io::Result<
+    (
+        Span,
+        (Worker<'static>, Worker<'static>),
+        (Worker<'static>, Worker<'static>),
+        u64,
+    ),
+>
     requires may { MayWork words.now first.0 × MayWork words.now first.1 × MayWork words.now last.0 × MayWork words.now last.1 }
     ensures may { IfOk result (λ done. MayWork words.now done.1.0 × MayWork words.now done.1.1
         × MayWork words.now done.2.0 × MayWork words.now done.2.1) }
@@ -321,11 +333,11 @@ fn four<R: Clock + CpuClock + Threads + Wait + Sync>(
     let team = &team;
     let (one, two) = thread::join(
         rt,
-        move || -> io::Result<(Span, (Worker, Worker), u64)>
+        move || -> io::Result<(Span, (Worker<'static>, Worker<'static>), u64)>
             requires { MayWork words.now a × MayWork words.now b }
             ensures { IfOk result (λ done. MayWork words.entry.now done.1.0 × MayWork words.entry.now done.1.1) }
         { pair(rt, team, words, a, b, job) },
-        move || -> io::Result<(Span, (Worker, Worker), u64)>
+        move || -> io::Result<(Span, (Worker<'static>, Worker<'static>), u64)>
             requires { MayWork words.now c × MayWork words.now d }
             ensures { IfOk result (λ done. MayWork words.entry.now done.1.0 × MayWork words.entry.now done.1.1) }
         { pair(rt, team, words, c, d, job) },
@@ -339,8 +351,8 @@ fn four<R: Clock + CpuClock + Threads + Wait + Sync>(
 fn four_threads<R: Clock + CpuClock + Threads + Wait + Sync>(
     rt: &R,
     words: &Words<u64>,
-    first: (Worker, Worker),
-    last: (Worker, Worker),
+    first: (Worker<'static>, Worker<'static>),
+    last: (Worker<'static>, Worker<'static>),
     job: Job,
     samples: &mut Samples,
 ) -> io::Result<()>

@@ -1,6 +1,6 @@
 -- The machine values of the tokens, and how a walk ends. Assumes `Logic`.
 use Rattle.seize_book.proofs.Kit.{List, [], ◌∷◌, ◌++◌, ◌∙◌, refl, Val, vstruct, vcons, vnil, Ura, ent, sep, emp, Logic, sem, ‵, raw, ◌$◌, ◌∵◌, !, qed, by, move, use0, RattleType, makes_shadow, walk_of, leaves, Stays}
-use denote.Signature.{type_at}
+use denote.Signature.{static_lft, type_at}
 use denote.Builtin.{unit}
 use denote.Struct.Struct.{Struct}
 use denote.Triple.Clauses.{Ended, Clauses, Lasts, at_exit}
@@ -32,7 +32,7 @@ unopened_tells d vs is = is.0.1.0 ∙ (λ i. vstruct (of_list (is.0.1.1.0.1.0 i 
 pub opened_tells : Tells opened.the_row (Is opened.the_row) no_bytes
 opened_tells d vs is = is.0.1.0 ∙ (λ i. vstruct (of_list (is.0.1.1.0.1.0 i ++ [])) ∷ [])
 
-pub pass_tells : Tells pass.the_row (Is pass.the_row) no_bytes
+pub pass_tells : Tells (pass.the_row static_lft) (Is (pass.the_row static_lft)) no_bytes
 pass_tells d vs is = is.0.1.0 ∙ (λ i. vstruct (of_list (is.0.1.1.0.1.0 i ++ [])) ∷ [])
 
 pub porter_tells : Tells porter.the_row (Is porter.the_row) no_bytes

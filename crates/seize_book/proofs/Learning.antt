@@ -13,7 +13,7 @@ use Rattle.seize_machine.specs.Machine.State.{State}
 use Rattle.seize_book.specs.Ledger.{Held, Known, fact, logs, reached}
 use Rattle.seize_book.specs.Entry.{Entry, entry_coded}
 use Rattle.seize_book.specs.Begin.{book_owns}
-use Rattle.seize_book.specs.Book.{after, mine, rules}
+use Rattle.seize_book.specs.Book.{IsLegalList, after, mine, rules}
 use Rattle.seize_book.specs.Fair.{pass_key}
 use Rattle.seize_book.specs.Passes.{Longer}
 use Rattle.seize_book.specs.Tokens.{AllLentIn, IsSole, Name, gate_gives, gate_keeps, knows, pass_holds, pass_owns, start}
@@ -23,6 +23,7 @@ use Rattle.seize_book.proofs.Looks.{Idle, apart, together}
 use Rattle.seize_book.proofs.Meets.{least_all, longer}
 use Rattle.seize_book.proofs.Notes.{knows_twice}
 use Rattle.seize_book.proofs.Passes.{rights}
+use Rattle.seize_book.proofs.Plans.{legal_prefix}
 use Rattle.seize_book.proofs.Turns.{changes}
 
 module _ {M : Type 1} {𝓤 : Ura M} (𝓛 : Logic 𝓤) (n : Name) where
@@ -66,7 +67,7 @@ module _ {M : Type 1} {𝓤 : Ura M} (𝓛 : Logic 𝓤) (n : Name) where
   changed held z p x = later (some (λ (log : List Entry). given (Known (rules st) held z log × AllLentIn n (after st log).named) (‵ (rights 𝓛 n held) ⊛ ‵ (had log) ⊛ ‵ (Asked p x log))))
 
   abbrev pub Learned : ℕ → List Entry → List Entry → List Entry → Pr
-  Learned p x y z = guard 𝓤 (Longer x y z × (mine st p z ≡ mine st p x) × (IsSole n.gate p → z ≡ x)) (⟦ pass_owns n p z ⟧ ∗ ⟦ book_owns n y ⟧)
+  Learned p x y z = guard 𝓤 (Longer x y z × (mine st p z ≡ mine st p x) × (IsSole n.gate p → z ≡ x) × IsLegalList st z) (⟦ pass_owns n p z ⟧ ∗ ⟦ book_owns n y ⟧)
 
   -- it has seen the longer of the two
   pub hears : (p : ℕ) (x y : List Entry) → ⟦ pass_owns n p x ⟧ ∗ ⟦ book_owns n y ⟧ ⊢ H.⇛ (ex 𝓤 (Learned p x y))
@@ -88,4 +89,4 @@ module _ {M : Type 1} {𝓤 : Ura M} (𝓛 : Logic 𝓤) (n : Name) where
       use1 𝓛 (‵ (gives p z)) (gives_as 𝓛 n.gate p x z (λ s. least_all x z log least.0 known.0.1 (all s))) $
       -- [its copy; its key; what was reached; the book; z was reached; the book's token]
       move ! (1 ∷ 4 ∷ 0 ∷ []) $ use3 𝓛 (‵ (pass_holds n p z)) (together 𝓛 n p z a (prefix_trans a x z past.0 least.0, sym same)) $
-      now ! $ show ! (Learned p x y) z $ check ! (longer x y z least, same ∙ past.1, λ s. sym (least_all x z log least.0 known.0.1 (all s))) $ move ! (2 ∷ 0 ∷ []) $ fjoin ! $ keep ! (0 ∷ 2 ∷ []) $ done !)))))))
+      now ! $ show ! (Learned p x y) z $ check ! (longer x y z least, same ∙ past.1, λ s. sym (least_all x z log least.0 known.0.1 (all s)), legal_prefix st z log known.0.1 known.0.0.0) $ move ! (2 ∷ 0 ∷ []) $ fjoin ! $ keep ! (0 ∷ 2 ∷ []) $ done !)))))))

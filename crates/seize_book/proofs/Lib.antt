@@ -49,6 +49,8 @@ pub mod Once
 pub mod Meets
 pub mod Turns
 pub mod Learning
+pub mod Borrowed
+pub mod Periods
 pub mod Shares
 pub mod Sent
 pub mod Loans

@@ -17,8 +17,8 @@ use Rattle.seize_machine.specs.Machine.State.{State}
 use Rattle.seize_book.specs.Laws.{ended}
 use Rattle.seize_book.specs.Loans.{cell_of, loan_if, loan_of, readers}
 use Rattle.seize_book.specs.Peeks.{keys_show, show_if, sight_if}
-use Rattle.seize_book.specs.Shared.{each_left, left_by, porter_shares}
-use Rattle.seize_book.specs.Tokens.{Name, rows, start, inside, over, Gate, many, sole, turns, all_but, turned, tickets, gate_keeps, gate_gives, gate_leaves, porter_owns, leads_in, all_lead, lies_in, all_lie_in, lies_if, is_placed, slot_labels, note_if, note_in, notes_own, way_if, rights_own, keys_own, pass_owns}
+use Rattle.seize_book.specs.Shared.{period, porter_has, porter_shares, row_has, rows_have, side}
+use Rattle.seize_book.specs.Tokens.{Name, rows, start, inside, over, Gate, many, sole, turns, all_but, turned, tickets, gate_keeps, gate_gives, gate_leaves, gate_lends, knows, lent_pass, porter_owns, leads_in, all_lead, lies_in, all_lie_in, lies_if, is_placed, slot_labels, note_if, note_in, notes_own, way_if, rights_own, keys_own, pass_owns}
 use Rattle.seize_book.specs.Begin.{book_owns}
 
 roster_keyless : (δ k : ℕ) (owns : List (List Entry)) → Keyless (roster entry_coded δ k owns)
@@ -110,6 +110,9 @@ pub book_keyless : (n : Name) (seen : List Entry) → Keyless (book_owns n seen)
 unfolding at_least
 book_keyless n seen = ((inside_keyless n, (tt, λ _. tt)), tt)
 
+knows_keyless : (n : Name) → Keyless (knows n)
+knows_keyless n = (inside_keyless n, (tt, λ _. tt))
+
 pub pass_keyless : (n : Name) (p : ℕ) (seen : List Entry) → Keyless (pass_owns n p seen)
 unfolding at_least
 pass_keyless n p seen = ((inside_keyless n, (tt, λ _. tt)), λ own. (entry_keyless (halved entry_coded) _ p _, (tt, (gives_keyless n.gate p seen, λ _. tt))))
@@ -118,24 +121,48 @@ pub porter_keyless : (n : Name) (home : Bool) (out : ℕ) (seen : List Entry) �
 unfolding at_least
 porter_keyless n home out seen = ((inside_keyless n, (tt, λ _. tt)), λ own. (entry_keyless (halved entry_coded) _ 0 _, (tt, (leaves_keyless n.gate home out seen, λ _. tt))))
 
-each_left_keyless : (ν : Lft) (rs : List Share) → Keyless (each_left ν rs)
-each_left_keyless ν [] = tt
-each_left_keyless ν (r ∷ rs) = (tt, each_left_keyless ν rs)
+lends_keyless : (g : Gate) (κ : Lft) (p : ℕ) (seen : List Entry) → Keyless (gate_lends g κ p seen)
+unfolding latest
+lends_keyless many κ p seen = tt
+lends_keyless (sole η) κ p seen = gives_keyless (sole η) p seen
+lends_keyless (turns η δ) κ zero seen = gives_keyless (turns η δ) zero seen
+lends_keyless (turns η δ) κ (suc p) seen = gives_keyless (turns η δ) 1 []
 
-left_keyless : (ν : Lft) (rows : List (List Share)) → Keyless (left_by ν rows)
-left_keyless ν [] = tt
-left_keyless ν (rs ∷ rows) = (each_left_keyless ν rs, left_keyless ν rows)
-
-turns_keyless : (δ k : ℕ) (rows : List (List Share)) → Keyless (roster coded_share δ k rows)
-turns_keyless δ k [] = entries_keyless (halved coded_share) δ k _
-turns_keyless δ k (rs ∷ rows) = (entry_keyless (halved coded_share) δ k _, turns_keyless δ (suc k) rows)
-
--- and so may what is shared of a porter
-pub porter_shown : (n : Name) (home : Bool) (out : ℕ) (seen : List Entry) (κ : Lft) → Keyless (porter_shares n home out seen κ)
+pub lent_keyless : (n : Name) (κ : Lft) (p : ℕ) (seen : List Entry) → Keyless (lent_pass n κ p seen)
 unfolding at_least
-porter_shown n true out seen κ = tt
-porter_shown n false out seen κ = λ t.
-    ((λ νs. chain-Keyless νs κ t.0), ((λ rows. (turns_keyless t.1.1 0 rows, (left_keyless t.0 rows, porter_keyless n false _ seen))), ((inside_keyless n, (tt, λ _. tt)), tt)))
+lent_keyless n κ p seen = (knows_keyless n, λ own. (entry_keyless (halved entry_coded) _ p _, (tt, (lends_keyless n.gate κ p seen, λ _. tt))))
+
+row_keys_keyless : (δ k : ℕ) (rows : List (List Share)) → Keyless (roster coded_share δ k rows)
+row_keys_keyless δ k [] = entries_keyless (halved coded_share) δ k _
+row_keys_keyless δ k (rs ∷ rows) = (entry_keyless (halved coded_share) δ k _, row_keys_keyless δ (suc k) rows)
+
+module _ (n : Name) (seen : List Entry) where
+  row_keyless : (μ : Lft) (rs : List Share) → Keyless (row_has n seen μ rs)
+  row_keyless μ [] = gives_keyless n.gate 1 []
+  row_keyless μ (r ∷ rs) = tt
+
+  rows_keyless : (μ : Lft) (rows : List (List Share)) → Keyless (rows_have n seen μ rows)
+  rows_keyless μ [] = tt
+  rows_keyless μ (rs ∷ rows) = (row_keyless μ rs, rows_keyless μ rows)
+
+  side_keyless : (μ : Lft) (all : List (List Share)) → Keyless (side n seen μ all)
+  side_keyless μ [] = tt
+  side_keyless μ ([] ∷ rows) = (rows_keyless μ rows, porter_keyless n false _ seen)
+  side_keyless μ ((r ∷ rs) ∷ rows) = tt
+
+  period_keyless : (μ : Lft) (δ : ℕ) → Keyless (period n seen μ δ)
+  period_keyless μ δ = λ all. (row_keys_keyless δ 0 all, side_keyless μ all)
+
+-- and so may what a porter has, and what is shared of it
+pub porter_sent : (n : Name) (home : Bool) (seen : List Entry) → Keyless (porter_has n home seen)
+unfolding at_least
+porter_sent n true seen = porter_keyless n true 0 seen
+porter_sent n false seen = λ t. (period_keyless n seen _ t.1.1, (entry_keyless (halved coded_share) _ 0 _, (tt, (knows_keyless n, tt))))
+
+pub porter_shown : (n : Name) (home : Bool) (seen : List Entry) (κ : Lft) → Keyless (porter_shares n home seen κ)
+unfolding at_least
+porter_shown n true seen κ = tt
+porter_shown n false seen κ = λ t. ((λ νs. chain-Keyless νs κ _), (period_keyless n seen _ t.1.1, (knows_keyless n, tt)))
 
 note_in_keyless : (store : Option (List ℕ)) (c : ℕ) (g : Gv) → Keyless (note_in store c g)
 note_in_keyless None c g = tt

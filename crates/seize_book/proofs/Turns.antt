@@ -1,30 +1,26 @@
 -- A porter gives passes out and takes them back, and where all are back it comes home: nobody may add then, until a pass goes out, or the
 -- first one, which is alone. Assumes `Logic`.
-use Rattle.std.proofs.Common.{◌≡◌, ℕ, zero, suc, ◌-◌, ◌≤◌, Bool, true, false, List, [], ◌∷◌, refl, sym, ◌∙◌, arith}
-use mathlib.Core.List.{IsPrefix}
+use Rattle.std.proofs.Common.{◌≡◌, ℕ, zero, suc, Bool, true, false, List, [], ◌∷◌, refl, sym, ◌∙◌, arith}
 use seplogic.Ra.Ura.{Ura}
-use base.Growing.{Least, prefix_refl, prefix_trans}
+use base.Growing.{prefix_trans}
 use base.Logic.{SProp, ent, sep, ex, guard, upd_i}
 use base.Fml.{Fml, ftrue, finv}
 use types.Logic.{Logic, sem}
-use types.Growing.{at_least_dup, at_least_join}
+use types.Growing.{at_least_dup}
 use types.Kit.{‵, raw, ◌⊛◌, some, given, later, ◌$◌, ◌∵◌, !, qed, by, move, keep, drop, split, split3, join, fsplit, fjoin, fpick, fpack, pick, learn, show, check, frame, assume, suffices, done, use1, use2, use3, updating, await, now}
 use denote.Steps.{nothing}
 use Rattle.seize_machine.specs.Machine.State.{State}
 use Rattle.seize_book.specs.Ledger.{AllApart, Held, Known, WithKinds, fact, logs, reached}
 use Rattle.seize_book.specs.Entry.{Entry, entry_coded}
-use Rattle.seize_book.specs.Book.{after, kinds, mine, passes, rules}
+use Rattle.seize_book.specs.Book.{after, kinds, mine, rules}
 use Rattle.seize_book.specs.Fair.{pass_key}
-use Rattle.seize_book.specs.Passes.{Longer}
 use Rattle.seize_book.specs.Tokens.{AllLentIn, Gate, IsSole, IsTurns, Name, turns, beside, found, gate_gives, gate_keeps, gate_leaves, inside, knows, pass_holds, pass_owns, porter_at, porter_owns, rows, start}
 use Rattle.seize_book.specs.Turns.{ComesHome, WasWhole, GoesOnTo, Shuts}
 use Rattle.seize_book.proofs.Append.{looks_beside}
 use Rattle.seize_book.proofs.Apart.{all_apart}
-use Rattle.seize_book.proofs.Gates.{comes_home, first_comes, first_goes, gives_one, goes_off, takes_one}
-use Rattle.seize_book.proofs.Lists.{between}
+use Rattle.seize_book.proofs.Gates.{comes_home, first_comes, first_goes, gives_one, goes_off}
 use Rattle.seize_book.proofs.Looks.{Idle, apart, together}
-use Rattle.seize_book.proofs.Meets.{longer, peeks}
-use Rattle.seize_book.proofs.Notes.{distinct_links, knows_twice, minted, new_keys, opens, Picks}
+use Rattle.seize_book.proofs.Notes.{distinct_links, knows_twice, opens}
 use Rattle.seize_book.proofs.Passes.{IsDistinct, rights}
 use Rattle.seize_book.proofs.Ways.{found_lent}
 
@@ -132,7 +128,7 @@ module _ {M : Type 1} {𝓤 : Ura M} (𝓛 : Logic 𝓤) (n : Name) where
 
   -- no pass is out, and it has seen all that there is
   abbrev pub IsHome : Bool → List Entry → List Entry → Type 0
-  IsHome home seen log = IsTurns n.gate × GoesOnTo n seen log × WasWhole home seen log
+  IsHome home seen log = IsTurns n.gate × GoesOnTo n seen log × (mine st 0 log ≡ mine st 0 seen) × WasWhole home seen log
 
   abbrev pub Home : Bool → List Entry → List Entry → Pr
   Home home seen log = guard 𝓤 (IsHome home seen log) ⟦ porter_owns n true 0 log ⟧
@@ -147,22 +143,22 @@ module _ {M : Type 1} {𝓤 : Ura M} (𝓛 : Logic 𝓤) (n : Name) where
       use3 𝓛 (changed held seen Has) (changes held seen (leaves home 0 seen) Has (still_home home seen is) (omega arith, tt)) $ await ! tt $ pick ! (λ log. learn ! (λ known. split3 ! $
       -- [its key; what was reached; the gate, and that it was so; the book]
       move ! (2 ∷ []) $ fsplit ! $ move ! (1 ∷ []) $ fpick ! (λ still. drop ! $
-      let same : mine st 0 own ≡ mine st 0 log = known.0.2.0.1 in let is_so : GoesOnTo n seen log = record { grows = known.0.1; none_made = sym same ∙ past.1; legal = known.0.0.0; sound = known.0.0.1; lent = known.1; distinct = distinct } in
+      let same : mine st 0 own ≡ mine st 0 log = known.0.2.0.1 in let is_so : GoesOnTo n seen log = record { grows = known.0.1; legal = known.0.0.0; sound = known.0.0.1; lent = known.1; distinct = distinct } in
       move ! (1 ∷ 2 ∷ 0 ∷ []) $ use3 𝓛 (‵ (holds true 0 log)) (whole true 0 log own (prefix_trans own seen log past.0 known.0.1, same)) $
       -- [the porter; the book]
-      now ! $ show ! (Home home seen) log $ check ! (is, is_so, still) $ move ! (1 ∷ 0 ∷ []) $ fjoin ! $ done !)))))))
+      now ! $ show ! (Home home seen) log $ check ! (is, is_so, sym same ∙ past.1, still) $ move ! (1 ∷ 0 ∷ []) $ fjoin ! $ done !)))))))
     where
       still_home : (home : Bool) (seen : List Entry) → IsTurns n.gate → (log : List Entry) → ⟦ keeps log ⟧ ∗ ⟦ leaves home 0 seen ⟧ ⊢ ⟦ keeps log ⟧ ∗ ⟦ base.Fml.fsep (leaves true 0 log) (fact (WasWhole home seen log)) ⟧
       still_home home seen is log = qed 𝓛 (‵ (keeps log) ∷ ‵ (leaves home 0 seen) ∷ []) ∵ use2 𝓛 (given (WasWhole home seen log) (‵ (keeps log) ⊛ ‵ (leaves true 0 log))) (comes_home 𝓛 n.gate home log seen is) $
           learn ! (λ still. split ! $ move ! (1 ∷ []) $ nothing ! $ fpack ! (WasWhole home seen log) (λ _. ftrue) still $ move ! (1 ∷ 0 ∷ []) $ fjoin ! $ move ! (1 ∷ 0 ∷ []) $ done !)
 
-  pub home_by : (home : Bool) (out : ℕ) (seen log : List Entry) → IsHome home seen log
-      → ComesHome (record { marker = record {}; name = n; seen = seen; out = out; home = home }) (record { marker = record {}; name = n; seen = log; out = 0; home = true })
-  home_by home out seen log is = record { book = refl; none_out = refl; home = refl; goes_on = is.1; was = is.2 }
+  pub home_by : (home : Bool) (seen log : List Entry) → IsHome home seen log
+      → ComesHome (record { marker = record {}; name = n; seen = seen; home = home }) (record { marker = record {}; name = n; seen = log; home = true })
+  home_by home seen log is = record { book = refl; home = refl; goes_on = is.1; none_made = is.2; was = is.3 }
 
-  pub shut_by : (home : Bool) (out : ℕ) (seen log : List Entry) → IsHome home seen log
-      → Shuts (record { marker = record {}; name = n; seen = seen; out = out; home = home }) (record { marker = record {}; name = n; id = 0; seen = log })
-  shut_by home out seen log is = record { book = refl; turn = (is.0, refl); alone = turn_alone n.gate is.0; goes_on = is.1; was = is.2 }
+  pub shut_by : (home : Bool) (seen log : List Entry) → IsHome home seen log
+      → Shuts (record { marker = record {}; name = n; seen = seen; home = home }) (record { marker = record {}; name = n; id = 0; seen = log })
+  shut_by home seen log is = record { book = refl; turn = (is.0, refl); alone = turn_alone n.gate is.0; goes_on = is.1; none_made = is.2; was = is.3 }
 
   -- what it has at home is what the first pass has
   pub home_passes : (seen : List Entry) → IsTurns n.gate → ⟦ porter_owns n true 0 seen ⟧ ⊢ ⟦ pass_owns n 0 seen ⟧
@@ -187,59 +183,6 @@ module _ {M : Type 1} {𝓤 : Ura M} (𝓛 : Logic 𝓤) (n : Name) where
       use3 𝓛 (changed held seen Y) (changes held seen X Y (λ log. goes_off 𝓛 n.gate home out log seen) (omega arith, tt)) $ await ! tt $ pick ! (λ log. learn ! (λ known. split3 ! $
       -- [its key; what was reached; the gate; what it has seen; the book]
       move ! (0 ∷ 3 ∷ 2 ∷ []) $ use3 𝓛 (‵ (holds false out seen)) (whole false out seen own past) $ now ! $ move ! (2 ∷ 0 ∷ []) $ fjoin ! $ keep ! (0 ∷ []) $ done !))))
-
-  -- a pass goes out
-  abbrev pub Out : ℕ → List Entry → ℕ × List Entry → Pr
-  Out out seen t = guard 𝓤 (IsTurns n.gate × ¬ (t.0 ≡ 0) × IsPrefix seen t.1 × (mine st t.0 t.1 ≡ [])) (⟦ porter_owns n false (suc out) seen ⟧ ∗ ⟦ pass_owns n t.0 t.1 ⟧)
-
-  pub porter_gives : (home : Bool) (out : ℕ) (seen : List Entry) → ⟦ porter_owns n home out seen ⟧ ⊢ H.⇛ (ex 𝓤 (Out out seen))
-  porter_gives home out seen = let births : Picks 𝓛 n = λ sizes. (passes, sizes passes) ∷ [] in qed 𝓛 (‵ (porter_owns n home out seen) ∷ []) ∵ updating ! $
-      use1 𝓛 (later (‵ (porter_owns n false out seen))) (porter_off home out seen) $ await ! tt $ fsplit ! $
-      use1 𝓛 (‵ (knows n) ⊛ ‵ (knows n)) (knows_twice 𝓛 n) $ split ! $ use1 𝓛 (‵ (knows n) ⊛ ‵ (knows n)) (knows_twice 𝓛 n) $ split ! $
-      move ! (3 ∷ []) $ use1 𝓛 (taken false out seen) (takes false out seen) $ pick ! (λ own. learn ! (λ past. split3 ! $
-      -- [its key; what it has seen; the gate; the book, three times]
-      move ! (2 ∷ []) $ use1 𝓛 (given (IsTurns n.gate) (‵ (leaves false out seen))) (is_turns false out seen) $ learn ! (λ is.
-      move ! (2 ∷ []) $ use1 𝓛 (‵ (had seen) ⊛ ‵ (had seen)) (at_least_dup (logs entry_coded) 𝓛 n.log seen) $ split ! $
-      -- [what it has seen, twice; the gate; its key; the book, three times]
-      move ! (4 ∷ 0 ∷ []) $ use2 𝓛 (minted 𝓛 n seen births) (new_keys 𝓛 n seen births (λ sizes. (omega arith, (λ log j h p le. h p (omega (arith, le))), omega arith, tt))) $ await ! tt $ pick ! (λ t. learn ! (λ so. let p : ℕ = t.0 passes in split ! $
-      -- [the new key; what was reached; what it has seen; the gate; its key; the book, twice]
-      let held : List (Held Entry) = pass_key 0 own ∷ pass_key p t.1 ∷ [] in move ! (4 ∷ []) $ fsplit ! $ move ! (0 ∷ 2 ∷ []) $ fjoin ! $
-      use1 𝓛 (given (AllApart held) (‵ (rights 𝓛 n held))) (all_apart entry_coded (rows n) 𝓛 held) $ learn ! (λ differ. let other : ¬ (p ≡ 0) = λ e. differ.0.0 (refl, sym e) in
-      -- [both keys; nothing; what was reached; what it has seen; the gate; the book, twice]
-      move ! (4 ∷ []) $ use1 𝓛 (‵ (leaves false (suc out) seen) ⊛ ‵ (gives p t.1)) (gives_one 𝓛 n.gate out p t.1 seen other) $ split ! $ move ! (2 ∷ []) $ fsplit ! $
-      -- [its key; the new one; the gate; the pass's ticket; nothing; what was reached; what it has seen; the book, twice]
-      move ! (0 ∷ 4 ∷ []) $ fjoin ! $ move ! (0 ∷ 5 ∷ 2 ∷ []) $ use3 𝓛 (‵ (holds false (suc out) seen)) (whole false (suc out) seen own past) $ move ! (4 ∷ 0 ∷ []) $ fjoin ! $
-      -- [the porter; the new key; the pass's ticket; what was reached; the book]
-      move ! (1 ∷ 3 ∷ 2 ∷ []) $ use3 𝓛 (‵ (pass_holds n p t.1)) (together 𝓛 n p t.1 t.1 (prefix_refl t.1, refl)) $ move ! (2 ∷ 0 ∷ []) $ fjoin ! $
-      now ! $ show ! (Out out seen) (p, t.1) $ check ! (is, other, so.0, so.1 passes p (omega arith)) $ move ! (1 ∷ 0 ∷ []) $ done !))))))
-
-  -- one comes back
-  abbrev pub Back : ℕ → List Entry → List Entry → List Entry → Pr
-  Back out seen x z = guard 𝓤 ((1 ≤ out) × Longer seen x z × (mine st 0 z ≡ mine st 0 seen)) ⟦ porter_owns n false (out - 1) z ⟧
-
-  pub porter_takes : (home : Bool) (out p : ℕ) (seen x : List Entry) → ⟦ porter_owns n home out seen ⟧ ∗ ⟦ pass_owns n p x ⟧ ⊢ H.⇛ (ex 𝓤 (Back out seen x))
-  porter_takes home out p seen x = qed 𝓛 (‵ (porter_owns n home out seen) ∷ (‵ (knows n) ⊛ ‵ (pass_holds n p x)) ∷ []) ∵ updating ! $
-      use1 𝓛 (later (‵ (porter_owns n false out seen))) (porter_off home out seen) $ await ! tt $ fsplit ! $ move ! (2 ∷ []) $ split ! $
-      -- [the book; the pass; the book; the porter]
-      move ! (3 ∷ []) $ use1 𝓛 (taken false out seen) (takes false out seen) $ pick ! (λ own. learn ! (λ past. split3 ! $ move ! (4 ∷ []) $
-      use1 𝓛 (some (λ (b : List Entry). given (Idle 𝓛 n p b x) (‵ (rights 𝓛 n (pass_key p b ∷ [])) ⊛ ‵ (had x) ⊛ ‵ (gives p x)))) (apart 𝓛 n p x) $ pick ! (λ b. learn ! (λ past'. split3 ! $
-      -- [the pass's key; x was reached; its ticket; the porter's key; what it has seen; the gate; the book, twice]
-      let held : List (Held Entry) = pass_key 0 own ∷ pass_key p b ∷ [] in move ! (3 ∷ []) $ fsplit ! $ move ! (0 ∷ 2 ∷ []) $ fjoin ! $
-      use1 𝓛 (given (AllApart held) (‵ (rights 𝓛 n held))) (all_apart entry_coded (rows n) 𝓛 held) $ learn ! (λ differ. let other : ¬ (p ≡ 0) = λ e. differ.0.0 (refl, sym e) in
-      -- [both keys; nothing; x was reached; its ticket; what the porter has seen; the gate; the book, twice]
-      move ! (4 ∷ 2 ∷ []) $ use2 𝓛 (some (λ (z : List Entry). given (Least IsPrefix seen x z) (‵ (had z)))) (at_least_join (logs entry_coded) 𝓛 n.log seen x) $ pick ! (λ z. learn ! (λ least.
-      -- [z was reached; both keys; nothing; the pass's ticket; the gate; the book, twice]
-      move ! (4 ∷ 3 ∷ []) $ use2 𝓛 (given (1 ≤ out) (‵ (leaves false (out - 1) z))) (takes_one 𝓛 n.gate out p x seen z other) $ learn ! (λ less.
-      move ! (1 ∷ []) $ use1 𝓛 (‵ (had z) ⊛ ‵ (had z)) (at_least_dup (logs entry_coded) 𝓛 n.log z) $ split ! $
-      -- [z was reached, twice; the gate; both keys; nothing; the book, twice]
-      move ! (5 ∷ 3 ∷ 0 ∷ []) $ use3 𝓛 (later (some (λ (log : List Entry). given (Known (rules st) held z log) (‵ (rights 𝓛 n held) ⊛ ‵ (had log))))) (peeks 𝓛 n held z (omega arith, (omega arith, tt))) $ await ! tt $ pick ! (λ log. learn ! (λ known. split ! $
-      -- [both keys; what was reached; z was; the gate; nothing; the book]
-      let same : mine st 0 z ≡ mine st 0 own = between st 0 own z log (prefix_trans own seen z past.0 least.0) known.1 known.2.0.1 in
-      fsplit ! $ move ! (0 ∷ 5 ∷ []) $ fjoin ! $ move ! (0 ∷ 3 ∷ 4 ∷ []) $ use3 𝓛 (‵ (holds false (out - 1) z)) (whole false (out - 1) z own (prefix_trans own seen z past.0 least.0, sym same)) $
-      -- [the porter; the pass's key; what was reached; the book]
-      move ! (3 ∷ 0 ∷ []) $ fjoin ! $ now ! $ show ! (Back out seen x) z $ check ! (less, longer seen x z least, same ∙ past.1) $ keep ! (0 ∷ []) $ done !))))))))))
-
-  -- In a turn the porter stays what it is, but for how many are out.
 
   -- what it knows can be had beside it
   pub porter_knows : (home : Bool) (out : ℕ) (seen : List Entry) → ⟦ porter_owns n home out seen ⟧ ⊢ ⟦ porter_owns n home out seen ⟧ ∗ ⟦ knows n ⟧ ∗ ⟦ had seen ⟧
@@ -267,19 +210,3 @@ module _ {M : Type 1} {𝓤 : Ura M} (𝓛 : Logic 𝓤) (n : Name) where
       move ! (0 ∷ 4 ∷ []) $ fjoin ! $ move ! (0 ∷ 4 ∷ 2 ∷ []) $ use3 𝓛 (‵ (holds false (suc m) seen)) (whole false (suc m) seen b past) $
       -- [the porter; the pass's key; the ticket; the book]
       move ! (3 ∷ 0 ∷ []) $ fjoin ! $ check ! (is, other) $ done !))))
-
-  -- and lays a pass back
-  pub back_one : (m p : ℕ) (seen x : List Entry) → ⟦ porter_owns n false m seen ⟧ ∗ ⟦ pass_owns n p x ⟧ ⊢ guard 𝓤 (1 ≤ m) ⟦ porter_owns n false (m - 1) seen ⟧
-  back_one m p seen x = qed 𝓛 (‵ (porter_owns n false m seen) ∷ (‵ (knows n) ⊛ ‵ (pass_holds n p x)) ∷ []) ∵ fsplit ! $ move ! (2 ∷ []) $ split ! $
-      -- [the book; the pass; the book; the porter]
-      move ! (3 ∷ []) $ use1 𝓛 (taken false m seen) (takes false m seen) $ pick ! (λ own. learn ! (λ past. split3 ! $ move ! (4 ∷ []) $
-      use1 𝓛 (some (λ (b : List Entry). given (Idle 𝓛 n p b x) (‵ (its_key p b) ⊛ ‵ (had x) ⊛ ‵ (gives p x)))) (apart 𝓛 n p x) $ pick ! (λ b. learn ! (λ past'. split3 ! $
-      -- [the pass's key; x was reached; its ticket; the porter's key; what it has seen; the gate; the book, twice]
-      let held : List (Held Entry) = pass_key 0 own ∷ pass_key p b ∷ [] in move ! (3 ∷ []) $ fsplit ! $ move ! (0 ∷ 2 ∷ []) $ fjoin ! $
-      use1 𝓛 (given (AllApart held) (‵ (rights 𝓛 n held))) (all_apart entry_coded (rows n) 𝓛 held) $ learn ! (λ differ. let other : ¬ (p ≡ 0) = λ e. differ.0.0 (refl, sym e) in
-      -- [both keys; nothing; x was reached; the ticket; what the porter has seen; the gate; the book, twice]
-      move ! (5 ∷ 3 ∷ []) $ use2 𝓛 (given (1 ≤ m) (‵ (leaves false (m - 1) seen))) (takes_one 𝓛 n.gate m p x seen seen other) $ learn ! (λ less.
-      -- [the gate; both keys; nothing; x was reached; what the porter has seen; the book, twice]
-      move ! (1 ∷ []) $ fsplit ! $ move ! (0 ∷ 3 ∷ []) $ fjoin ! $ move ! (0 ∷ 4 ∷ 2 ∷ []) $ use3 𝓛 (‵ (holds false (m - 1) seen)) (whole false (m - 1) seen own past) $
-      -- [the porter; the pass's key; x was reached; the book, twice]
-      move ! (3 ∷ 0 ∷ []) $ fjoin ! $ check ! less $ keep ! (0 ∷ []) $ done !))))))

@@ -3,8 +3,8 @@
 --     OpensAlone book pass keys links size store table     a new book to which this pass alone may append
 --     AreFirst keys, AreApart keys all         those that a book begins with;  the same, each by itself
 --     IsNew pass                               nothing was made with it
---     Learns pass book pass'                   it has seen the longer of what it had and the book has, which is what it had where it is
---                                              alone, and nothing was made with it
+--     Learns pass book pass'                   it has seen the longer of what it had and the book has, a legal list, which is what it had
+--                                              where it is alone; and nothing was made with it
 --     IsNextIn value number                    it was never named, all values that lay in its block before were reclaimed, and this is the
 --                                              number by which words hold the block
 --     IsFirstIn value number                   and no value of its home was ever named
@@ -24,7 +24,7 @@ use Rattle.seize_book.specs.Chains.{told}
 use Rattle.seize_book.specs.Deposits.{deposit}
 use Rattle.seize_book.specs.Homes.{IsVacant, count_in, home_of}
 use Rattle.seize_book.specs.Loans.{cell_of}
-use Rattle.seize_book.specs.Book.{after}
+use Rattle.seize_book.specs.Book.{IsLegalList, after}
 use Rattle.seize_book.specs.Others.{IsLastIn, book_of, is_named, state_of, value_of}
 use Rattle.seize_book.specs.Tokens.{many, IsSole, start}
 use Rattle.seize_book.specs.Private.{key_of, own_of}
@@ -50,7 +50,7 @@ IsNew pass = mine_of pass ≡ []
 abbrev pub Learns : Pass → Book → Pass → Type 0
 Learns pass book pass' =
     IsSame pass pass' × MadeNone pass pass' × Longer pass.seen book.seen pass'.seen
-    × (IsSole pass.name.gate pass.id → pass'.seen ≡ pass.seen)
+    × (IsSole pass.name.gate pass.id → pass'.seen ≡ pass.seen) × IsLegalList (start pass.name) pass'.seen
 
 abbrev pub IsMany : Book → Type 0
 IsMany book = book.name.gate ≡ many

@@ -1,44 +1,59 @@
--- What a `&` to a porter is: whoever has it has turns, each with a pass of its own that is back when the turn is over. A turn leaves a
--- share of the sharing's lifetime, which it takes out again when its pass is laid back; so none is under way when nobody shares the porter
--- any more. Each turn has a key of its own, which says the share that it left.
---     under_way rows         how many turns are under way: the shares in all rows. A turn that has ended leaves an empty row
---     each_left, left_by ν rows      the shares that they left
---     turning n out seen δ ν rows    what the invariant has where the rows are these
---     stock n out seen δ ν   what stands in the porter's invariant: those passes are out beside the ones that are out for good
---     porter_lent n out seen κ       what a `&` has of the invariant
---     porter_shares          what a `&` to a porter is; one that is at home has no turns
-use Rattle.std.specs.Prelude.{ℕ, ◌+◌, Bool, true, false, List, [], ◌∷◌, length}
+-- What a porter owns that isn't at home, and what a `&` to it is. It has the whole token of a lifetime of its own, a period, and an
+-- invariant with a row for each pass that was lent in this period; a `&` to it is a share of that token. So whoever has the porter alone
+-- may end the period, and has all tickets back then, whatever became of the passes.
+--     the_ticket n       the ticket of a pass that isn't the first
+--     row_has            a ticket that is being lent left a share of the period; one that was lent is there as the lender's right
+--     period μ δ         what stands in the invariant: what the porter has, with one more out for each row; the rows before that have keys
+--     lending, porter_has      what a porter that isn't at home owns;  and one wherever it is
+--     lending_shown, porter_shares     what a `&` to it is;  one that is at home lends nothing
+use Rattle.std.specs.Prelude.{ℕ, Bool, true, false, List, [], ◌∷◌, length}
 use base.Before.{before}
-use base.Fml.{Lft, Share, Fml, ftrue, fsep, fex, flft, fbor, fnamed}
+use base.Fml.{Lft, Share, Fml, ffalse, ftrue, fsep, fex, fdead, flft, flent, fnamed}
+use base.Fraction.{full_share}
 use base.SetCodes.{coded_share}
+use base.Share.{three_quarters}
 use Rattle.seize_book.specs.Entry.{Entry, entry_coded}
-use Rattle.seize_book.specs.Ledger.{reached, roster}
-use Rattle.seize_book.specs.Tokens.{Name, knows, porter_owns}
+use Rattle.seize_book.specs.Ledger.{piece, reached, roster}
+use Rattle.seize_book.specs.Tokens.{Name, gate_gives, knows, porter_owns}
 
-abbrev pub under_way : List (List Share) → ℕ
-under_way [] = 0
-under_way (rs ∷ rows) = length rs + under_way rows
+abbrev pub the_ticket : Name → Fml
+the_ticket n = gate_gives n.gate 1 []
 
-abbrev pub each_left : Lft → List Share → Fml
-each_left ν [] = ftrue
-each_left ν (r ∷ rs) = fsep (flft ν r) (each_left ν rs)
+module _ (n : Name) (seen : List Entry) where
+  module _ (μ : Lft) where
+    abbrev pub row_has : List Share → Fml
+    row_has [] = flent μ (the_ticket n)
+    row_has (r ∷ rs) = flft μ r
 
-abbrev pub left_by : Lft → List (List Share) → Fml
-left_by ν [] = ftrue
-left_by ν (rs ∷ rows) = fsep (each_left ν rs) (left_by ν rows)
+    abbrev pub rows_have : List (List Share) → Fml
+    rows_have [] = ftrue
+    rows_have (rs ∷ rows) = fsep (row_has rs) (rows_have rows)
 
-module _ (n : Name) (out : ℕ) (seen : List Entry) where
-  abbrev pub turning : ℕ → Lft → List (List Share) → Fml
-  turning δ ν rows = fsep (roster coded_share δ 0 rows) (fsep (left_by ν rows) (porter_owns n false (out + under_way rows) seen))
+    -- row 0 is empty for as long as the period lasts
+    abbrev pub side : List (List Share) → Fml
+    side [] = ffalse
+    side ([] ∷ rows) = fsep (rows_have rows) (porter_owns n false (length rows) seen)
+    side ((r ∷ rs) ∷ rows) = fdead μ
 
-  abbrev pub stock : ℕ → Lft → Fml
-  stock δ ν = fex (List (List Share)) (turning δ ν)
+    abbrev pub period : ℕ → Fml
+    period δ = fex (List (List Share)) (λ all. fsep (roster coded_share δ 0 all) (side all))
 
-  -- the sharing's lifetime, the number of the invariant, and the name of the keys
-  abbrev pub porter_lent : Lft → Lft × (ℕ × ℕ) → Fml
-  porter_lent κ t =
-      fsep (before κ t.0) (fsep (fnamed t.1.0 (fbor t.0 (stock t.1.1 t.0))) (fsep (knows n) (reached entry_coded n.log seen)))
+  abbrev pub known : Fml
+  known = fsep (knows n) (reached entry_coded n.log seen)
 
-abbrev pub porter_shares : Name → Bool → ℕ → List Entry → Lft → Fml
-porter_shares n true out seen κ = ftrue
-porter_shares n false out seen κ = fex (Lft × (ℕ × ℕ)) (porter_lent n out seen κ)
+  -- its period, the number of the invariant, and the name of the keys
+  abbrev pub lending : ℕ × (ℕ × ℕ) → Fml
+  lending t =
+      fsep (fnamed t.1.0 (period (t.0 ∷ []) t.1.1))
+      (fsep (piece coded_share t.1.1 0 three_quarters []) (fsep (flft (t.0 ∷ []) full_share) known))
+
+  abbrev pub lending_shown : Lft → ℕ × (ℕ × ℕ) → Fml
+  lending_shown κ t = fsep (before κ (t.0 ∷ [])) (fsep (fnamed t.1.0 (period (t.0 ∷ []) t.1.1)) known)
+
+abbrev pub porter_has : Name → Bool → List Entry → Fml
+porter_has n true seen = porter_owns n true 0 seen
+porter_has n false seen = fex (ℕ × (ℕ × ℕ)) (lending n seen)
+
+abbrev pub porter_shares : Name → Bool → List Entry → Lft → Fml
+porter_shares n true seen κ = ftrue
+porter_shares n false seen κ = fex (ℕ × (ℕ × ℕ)) (lending_shown n seen κ)

@@ -6,6 +6,7 @@
 --     chunk_label n k c   that of a chunk of the book's store with the home k and the cell c
 --     inside        what stands in its invariant;  knows   that there is this invariant, for good
 --     pass_owns     a pass: its key, a beginning of the list that it has seen, and where it alone may append the list itself
+--     lent_pass n κ p seen     the same where its ticket is lent to it for κ, as those of a porter are that threads share
 --     porter_owns   a porter: the key of the first pass, a beginning of the list that it has seen, and how many passes are out; and where
 --                   it is at home, that what it has seen is the whole list
 --     IsSole g p    at this gate pass p alone may append, whenever someone has it;  IsTurns g   passes come from a porter there
@@ -33,7 +34,7 @@ use base.Fraction.{full_share}
 use base.Share.{quarter, three_quarters}
 use base.Growing.{latest}
 use base.Stored.{Gv, gnil, gcons}
-use base.Fml.{Fml, ffalse, ftrue, fsep, fex, fdead, fnamed, fobs, fauth, fres}
+use base.Fml.{Lft, Fml, ffalse, ftrue, fsep, fex, fbor, fdead, fnamed, fobs, fauth, fres}
 use types.Keyed.{ticket, tickets_from}
 use denote.Struct.Codes.{itself}
 use Rattle.seize_content.specs.Cells.{cell_token}
@@ -202,6 +203,13 @@ gate_gives (sole η) p seen = latest (logs entry_coded) three_quarters η seen
 gate_gives (turns η κ) zero seen = latest (logs entry_coded) three_quarters η seen
 gate_gives (turns η κ) (suc p) seen = one_out κ
 
+-- of these a ticket is lent
+abbrev pub gate_lends : Gate → Lft → ℕ → List Entry → Fml
+gate_lends many κ p seen = ftrue
+gate_lends (sole η) κ p seen = latest (logs entry_coded) three_quarters η seen
+gate_lends (turns η δ) κ zero seen = latest (logs entry_coded) three_quarters η seen
+gate_lends (turns η δ) κ (suc p) seen = fbor κ (one_out δ)
+
 -- what a porter has: while so many passes are out, the other tickets; or, at home, what the first pass has, and no pass is out
 abbrev pub gate_leaves : Gate → Bool → ℕ → List Entry → Fml
 gate_leaves many home out seen = fact ⊥
@@ -270,11 +278,13 @@ abbrev pub key : Name → ℕ → ℕ → List Entry → Fml
 key n r k own = right entry_coded (rows n) r k own
 
 -- what was last made with the pass, when the list was `own`, and nothing since then
-abbrev pub pass_at : Name → ℕ → List Entry → List Entry → Fml
-pass_at n p seen own =
+abbrev pub stands : Name → ℕ → List Entry → Fml → List Entry → Fml
+stands n p seen gate own =
     fsep (key n passes p own)
-    (fsep (reached entry_coded n.log seen)
-    (fsep (gate_gives n.gate p seen) (fact (IsPrefix own seen × (mine (start n) p own ≡ mine (start n) p seen)))))
+    (fsep (reached entry_coded n.log seen) (fsep gate (fact (IsPrefix own seen × (mine (start n) p own ≡ mine (start n) p seen)))))
+
+abbrev pub pass_at : Name → ℕ → List Entry → List Entry → Fml
+pass_at n p seen own = stands n p seen (gate_gives n.gate p seen) own
 
 abbrev pub pass_holds : Name → ℕ → List Entry → Fml
 pass_holds n p seen = fex (List Entry) (pass_at n p seen)
@@ -282,12 +292,15 @@ pass_holds n p seen = fex (List Entry) (pass_at n p seen)
 abbrev pub pass_owns : Name → ℕ → List Entry → Fml
 pass_owns n p seen = fsep (knows n) (pass_holds n p seen)
 
+abbrev pub lent_at : Name → Lft → ℕ → List Entry → List Entry → Fml
+lent_at n κ p seen own = stands n p seen (gate_lends n.gate κ p seen) own
+
+abbrev pub lent_pass : Name → Lft → ℕ → List Entry → Fml
+lent_pass n κ p seen = fsep (knows n) (fex (List Entry) (lent_at n κ p seen))
+
 -- it keeps the key of the first pass, which nobody has meanwhile
 abbrev pub porter_at : Name → Bool → ℕ → List Entry → List Entry → Fml
-porter_at n home out seen own =
-    fsep (key n passes 0 own)
-    (fsep (reached entry_coded n.log seen)
-    (fsep (gate_leaves n.gate home out seen) (fact (IsPrefix own seen × (mine (start n) 0 own ≡ mine (start n) 0 seen)))))
+porter_at n home out seen own = stands n 0 seen (gate_leaves n.gate home out seen) own
 
 abbrev pub porter_owns : Name → Bool → ℕ → List Entry → Fml
 porter_owns n home out seen = fsep (knows n) (fex (List Entry) (porter_at n home out seen))

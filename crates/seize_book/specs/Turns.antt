@@ -1,29 +1,25 @@
 -- The words in which the contracts of porters speak.
---     HasTurn pass              it is the first pass of a book whose passes come from a porter: while someone has it, no other is out
---     GivesOut porter porter' pass     one more pass is out, with which nothing was made, and which has seen what the porter has
---     TakesBack porter pass porter'    one less is out, and the porter has seen what this one has, or had seen more; nothing was made with
---                               the first pass meanwhile
---     IsTurnOf porter pass      a new pass of the porter's book, which has seen what the porter has, and is not alone
---     MayTurn may porter        the work may be done with any such pass
---     HadTurn gave porter       it was done with such a pass, which came back
+--     HasTurn pass              it is the first pass of a book whose passes come from a porter: while someone has it, no other is there
+--     GoesOnTo name seen seen'  seen' is a legal list that goes on from seen
+--     Gives porter pass         a new pass of the porter's book, which isn't alone, with which nothing was made, and which has seen a list
+--                               that goes on from what the porter has seen
 --     LeavesHome porter porter'     it is the same, but not at home
---     GoesOnTo name seen seen'  seen' is a legal list that goes on from seen, and nothing was made with the first pass meanwhile
 --     WasWhole home seen seen'  it is seen still, if the porter was at home: then that was the whole list, and nobody could add
---     ComesHome porter porter'  no pass is out, and the porter is at home: it owns the copy of the whole list (`gate_leaves` in `Tokens`)
+--     ComesHome porter porter'  the porter is at home: it owns the copy of the whole list (`gate_leaves` in `Tokens`), and nothing was made
+--                               with the first pass meanwhile
 --     Shuts porter pass         the first pass, which is alone (`IsSole`), in the porter's place
 --     IsFirstTurn book pass     the same of a book that has just begun
---     OpensAgain pass porter    none is out, and the porter, which is at home, has seen what the pass had
---     IsFullPorter book porter  the porter of a book that has just begun: no pass is out, and it is at home
+--     OpensAgain pass porter    the porter, which is at home, has seen what the pass had
+--     IsFullPorter book porter  the porter of a book that has just begun, which is at home
 --     OpensInTurns book porter keys links size store table     a new book whose passes come from this porter, with so many links, which
 --                               are empty; and its keys
-use Rattle.std.specs.Prelude.{◌≡◌, ℕ, ◌+◌, Bool, true, false, Option, List, []}
+use Rattle.std.specs.Prelude.{◌≡◌, ℕ, Bool, true, false, Option, List, []}
 use mathlib.Core.List.{IsPrefix}
 use Rattle.seize_machine.specs.Machine.State.{are_distinct, linked}
 use Rattle.seize_book.specs.Book.{IsLegalList, after, mine}
 use Rattle.seize_book.specs.Books.{HasKeys, IsNew}
 use Rattle.seize_book.specs.Homes.{IsSound}
 use Rattle.seize_book.specs.Entry.{Entry}
-use Rattle.seize_book.specs.Passes.{IsSame, Longer}
 use Rattle.seize_book.specs.Tokens.{AllLentIn, IsSole, IsTurns, Name, start}
 use Rattle.seize_book.specs.declared.book.book_keys.BookKeys.{BookKeys}
 use Rattle.seize_book.specs.declared.book.pass.Pass.{Pass}
@@ -33,49 +29,30 @@ use Rattle.seize_book.specs.declared.book.token.Book.{Book}
 abbrev pub HasTurn : Pass → Type 0
 HasTurn pass = IsTurns pass.name.gate × (pass.id ≡ 0)
 
-abbrev pub GivesOut : Porter → Porter → Pass → Type 0
-GivesOut porter porter' pass =
-    ((porter'.name ≡ porter.name) × (porter'.seen ≡ porter.seen) × (porter'.out ≡ porter.out + 1) × (porter'.home ≡ false))
-    × (pass.name ≡ porter.name) × IsNew pass × IsPrefix porter.seen pass.seen × (¬ (IsSole pass.name.gate pass.id))
-
-abbrev pub IsTurnOf : Porter → Pass → Type 0
-IsTurnOf porter pass = (pass.name ≡ porter.name) × IsNew pass × IsPrefix porter.seen pass.seen × (¬ (IsSole pass.name.gate pass.id))
-
-abbrev pub MayTurn : (Pass → Type 0) → Porter → Type 0
-MayTurn may porter = (pass : Pass) → IsTurnOf porter pass → may pass
-
-pub record HadTurn (gave : Pass → Pass → Type 0) (porter : Porter) : Type 0 where
-  pub lent : Pass
-  pub back : Pass
-  pub new : IsTurnOf porter lent
-  pub same : IsSame lent back
-  pub gives : gave lent back
-
-abbrev pub LeavesHome : Porter → Porter → Type 0
-LeavesHome porter porter' =
-    (porter'.name ≡ porter.name) × (porter'.seen ≡ porter.seen) × (porter'.out ≡ porter.out) × (porter'.home ≡ false)
-
-abbrev pub TakesBack : Porter → Pass → Porter → Type 0
-TakesBack porter pass porter' =
-    (porter'.name ≡ porter.name) × (porter'.out + 1 ≡ porter.out) × Longer porter.seen pass.seen porter'.seen × (porter'.home ≡ false)
-    × (mine (start porter.name) 0 porter'.seen ≡ mine (start porter.name) 0 porter.seen)
-
 pub record GoesOnTo (name : Name) (seen seen' : List Entry) : Type 0 where
   pub grows : IsPrefix seen seen'
-  pub none_made : mine (start name) 0 seen' ≡ mine (start name) 0 seen
   pub legal : IsLegalList (start name) seen'
   pub sound : IsSound (after (start name) seen')
   pub lent : AllLentIn name (after (start name) seen').named
   pub distinct : are_distinct (linked name.links) ≡ true
+
+pub record Gives (porter : Porter) (pass : Pass) : Type 0 where
+  pub book : pass.name ≡ porter.name
+  pub new : IsNew pass
+  pub others : ¬ (IsSole pass.name.gate pass.id)
+  pub goes_on : GoesOnTo porter.name porter.seen pass.seen
+
+abbrev pub LeavesHome : Porter → Porter → Type 0
+LeavesHome porter porter' = (porter'.name ≡ porter.name) × (porter'.seen ≡ porter.seen) × (porter'.home ≡ false)
 
 abbrev pub WasWhole : Bool → List Entry → List Entry → Type 0
 WasWhole home seen seen' = home ≡ true → seen' ≡ seen
 
 pub record ComesHome (porter porter' : Porter) : Type 0 where
   pub book : porter'.name ≡ porter.name
-  pub none_out : porter'.out ≡ 0
   pub home : porter'.home ≡ true
   pub goes_on : GoesOnTo porter.name porter.seen porter'.seen
+  pub none_made : mine (start porter.name) 0 porter'.seen ≡ mine (start porter.name) 0 porter.seen
   pub was : WasWhole porter.home porter.seen porter'.seen
 
 pub record Shuts (porter : Porter) (pass : Pass) : Type 0 where
@@ -83,6 +60,7 @@ pub record Shuts (porter : Porter) (pass : Pass) : Type 0 where
   pub turn : HasTurn pass
   pub alone : IsSole pass.name.gate pass.id
   pub goes_on : GoesOnTo porter.name porter.seen pass.seen
+  pub none_made : mine (start porter.name) 0 pass.seen ≡ mine (start porter.name) 0 porter.seen
   pub was : WasWhole porter.home porter.seen pass.seen
 
 -- the first pass of a book that has just begun
@@ -90,11 +68,10 @@ abbrev pub IsFirstTurn : Book → Pass → Type 0
 IsFirstTurn book pass = HasTurn pass × (pass.name ≡ book.name) × (pass.seen ≡ [])
 
 abbrev pub OpensAgain : Pass → Porter → Type 0
-OpensAgain pass porter = (porter.name ≡ pass.name) × (porter.seen ≡ pass.seen) × (porter.out ≡ 0) × (porter.home ≡ true)
+OpensAgain pass porter = (porter.name ≡ pass.name) × (porter.seen ≡ pass.seen) × (porter.home ≡ true)
 
 abbrev pub IsFullPorter : Book → Porter → Type 0
-IsFullPorter book porter =
-    IsTurns porter.name.gate × (porter.name ≡ book.name) × (porter.seen ≡ []) × (porter.out ≡ 0) × (porter.home ≡ true)
+IsFullPorter book porter = IsTurns porter.name.gate × (porter.name ≡ book.name) × (porter.seen ≡ []) × (porter.home ≡ true)
 
 abbrev pub OpensInTurns : Book → Porter → BookKeys → ℕ → ℕ → Option (List ℕ) → Option (List ℕ) → Type 0
 OpensInTurns book porter keys links size store table = IsFullPorter book porter × HasKeys book keys links size store table

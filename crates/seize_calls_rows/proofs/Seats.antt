@@ -1,6 +1,6 @@
 -- Seats: at which words they sit, and with a pass that has seen no less.
 use Rattle.std.proofs.Common.{◌≡◌, ℕ, length, Option, None, Some, refl, sym, ap, ◌∙◌, subst}
-use base.Growing.{prefix_trans}
+use base.Growing.{prefix_refl, prefix_trans}
 use mathlib.Core.List.{IsPrefix}
 use Rattle.seize_table.specs.Pairs.{left_of, of_family, right_of}
 use Rattle.seize_table.proofs.Pairs.{left_pair, right_pair}
@@ -15,19 +15,12 @@ use Rattle.seize_words.specs.Links.{IsWithin}
 use Rattle.seize_words.specs.declared.activation.Activation.{Activation}
 use Rattle.seize_words.specs.declared.chunk.Header.{Header}
 use Rattle.seize_words.specs.declared.chunk.Part.{Part}
-use Rattle.seize_calls_rows.specs.Seats.{IsOfBook, SitsAt, SitsBy, SitsWith, post_at, post_label}
+use Rattle.seize_calls_rows.specs.Seats.{IsOfBook, SitsAt, SitsWith, post_at, post_label, seen_by}
 use Rattle.seize_calls_rows.specs.Workers.{AreSpotsOf, GoesOn, Shared, Works}
 use Rattle.seize_calls_rows.specs.declared.seat.Holder.{Holder}
 use Rattle.seize_calls_rows.specs.declared.seat.Seat.{Seat}
-use Rattle.seize_calls_rows.proofs.Shut.{works_by}
-use Rattle.seize_calls_rows.proofs.Workers.{stands_on, works_on}
-
-book_by : (words : Shared) (seat : Seat) (o : Option Activation) → SitsBy words seat o → words_book words ≡ seat.pass.name
-book_by words seat None sits = sits.0.book
-book_by words seat (Some a) sits = sits.works.book
-
-pub sits_book : (words : Shared) (seat : Seat) → SitsAt words seat → words_book words ≡ seat.pass.name
-sits_book words seat sits = book_by words seat seat.activation sits
+use Rattle.seize_calls_rows.proofs.Shut.{works_as, works_by}
+use Rattle.seize_calls_rows.proofs.Workers.{works_on}
 
 -- What is so at some words of a book is so at all.
 
@@ -38,13 +31,11 @@ works_again words words' slot size batch key pass same works =
 spots_again : (words words' : Shared) (spots : Spots Header Part ℕ) → words_book words' ≡ words_book words → AreSpotsOf words spots → AreSpotsOf words' spots
 spots_again words words' spots same are = (are.0, ap (λ (n : Name). n.store) same ∙ are.1, are.2)
 
-again_by : (words words' : Shared) (seat : Seat) (o : Option Activation) → words_book words' ≡ words_book words → SitsBy words seat o → SitsBy words' seat o
-again_by words words' seat None same sits =
-    let h = seat.holder in (works_again words words' h.slot h.size h.batch h.key seat.pass same sits.0, sits.1, spots_again words words' h.spots same sits.2)
-again_by words words' seat (Some a) same sits =
-    let h = seat.holder in
+again_by : (words words' : Shared) (h : Holder) (o : Option Activation) (pass : Pass) → words_book words' ≡ words_book words → SitsWith words h o pass → SitsWith words' h o pass
+again_by words words' h None pass same sits = (works_again words words' h.slot h.size h.batch h.key pass same sits.0, sits.1, spots_again words words' h.spots same sits.2)
+again_by words words' h (Some a) pass same sits =
     record {
-      works = works_again words words' h.slot h.size h.batch h.key seat.pass same sits.works;
+      works = works_again words words' h.slot h.size h.batch h.key pass same sits.works;
       inside = sits.inside;
       last = sits.last;
       begun = sits.begun;
@@ -52,7 +43,7 @@ again_by words words' seat (Some a) same sits =
     }
 
 pub sits_again : (words words' : Shared) (seat : Seat) → words_book words' ≡ words_book words → SitsAt words seat → SitsAt words' seat
-sits_again words words' seat same sits = again_by words words' seat seat.activation same sits
+sits_again words words' seat same sits = (sits.0 ∙ sym same, again_by words words' seat.holder seat.activation (seen_by seat.seen) same sits.1)
 
 -- With another pass of the book, which has seen no less.
 
@@ -63,37 +54,27 @@ in_later a pass pass' l same grows in_ = (
       (record { active = in_.1.active; its = in_.1.its; known = prefix_trans a.since pass.seen pass'.seen in_.1.known grows; is_link = in_.1.is_link }),
 )
 
-later_by : (words : Shared) (holder : Holder) (o : Option Activation) (pass pass' : Pass) → pass'.name ≡ pass.name → IsPrefix pass.seen pass'.seen → IsLegalList (start pass'.name) pass'.seen
-    → SitsBy words (record { holder = holder; pass = pass; activation = o }) o → SitsBy words (record { holder = holder; pass = pass'; activation = o }) o
-later_by words h None pass pass' same grows legal sits = (works_by words h.slot h.size h.batch h.key pass pass' sits.0 same grows legal, sits.1, sits.2)
-later_by words h (Some a) pass pass' same grows legal sits =
-    record {
-      works = works_by words h.slot h.size h.batch h.key pass pass' sits.works same grows legal;
-      inside = sits.inside;
-      last = sits.last;
-      begun = λ l less. in_later a pass pass' l same grows (sits.begun l less);
-      spots = sits.spots;
-    }
+moved : (words : Shared) (h : Holder) (o : Option Activation) (pass pass' : Pass) → (Works words h.slot h.size h.batch h.key pass → Works words h.slot h.size h.batch h.key pass') → pass'.name ≡ pass.name → IsPrefix pass.seen pass'.seen
+    → SitsWith words h o pass → SitsWith words h o pass'
+moved words h None pass pass' to same grows sits = (to sits.0, sits.1, sits.2)
+moved words h (Some a) pass pass' to same grows sits = record { works = to sits.works; inside = sits.inside; last = sits.last; begun = λ l less. in_later a pass pass' l same grows (sits.begun l less); spots = sits.spots }
 
-pub sits_later : (words : Shared) (holder : Holder) (o : Option Activation) (pass pass' : Pass) → pass'.name ≡ pass.name → IsPrefix pass.seen pass'.seen → IsLegalList (start pass'.name) pass'.seen
-    → SitsWith words holder o pass → SitsWith words holder o pass'
-sits_later words holder o pass pass' same grows legal sits = later_by words holder o pass pass' same grows legal sits
+pub sits_later : (words : Shared) (h : Holder) (o : Option Activation) (pass pass' : Pass) → pass'.name ≡ pass.name → IsPrefix pass.seen pass'.seen → IsLegalList (start pass'.name) pass'.seen → SitsWith words h o pass → SitsWith words h o pass'
+sits_later words h o pass pass' same grows legal = moved words h o pass pass' (λ works. works_by words h.slot h.size h.batch h.key pass pass' works same grows legal) same grows
 
-on_by : (words : Shared) (holder : Holder) (o : Option Activation) (pass pass' : Pass) → GoesOn pass pass'
-    → SitsBy words (record { holder = holder; pass = pass; activation = o }) o → SitsBy words (record { holder = holder; pass = pass'; activation = o }) o
-on_by words h None pass pass' goes sits = (works_on words h.slot h.size h.batch h.key h.key pass pass' sits.0 goes refl refl refl, sits.1, sits.2)
-on_by words h (Some a) pass pass' goes sits =
-    stands_on words (record { slot = h.slot; size = h.size; key = h.key; batch = h.batch; spots = h.spots; pass = pass; activation = a }) pass' sits goes
+pub sits_as : (words : Shared) (h : Holder) (o : Option Activation) (pass pass' : Pass) → pass'.name ≡ pass.name → pass'.seen ≡ pass.seen → SitsWith words h o pass → SitsWith words h o pass'
+sits_as words h o pass pass' same seen =
+    moved words h o pass pass' (λ works. works_as words h.slot h.size h.batch h.key pass pass' works same seen) same (subst (IsPrefix pass.seen) (sym seen) (prefix_refl pass.seen))
 
-pub sits_on : (words : Shared) (holder : Holder) (o : Option Activation) (pass pass' : Pass) → GoesOn pass pass' → SitsWith words holder o pass → SitsWith words holder o pass'
-sits_on words holder o pass pass' goes sits = on_by words holder o pass pass' goes sits
+pub sits_on : (words : Shared) (h : Holder) (o : Option Activation) (pass pass' : Pass) → GoesOn pass pass' → SitsWith words h o pass → SitsWith words h o pass'
+sits_on words h o pass pass' goes = moved words h o pass pass' (λ works. works_on words h.slot h.size h.batch h.key h.key pass pass' works goes refl refl refl) goes.same.0 goes.seen
 
 -- A sound post has a seat, and its label says the seat's book.
 
 pub family_of : (words : Shared) (seat : Seat) (n : ℕ) → n ≡ post_label (record { seat = Some seat }) → of_family (words_book words).family n → IsOfBook seat words
-family_of words seat n is of = sym (left_pair seat.pass.name.family seat.holder.slot) ∙ ap left_of (sym is) ∙ of
+family_of words seat n is of = sym (left_pair seat.seen.name.family seat.holder.slot) ∙ ap left_of (sym is) ∙ of
 
 -- and its label says which slot it is of
 pub slot_of_post : (words : Shared) (seat : Seat) (n slot : ℕ) → n ≡ post_label (record { seat = Some seat }) → n ≡ post_at words slot → seat.holder.slot ≡ slot
 slot_of_post words seat n slot is at =
-    sym (right_pair seat.pass.name.family seat.holder.slot) ∙ ap right_of (sym is ∙ at) ∙ right_pair (words_book words).family slot
+    sym (right_pair seat.seen.name.family seat.holder.slot) ∙ ap right_of (sym is ∙ at) ∙ right_pair (words_book words).family slot

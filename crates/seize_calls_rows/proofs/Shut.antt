@@ -208,11 +208,9 @@ one_emptier n pass pass' empty out l less = go (ℕ_discrete l n)
     go (no other) = out.1 l other ∙ empty l (let differ : l ≡ n → ⊥ = other in omega (arith, differ, less))
 
 -- A pass of the same book that has seen more serves as well.
-pub works_by : (words : Shared) (slot size : ℕ) (batch : Batch) (key : SlotKey) (pass pass' : Pass) → Works words slot size batch key pass → pass'.name ≡ pass.name → IsPrefix pass.seen pass'.seen → IsLegalList (start pass'.name) pass'.seen
+works_more : (words : Shared) (slot size : ℕ) (batch : Batch) (key : SlotKey) (pass pass' : Pass) → Works words slot size batch key pass → pass'.name ≡ pass.name → IsPrefix pass.seen pass'.seen → slot < length (after (start pass.name) pass'.seen).slots
     → Works words slot size batch key pass'
-works_by words slot size batch key pass pass' works same grows legal =
-    let more = more_slots pass.name pass.seen pass'.seen grows (subst (λ (n : Name). IsLegalList (start n) pass'.seen) same legal) in let there = works.holder.2 in
-    let less : slot < length (after (start pass.name) pass'.seen).slots = omega (arith, more, there) in
+works_more words slot size batch key pass pass' works same grows less =
     record {
       links = works.links;
       book = works.book ∙ sym same;
@@ -221,11 +219,23 @@ works_by words slot size batch key pass pass' works same grows legal =
       batch_is = (works.batch_is.0 ∙ sym same, works.batch_is.1, all_told_later (keys_in batch).keys.name.store pass.seen pass'.seen (keys_in batch).keys.held grows works.batch_is.2);
     }
 
+pub works_by : (words : Shared) (slot size : ℕ) (batch : Batch) (key : SlotKey) (pass pass' : Pass) → Works words slot size batch key pass → pass'.name ≡ pass.name → IsPrefix pass.seen pass'.seen → IsLegalList (start pass'.name) pass'.seen
+    → Works words slot size batch key pass'
+works_by words slot size batch key pass pass' works same grows legal =
+    let more = more_slots pass.name pass.seen pass'.seen grows (subst (λ (n : Name). IsLegalList (start n) pass'.seen) same legal) in let there = works.holder.2 in
+    let less : slot < length (after (start pass.name) pass'.seen).slots = omega (arith, more, there) in works_more words slot size batch key pass pass' works same grows less
+
+-- and so with one that has seen just that
+pub works_as : (words : Shared) (slot size : ℕ) (batch : Batch) (key : SlotKey) (pass pass' : Pass) → Works words slot size batch key pass → pass'.name ≡ pass.name → pass'.seen ≡ pass.seen → Works words slot size batch key pass'
+works_as words slot size batch key pass pass' works same seen =
+    works_more words slot size batch key pass pass' works same (subst (IsPrefix pass.seen) (sym seen) (prefix_refl pass.seen))
+    (subst (λ (log : List Entry). slot < length (after (start pass.name) log).slots) (sym seen) works.holder.2)
+
 pub holds_on : (words : Shared) (holder : Holder) (pass pass' : Pass) → Holds words holder pass → GoesOn pass pass' → Holds words holder pass'
 holds_on words holder pass pass' holds goes =
     (works_on words holder.slot holder.size holder.batch holder.key holder.key pass pass' holds.0 goes refl refl refl, holds.1, holds.2)
 
--- what the porter has seen that took passes back
+-- of two beginnings, where the longer is known
 pub longer_left : (a b c : List Entry) → Longer a b c → IsPrefix a c
 longer_left a b c (inl t) = subst (IsPrefix a) (sym t.1) t.0
 longer_left a b c (inr t) = subst (IsPrefix a) (sym t.1) (prefix_refl a)

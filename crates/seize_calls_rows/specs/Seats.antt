@@ -1,13 +1,16 @@
 -- What is known of the seats of slots' holders, and of the posts where they are lent.
---     worker_in seat, active_in seat a     what sits there as a worker;  and where its slot is in this activation
---     SitsAt words seat            it may work, or stands;  SitsWith words holder activation pass     the same, of each by itself
---     IsLeft words left pass       so it is of what is left of a seat, with this pass
+--     seen_by book                 a pass that has seen what the book has
+--     worker_with holder pass, active_with holder a pass     what sits there as a worker, with this pass;  and where its slot is in this
+--                                  activation
+--     SitsWith words holder activation pass     it may work with this pass, or stands;  IsLeft words seat pass    so it is of a seat
+--     SitsAt words seat            its book is that of the words, and it may work, or stands, with a pass that has seen what that has
+--     IsPorterOf words porter      the porter is of the words' book, and lends passes
 --     IsSeat seat                  it sits at words of some book
---     IsOfBook seat words          the book of its pass has the family of the words' book
+--     IsOfBook seat words          its book has the family of the words' book
 --     post_label post              which slot of which book it is of, by the book's family
 --     IsSound post                 there is a seat in it, which sits at words of some book
 --     post_at words slot           the label of the cell of this slot of the words' book;  IsPostOf words post     it is some slot's cell
-use Rattle.std.specs.Prelude.{◌≡◌, ℕ, Option, None, Some}
+use Rattle.std.specs.Prelude.{◌≡◌, ℕ, false, Option, None, Some}
 use Rattle.seize_book.specs.Tokens.{label_at}
 use Rattle.seize_content.specs.Steady.{SteadyName}
 use Rattle.seize_table.specs.Pairs.{of_family}
@@ -15,43 +18,45 @@ use Rattle.seize_words.specs.Joined.{words_book}
 use Rattle.seize_words.specs.declared.activation.Activation.{Activation}
 use Rattle.seize_calls_rows.specs.Workers.{MayWork, Shared, Stands}
 use Rattle.seize_book.specs.declared.book.pass.Pass.{Pass}
+use Rattle.seize_book.specs.declared.book.porter.Porter.{Porter}
+use Rattle.seize_book.specs.declared.book.token.Book.{Book}
 use Rattle.seize_calls_rows.specs.declared.seat.Holder.{Holder}
-use Rattle.seize_calls_rows.specs.declared.seat.Left.{Left}
 use Rattle.seize_calls_rows.specs.declared.seat.Post.{Post}
 use Rattle.seize_calls_rows.specs.declared.seat.Seat.{Seat}
 use Rattle.seize_calls_rows.specs.declared.worker.Active.{Active}
 use Rattle.seize_calls_rows.specs.declared.worker.Worker.{Worker}
 
-abbrev pub worker_in : Seat → Worker
-worker_in seat = let h = seat.holder in
-    record { slot = h.slot; size = h.size; key = h.key; batch = h.batch; spots = h.spots; pass = seat.pass }
+abbrev pub seen_by : Book → Pass
+seen_by book = record { marker = record {}; name = book.name; id = 0; seen = book.seen }
 
-abbrev pub active_in : Seat → Activation → Active
-active_in seat a = let h = seat.holder in
-    record { slot = h.slot; size = h.size; key = h.key; batch = h.batch; spots = h.spots; pass = seat.pass; activation = a }
+abbrev pub worker_with : Holder → Pass → Worker
+worker_with h pass = record { slot = h.slot; size = h.size; key = h.key; batch = h.batch; spots = h.spots; pass = pass }
 
-abbrev pub SitsBy : Shared → Seat → Option Activation → Type 0
-SitsBy words seat None = MayWork words (worker_in seat)
-SitsBy words seat (Some a) = Stands words (active_in seat a)
-
-abbrev pub SitsAt : Shared → Seat → Type 0
-SitsAt words seat = SitsBy words seat seat.activation
+abbrev pub active_with : Holder → Activation → Pass → Active
+active_with h a pass = record { slot = h.slot; size = h.size; key = h.key; batch = h.batch; spots = h.spots; pass = pass; activation = a }
 
 abbrev pub SitsWith : Shared → Holder → Option Activation → Pass → Type 0
-SitsWith words holder activation pass = SitsAt words (record { holder = holder; pass = pass; activation = activation })
+SitsWith words holder None pass = MayWork words (worker_with holder pass)
+SitsWith words holder (Some a) pass = Stands words (active_with holder a pass)
 
-abbrev pub IsLeft : Shared → Left → Pass → Type 0
-IsLeft words left pass = SitsWith words left.holder left.activation pass
+abbrev pub IsLeft : Shared → Seat → Pass → Type 0
+IsLeft words seat pass = SitsWith words seat.holder seat.activation pass
+
+abbrev pub SitsAt : Shared → Seat → Type 0
+SitsAt words seat = (seat.seen.name ≡ words_book words) × IsLeft words seat (seen_by seat.seen)
+
+abbrev pub IsPorterOf : Shared → Porter → Type 0
+IsPorterOf words porter = (porter.name ≡ words_book words) × (porter.home ≡ false)
 
 abbrev pub IsSeat : Seat → Type 0
 IsSeat seat = (words : Shared) × SitsAt words seat
 
 abbrev pub IsOfBook : Seat → Shared → Type 0
-IsOfBook seat words = seat.pass.name.family ≡ (words_book words).family
+IsOfBook seat words = seat.seen.name.family ≡ (words_book words).family
 
 abbrev label_of_seat : Option Seat → ℕ
 label_of_seat None = 0
-label_of_seat (Some seat) = label_at seat.pass.name seat.holder.slot
+label_of_seat (Some seat) = label_at seat.seen.name seat.holder.slot
 
 abbrev pub post_label : Post → ℕ
 post_label post = label_of_seat post.seat

@@ -1,7 +1,6 @@
 -- What is known while holders of slots work in turns, and when the gate is shut.
---     CanMakeIn source words porter    the next slot can be made, and its holder has a pass of the porter's
+--     CanMakeIn source words porter    the next slot can be made, and the porter lends its holder passes
 --     IsSlotAfter source worker source' words     the worker has the slot that came next, and so may the slot after it be made
---     IsOneMoreOut porter porter'      one more pass is out;  AreSoManyOut porter porter'     as many as before
 --     StandsAs words spots slot size batch key activation pass     as `Stands`, of each by itself;  Holds words holder pass   as `MayWork`
 --     HasNone holder                   its slot has no batch, as its key knows
 --     KeepsLinks pass pass'            each link holds what it held
@@ -11,7 +10,7 @@
 --     Gave pass pass' had had'         the values that are gone since went to the reclaimer (HasHad), in order, each with the word that the
 --                                      list says is kept of it; the pass has seen what it had seen
 --     IsShut porter shut               it is the pass of the gate that was shut, and has seen what the porter had
---     IsShutBy porter first second shut     and has seen what the passes of the two seats had
+--     IsShutBy porter first second shut     and has seen what those of the two seats had
 --     Regains before pass had had'     all that are gone since went so to the reclaimer, none of the 1024 links holds anything, and
 --                                      nothing is lost of what came out of a link
 --     LeavesNothing pass s             slot s has no call, is not active, and has no batch, as the pass has seen
@@ -19,7 +18,7 @@
 --     AllBack pass                     nobody else can add to the list while somebody has the pass. None of the 1024 links holds anything,
 --                                      no call is under way, no slot is active and none has a batch, as it has seen. So each value that was
 --                                      ever retired is gone
-use Rattle.std.specs.Prelude.{◌≡◌, ℕ, ◌+◌, ◌<◌, true, false, List, [], ◌++◌, None, is_some}
+use Rattle.std.specs.Prelude.{◌≡◌, ℕ, ◌<◌, true, false, List, [], ◌++◌, None, is_some}
 use mathlib.Core.List.{IsPrefix}
 use Rattle.seize_machine.specs.Machine.History.{Reclaimed, Retired}
 use Rattle.seize_machine.specs.Machine.Laws.{is_quiet}
@@ -37,11 +36,11 @@ use Rattle.seize_store.specs.declared.spot.Spots.{Spots}
 use Rattle.seize_book.specs.Passes.{IsSame}
 use Rattle.seize_book.specs.Slots.{slot_of}
 use Rattle.seize_book.specs.Turns.{HasTurn}
-use Rattle.seize_words.specs.Joined.{words_book}
 use Rattle.seize_words.specs.Totals.{slots_seen}
 use Rattle.seize_words.specs.declared.activation.Activation.{Activation}
 use Rattle.seize_words.specs.declared.chunk.Header.{Header}
 use Rattle.seize_words.specs.declared.chunk.Part.{Part}
+use Rattle.seize_calls_rows.specs.Seats.{IsPorterOf}
 use Rattle.seize_calls_rows.specs.Workers.{AreSpotsOf, CanTake, HasTaken, IsOutside, Shared, Stands, Works, made_by}
 use Rattle.seize_calls_rows.specs.declared.seat.Holder.{Holder}
 use Rattle.seize_calls_rows.specs.declared.seat.Seat.{Seat}
@@ -49,16 +48,10 @@ use Rattle.seize_calls_rows.specs.declared.worker.Source.{Source}
 use Rattle.seize_calls_rows.specs.declared.worker.Worker.{Worker}
 
 abbrev pub CanMakeIn : Source → Shared → Porter → Type 0
-CanMakeIn source words porter = CanTake source words × (porter.name ≡ words_book words)
+CanMakeIn source words porter = CanTake source words × IsPorterOf words porter
 
 abbrev pub IsSlotAfter : Source → Worker → Source → Shared → Type 0
 IsSlotAfter source worker source' words = (worker.slot ≡ made_by source) × HasTaken source source' words
-
-abbrev pub IsOneMoreOut : Porter → Porter → Type 0
-IsOneMoreOut porter porter' = (porter'.name ≡ porter.name) × (porter'.out ≡ porter.out + 1)
-
-abbrev pub AreSoManyOut : Porter → Porter → Type 0
-AreSoManyOut porter porter' = (porter'.name ≡ porter.name) × (porter'.out ≡ porter.out)
 
 abbrev pub StandsAs : Shared → Spots Header Part ℕ → ℕ → ℕ → Batch → SlotKey → Activation → Pass → Type 0
 StandsAs words spots slot size batch key activation pass =
@@ -121,4 +114,4 @@ abbrev pub IsShut : Porter → Pass → Type 0
 IsShut porter shut = (shut.name ≡ porter.name) × HasTurn shut × IsSole shut.name.gate shut.id × IsPrefix porter.seen shut.seen
 
 abbrev pub IsShutBy : Porter → Seat → Seat → Pass → Type 0
-IsShutBy porter first second shut = IsShut porter shut × IsPrefix first.pass.seen shut.seen × IsPrefix second.pass.seen shut.seen
+IsShutBy porter first second shut = IsShut porter shut × IsPrefix first.seen.seen shut.seen × IsPrefix second.seen.seen shut.seen

@@ -72,7 +72,7 @@ fn hold(value: &u64, signs: &Signs, marks: &[AtomicU64]) -> Option<Held> {
     })
 }
 
-impl Active {
+impl<'p> Active<'p> {
     /// Finds what the link holds, and holds it until the other thread has retired all that it was to.
     pub fn hold(
         self,
@@ -80,7 +80,7 @@ impl Active {
         link: usize,
         signs: &Signs,
         marks: &[AtomicU64],
-    ) -> (Active, Option<Held>)
+    ) -> (Active<'p>, Option<Held>)
         requires stands { Stands words.now self }
         requires link { link < 1024 }
         ensures stands { Stands words.now result.0 }
@@ -111,7 +111,7 @@ impl Active {
     }
 }
 
-impl Worker {
+impl Worker<'_> {
     /// Enters, holds what link 0 has until the other thread has retired all that it was to, and leaves, which hands what waited for it. It
     /// gives what it saw, and how many values had ended when it had left.
     pub fn hold_beside(

@@ -20,7 +20,7 @@ pub struct Tally {
     pub early: u64,
 }
 
-impl Worker {
+impl<'p> Worker<'p> {
     /// Enters, reads the link, swaps the value in, retires what was there, and leaves. It says whether the value that it found had ended
     /// before it left. Nothing comes where memory was refused.
     pub fn turn(
@@ -30,7 +30,7 @@ impl Worker {
         value: u64,
         counting: &mut Counting<'_>,
         rt: &impl Wait,
-    ) -> Option<(Worker, bool)>
+    ) -> Option<(Worker<'p>, bool)>
         requires may { MayWork words.now self }
         requires link { link < 8 }
         ensures may { IfSome result (λ made. MayWork words.now made.0) }
@@ -73,7 +73,7 @@ impl Worker {
         turns: u64,
         marks: &[AtomicU64],
         rt: &impl Wait,
-    ) -> Option<(Worker, Tally)>
+    ) -> Option<(Worker<'p>, Tally)>
         requires may { MayWork words.now self }
         ensures may { IfSome result (λ worked. MayWork words.now worked.0) }
     {

@@ -1,9 +1,9 @@
 //! What the holder of a slot has, and a place where it is only lent. Threads share the place by `&`, and its holder has the token. Whatever
-//! became of the token, whoever has the place alone then has all of it back: the slot's key and pass, its batch, its spots, and the
-//! activation in which it read.
+//! became of the token, whoever has the place alone then has all of it back: the slot's key, its batch, its spots, what its passes have
+//! seen, and the activation in which it read. Each turn of the slot is made with a pass of its own, which the porter lends.
 ghost use Rattle.std.specs.Prelude.{◌≡◌, ◌<◌, Some};
 ghost use Rattle.seize_book.specs.Tokens.{label_at};
-ghost use Rattle.seize_calls_rows.specs.Seats.{IsOfBook, IsPostOf, IsSeat, IsSound, SitsAt, post_at, post_label};
+ghost use Rattle.seize_calls_rows.specs.Seats.{IsOfBook, IsPorterOf, IsPostOf, IsSeat, IsSound, SitsAt, post_at, post_label};
 ghost use Rattle.seize_calls_rows.specs.Workers.{MayWork, Stands};
 ghost use Rattle.seize_table.specs.Pairs.{of_family};
 ghost use Rattle.seize_words.specs.Joined.{words_book};
@@ -14,7 +14,7 @@ use seize_calls::batch::Batch;
 use seize_content::{CellToken, Steady, SteadyCell, Work};
 use seize_store::Spots;
 use seize_words::activation::Activation;
-use seize_words::book::{Pass, SlotKey};
+use seize_words::book::{Book, Pass, Porter, SlotKey};
 use seize_words::chunk::{Header, Part};
 use seize_words::words::Words;
 use std::mem;
@@ -36,23 +36,14 @@ pub struct Holder {
     pub spots: Spots<Header, Part, u64>,
 }
 
-/// What the holder has with its pass, and its slot's activation, where that has entered.
+/// What the holder has when it has no pass, and its slot's activation, where that has entered.
 #[derive(Drop)]
 pub struct Seat {
-    /// What it has beside the pass.
+    /// What it has beside a pass.
     pub holder: Holder,
-    /// What the slot's events are made with.
-    pub pass: Pass,
+    /// What the passes have seen that the slot's events were made with.
+    pub seen: Book,
     /// The slot is active where there is one.
-    pub activation: Option<Activation>,
-}
-
-/// What is left of a seat when its pass was laid back.
-#[derive(Drop)]
-pub struct Left {
-    /// What its holder had beside the pass.
-    pub holder: Holder,
-    /// The slot is active still where there is one.
     pub activation: Option<Activation>,
 }
 
@@ -69,12 +60,12 @@ impl Steady for Post {
     ghost sound = { IsSound };
 }
 
-impl Worker {
+impl Worker<'_> {
     /// Its seat.
     pub fn sit(self, words: &Words<u64>) -> Seat
         requires may { MayWork words.now self }
         ensures sits { SitsAt words.now result }
-        ensures slot { (result.holder.slot ≡ self.slot) × (result.pass ≡ self.pass) }
+        ensures slot { result.holder.slot ≡ self.entry.slot }
     {
         let Worker {
             slot,
@@ -82,8 +73,10 @@ impl Worker {
             key,
             batch,
             spots,
-            pass,
+            mut pass,
         } = self;
+        let mut seen = words.blocks.book.again();
+        seen.learn(&mut pass);
         let holder = Holder {
             slot,
             size,
@@ -93,18 +86,18 @@ impl Worker {
         };
         Seat {
             holder,
-            pass,
+            seen,
             activation: None,
         }
     }
 }
 
-impl Active {
+impl Active<'_> {
     /// Its seat.
     pub fn sit(self, words: &Words<u64>) -> Seat
         requires stands { Stands words.now self }
         ensures sits { SitsAt words.now result }
-        ensures slot { (result.holder.slot ≡ self.slot) × (result.pass ≡ self.pass) }
+        ensures slot { result.holder.slot ≡ self.entry.slot }
     {
         let Active {
             slot,
@@ -112,9 +105,11 @@ impl Active {
             key,
             batch,
             spots,
-            pass,
+            mut pass,
             activation,
         } = self;
+        let mut seen = words.blocks.book.again();
+        seen.learn(&mut pass);
         let holder = Holder {
             slot,
             size,
@@ -124,16 +119,17 @@ impl Active {
         };
         Seat {
             holder,
-            pass,
+            seen,
             activation: Some(activation),
         }
     }
 }
 
 impl Seat {
-    /// The slot enters, where it has not.
-    pub fn enter(self, words: &Words<u64>) -> Active
+    /// The slot enters with the pass, where it has not. The pass learns what those before it have seen.
+    pub fn enter<'p>(self, words: &Words<u64>, pass: Pass<'p>) -> Active<'p>
         requires sits { SitsAt words.now self }
+        requires book { pass.name ≡ words_book words.now }
         ensures stands { Stands words.now result }
         ensures slot { result.slot ≡ self.holder.slot }
     {
@@ -145,9 +141,11 @@ impl Seat {
                 batch,
                 spots,
             },
-            pass,
+            seen,
             activation,
         } = self;
+        let mut pass = pass;
+        pass.learn(&seen);
         match activation {
             Some(activation) => Active {
                 slot,
@@ -177,36 +175,29 @@ impl Seat {
         ensures sits { SitsAt words.now result }
         ensures same { result ≡ self }
     {
-        let Seat {
-            holder,
-            mut pass,
-            activation,
-        } = self;
-        pass.agree(&words.blocks.book);
-        Seat {
-            holder,
-            pass,
-            activation,
-        }
+        self.seen.agree(&words.blocks.book);
+        self
     }
 
-    /// Enters, where the slot has not, swaps the value of a new block, which is lent, into the link, and retires what came out. The slot
-    /// stays active. It says whether the value was put in; it was not where a growth of the store was refused.
+    /// Enters, where the slot has not, swaps the value of a new block, which is lent, into the link, and retires what came out, with a pass
+    /// of the porter's. The slot stays active. It says whether the value was put in; it was not where a growth of the store was refused.
     pub fn turn(
         self,
         words: &Words<u64>,
+        porter: &Porter,
         link: usize,
         value: u64,
         marks: &[AtomicU64],
         rt: &impl Wait,
     ) -> (Seat, bool)
         requires sits { SitsAt words.now self }
+        requires porter { IsPorterOf words.now porter.now }
         requires link { link < 1024 }
         ensures sits { SitsAt words.now result.0 }
         ensures slot { result.0.holder.slot ≡ self.holder.slot }
     {
         let mut counting = Counting::new(marks);
-        let (active, swapped) = self.enter(words).swap_in(words, link, value);
+        let (active, swapped) = self.enter(words, porter.pass()).swap_in(words, link, value);
         match swapped {
             None => (active.sit(words), false),
             Some(None) => (active.sit(words), true),
@@ -222,7 +213,7 @@ impl Post {
     /// A post with this seat.
     pub fn new(seat: Seat) -> Post
         requires { IsSeat seat }
-        ensures { IsSound result × (post_label result ≡ label_at seat.pass.name seat.holder.slot) }
+        ensures { IsSound result × (post_label result ≡ label_at seat.seen.name seat.holder.slot) }
     {
         Post { seat: Some(seat) }
     }
@@ -239,11 +230,11 @@ impl Post {
     }
 }
 
-impl Worker {
+impl Worker<'_> {
     /// What it has is only lent from then on, to whoever has the token.
     pub fn lend(self, words: &Words<u64>) -> (SteadyCell<Post>, CellToken)
         requires may { MayWork words.now self }
-        ensures post { IsPostOf words.now result.0 × (result.0.label ≡ post_at words.now self.slot) }
+        ensures post { IsPostOf words.now result.0 × (result.0.label ≡ post_at words.now self.entry.slot) }
         ensures token { result.1.name ≡ result.0.name }
     {
         SteadyCell::new(Post::new(self.sit(words)))
@@ -255,6 +246,8 @@ impl Worker {
 pub struct Turn<'a, W> {
     /// The words of the slot's book.
     pub words: &'a Words<u64>,
+    /// What lends the turn's pass.
+    pub porter: &'a Porter,
     /// Which link, below 1024.
     pub link: usize,
     /// What is swapped in; it is the number of its mark too.
@@ -266,13 +259,15 @@ pub struct Turn<'a, W> {
 }
 
 impl<W: Wait> Work<Post, bool> for Turn<'_, W> {
-    ghost may = { λ turn post. (turn.link < 1024) × of_family (words_book turn.words.now).family (post_label post) };
+    ghost may = { λ turn post. (turn.link < 1024) × IsPorterOf turn.words.now turn.porter.now
+        × of_family (words_book turn.words.now).family (post_label post) };
 
     ghost gives = { λ _ _ _ _. Unit {0} };
 
     fn work(self, post: &mut Post) -> bool {
         let Turn {
             words,
+            porter,
             link,
             value,
             marks,
@@ -280,16 +275,17 @@ impl<W: Wait> Work<Post, bool> for Turn<'_, W> {
         } = self;
         let lent = mem::replace(post, Post { seat: None });
         let seat = lent.into_seat().known(words);
-        let (seat, done) = seat.turn(words, link, value, marks, rt);
+        let (seat, done) = seat.turn(words, porter, link, value, marks, rt);
         *post = Post::new(seat);
         done
     }
 }
 
 /// Makes so many turns with the token of this post, with one link after the other and the values from this one on. Then the holder is
-/// forgotten, and the token with it; its slot is active still. It says whether all values were put in.
+/// forgotten, and with it the token and a pass that the porter lent; its slot is active still. It says whether all values were put in.
 pub fn turn_and_forget(
     words: &Words<u64>,
+    porter: &Porter,
     post: &SteadyCell<Post>,
     token: CellToken,
     first: u64,
@@ -299,11 +295,13 @@ pub fn turn_and_forget(
 ) -> bool
     requires token { token.name ≡ post.now.name }
     requires post { IsPostOf words.now post.now }
+    requires porter { IsPorterOf words.now porter.now }
 {
     let mut token = token;
     for turn in 0..turns {
         let work = Turn {
             words,
+            porter,
             link: (turn % LINKS) as usize,
             value: first.wrapping_add(turn),
             marks,
@@ -313,6 +311,7 @@ pub fn turn_and_forget(
             return false;
         }
     }
+    mem::forget(porter.pass());
     mem::forget(token);
     true
 }

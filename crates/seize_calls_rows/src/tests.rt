@@ -234,8 +234,8 @@ fn both<R: Threads + Wait + Sync>(
     words: &Words<u64>,
     marks: &[AtomicU64],
     first: u64,
-    a: Worker,
-    b: Worker,
+    a: Worker<'_>,
+    b: Worker<'_>,
 ) -> Option<(Tally, Tally)>
     requires { MayWork words.now a × MayWork words.now b }
 {
@@ -286,8 +286,8 @@ fn all<R: Threads + Wait + Sync>(
     rt: &R,
     words: &Words<u64>,
     marks: &[AtomicU64],
-    first: (Worker, Worker),
-    last: (Worker, Worker),
+    first: (Worker<'_>, Worker<'_>),
+    last: (Worker<'_>, Worker<'_>),
 ) -> Option<(Tally, Tally, Tally, Tally)>
     requires { MayWork words.now first.0 × MayWork words.now first.1 × MayWork words.now last.0 × MayWork words.now last.1 }
 {
@@ -340,23 +340,23 @@ fn four_threads_end_each_value_at_most_once(rt: HostRuntime) {
 }
 
 // Two threads make turns, and give their workers back.
-fn work_both<R: Threads + Wait + Sync>(
+fn work_both<'p, R: Threads + Wait + Sync>(
     rt: &R,
     words: &Words<u64>,
     marks: &[AtomicU64],
-    a: Worker,
-    b: Worker,
-) -> Option<((Worker, Tally), (Worker, Tally))>
+    a: Worker<'p>,
+    b: Worker<'p>,
+) -> Option<((Worker<'p>, Tally), (Worker<'p>, Tally))>
     requires { MayWork words.now a × MayWork words.now b }
     ensures { IfSome result (λ worked. MayWork words.now worked.0.0 × MayWork words.now worked.1.0) }
 {
     let (one, two) = thread::join(
         rt,
-        move || -> Option<(Worker, Tally)>
+        move || -> Option<(Worker<'p>, Tally)>
             requires { MayWork words.now a }
             ensures { IfSome result (λ worked. MayWork words.entry.now worked.0) }
         { a.work(words, 0, TURNS, marks, rt) },
-        move || -> Option<(Worker, Tally)>
+        move || -> Option<(Worker<'p>, Tally)>
             requires { MayWork words.now b }
             ensures { IfSome result (λ worked. MayWork words.entry.now worked.0) }
         { b.work(words, TURNS, TURNS, marks, rt) },
@@ -364,20 +364,20 @@ fn work_both<R: Threads + Wait + Sync>(
     Some((one?, two?))
 }
 
-// Two threads work in turns, with passes that a porter gave out. Then the gate is shut to one caller, who has all values back that stand in
+// Two threads work in turns, with passes that a porter lent. Then the gate is shut to one caller, who has all values back that stand in
 // links and in batches: each value ended, and once.
 #[test]
 fn all_values_come_back_at_a_shut_gate(rt: HostRuntime) {
     let Ok(marks) = marks(rt.alloc(), 2 * TURNS) else {
         panic!(rt; "no memory");
     };
-    let Some((words, mut porter, source)) = open_in_turns(rt.alloc(), 32) else {
+    let Some((words, porter, source)) = open_in_turns(rt.alloc(), 32) else {
         panic!(rt; "no memory");
     };
-    let Some((a, source)) = source.make_in_turns(&words, &mut porter) else {
+    let Some((a, source)) = source.make_in_turns(&words, &porter) else {
         panic!(rt; "no memory");
     };
-    let Some((b, _)) = source.make_in_turns(&words, &mut porter) else {
+    let Some((b, _)) = source.make_in_turns(&words, &porter) else {
         panic!(rt; "no memory");
     };
     let Some(((a, one), (b, two))) = work_both(&rt, &words, marks.as_slice(), a, b) else {

@@ -1,18 +1,17 @@
 //! A book whose gate is open to several holders of slots, in turns, and then shut to one caller, who has what links and batches hold
-//! come back. Each holder makes its calls with a pass that a porter gave out. When these passes are laid back, by the holders or by
-//! whoever has what was lent to them, the gate is shut: the list that the first pass has seen is the whole list from then on, and each
-//! slot leaves nothing behind.
+//! come back. Each holder makes its calls with passes that the porter lends. When nobody shares the porter any more the gate is shut: the
+//! list that the first pass has seen is the whole list from then on, and each slot leaves nothing behind.
 ghost use Rattle.std.specs.Prelude.{◌≡◌, ◌<◌, ◌↔◌, IfSome, None, true};
 ghost use Rattle.seize_book.specs.Passes.{LooksOn};
-ghost use Rattle.seize_book.specs.Turns.{HasTurn, TakesBack};
-ghost use Rattle.seize_calls_rows.specs.Turns.{AllBack, AreAll, AreSoManyOut, CanMakeIn, IsOneMoreOut, IsShutBy, IsSlotAfter, Regains};
+ghost use Rattle.seize_book.specs.Turns.{HasTurn};
+ghost use Rattle.seize_calls_rows.specs.Turns.{AllBack, AreAll, CanMakeIn, IsShutBy, IsSlotAfter, Regains};
 ghost use Rattle.seize_calls_rows.specs.Seats.{IsLeft, SitsAt, post_at};
 ghost use Rattle.seize_calls_rows.specs.Turns.{EmptyBelow, Gave, HasNone, Holds, IsShut, KeepsLinks, LeavesNothing, NoneLost, StandsAs, TakesOut};
 ghost use Rattle.seize_calls_rows.specs.Workers.{GoesOn, MayWork, made_by};
 ghost use Rattle.seize_words.specs.Joined.{words_book};
 
 use crate::counting::Counting;
-use crate::seat::{Holder, Left, Post, Seat};
+use crate::seat::{Holder, Post, Seat};
 use crate::worker::{ROW, Source, Worker};
 use seize_calls::batch::Batch;
 use seize_calls::calls;
@@ -29,11 +28,12 @@ use std::sync::Wait;
 /// The words of a new book whose passes come from the porter, and what its slots are made with. A batch has `size` values. Nothing comes
 /// where memory was refused.
 pub fn open_in_turns(alloc: Global, size: usize) -> Option<(Words<u64>, Porter, Source)>
-    ensures { IfSome result (λ opened. CanMakeIn opened.2 opened.0 opened.1 × (opened.1.out ≡ 0) × (made_by opened.2 ≡ 0)) }
+    ensures { IfSome result (λ opened. CanMakeIn opened.2 opened.0 opened.1 × (made_by opened.2 ≡ 0)) }
 {
-    let Ok((words, porter, numbers, next)) = Words::new_in_turns(alloc, 0, ROW, size) else {
+    let Ok((words, mut porter, numbers, next)) = Words::new_in_turns(alloc, 0, ROW, size) else {
         return None;
     };
+    porter.leave_home();
     let source = Source {
         numbers,
         next,
@@ -45,38 +45,18 @@ pub fn open_in_turns(alloc: Global, size: usize) -> Option<(Words<u64>, Porter, 
 }
 
 impl Source {
-    /// Makes the next slot, whose holder has a pass that the porter gives out. Nothing comes where the growth of the table, or the room
-    /// of the slot's list of spots, was refused; no pass more is out then.
-    pub fn make_in_turns(self, words: &Words<u64>, porter: &mut Porter) -> Option<(Worker, Source)>
-        requires can { CanMakeIn self words.now porter.old }
+    /// Makes the next slot, whose holder has a pass that the porter lends. Nothing comes where the growth of the table, or the room of the
+    /// slot's list of spots, was refused.
+    pub fn make_in_turns<'p>(
+        self,
+        words: &Words<u64>,
+        porter: &'p Porter,
+    ) -> Option<(Worker<'p>, Source)>
+        requires can { CanMakeIn self words.now porter.now }
         ensures may { IfSome result (λ made. MayWork words.now made.0 × IsSlotAfter self made.0 made.1 words.now) }
-        ensures out { IfSome result (λ made. IsOneMoreOut porter.old porter.new) }
-        ensures back { result ≡ None → AreSoManyOut porter.old porter.new }
     {
-        let pass = porter.pass();
-        match self.make_with(words, pass) {
-            Ok(made) => Some(made),
-            Err(pass) => {
-                porter.lay(pass);
-                None
-            }
-        }
+        self.make_with(words, porter.pass())
     }
-}
-
-// Its pass is laid back to the porter.
-fn part(seat: Seat, porter: &mut Porter) -> Left
-    requires book { seat.pass.name ≡ porter.old.name }
-    ensures back { TakesBack porter.old seat.pass porter.new }
-    ensures part { (result.holder ≡ seat.holder) × (result.activation ≡ seat.activation) }
-{
-    let Seat {
-        holder,
-        pass,
-        activation,
-    } = seat;
-    porter.lay(pass);
-    Left { holder, activation }
 }
 
 // Takes out what the link holds, and retires it.
@@ -167,7 +147,7 @@ fn flush_and_leave(
 // The slot flushes and leaves, if it is active.
 fn stand_up(
     words: &Words<u64>,
-    left: Left,
+    left: Seat,
     counting: &mut Counting<'_>,
     pass: &mut Pass,
     rt: &impl Wait,
@@ -179,7 +159,11 @@ fn stand_up(
     ensures gave { Gave pass.old pass.new counting.old.told.had counting.new.told.had }
     ensures lost { NoneLost pass.old pass.new }
 {
-    let Left { holder, activation } = left;
+    let Seat {
+        holder,
+        activation,
+        ..
+    } = left;
     let Some(activation) = activation else {
         return holder;
     };
@@ -323,23 +307,23 @@ fn look(words: &Words<u64>, holder: Holder, pass: &mut Pass) -> Holder
     }
 }
 
-/// Lays the passes of both seats back, and shuts the gate.
+/// Shuts the gate. The first pass has seen what the passes of both seats had.
 pub fn shut_turns(
     words: &Words<u64>,
     porter: Porter,
     first: Seat,
     second: Seat,
-) -> (Pass, Left, Left)
+) -> (Pass<'static>, Seat, Seat)
     requires seats { SitsAt words.now first × SitsAt words.now second }
-    requires porter { (porter.name ≡ words_book words.now) × (porter.out ≡ 2) }
+    requires porter { porter.name ≡ words_book words.now }
     ensures shut { IsShutBy porter first second result.0 }
     ensures left { IsLeft words.now result.1 result.0 × IsLeft words.now result.2 result.0 }
-    ensures holders { (result.1.holder ≡ first.holder) × (result.2.holder ≡ second.holder) }
+    ensures seats { (result.1 ≡ first) × (result.2 ≡ second) }
 {
-    let mut porter = porter;
-    let first = part(first, &mut porter);
-    let second = part(second, &mut porter);
-    (porter.shut(), first, second)
+    let mut pass = porter.shut();
+    pass.learn(&first.seen);
+    pass.learn(&second.seen);
+    (pass, first, second)
 }
 
 /// The same with the posts where the seats of slots 0 and 1 were lent, whatever became of their holders.
@@ -348,9 +332,9 @@ pub fn shut_lent(
     porter: Porter,
     first: SteadyCell<Post>,
     second: SteadyCell<Post>,
-) -> (Pass, Left, Left)
+) -> (Pass<'static>, Seat, Seat)
     requires posts { (first.label ≡ post_at words.now 0) × (second.label ≡ post_at words.now 1) }
-    requires porter { (porter.name ≡ words_book words.now) × (porter.out ≡ 2) }
+    requires porter { porter.name ≡ words_book words.now }
     ensures shut { IsShut porter result.0 }
     ensures left { IsLeft words.now result.1 result.0 × IsLeft words.now result.2 result.0 }
     ensures slots { (result.1.holder.slot ≡ 0) × (result.2.holder.slot ≡ 1) }
@@ -373,8 +357,8 @@ fn are_all(first: usize, second: usize, many: usize) -> bool
 /// no others.
 pub fn reclaim_all(
     words: &Words<u64>,
-    first: Left,
-    second: Left,
+    first: Seat,
+    second: Seat,
     counting: &mut Counting<'_>,
     pass: &mut Pass,
     rt: &impl Wait,

@@ -26,7 +26,7 @@ pub struct Signs {
     pub ended: AtomicU64,
 }
 
-impl Worker {
+impl Worker<'_> {
     /// Enters, and leaves when the other thread has begun; then enters and leaves until that has ended. It gives how many values its
     /// reclaimer had. Nothing comes where the other's signs never came.
     pub fn visit_beside(

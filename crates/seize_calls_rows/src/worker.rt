@@ -1,6 +1,6 @@
 //! Workers over all words of one book: each has a slot of its own and the slot's batch, and makes whole calls of the slot. Others may add
 //! any events meanwhile.
-ghost use Rattle.std.specs.Prelude.{◌≡◌, ◌<◌, IfErr, IfOk, IfSome};
+ghost use Rattle.std.specs.Prelude.{◌≡◌, ◌<◌, IfSome};
 ghost use Rattle.seize_calls_rows.specs.Workers.{CanMake, CanTake, HasOneMore, HasTaken, made_by, size_in};
 ghost use Rattle.seize_calls_rows.specs.Workers.{AreSpotsOf, GoesOn, IsOut, MayWork, Stands, Works};
 ghost use Rattle.seize_calls.specs.Calls.{IsInside};
@@ -39,24 +39,24 @@ pub struct Source {
 
 /// What the holder of a slot has beside the slot's key and its batch.
 #[derive(Drop)]
-pub struct Worker {
+pub struct Worker<'p> {
     pub slot: usize,
     pub size: usize,
     pub key: SlotKey,
     pub batch: Batch,
     pub spots: Spots<Header, Part, u64>,
-    pub pass: Pass,
+    pub pass: Pass<'p>,
 }
 
 /// A worker whose slot has entered.
 #[derive(Drop)]
-pub struct Active {
+pub struct Active<'p> {
     pub slot: usize,
     pub size: usize,
     pub key: SlotKey,
     pub batch: Batch,
     pub spots: Spots<Header, Part, u64>,
-    pub pass: Pass,
+    pub pass: Pass<'p>,
     pub activation: Activation,
 }
 
@@ -86,22 +86,20 @@ pub fn open(alloc: Global, size: usize) -> Option<(Words<u64>, Source)>
 
 impl Source {
     /// Makes the next slot. Nothing comes where the growth of the table, or the room of the slot's list of spots, was refused.
-    pub fn make(self, words: &Words<u64>) -> Option<(Worker, Source)>
+    pub fn make(self, words: &Words<u64>) -> Option<(Worker<'static>, Source)>
         requires can { CanMake self words.now }
         ensures may { IfSome result (λ made. MayWork words.now made.0) }
         ensures made { IfSome result (λ made. HasOneMore self made.1 words.now) }
     {
-        let pass = words.blocks.book.pass();
-        self.make_with(words, pass).ok()
+        self.make_with(words, words.blocks.book.pass())
     }
 
-    /// The same with this pass, which comes back where that memory was refused.
-    pub fn make_with(self, words: &Words<u64>, pass: Pass) -> Result<(Worker, Source), Pass>
+    /// The same with this pass.
+    pub fn make_with<'p>(self, words: &Words<u64>, pass: Pass<'p>) -> Option<(Worker<'p>, Source)>
         requires can { CanTake self words.now }
         requires book { pass.name ≡ words_book words.now }
-        ensures may { IfOk result (λ made. MayWork words.now made.0 × (made.0.slot ≡ made_by self)) }
-        ensures made { IfOk result (λ made. HasTaken self made.1 words.now) }
-        ensures unchanged { IfErr result (λ back. back ≡ pass) }
+        ensures may { IfSome result (λ made. MayWork words.now made.0 × (made.0.slot ≡ made_by self)) }
+        ensures made { IfSome result (λ made. HasTaken self made.1 words.now) }
     {
         let Source {
             mut numbers,
@@ -110,13 +108,9 @@ impl Source {
             size,
             alloc,
         } = self;
-        let Ok(spots) = words.blocks.spots(alloc) else {
-            return Err(pass);
-        };
         let mut pass = pass;
-        let Ok((key, next)) = words.make_slot(next, &mut numbers, &mut pass) else {
-            return Err(pass);
-        };
+        let spots = words.blocks.spots(alloc).ok()?;
+        let (key, next) = words.make_slot(next, &mut numbers, &mut pass).ok()?;
         let batch = Batch::new(&mut pass);
         let worker = Worker {
             slot: made,
@@ -133,16 +127,16 @@ impl Source {
             size,
             alloc,
         };
-        Ok((worker, source))
+        Some((worker, source))
     }
 }
 
-impl Worker {
+impl<'p> Worker<'p> {
     /// The slot enters.
-    pub fn enter(self, words: &Words<u64>) -> Active
+    pub fn enter(self, words: &Words<u64>) -> Active<'p>
         requires may { MayWork words.now self }
         ensures stands { Stands words.now result }
-        ensures slot { result.slot ≡ self.slot }
+        ensures slot { result.slot ≡ self.entry.slot }
     {
         let Worker {
             slot,
@@ -165,7 +159,7 @@ impl Worker {
     }
 }
 
-impl Worker {
+impl<'p> Worker<'p> {
     /// Retires a value while the slot is not active. It says whether the batch was retired with it.
     pub fn retire<R: Reclaim<u64>>(
         self,
@@ -174,7 +168,7 @@ impl Worker {
         kept: u64,
         reclaimer: &mut R,
         rt: &impl Wait,
-    ) -> (Worker, bool)
+    ) -> (Worker<'p>, bool)
         requires may { MayWork words.now self }
         requires out { IsOut words.now out }
         requires serves { R.serves reclaimer.old (words_book words.now) }
@@ -207,9 +201,9 @@ impl Worker {
     }
 }
 
-impl Active {
+impl<'p> Active<'p> {
     /// What the link holds, if it holds something.
-    pub fn find(self, words: &Words<u64>, link: usize) -> (Active, Option<u64>)
+    pub fn find(self, words: &Words<u64>, link: usize) -> (Active<'p>, Option<u64>)
         requires stands { Stands words.now self }
         requires link { link < 1024 }
         ensures stands { Stands words.now result.0 }
@@ -243,11 +237,11 @@ impl Active {
         words: &Words<u64>,
         link: usize,
         value: u64,
-    ) -> (Active, Option<Option<Out>>)
+    ) -> (Active<'p>, Option<Option<Out>>)
         requires stands { Stands words.now self }
         requires link { link < 1024 }
         ensures stands { Stands words.now result.0 }
-        ensures slot { result.0.slot ≡ self.slot }
+        ensures slot { result.0.slot ≡ self.entry.slot }
         ensures out { IfSome result.1 (λ swapped. IfSome swapped (λ out. IsOut words.now out)) }
     {
         let Active {
@@ -280,12 +274,12 @@ impl Active {
         kept: u64,
         reclaimer: &mut R,
         rt: &impl Wait,
-    ) -> (Active, bool)
+    ) -> (Active<'p>, bool)
         requires stands { Stands words.now self }
         requires out { IsOut words.now out }
         requires serves { R.serves reclaimer.old (words_book words.now) }
         ensures stands { Stands words.now result.0 }
-        ensures slot { result.0.slot ≡ self.slot }
+        ensures slot { result.0.slot ≡ self.entry.slot }
         ensures serves { R.serves reclaimer.new (words_book words.now) }
     {
         let Active {
@@ -321,7 +315,7 @@ impl Active {
         words: &Words<u64>,
         reclaimer: &mut R,
         rt: &impl Wait,
-    ) -> (Active, bool)
+    ) -> (Active<'p>, bool)
         requires stands { Stands words.now self }
         requires serves { R.serves reclaimer.old (words_book words.now) }
         ensures stands { Stands words.now result.0 }
@@ -358,7 +352,7 @@ impl Active {
         words: &Words<u64>,
         counting: &mut Counting<'_>,
         rt: &impl Wait,
-    ) -> (Worker, u64)
+    ) -> (Worker<'p>, u64)
         requires stands { Stands words.now self }
         ensures may { MayWork words.now result.0 }
     {
@@ -398,7 +392,7 @@ impl Active {
         words: &Words<u64>,
         reclaimer: &mut R,
         rt: &impl Wait,
-    ) -> Worker
+    ) -> Worker<'p>
         requires stands { Stands words.now self }
         requires serves { R.serves reclaimer.old (words_book words.now) }
         ensures may { MayWork words.now result }
@@ -420,7 +414,7 @@ impl Active {
 }
 
 // The slot leaves by its head.
-fn leave<R: Reclaim<u64>>(
+fn leave<'p, R: Reclaim<u64>>(
     words: &Words<u64>,
     spots: Spots<Header, Part, u64>,
     slot: usize,
@@ -429,9 +423,9 @@ fn leave<R: Reclaim<u64>>(
     key: SlotKey,
     batch: Batch,
     reclaimer: &mut R,
-    pass: Pass,
+    pass: Pass<'p>,
     rt: &impl Wait,
-) -> Worker
+) -> Worker<'p>
     requires works { Works words.now slot size batch key pass }
     requires inside { IsInside key × IsLastOf key activation }
     requires serves { R.serves reclaimer.old (words_book words.now) }

@@ -91,7 +91,7 @@ impl<T: Drop> Words<T> {
         capacity: usize,
         links: usize,
         size: usize,
-    ) -> Result<(Words<T>, Pass, NumbersKey, NextSlot), Refusal>
+    ) -> Result<(Words<T>, Pass<'static>, NumbersKey, NextSlot), Refusal>
         ensures made { IfOk result (λ opened. OpensWordsAlone opened.0 opened.1 opened.2 opened.3 links size) }
         ensures refused { IfErr result (λ e. (e ≡ NoNumbers) ⊎ (e ≡ NoMemory)) }
         ensures no_numbers { (result ≡ Err NoNumbers) ↔ (MAX_INDEX < capacity) }
@@ -104,7 +104,7 @@ impl<T: Drop> Words<T> {
         Ok((words, pass, numbers, next))
     }
 
-    /// The same of a book whose passes come from the porter, and go back to it.
+    /// The same of a book whose passes come from the porter.
     ///
     /// # Errors
     ///
@@ -151,7 +151,7 @@ impl<T: Drop> Words<T> {
         unopened: Unopened,
         links: usize,
         size: usize,
-    ) -> (Book, Pass, BookKeys)
+    ) -> (Book, Pass<'static>, BookKeys)
         requires { (K.store ≡ Some (store_name _store.now)) × (K.table ≡ Some (name_of _table.now)) }
         ensures book { OpensAlone result.0 result.1 result.2 links size (Some (store_name _store.now)) (Some (name_of _table.now)) }
         ensures family { result.0.name.family ≡ unopened.family }

@@ -35,14 +35,14 @@ pub struct Source {
 pub struct Entrant {
     pub slot: usize,
     pub key: SlotKey,
-    pub pass: Pass,
+    pub pass: Pass<'static>,
 }
 
 /// A slot that has entered, and the pass with which it did.
 #[derive(Drop)]
 pub struct Entered {
     pub activation: Activation,
-    pub pass: Pass,
+    pub pass: Pass<'static>,
 }
 
 /// The words of a new book, and what its slots are made with. Nothing comes where memory was refused.

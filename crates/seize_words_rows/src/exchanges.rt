@@ -23,7 +23,7 @@ pub const TURNS: u64 = 10_000_000;
 pub struct Swapper {
     pub activation: Activation,
     pub book: Book,
-    pub pass: Pass,
+    pub pass: Pass<'static>,
 }
 
 /// What exchanges came to.

@@ -1,11 +1,11 @@
 //! A porter that comes home. While it is there nobody adds to the list, which is what the porter has seen: so is that of the gate when it
-//! is shut from there, and of the next porter. A pass that went out meanwhile has to come back first.
-ghost use Rattle.std.specs.Prelude.{◌≡◌, false};
-ghost use mathlib.Core.List.{IsPrefix};
+//! is shut from there, and of the next porter. Passes that it lent meanwhile keep it from nothing.
+ghost use Rattle.std.specs.Prelude.{◌≡◌};
 ghost use Rattle.seize_words_rows.specs.Homing.{IsAtHome, IsSameList};
 
-use seize_words::book::{Pass, Porter, Unopened};
+use seize_words::book::{Porter, Unopened};
 use std::marker::Brand;
+use std::mem;
 
 /// The porter of a new book with one link, whose blocks lie in no store.
 pub fn begin() -> Porter
@@ -16,15 +16,15 @@ pub fn begin() -> Porter
     porter
 }
 
-/// Two passes go out and come back, and the porter comes home. With neither was anything made.
-pub fn send_out(porter: &mut Porter)
+/// Two passes are lent and forgotten, and the porter comes home.
+pub fn lend_two(porter: &mut Porter)
     requires home { IsAtHome porter.old }
     ensures home { IsAtHome porter.new × (porter.new.name ≡ porter.old.name) }
 {
-    let one = porter.pass();
-    let two = porter.pass();
-    porter.lay(two);
-    porter.lay(one);
+    porter.leave_home();
+    mem::forget(porter.pass());
+    let last = porter.pass();
+    mem::forget(last);
     porter.come_home();
 }
 
@@ -35,17 +35,5 @@ pub fn shut_and_open(porter: Porter) -> Porter
     ensures same { IsSameList porter result }
 {
     let pass = porter.shut();
-    let mut porter = Porter::again(pass);
-    porter.come_home();
-    porter
-}
-
-/// The porter comes home and leaves it again. It has seen all that was added by then, so each turn that follows begins with that.
-pub fn catch_up(porter: &mut Porter)
-    requires none { porter.old.out ≡ 0 }
-    ensures grows { IsPrefix porter.old.seen porter.new.seen }
-    ensures ready { (porter.new.name ≡ porter.old.name) × (porter.new.out ≡ 0) × (porter.new.home ≡ false) }
-{
-    porter.come_home();
-    porter.leave_home();
+    Porter::again(pass)
 }

@@ -59,7 +59,7 @@ pub fn enter_and_leave_many(head: &Head, key: &mut SlotKey, pass: &mut Pass, tur
 pub struct Visitor {
     pub key: SlotKey,
     pub head: Head,
-    pub pass: Pass,
+    pub pass: Pass<'static>,
 }
 
 impl Visitor {

@@ -4,6 +4,7 @@
 
 pub mod entrants;
 pub mod exchanges;
+pub mod guests;
 pub mod homing;
 pub mod leaving;
 pub mod lending;
@@ -14,4 +15,3 @@ pub mod row;
 pub mod shared_numbers;
 #[cfg(test)]
 mod tests;
-pub mod turning;

@@ -37,7 +37,7 @@ pub struct Retired {
 
 /// The words of a new book with one link, and two slots. It gives the key of the slot that reads, that of the one that retires, and the one
 /// pass. Nothing comes where memory was refused.
-pub fn begin(alloc: Global) -> Option<(Words<u64>, SlotKey, SlotKey, Pass)>
+pub fn begin(alloc: Global) -> Option<(Words<u64>, SlotKey, SlotKey, Pass<'static>)>
     ensures reader { IfSome result (λ begun. Knows (words_book begun.0) begun.1 0 one_made) }
     ensures retirer { IfSome result (λ begun. Leads (words_book begun.0) begun.3 begun.2 1 two_made) }
 {

@@ -21,7 +21,7 @@ pub struct Made {
 }
 
 /// The words of a new book with no slot yet, and a pass of it, with what its slots are made with. Nothing comes where memory was refused.
-pub fn begin(alloc: Global) -> Option<(Words<u64>, Pass, NumbersKey, NextSlot)>
+pub fn begin(alloc: Global) -> Option<(Words<u64>, Pass<'static>, NumbersKey, NextSlot)>
     ensures many { IfSome result (λ begun. (words_book begun.0).gate ≡ many) }
     ensures used { IfSome result (λ begun. AreInUse begun.0 begun.2 begun.1 []) }
     ensures next { IfSome result (λ begun. ComesNext begun.3 begun.1 0) }

@@ -1,9 +1,9 @@
-//! Passes. The keys beside it add entries with a pass; `porter` gives passes out and takes them back.
+//! Passes. The keys beside it add entries with a pass; `porter` lends them.
 ghost use Rattle.std.specs.Prelude.{◌≡◌, ℕ, List, Some, is_some, true};
 ghost use base.Stored.{coded_list};
 ghost use Rattle.seize_book.specs.Entry.{Entry, entry_coded};
 ghost use Rattle.seize_store.specs.Named.{IsRowOf};
-ghost use Rattle.seize_book.specs.Tokens.{Name, name_coded, pass_owns};
+ghost use Rattle.seize_book.specs.Tokens.{Name, lent_pass, name_coded};
 
 use crate::book::porter::Porter;
 use crate::book::token::Book;
@@ -11,9 +11,10 @@ use seize_store::Known;
 use seize_table::tls::AllFilled;
 use std::marker::{Model, PhantomData};
 
-/// What its holder has seen of the list, and the right to add entries under its id.
-pub struct Pass {
-    pub(super) marker: PhantomData<()>,
+/// What its holder has seen of the list, and the right to add entries under its id, for as long as `'p` lasts: that is how long the porter
+/// is shared that lent it. Who drops or forgets it keeps nobody from anything.
+pub struct Pass<'p> {
+    pub(super) marker: PhantomData<&'p ()>,
     /// The book.
     pub ghost name: { Name } by { name_coded },
     /// Which pass of the book it is.
@@ -22,16 +23,15 @@ pub struct Pass {
     pub ghost seen: { List Entry } by { coded_list entry_coded },
 }
 
-impl Model for Pass {
-    ghost also_owns = { λ p. pass_owns p.name p.id p.seen };
+impl<'p> Model for Pass<'p> {
+    ghost also_owns = { λ p. lent_pass p.name 'p p.id p.seen };
 }
 
-impl Pass {
+impl<'p> Pass<'p> {
     ghost use Rattle.seize_book.specs.Books.{Learns};
     ghost use Rattle.seize_book.specs.Homesteads.{AreAt, HasNumber, state_seen};
     ghost use Rattle.seize_book.specs.Passes.{LooksOn, Meets};
     ghost use Rattle.seize_book.specs.Tables.{AreSlotsOf};
-    ghost use Rattle.seize_book.specs.Turns.{HasTurn, OpensAgain, TakesBack};
 
     /// Two passes of one book tell each other what they have seen: afterwards both have seen the longer of their two beginnings. No event
     /// is made with either.
@@ -95,19 +95,15 @@ impl Pass {
         requires { self.old.name.store ≡ Some known.now.store }
         ensures { LooksOn self.old self.new × AreAt self.new.name known.now (state_seen self.new) }
     {}
+}
 
-    // It is laid back to the porter that gave it out.
-    pub(super) fn lay_back(self, porter: &mut Porter)
-        requires { self.name ≡ porter.old.name }
-        ensures { TakesBack porter.old self porter.new }
-    {
-        let Self { marker: _ } = self;
-    }
+impl Pass<'static> {
+    ghost use Rattle.seize_book.specs.Turns.{HasTurn, OpensAgain};
 
     // The gate is opened again, to which it was alone.
     pub(super) fn open_again(self) -> Porter
         requires { HasTurn self }
-        ensures { OpensAgain self result }
+        ensures { OpensAgain self.entry result }
     {
         let Self { marker: _ } = self;
         Porter {
@@ -116,10 +112,10 @@ impl Pass {
     }
 }
 
-impl Drop for Pass {
+impl<'p> Drop for Pass<'p> {
     fn drop(self) {
         let Self { marker: _ } = self;
     }
 }
 
-unsafe impl Send for Pass {}
+unsafe impl<'p> Send for Pass<'p> {}

@@ -70,14 +70,14 @@ impl Book {
     }
 
     /// A new book as `open` makes one, but that its one pass is alone: only who has it appends, and it has seen all there is.
-    pub fn open_alone<K: Keeps>(links: usize, size: usize) -> (Book, Pass, BookKeys)
+    pub fn open_alone<K: Keeps>(links: usize, size: usize) -> (Book, Pass<'static>, BookKeys)
         ensures { OpensAlone result.0 result.1 result.2 links size K.store K.table }
     {
         let (unopened, _) = Unopened::new();
         unopened.open_alone::<K>(links, size)
     }
 
-    /// A new book as `open` makes one, but that its passes come from the porter, and go back to it.
+    /// A new book as `open` makes one, but that its passes come from the porter.
     pub fn open_in_turns<K: Keeps>(links: usize, size: usize) -> (Book, Porter, BookKeys)
         ensures { OpensInTurns result.0 result.1 result.2 links size K.store K.table }
     {
@@ -103,7 +103,7 @@ impl Book {
         unopened: Unopened,
         links: usize,
         size: usize,
-    ) -> (Book, Pass, Keys)
+    ) -> (Book, Pass<'static>, Keys)
         ensures { IsAlone result.0 result.1 × Begins result.0 result.2 links size K.store K.table
             × (result.0.name.family ≡ unopened.family) }
     {
@@ -124,7 +124,7 @@ impl Book {
         unopened: Unopened,
         links: usize,
         size: usize,
-    ) -> (Book, Pass, Keys)
+    ) -> (Book, Pass<'static>, Keys)
         ensures { IsFirstTurn result.0 result.1 × Begins result.0 result.2 links size K.store K.table
             × (result.0.name.family ≡ unopened.family) }
     {
@@ -157,7 +157,7 @@ impl Book {
     {}
 
     /// A new pass, which has seen what the book has.
-    pub fn pass(&self) -> Pass
+    pub fn pass(&self) -> Pass<'static>
         requires { self.now.name.gate ≡ many }
         ensures { IsNew result × (result.name ≡ self.now.name) × IsPrefix self.now.seen result.seen }
     {

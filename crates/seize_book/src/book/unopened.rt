@@ -48,7 +48,7 @@ impl Unopened {
     }
 
     /// The book begins, as one of `Book::open_alone`.
-    pub fn open_alone<K: Keeps>(self, links: usize, size: usize) -> (Book, Pass, BookKeys)
+    pub fn open_alone<K: Keeps>(self, links: usize, size: usize) -> (Book, Pass<'static>, BookKeys)
         ensures { OpensAlone result.0 result.1 result.2 links size K.store K.table × (result.0.name.family ≡ self.family) }
     {
         let (book, pass, keys) = Book::open_sole::<K>(self, links, size);

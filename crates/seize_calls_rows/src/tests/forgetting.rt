@@ -1,6 +1,6 @@
-//! Holders that are forgotten. What they had was only lent to them, and comes back.
+//! Holders that are forgotten, and the passes that the porter lent them. What they had was only lent to them, and comes back.
 ghost use Rattle.std.specs.Prelude.{◌≡◌};
-ghost use Rattle.seize_calls_rows.specs.Seats.{IsPostOf};
+ghost use Rattle.seize_calls_rows.specs.Seats.{IsPorterOf, IsPostOf};
 
 use super::{TURNS, marks, told};
 use crate::counting::Counting;
@@ -8,6 +8,7 @@ use crate::seat::{Post, turn_and_forget};
 use crate::turns::{open_in_turns, reclaim_all, shut_lent};
 use crate::worker::LINKS;
 use seize_content::{CellToken, SteadyCell};
+use seize_words::book::Porter;
 use seize_words::words::Words;
 use std::sync::Wait;
 use std::sync::atomic::AtomicU64;
@@ -19,6 +20,7 @@ use std::{mem, thread};
 fn turn_both<R: Threads + Wait + Sync>(
     rt: &R,
     words: &Words<u64>,
+    porter: &Porter,
     marks: &[AtomicU64],
     first: &SteadyCell<Post>,
     one: CellToken,
@@ -27,20 +29,21 @@ fn turn_both<R: Threads + Wait + Sync>(
 ) -> (bool, bool)
     requires first { (one.name ≡ first.now.name) × IsPostOf words.now first.now }
     requires second { (two.name ≡ second.now.name) × IsPostOf words.now second.now }
+    requires porter { IsPorterOf words.now porter.now }
 {
     thread::join(
         rt,
         move || -> bool
-            requires { (one.name ≡ first.now.name) × IsPostOf words.now first.now }
-        { turn_and_forget(words, first, one, 0, TURNS, marks, rt) },
+            requires { (one.name ≡ first.now.name) × IsPostOf words.now first.now × IsPorterOf words.now porter.now }
+        { turn_and_forget(words, porter, first, one, 0, TURNS, marks, rt) },
         move || -> bool
-            requires { (two.name ≡ second.now.name) × IsPostOf words.now second.now }
-        { turn_and_forget(words, second, two, TURNS, TURNS, marks, rt) },
+            requires { (two.name ≡ second.now.name) × IsPostOf words.now second.now × IsPorterOf words.now porter.now }
+        { turn_and_forget(words, porter, second, two, TURNS, TURNS, marks, rt) },
     )
 }
 
-// Each of two slots is active still when its holder is forgotten, so no value has ended: each stands in a batch or in a link. Then one
-// caller has all back by the posts alone, and each value ends once.
+// Each of two slots is active still when its holder is forgotten, so no value has ended: each stands in a batch or in a link. A pass was
+// forgotten on each thread, and the porter comes home. Then one caller has all back by the posts alone, and each value ends once.
 #[test]
 fn what_forgotten_holders_had_comes_back(rt: HostRuntime) {
     let Ok(marks) = marks(rt.alloc(), 2 * TURNS) else {
@@ -49,17 +52,27 @@ fn what_forgotten_holders_had_comes_back(rt: HostRuntime) {
     let Some((words, mut porter, source)) = open_in_turns(rt.alloc(), 32) else {
         panic!(rt; "no memory");
     };
-    let Some((a, source)) = source.make_in_turns(&words, &mut porter) else {
+    let Some((a, source)) = source.make_in_turns(&words, &porter) else {
         panic!(rt; "no memory");
     };
-    let Some((b, _)) = source.make_in_turns(&words, &mut porter) else {
+    let Some((b, _)) = source.make_in_turns(&words, &porter) else {
         panic!(rt; "no memory");
     };
     let (first, one) = a.lend(&words);
     let (second, two) = b.lend(&words);
-    let done = turn_both(&rt, &words, marks.as_slice(), &first, one, &second, two);
+    let done = turn_both(
+        &rt,
+        &words,
+        &porter,
+        marks.as_slice(),
+        &first,
+        one,
+        &second,
+        two,
+    );
     assert_eq!(rt; done, (true, true));
     assert_eq!(rt; told(marks.as_slice()), (2 * TURNS, 0));
+    porter.come_home();
     let mut counting = Counting::new(marks.as_slice());
     let (mut pass, first, second) = shut_lent(&words, porter, first, second);
     let (_, _, all) = reclaim_all(&words, first, second, &mut counting, &mut pass, &rt);
@@ -74,19 +87,30 @@ fn a_holder_that_did_nothing_is_forgotten(rt: HostRuntime) {
     let Ok(marks) = marks(rt.alloc(), LINKS) else {
         panic!(rt; "no memory");
     };
-    let Some((words, mut porter, source)) = open_in_turns(rt.alloc(), 32) else {
+    let Some((words, porter, source)) = open_in_turns(rt.alloc(), 32) else {
         panic!(rt; "no memory");
     };
-    let Some((a, source)) = source.make_in_turns(&words, &mut porter) else {
+    let Some((a, source)) = source.make_in_turns(&words, &porter) else {
         panic!(rt; "no memory");
     };
-    let Some((b, _)) = source.make_in_turns(&words, &mut porter) else {
+    let Some((b, _)) = source.make_in_turns(&words, &porter) else {
         panic!(rt; "no memory");
     };
     let (first, one) = a.lend(&words);
     let (second, two) = b.lend(&words);
     mem::forget(one);
-    assert!(rt; turn_and_forget(&words, &second, two, 0, LINKS, marks.as_slice(), &rt));
+    assert!(rt;
+        turn_and_forget(
+            &words,
+            &porter,
+            &second,
+            two,
+            0,
+            LINKS,
+            marks.as_slice(),
+            &rt
+        )
+    );
     assert_eq!(rt; told(marks.as_slice()), (LINKS, 0));
     let mut counting = Counting::new(marks.as_slice());
     let (mut pass, first, second) = shut_lent(&words, porter, first, second);

@@ -1,10 +1,15 @@
-use Rattle.std.proofs.Common.{rules, ◌≡◌, ℕ, ◌+◌, ◌<◌, Bool, if◌then◌else◌, take, lit<, sym, ap, subst, ◌∙◌, arith}
+use Rattle.std.proofs.Common.{rules, ◌≡◌, ℕ, ◌+◌, ◌<◌, Bool, if◌then◌else◌, take, lit<, refl, sym, ap, subst, ◌∙◌, arith}
 use Rattle.std.proofs.lemmas.List.{length-take-le}
 use Rattle.seize_calls.specs.Batches.{spots_of}
 use Rattle.seize_calls.specs.Rounds.{rest_in}
-use Rattle.seize_calls.proofs.Inserts.{HasTurned, all_turned, round_done, round_next, round_turned}
+use Rattle.seize_calls.proofs.Inserts.{HasTurned, all_turned, none_turned, round_done, round_next, round_turned}
 use Rattle.seize_calls.proofs.inserting.insert_round.Goals.{then-insert_at, else-insert_at}
 use Rattle.seize_calls.proofs.inserting.insert_round.Goals as goal
+
+pub loop-init : goal.loop-init
+loop-init g c =
+    let spots = take c.args.marked (spots_of (rest_in c.args.round.now)) in
+    (λ at. none_turned c.args.key.now c.args.pass.now spots c.args.front at, c.requires.book.0, c.requires.knows, c.requires.round.0, c.requires.round.1, refl)
 
 pub insert_at-requires : goal.insert_at-requires
 insert_at-requires g c =

@@ -1,30 +1,26 @@
-use Rattle.std.proofs.Common.{sym, subst, ◌∙◌, Option}
-use base.Growing.{prefix_trans}
+use Rattle.std.proofs.Common.{sym, subst, refl, ◌∙◌}
+use mathlib.Core.List.{IsPrefix}
 use Rattle.seize_book.specs.Book.{IsLegalList}
 use Rattle.seize_book.specs.Tokens.{Name, start}
-use Rattle.seize_words.specs.declared.activation.Activation.{Activation}
-use Rattle.seize_calls_rows.specs.Seats.{SitsWith}
-use Rattle.seize_calls_rows.specs.declared.seat.Holder.{Holder}
-use Rattle.seize_calls_rows.proofs.Seats.{sits_book, sits_later}
-use Rattle.seize_calls_rows.proofs.Shut.{longer_left, longer_right}
+use Rattle.seize_calls_rows.specs.Seats.{seen_by}
+use Rattle.seize_calls_rows.proofs.Links.{sole_still}
+use Rattle.seize_calls_rows.proofs.Seats.{sits_later}
+use Rattle.seize_calls_rows.proofs.Shut.{has_turn, longer_right, turn_still}
 use Rattle.seize_calls_rows.proofs.turns.shut_turns.Goals as goal
 
 pub returns : goal.returns
 returns c =
-    let words = c.args.words.now in let first = c.args.first in let second = c.args.second in let one = c.part-first in let two = c.part-second in let pass = c.shut.result in let shut = c.shut.ensures in
-    let porter = two.new.porter in let legal = subst (λ (n : Name). IsLegalList (start n) pass.seen) (sym shut.book) shut.goes_on.legal in
-    let book = shut.book ∙ two.ensures.back.0 ∙ one.ensures.back.0 ∙ c.requires.porter.0 in
-    let seen2 = prefix_trans second.pass.seen porter.seen pass.seen (longer_right one.new.porter.seen second.pass.seen porter.seen two.ensures.back.2) shut.goes_on.grows in
-    let then = prefix_trans one.new.porter.seen porter.seen pass.seen (longer_left one.new.porter.seen second.pass.seen porter.seen two.ensures.back.2) shut.goes_on.grows in
-    let seen1 = prefix_trans first.pass.seen one.new.porter.seen pass.seen (longer_right c.args.porter.seen first.pass.seen one.new.porter.seen one.ensures.back.2) then in
-    let seen = prefix_trans c.args.porter.seen one.new.porter.seen pass.seen (longer_left c.args.porter.seen first.pass.seen one.new.porter.seen one.ensures.back.2) then in
+    let words = c.args.words.now in let first = c.args.first in let second = c.args.second in let seats = c.requires.seats in
+    let p0 = c.shut-pass.result in let p1 = c.learn.new.self in let p2 = c.learn-2.new.self in let shut = c.shut-pass.ensures in let one = c.learn.ensures in let two = c.learn-2.ensures in
+    let turn = turn_still p1 p2 two.0 (turn_still p0 p1 one.0 shut.turn) in
+    let e1 = one.3 shut.alone in let e2 = two.3 (sole_still p0 p1 one.0 shut.alone) in
+    let seen1 = subst (IsPrefix first.seen.seen) (sym e2) (longer_right p0.seen first.seen.seen p1.seen one.2) in let seen2 = longer_right p1.seen second.seen.seen p2.seen two.2 in
+    let book = two.0.0 ∙ one.0.0 ∙ shut.book in let legal = subst (λ (n : Name). IsLegalList (start n) p2.seen) (sym two.0.0) two.4 in
     record {
-      shut = ((shut.book ∙ two.ensures.back.0 ∙ one.ensures.back.0, shut.turn, shut.alone, seen), seen1, seen2);
+      shut = ((book, turn, has_turn p2 turn, subst (IsPrefix c.args.porter.seen) (sym (e2 ∙ e1)) shut.goes_on.grows), seen1, seen2);
       left = (
-        subst (λ (t : Holder × Option Activation). SitsWith words t.0 t.1 pass) (λ i. (sym one.ensures.part.0 i, sym one.ensures.part.1 i))
-            (sits_later words first.holder first.activation first.pass pass (book ∙ sits_book words first c.requires.seats.0) seen1 legal c.requires.seats.0),
-        subst (λ (t : Holder × Option Activation). SitsWith words t.0 t.1 pass) (λ i. (sym two.ensures.part.0 i, sym two.ensures.part.1 i))
-            (sits_later words second.holder second.activation second.pass pass (book ∙ sits_book words second c.requires.seats.1) seen2 legal c.requires.seats.1),
+        sits_later words first.holder first.activation (seen_by first.seen) p2 (book ∙ c.requires.porter ∙ sym seats.0.0) seen1 legal seats.0.1,
+        sits_later words second.holder second.activation (seen_by second.seen) p2 (book ∙ c.requires.porter ∙ sym seats.1.0) seen2 legal seats.1.1,
       );
-      holders = (one.ensures.part.0, two.ensures.part.0);
+      seats = (refl, refl);
     }

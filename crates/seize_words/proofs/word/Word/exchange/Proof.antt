@@ -1,10 +1,11 @@
 -- `exchange` is one step, and one event.
-use Rattle.seize_book.proofs.Kit.{ℕ, ◌^◌, List, [], ◌∷◌, refl, sym, ◌∙◌, w64, tail, proved, named, Val, vint, vptr, SProp, wand, emp, via, apply∗, Lft, Share, Fml, ftrue, fsep, flft, fnamed, ‵, raw, ◌⊛◌, some, given, later, mean, at_ret, ◌$◌, ◌∵◌, !, qed, by, move, keep, drop, split, split3, join, fsplit, fsplit3, fjoin, fjoin3, fpick, pick, learn, use1, use2, use3, await, rewrite, feq_i, flt_i, stop, addr, of_opd, no_more, and_then, first, blocks, exec, Calls-last, returns, enter, alloc_all, pass_all, free_all, look_at, get, through, sets, lands_last, env, fact, fact_i, tables, Lends-one, yes, owns, types_at, plain, RefOf, block_ptr, unhide, uint_vals, uint_Tells, u64, mut_vals, mut_Tells, shr_vals, shr_Tells, nothing, opens, closes, heard, Stays, stay_dropped, stay_ref, walk_of, Goes-dropped, Goes-ref}
+use Rattle.seize_book.proofs.Kit.{named_lft, ap, NamedLft, Lfts, ℕ, ◌^◌, List, [], ◌∷◌, refl, sym, ◌∙◌, w64, tail, proved, named, Val, vint, vptr, SProp, wand, emp, via, apply∗, Lft, Share, Fml, ftrue, fsep, flft, fnamed, ‵, raw, ◌⊛◌, some, given, later, mean, at_ret, ◌$◌, ◌∵◌, !, qed, by, move, keep, drop, split, split3, join, fsplit, fsplit3, fjoin, fjoin3, fpick, pick, learn, use1, use2, use3, await, rewrite, feq_i, flt_i, stop, addr, of_opd, no_more, and_then, first, blocks, exec, Calls-last, returns, enter, alloc_all, pass_all, free_all, look_at, get, through, sets, lands_last, env, fact, fact_i, tables, Lends-one, yes, owns, types_at, plain, RefOf, block_ptr, unhide, uint_vals, uint_Tells, u64, mut_vals, mut_Tells, shr_vals, shr_Tells, nothing, opens, closes, heard, Stays, stay_dropped, stay_ref, walk_of, Goes-dropped, Goes-ref}
 use mir.Syntax.{a_type, dcons, dnil}
 use mir.MapTy.{inst_fn}
 use base.Fraction.{full_share}
 use denote.Param.{bounded}
 use Rattle.atomic_table.proofs.Calls.{fm, found, finds, exchanges}
+use Rattle.seize_book.proofs.Borrowed.{opens_pass, closes_pass, two_out, two_in}
 use Rattle.seize_book.specs.Entry.{Entry}
 use Rattle.seize_words.specs.Atomic.{MayTake, exchanged}
 use Rattle.seize_book.specs.Tokens.{Name, inside, knows, keys_own, pass_owns, pass_holds}
@@ -23,16 +24,16 @@ pub exchange_spec : {M : Type 1} → statement M
 exchange_spec 𝓤 𝓛 𝓜 𝓡 wired P LP g d _ =
     let H = 𝓛.H in let 𝓣 = tables 𝓤 H 𝓜 𝓡 𝓡.env in let En = ended P g d in let c = clauses P g d 𝓛 𝓜.mem 𝓡.returns in
     let inst = bounded (a_type ∷ []) (P, tt) (dcons d dnil) in let fn = inst_fn inst code.function in let self = RefOf (0 ∷ []) tt (plain (λ _. Word.the_row)) (λ _. tt) in
-    let hs : Stays En.signature.params En.kept = (stay_dropped self yes, (stay_dropped (plain (λ _. u64)) yes, (stay_dropped (plain (λ _. u64)) yes, (stay_ref (1 ∷ []) tt (plain (λ _. Keys.the_row)), (stay_ref (2 ∷ []) tt (plain (λ _. Pass.the_row)), tt))))) in
-    proved 𝓛 En hs c 𝓜 𝓡 (Goes-dropped 𝓛 4 self yes (λ κs x f. refl), (Goes-dropped 𝓛 4 (plain (λ _. u64)) yes (λ κs x f. refl), (Goes-dropped 𝓛 4 (plain (λ _. u64)) yes (λ κs x f. refl), (Goes-ref 𝓛 4 1 tt (plain (λ _. Keys.the_row)), (Goes-ref 𝓛 4 2 tt (plain (λ _. Pass.the_row)), tt))))) (#self inst) fn (code.unfolded 𝓤 H 𝓜 𝓡 wired (P, tt) d)
-    (λ κs. (shr_vals, (uint_vals w64, (uint_vals w64, (mut_vals, (mut_vals, tt)))))) (λ κs. (shr_Tells (named 0) κs.0 Word.the_row, (uint_Tells w64, (uint_Tells w64, (mut_Tells (named 1) κs.1.0 Keys.the_row, (mut_Tells (named 2) κs.1.1.0 Pass.the_row, tt)))))) (λ κs qs bounds a gh are.
+    let Pa = plain (λ (κs : Lfts 5). Pass.the_row (named_lft 5 3 tt κs)) in let hs : Stays En.signature.params En.kept = (stay_dropped self yes, (stay_dropped (plain (λ _. u64)) yes, (stay_dropped (plain (λ _. u64)) yes, (stay_ref (1 ∷ []) tt (plain (λ _. Keys.the_row)), (stay_ref (2 ∷ []) tt (Pa), tt))))) in
+    proved 𝓛 En hs c 𝓜 𝓡 (Goes-dropped 𝓛 5 self yes (λ κs x f. refl), (Goes-dropped 𝓛 5 (plain (λ _. u64)) yes (λ κs x f. refl), (Goes-dropped 𝓛 5 (plain (λ _. u64)) yes (λ κs x f. refl), (Goes-ref 𝓛 5 1 tt (plain (λ _. Keys.the_row)), (Goes-ref 𝓛 5 2 tt (Pa), tt))))) (#self inst) fn (code.unfolded 𝓤 H 𝓜 𝓡 wired (P, tt) d)
+    (λ κs. (shr_vals, (uint_vals w64, (uint_vals w64, (mut_vals, (mut_vals, tt)))))) (λ κs. (shr_Tells (named 0) κs.0 Word.the_row, (uint_Tells w64, (uint_Tells w64, (mut_Tells (named 1) κs.1.0 Keys.the_row, (mut_Tells (named 2) κs.1.1.0 (Pass.the_row (named_lft 5 3 tt κs)), tt)))))) (λ κs qs bounds a gh are.
     let site = a.0.now in let old : ℕ = a.1.0 in let new : ℕ = a.1.1.0 in let keys = a.1.1.1.0.now in let pass = a.1.1.1.1.0.now in let b : ℕ = a.0.ref_ptr.0 in let o : ℕ = a.0.ref_ptr.1 in let kb : ℕ = a.1.1.1.0.ref_ptr.0 in let ko : ℕ = a.1.1.1.0.ref_ptr.1 in let pb : ℕ = a.1.1.1.1.0.ref_ptr.0 in let po : ℕ = a.1.1.1.1.0.ref_ptr.1 in
     let n : Name = site.name in let f : ℕ → ℕ = exchanged old new in
-    let y : (walk_of 𝓛 En hs c).Ghost = ((κs, qs, bounds, a, (vptr b o ∷ [], (vint w64 old ∷ [], (vint w64 new ∷ [], (vptr kb ko ∷ [], (vptr pb po ∷ [], tt)))))), gh) in let Post : Val → SProp 𝓤 = (walk_of 𝓛 En hs c).post y in
-    let toks : Fml = fsep (flft κs.0 qs.0) (fsep (flft κs.1.0 qs.1.0) (fsep (flft κs.1.1.0 qs.1.1.0) (fsep (flft κs.1.1.1.0 qs.1.1.1.0) ftrue))) in
+    let ℓ : NamedLft = named_lft 5 3 tt κs in let y : (walk_of 𝓛 En hs c).Ghost = ((κs, qs, bounds, a, (vptr b o ∷ [], (vint w64 old ∷ [], (vint w64 new ∷ [], (vptr kb ko ∷ [], (vptr pb po ∷ [], tt)))))), gh) in let Post : Val → SProp 𝓤 = (walk_of 𝓛 En hs c).post y in
+    let toks : Fml = fsep (flft κs.0 qs.0) (fsep (flft κs.1.0 qs.1.0) (fsep (flft κs.1.1.0 qs.1.1.0) (fsep (flft κs.1.1.1.0 qs.1.1.1.0) (fsep (flft κs.1.1.1.1.0 qs.1.1.1.1.0) ftrue)))) in
     let Asked : Type 0 = MayTake site keys pass [] [] f g.entry g.trades in
     qed 𝓛 ((‵ toks ⊛ ‵ (owns (types_at En.signature.params κs) a y.0.4)) ∷ raw (fact 𝓤 _) ∷ raw (fact 𝓤 Asked) ∷ []) ∵ keep ! (2 ∷ 0 ∷ []) $ heard ! Asked (λ asked. split ! $
-    fsplit ! $ move ! (1 ∷ []) $ fsplit ! $ move ! (1 ∷ []) $ fsplit ! $ move ! (4 ∷ []) $ fsplit ! $ fsplit ! $ move ! (2 ∷ []) $ fsplit ! $ move ! (1 ∷ []) $ fsplit ! $ move ! (1 ∷ []) $ fsplit ! $ fsplit3 ! $ move ! (3 ∷ []) $ fsplit ! $ fsplit3 ! $
+    fsplit ! $ move ! (1 ∷ []) $ fsplit ! $ move ! (1 ∷ []) $ fsplit ! $ two_out ! $ move ! (4 ∷ []) $ fsplit ! $ fsplit ! $ move ! (2 ∷ []) $ fsplit ! $ move ! (1 ∷ []) $ fsplit ! $ move ! (1 ∷ []) $ fsplit ! $ fsplit3 ! $ move ! (3 ∷ []) $ fsplit ! $ fsplit3 ! $
     -- [the pass, in two; the keys, in two; the word; the tokens of the three, last first; the other tokens]
     keep ! (1 ∷ 2 ∷ 5 ∷ 6 ∷ 10 ∷ 11 ∷ 13 ∷ 14 ∷ 12 ∷ []) $
     enter ! 𝓣.C 𝓣.Λ fn (vptr b o ∷ vint w64 old ∷ vint w64 new ∷ vptr kb ko ∷ vptr pb po ∷ []) Post $ alloc_all ! (λ l. pass_all ! refl ((tt, tt), ((tt, record { fits = are.1.0.1 }), ((tt, record { fits = are.1.1.0.1 }), ((tt, tt), ((tt, tt), tt))))) $ let Ev = env fn.locals l in
@@ -40,7 +41,7 @@ exchange_spec 𝓤 𝓛 𝓜 𝓡 wired P LP g d _ =
     use2 𝓛 (later (some (λ (s : Share). ‵ (flft ν s) ⊛ raw (wand 𝓤 (𝓛.A.lft ν s) (H.⇛ (𝓛.A.lft κs.0 qs.0)))))) (Lends-one 𝓛 𝓜 𝓡 κs.0 ν qs.0) $ await ! tt $ pick ! (λ s. split ! $
     -- [the token; the way back; the word's invariant; the pass, in two; the keys, in two; their tokens, the pass's first; the other tokens]
     move ! (5 ∷ 6 ∷ 8 ∷ []) $ opens ! tt Keys.the_row kb ko (λ vs0. move ! (1 ∷ []) $ fsplit ! $ move ! (1 ∷ []) $ rewrite ! 0 (λ (z : Name). ‵ (keys_own z keys.held)) (asked.1 ∙ sym asked.0) refl $
-    move ! (9 ∷ 10 ∷ 11 ∷ []) $ opens ! tt Pass.the_row pb po (λ vs1. move ! (1 ∷ []) $ fsplit ! $ move ! (1 ∷ []) $ rewrite ! 0 (λ (z : Name). ‵ (pass_owns z pass.id pass.seen)) (sym asked.0) refl $
+    move ! (9 ∷ 10 ∷ 11 ∷ []) $ opens_pass ! tt ℓ pass pb po (λ vs1. rewrite ! 0 (λ (z : Name). ‵ (pass_owns z pass.id pass.seen)) (sym asked.0) refl $
     use1 𝓛 (given (IsDistinct 𝓛 n) (‵ (knows n) ⊛ ‵ (fnamed n.number (inside n)) ⊛ ‵ (pass_holds n pass.id pass.seen))) (opened 𝓛 site pass.id pass.seen) $ learn ! (λ distinct. split3 ! $
     -- [the book; its invariant; the pass's; the pass; its cell, in four entries; the keys'; the keys; their cell; the token; the way back; the word's invariant; the other tokens]
     let entry : ℕ → List Entry → Entry = g.entry in let after : ℕ → Fml = after_step 𝓛 site [] pass.id pass.seen keys.held [] [] full_share f entry g.trades in let out : ℕ → Fml = λ v. fsep (flft ν s) (after v) in
@@ -51,12 +52,12 @@ exchange_spec 𝓤 𝓛 𝓜 𝓡 wired P LP g d _ =
     Calls-last ! (fm 𝓛 𝓜 𝓡) (found out) (and_then ! (get ! refl) (and_then ! (get ! refl) (and_then ! (get ! refl) (no_more !)))) (λ u. finds ! out (λ v fits. lands_last ! refl (tt, record { fits = fits }) $ exec ! 𝓣.C 𝓣.Λ Ev (tail fn.body) (at_ret Ev Post) $ sets ! (of_opd ! (get ! refl)) refl (tt, record { fits = fits }) $
     fsplit ! $ move ! (0 ∷ 13 ∷ []) $ use2 𝓛 (later (‵ (flft κs.0 qs.0))) (apply∗ 𝓤 (𝓛.A.lft ν s) (H.⇛ (𝓛.A.lft κs.0 qs.0))) $ await ! tt $ move ! (1 ∷ []) $ fpick ! (λ x. fsplit ! $ fpick ! (λ so. drop ! $ fsplit ! $ move ! (1 ∷ []) $ fsplit ! $ move ! (1 ∷ []) $ drop ! $ move ! (1 ∷ 0 ∷ []) $
     -- [the pass's; the keys'; the word's token; the book; the pass; its cell, in four entries; the keys; their cell; the other tokens]
-    let keys' : Keys.the_row.Denot = record keys { name = n; held = x.1 } in let pass' : Pass.the_row.Denot = record pass { name = n; seen = x.0 } in
-    move ! (3 ∷ 0 ∷ []) $ fjoin ! $ move ! (3 ∷ 0 ∷ []) $ fjoin ! $ move ! (3 ∷ 0 ∷ 4 ∷ 5 ∷ 6 ∷ []) $ closes ! tt Pass.the_row pass' vs1 pb po $
+    let keys' : Keys.the_row.Denot = record keys { name = n; held = x.1 } in let pass' : (Pass.the_row ℓ).Denot = record pass { name = n; seen = x.0 } in
+    move ! (3 ∷ 0 ∷ []) $ fjoin ! $ move ! (3 ∷ 0 ∷ []) $ join ! $ move ! (3 ∷ 0 ∷ 4 ∷ 5 ∷ 6 ∷ []) $ closes_pass ! tt ℓ pass' (ap (λ (z : Name). z.gate) (sym asked.0)) vs1 pb po $
     move ! (5 ∷ 3 ∷ []) $ fjoin ! $ move ! (5 ∷ 0 ∷ 6 ∷ 7 ∷ 8 ∷ []) $ closes ! tt Keys.the_row keys' vs0 kb ko $
     -- [the keys, in two; their token; the pass, in two; its token; the word's token; the other tokens]
     flt_i ! v (2 ^ 64) fits $ feq_i ! (List Val) (vint w64 v ∷ []) (vint w64 v ∷ []) refl $ fjoin ! $
-    move ! (6 ∷ 8 ∷ []) $ fjoin ! $ move ! (4 ∷ 0 ∷ []) $ fjoin ! $ move ! (6 ∷ 0 ∷ []) $ fjoin ! $
+    move ! (6 ∷ 8 ∷ []) $ two_in ! $ move ! (4 ∷ 0 ∷ []) $ fjoin ! $ move ! (6 ∷ 0 ∷ []) $ fjoin ! $
     -- [the tokens; the result; the keys, in two; the pass, in two]
     nothing ! $ feq_i ! (List Val) (vptr pb po ∷ []) (vptr pb po ∷ []) refl $ move ! (0 ∷ 6 ∷ 7 ∷ []) $ fjoin3 ! $ fjoin ! $ feq_i ! (List Val) (vptr kb ko ∷ []) (vptr kb ko ∷ []) refl $ move ! (0 ∷ 4 ∷ 5 ∷ []) $ fjoin3 ! $ fjoin ! $ nothing ! $ fjoin ! $ nothing ! $ fjoin ! $ nothing ! $ fjoin ! $
     returns ! (look_at ! 0 refl) $ free_all ! refl $ keep ! (1 ∷ 0 ∷ 2 ∷ []) $

@@ -7,4 +7,4 @@ use Rattle.seize_book.proofs.Sent.{porter_shown}
 
 pub sync : IsSync the_row
 sync = let my : IsSync (marker.the_field unit).row = search sendable depth 30 in
-    record { shared = λ d b o κ. ((struct_sync (shape the_type) (my, tt)).shared (to the_type d) b o κ, porter_shown d.name d.home d.out d.seen κ) }
+    record { shared = λ d b o κ. ((struct_sync (shape the_type) (my, tt)).shared (to the_type d) b o κ, porter_shown d.name d.home d.seen κ) }

@@ -1,11 +1,12 @@
--- `come_home` has the porter see the whole list, with what the first pass has of the gate.
-use Rattle.seize_book.proofs.Kit.{ℕ, List, [], ◌∷◌, refl, proved, named, Val, vptr, vunit, SProp, emp, Fml, ftrue, fsep, flft, ‵, raw, ◌⊛◌, some, given, later, await, ◌$◌, ◌∵◌, ◌≡◌, !, qed, by, move, keep, split, fsplit, fsplit3, fjoin, fjoin3, pick, learn, use1, rewrite, feq_i, unit_lit, of_opd, returns, enter, alloc_all, pass_all, free_all, look_at, sets, fact, fact_i, heard, tables, owns, types_at, plain, mut_vals, mut_Tells, nothing, opens, closes, Stays, stay_ref, walk_of, Goes-ref}
+-- `come_home` ends the porter's period, has all tickets then, and sees the whole list.
+use Rattle.seize_book.proofs.Kit.{ℕ, List, [], ◌∷◌, refl, proved, named, Val, vptr, vunit, SProp, emp, Fml, ftrue, fsep, flft, ‵, raw, ◌⊛◌, some, given, later, await, ◌$◌, ◌∵◌, !, qed, by, move, keep, split, fsplit, fsplit3, fjoin, fjoin3, pick, learn, use1, feq_i, unit_lit, of_opd, returns, enter, alloc_all, pass_all, free_all, look_at, sets, fact_i, tables, owns, types_at, plain, mut_vals, mut_Tells, nothing, opens, closes, Stays, stay_ref, walk_of, Goes-ref}
 use Rattle.std.proofs.Common.{true}
 use Rattle.seize_book.specs.Entry.{Entry}
 use Rattle.seize_book.specs.Tokens.{porter_owns}
+use Rattle.seize_book.proofs.Shares.{goes_home}
 use Rattle.seize_book.specs.contracts.book.porter.Porter as Porter
 use Rattle.seize_book.proofs.Fields.{ends}
-use Rattle.seize_book.proofs.Turns.{IsHome, home_by, porter_home}
+use Rattle.seize_book.proofs.Turns.{IsHome, home_by}
 use Rattle.seize_book.specs.contracts.book.porter.Porter.come_home.{ended, clauses}
 use Rattle.seize_book.specs.contracts.book.porter.Porter.come_home.Key.{name as #self}
 use Rattle.seize_book.proofs.book.porter.Porter.come_home.Statement.{statement}
@@ -19,17 +20,15 @@ come_home_spec 𝓤 𝓛 𝓜 𝓡 wired =
     (λ κs. (mut_vals, tt)) (λ κs. (mut_Tells (named 0) κs.0 Porter.the_row, tt)) (λ κs qs bounds a gh are.
     let b = a.0.now in let pb : ℕ = a.0.ref_ptr.0 in let po : ℕ = a.0.ref_ptr.1 in
     let y : (walk_of 𝓛 ended hs c).Ghost = ((κs, qs, bounds, a, (vptr pb po ∷ [], tt)), gh) in let Post : Val → SProp 𝓤 = (walk_of 𝓛 ended hs c).post y in let toks : Fml = fsep (flft κs.0 qs.0) ftrue in
-    let Asked : Type 0 = b.out ≡ 0 in
-    qed 𝓛 ((‵ toks ⊛ ‵ (owns (types_at ended.signature.params κs) a y.0.4)) ∷ raw (fact 𝓤 Asked) ∷ []) ∵ move ! (1 ∷ []) $ heard ! Asked (λ asked. split ! $
+    qed 𝓛 ((‵ toks ⊛ ‵ (owns (types_at ended.signature.params κs) a y.0.4)) ∷ raw ((c κs a).requires gh) ∷ []) ∵ split ! $
     fsplit ! $ move ! (2 ∷ []) $ fsplit ! $ fsplit3 ! $
-    -- [the porter, in three entries; nothing; its token; nothing]
+    -- [the porter, in three entries; nothing; its token; nothing; what was asked]
     keep ! (1 ∷ 2 ∷ 4 ∷ []) $
     enter ! 𝓣.C 𝓣.Λ fn (vptr pb po ∷ []) Post $ alloc_all ! (λ l. pass_all ! refl ((tt, tt), tt) $
     opens ! tt Porter.the_row pb po (λ vs. move ! (1 ∷ []) $ fsplit ! $ move ! (1 ∷ []) $
     -- [what the porter owns; the porter; its cell, in four entries]
-    rewrite ! 0 (λ (m : ℕ). ‵ (porter_owns b.name b.home m b.seen)) asked refl $
-    use1 𝓛 (later (some (λ (log : List Entry). given (IsHome 𝓛 b.name b.home b.seen log) (‵ (porter_owns b.name true 0 log))))) (porter_home 𝓛 b.name b.home b.seen) $ await ! tt $ pick ! (λ log. learn ! (λ so.
-    let b' : Porter.the_row.Denot = record b { seen = log; out = 0; home = true } in
+    use1 𝓛 (later (some (λ (log : List Entry). given (IsHome 𝓛 b.name b.home b.seen log) (‵ (porter_owns b.name true 0 log))))) (goes_home 𝓛 b.name b.seen b.home) $ await ! tt $ pick ! (λ log. learn ! (λ so.
+    let b' : Porter.the_row.Denot = record b { seen = log; home = true } in
     move ! (1 ∷ 0 ∷ []) $ fjoin ! $ move ! (1 ∷ 0 ∷ 2 ∷ 3 ∷ 4 ∷ []) $ closes ! tt Porter.the_row b' vs pb po $
     -- [the porter, in two; its token]
     sets ! (of_opd ! (unit_lit !)) refl (tt, tt) $ feq_i ! (List Val) (vunit ∷ []) (vunit ∷ []) refl $
@@ -37,4 +36,4 @@ come_home_spec 𝓤 𝓛 𝓜 𝓡 wired =
     -- [the tokens; the result; the porter, in two]
     nothing ! $ feq_i ! (List Val) (vptr pb po ∷ []) (vptr pb po ∷ []) refl $ move ! (0 ∷ 4 ∷ 5 ∷ []) $ fjoin3 ! $ fjoin ! $
     returns ! (look_at ! 0 refl) $ free_all ! refl $ keep ! (1 ∷ 0 ∷ 2 ∷ []) $
-    by ! (ends 𝓛 ended hs c y vunit tt (b', tt) (tt, tt) (fact_i 𝓤 _ (emp 𝓤) (home_by 𝓛 b.name b.home b.out b.seen log so)))))))))
+    by ! (ends 𝓛 ended hs c y vunit tt (b', tt) (tt, tt) (fact_i 𝓤 _ (emp 𝓤) (home_by 𝓛 b.name b.home b.seen log so))))))))

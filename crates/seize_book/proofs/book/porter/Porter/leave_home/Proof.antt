@@ -1,10 +1,10 @@
--- `leave_home` has the whole copy of the list stand in the invariant again.
+-- `leave_home` begins a lifetime, and ends the one before.
 use Rattle.seize_book.proofs.Kit.{ℕ, List, [], ◌∷◌, refl, proved, named, Val, vptr, vunit, SProp, emp, Fml, ftrue, fsep, flft, ‵, raw, ◌⊛◌, later, await, ◌$◌, ◌∵◌, !, qed, by, move, keep, split, fsplit, fsplit3, fjoin, fjoin3, use1, feq_i, unit_lit, of_opd, returns, enter, alloc_all, pass_all, free_all, look_at, sets, fact_i, tables, owns, types_at, plain, mut_vals, mut_Tells, nothing, opens, closes, Stays, stay_ref, walk_of, Goes-ref}
 use Rattle.std.proofs.Common.{false}
-use Rattle.seize_book.specs.Tokens.{porter_owns}
+use Rattle.seize_book.specs.Shared.{porter_has}
+use Rattle.seize_book.proofs.Shares.{goes_off}
 use Rattle.seize_book.specs.contracts.book.porter.Porter as Porter
 use Rattle.seize_book.proofs.Fields.{ends}
-use Rattle.seize_book.proofs.Turns.{porter_off}
 use Rattle.seize_book.specs.contracts.book.porter.Porter.leave_home.{ended, clauses}
 use Rattle.seize_book.specs.contracts.book.porter.Porter.leave_home.Key.{name as #self}
 use Rattle.seize_book.proofs.book.porter.Porter.leave_home.Statement.{statement}
@@ -25,7 +25,7 @@ leave_home_spec 𝓤 𝓛 𝓜 𝓡 wired =
     enter ! 𝓣.C 𝓣.Λ fn (vptr pb po ∷ []) Post $ alloc_all ! (λ l. pass_all ! refl ((tt, tt), tt) $
     opens ! tt Porter.the_row pb po (λ vs. move ! (1 ∷ []) $ fsplit ! $ move ! (1 ∷ []) $
     -- [what the porter owns; the porter; its cell, in four entries]
-    use1 𝓛 (later (‵ (porter_owns b.name false b.out b.seen))) (porter_off 𝓛 b.name b.home b.out b.seen) $ await ! tt $
+    use1 𝓛 (later (‵ (porter_has b.name false b.seen))) (goes_off 𝓛 b.name b.seen b.home) $ await ! tt $
     let b' : Porter.the_row.Denot = record b { home = false } in
     move ! (1 ∷ 0 ∷ []) $ fjoin ! $ move ! (1 ∷ 0 ∷ 2 ∷ 3 ∷ 4 ∷ []) $ closes ! tt Porter.the_row b' vs pb po $
     -- [the porter, in two; its token]
@@ -34,4 +34,4 @@ leave_home_spec 𝓤 𝓛 𝓜 𝓡 wired =
     -- [the tokens; the result; the porter, in two]
     nothing ! $ feq_i ! (List Val) (vptr pb po ∷ []) (vptr pb po ∷ []) refl $ move ! (0 ∷ 4 ∷ 5 ∷ []) $ fjoin3 ! $ fjoin ! $
     returns ! (look_at ! 0 refl) $ free_all ! refl $ keep ! (1 ∷ 0 ∷ 2 ∷ []) $
-    by ! (ends 𝓛 ended hs c y vunit tt (b', tt) (tt, tt) (fact_i 𝓤 _ (emp 𝓤) (refl, refl, refl, refl))))))
+    by ! (ends 𝓛 ended hs c y vunit tt (b', tt) (tt, tt) (fact_i 𝓤 _ (emp 𝓤) (refl, refl, refl))))))

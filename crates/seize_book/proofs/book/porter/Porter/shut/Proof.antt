@@ -1,12 +1,14 @@
 -- `shut` comes home, and gives the first pass what it has there.
-use Rattle.seize_book.proofs.Kit.{◌≡◌, ℕ, List, [], ◌∷◌, refl, proved, Val, SProp, emp, ftrue, ‵, raw, ◌⊛◌, some, given, later, await, ◌$◌, ◌∵◌, !, qed, by, move, keep, split, fsplit, fjoin, pick, learn, use0, use1, rewrite, no_more, and_then, returns, enter, alloc_all, pass_all, free_all, look_at, get, sets, agg, fact, fact_i, heard, tables, yes, owns, types_at, plain, nothing, Stays, stay_dropped, walk_of, Goes-dropped}
+use Rattle.seize_book.proofs.Kit.{Fml, sym, static_lft, List, [], ◌∷◌, refl, proved, Val, SProp, emp, ftrue, ‵, raw, ◌⊛◌, some, given, later, await, ◌$◌, ◌∵◌, !, qed, by, move, keep, split, fsplit, fjoin, pick, learn, use0, use1, rewrite, no_more, and_then, returns, enter, alloc_all, pass_all, free_all, look_at, get, sets, agg, fact_i, tables, yes, owns, types_at, plain, nothing, Stays, stay_dropped, walk_of, Goes-dropped}
 use Rattle.std.proofs.Common.{true}
+use Rattle.seize_book.proofs.Borrowed.{Mark, first_own, mark_made, own_pass}
+use Rattle.seize_book.proofs.Shares.{goes_home}
 use Rattle.seize_book.specs.Entry.{Entry}
 use Rattle.seize_book.specs.Tokens.{pass_owns, porter_owns}
 use Rattle.seize_book.specs.contracts.book.pass.Pass as Pass
 use Rattle.seize_book.specs.contracts.book.porter.Porter as Porter
-use Rattle.seize_book.proofs.Fields.{Token, ends, no_bytes, porter_tells, token, token_made}
-use Rattle.seize_book.proofs.Turns.{IsHome, home_passes, porter_home, shut_by}
+use Rattle.seize_book.proofs.Fields.{ends, no_bytes, porter_tells, token}
+use Rattle.seize_book.proofs.Turns.{IsHome, home_passes, shut_by}
 use Rattle.seize_book.specs.contracts.book.porter.Porter.shut.{ended, clauses}
 use Rattle.seize_book.specs.contracts.book.porter.Porter.shut.Key.{name as #self}
 use Rattle.seize_book.proofs.book.porter.Porter.shut.Statement.{statement}
@@ -19,19 +21,17 @@ shut_spec 𝓤 𝓛 𝓜 𝓡 wired =
     proved 𝓛 ended hs c 𝓜 𝓡 (Goes-dropped 𝓛 0 P yes (λ κs x f. refl), tt) #self fn (code.unfolded 𝓤 H 𝓜 𝓡 wired)
     (λ κs. (no_bytes, tt)) (λ κs. (porter_tells, tt)) (λ κs qs bounds a gh are.
     let b = a.0 in let y : (walk_of 𝓛 ended hs c).Ghost = ((κs, qs, bounds, a, (token ∷ [], tt)), gh) in let Post : Val → SProp 𝓤 = (walk_of 𝓛 ended hs c).post y in
-    let Asked : Type 0 = b.out ≡ 0 in
-    qed 𝓛 ((‵ ftrue ⊛ ‵ (owns (types_at ended.signature.params κs) a y.0.4)) ∷ raw (fact 𝓤 Asked) ∷ []) ∵ move ! (1 ∷ []) $ heard ! Asked (λ asked. split ! $
+    qed 𝓛 ((‵ ftrue ⊛ ‵ (owns (types_at ended.signature.params κs) a y.0.4)) ∷ raw ((c κs a).requires gh) ∷ []) ∵ split ! $
     move ! (1 ∷ []) $ fsplit ! $ fsplit ! $
     -- [its marker; what it owns; nothing]
     keep ! (1 ∷ []) $
     enter ! 𝓣.C 𝓣.Λ fn (token ∷ []) Post $ alloc_all ! (λ l. pass_all ! refl ((tt, (tt, tt)), tt) $
-    rewrite ! 0 (λ (m : ℕ). ‵ (porter_owns b.name b.home m b.seen)) asked refl $
-    use1 𝓛 (later (some (λ (log : List Entry). given (IsHome 𝓛 b.name b.home b.seen log) (‵ (porter_owns b.name true 0 log))))) (porter_home 𝓛 b.name b.home b.seen) $ await ! tt $ pick ! (λ log. learn ! (λ so.
-    use1 𝓛 (‵ (pass_owns b.name 0 log)) (home_passes 𝓛 b.name log so.0) $
-    let r : Pass.the_row.Denot = record { marker = record {}; name = b.name; id = 0; seen = log } in
+    use1 𝓛 (later (some (λ (log : List Entry). given (IsHome 𝓛 b.name b.home b.seen log) (‵ (porter_owns b.name true 0 log))))) (goes_home 𝓛 b.name b.seen b.home) $ await ! tt $ pick ! (λ log. learn ! (λ so.
+    use1 𝓛 (‵ (pass_owns b.name 0 log)) (home_passes 𝓛 b.name log so.0) $ rewrite ! 0 (λ (P : Fml). ‵ P) (sym (own_pass b.name [] 0 log (first_own b.name.gate))) refl $
+    let r : (Pass.the_row static_lft).Denot = record { marker = record {}; name = b.name; id = 0; seen = log } in
     sets ! (agg ! (no_more !)) refl (tt, tt) $ sets ! (agg ! (and_then ! (get ! refl) (no_more !))) refl (tt, (tt, tt)) $
-    use0 𝓛 (‵ (Token.own_val (record {}, tt) (token ∷ []))) (token_made 𝓛) $ fjoin ! $
+    use0 𝓛 (‵ ((Mark static_lft).own_val (record {}, tt) (token ∷ []))) (mark_made 𝓛 static_lft) $ fjoin ! $
     -- [the result]
     nothing ! $ nothing ! $ fjoin ! $ nothing ! $
     returns ! (look_at ! 0 refl) $ free_all ! refl $ keep ! (0 ∷ 1 ∷ 2 ∷ []) $
-    by ! (ends 𝓛 ended hs c y token r (tt, tt) (tt, tt) (fact_i 𝓤 _ (emp 𝓤) (shut_by 𝓛 b.name b.home b.out b.seen log so))))))))
+    by ! (ends 𝓛 ended hs c y token r (tt, tt) (tt, tt) (fact_i 𝓤 _ (emp 𝓤) (shut_by 𝓛 b.name b.home b.seen log so)))))))

@@ -1,11 +1,12 @@
 -- `open_sole` begins a book, to which one pass appends.
-use Rattle.seize_book.proofs.Kit.{◌≡◌, ℕ, [], ◌∷◌, refl, w64, proved, Val, vint, SProp, emp, ftrue, ‵, raw, ◌⊛◌, some, given, later, await, ◌$◌, ◌∵◌, !, qed, by, move, keep, split, split3, fsplit, fjoin, pick, learn, use0, use1, use3, of_opd, no_more, and_then, returns, enter, alloc_all, pass_all, free_all, look_at, get, sets, agg, fact_i, tables, yes, RattleType, owns, types_at, plain, uint_vals, uint_Tells, nothing, Stays, stay_dropped, walk_of, Goes-dropped, List, Fml, fsep, flft}
+use Rattle.seize_book.proofs.Kit.{rewrite, sym, static_lft, ◌≡◌, ℕ, [], ◌∷◌, refl, w64, proved, Val, vint, SProp, emp, ftrue, ‵, raw, ◌⊛◌, some, given, later, await, ◌$◌, ◌∵◌, !, qed, by, move, keep, split, split3, fsplit, fjoin, pick, learn, use0, use1, use3, of_opd, no_more, and_then, returns, enter, alloc_all, pass_all, free_all, look_at, get, sets, agg, fact_i, tables, yes, RattleType, owns, types_at, plain, uint_vals, uint_Tells, nothing, Stays, stay_dropped, walk_of, Goes-dropped, List, Fml, fsep, flft}
 use Rattle.std.specs.Prelude.{Option}
 use mir.Syntax.{a_type, dcons, dnil}
 use mir.MapTy.{inst_fn}
 use denote.Param.{bounded}
 use denote.Builtin.{usize}
 use denote.Struct.Tuple.{Tuple}
+use Rattle.seize_book.proofs.Borrowed.{Mark, first_own, mark_made, own_pass}
 use Rattle.seize_book.specs.Tokens.{Name, Gate, IsSole, keys_own, pass_holds}
 use Rattle.seize_book.specs.Begin.{BeganWith, book_owns, first_keys}
 use Rattle.seize_book.specs.contracts.book.keys.Keys as Keys
@@ -30,7 +31,7 @@ open_sole_spec 𝓤 𝓛 𝓜 𝓡 wired P LP g d _ =
     (λ κs. (no_bytes, (uint_vals w64, (uint_vals w64, tt)))) (λ κs. (unopened_tells, (uint_Tells w64, (uint_Tells w64, tt)))) (λ κs qs bounds a gh are.
     let family : ℕ = a.0.family in let links : ℕ = a.1.0 in let size : ℕ = a.1.1.0 in
     let y : (walk_of 𝓛 En hs c).Ghost = ((κs, qs, bounds, a, (token ∷ [], (vint w64 links ∷ [], (vint w64 size ∷ [], tt)))), gh) in let Post : Val → SProp 𝓤 = (walk_of 𝓛 En hs c).post y in let toks : Fml = fsep (flft κs.0 qs.0) ftrue in
-    let Three : RattleType = Tuple (Book.the_row ∷ Pass.the_row ∷ Keys.the_row ∷ []) in let triple : Val = triple_val token token token in
+    let Three : RattleType = Tuple (Book.the_row ∷ (Pass.the_row static_lft) ∷ Keys.the_row ∷ []) in let triple : Val = triple_val token token token in
     qed 𝓛 ((‵ toks ⊛ ‵ (owns (types_at En.signature.params κs) a y.0.4)) ∷ raw ((c κs a).requires gh) ∷ []) ∵ split ! $ move ! (1 ∷ []) $ fsplit ! $ fsplit ! $
     -- [its marker; what it owns; the numbers; the tokens; what was asked]
     keep ! (1 ∷ 3 ∷ []) $
@@ -39,14 +40,14 @@ open_sole_spec 𝓤 𝓛 𝓜 𝓡 wired P LP g d _ =
     (begins 𝓛 links size store table (λ (g : Gate). IsSole g 0) (sole_opens 𝓛) family) $ await ! tt $ pick ! (λ m. learn ! (λ so. split3 ! $
     -- [what the book owns; the pass; what the keys own]
     let b : Book.the_row.Denot = record { marker = record {}; name = m; seen = [] } in let k : Keys.the_row.Denot = record { marker = record {}; name = m; held = first_keys links } in
-    let p : Pass.the_row.Denot = record { marker = record {}; name = m; id = 0; seen = [] } in
-    use1 𝓛 (‵ (book_owns m []) ⊛ ‵ (book_owns m [])) (book_twice 𝓛 m []) $ split ! $ move ! (1 ∷ []) $ fsplit ! $ move ! (0 ∷ 3 ∷ []) $ fjoin ! $
+    let p : (Pass.the_row static_lft).Denot = record { marker = record {}; name = m; id = 0; seen = [] } in
+    use1 𝓛 (‵ (book_owns m []) ⊛ ‵ (book_owns m [])) (book_twice 𝓛 m []) $ split ! $ move ! (1 ∷ []) $ fsplit ! $ move ! (0 ∷ 3 ∷ []) $ fjoin ! $ rewrite ! 0 (λ (P : Fml). ‵ P) (sym (own_pass m [] 0 [] (first_own m.gate))) refl $
     -- [what the pass owns; nothing was reached; what the book owns; what the keys own]
-    use0 𝓛 (‵ (Token.own_val (record {}, tt) (token ∷ []))) (token_made 𝓛) $ fjoin ! $
+    use0 𝓛 (‵ ((Mark static_lft).own_val (record {}, tt) (token ∷ []))) (mark_made 𝓛 static_lft) $ fjoin ! $
     move ! (2 ∷ []) $ use0 𝓛 (‵ (Token.own_val (record {}, tt) (token ∷ []))) (token_made 𝓛) $ fjoin ! $
     move ! (3 ∷ []) $ use0 𝓛 (‵ (Token.own_val (record {}, tt) (token ∷ []))) (token_made 𝓛) $ fjoin ! $
     -- [the keys; the book; the pass; nothing was reached]
-    move ! (1 ∷ 2 ∷ 0 ∷ []) $ use3 𝓛 (‵ (Three.own_val (b, p, k) (triple ∷ []))) (triple_of 𝓛 Book.the_row Pass.the_row Keys.the_row b p k token token token) $
+    move ! (1 ∷ 2 ∷ 0 ∷ []) $ use3 𝓛 (‵ (Three.own_val (b, p, k) (triple ∷ []))) (triple_of 𝓛 Book.the_row (Pass.the_row static_lft) Keys.the_row b p k token token token) $
     sets ! (agg ! (no_more !)) refl (tt, tt) $ sets ! (agg ! (and_then ! (get ! refl) (no_more !))) refl (tt, (tt, tt)) $
     sets ! (agg ! (no_more !)) refl (tt, tt) $ sets ! (agg ! (and_then ! (get ! refl) (no_more !))) refl (tt, (tt, tt)) $
     sets ! (agg ! (no_more !)) refl (tt, tt) $ sets ! (agg ! (and_then ! (get ! refl) (no_more !))) refl (tt, (tt, tt)) $

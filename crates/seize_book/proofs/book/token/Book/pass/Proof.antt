@@ -1,13 +1,14 @@
 -- `pass` makes a pass that has made nothing.
-use Rattle.seize_book.proofs.Kit.{◌≡◌, ℕ, List, [], ◌∷◌, refl, proved, named, Val, vptr, SProp, emp, Fml, ftrue, fsep, flft, ‵, ◌⊛◌, some, given, later, await, ◌$◌, ◌∵◌, !, qed, by, move, keep, drop, split, fsplit, fjoin, pick, learn, use0, use1, no_more, and_then, returns, enter, alloc_all, pass_all, free_all, look_at, get, sets, agg, fact_i, tables, yes, owns, types_at, plain, RefOf, unhide, shr_vals, shr_Tells, nothing, Stays, stay_dropped, walk_of, Goes-dropped}
+use Rattle.seize_book.proofs.Kit.{rewrite, sym, static_lft, ◌≡◌, ℕ, List, [], ◌∷◌, refl, proved, named, Val, vptr, SProp, emp, Fml, ftrue, fsep, flft, ‵, ◌⊛◌, some, given, later, await, ◌$◌, ◌∵◌, !, qed, by, move, keep, drop, split, fsplit, fjoin, pick, learn, use0, use1, no_more, and_then, returns, enter, alloc_all, pass_all, free_all, look_at, get, sets, agg, fact_i, tables, yes, owns, types_at, plain, RefOf, unhide, shr_vals, shr_Tells, nothing, Stays, stay_dropped, walk_of, Goes-dropped}
 use mathlib.Core.List.{IsPrefix}
+use Rattle.seize_book.proofs.Borrowed.{Mark, many_own, mark_made, own_pass}
 use Rattle.seize_book.specs.Entry.{Entry}
 use Rattle.seize_book.specs.Book.{mine}
 use Rattle.seize_book.specs.Tokens.{start, pass_owns}
 use Rattle.seize_book.specs.contracts.book.pass.Pass as Pass
 use Rattle.seize_book.specs.contracts.book.token.Book as Book
 use Rattle.seize_book.proofs.Books.{new_pass}
-use Rattle.seize_book.proofs.Fields.{Token, token, token_made, ends}
+use Rattle.seize_book.proofs.Fields.{token, ends}
 use Rattle.seize_book.specs.contracts.book.token.Book.pass.{ended, clauses}
 use Rattle.seize_book.specs.contracts.book.token.Book.pass.Key.{name as #self}
 use Rattle.seize_book.proofs.book.token.Book.pass.Statement.{statement}
@@ -27,9 +28,10 @@ pass_spec 𝓤 𝓛 𝓜 𝓡 wired =
     enter ! 𝓣.C 𝓣.Λ fn (vptr pb po ∷ []) Post $ alloc_all ! (λ l. pass_all ! refl ((tt, tt), tt) $
     use1 𝓛 (later (some (λ (t : ℕ × List Entry). given (IsPrefix b.seen t.1 × (mine (start b.name) t.0 t.1 ≡ [])) (‵ (pass_owns b.name t.0 t.1))))) (new_pass 𝓛 b.name b.seen free) $ await ! tt $ pick ! (λ t. learn ! (λ new.
     -- [what the pass owns; the tokens]
-    let r : Pass.the_row.Denot = record { marker = record {}; name = b.name; id = t.0; seen = t.1 } in
+    let r : (Pass.the_row static_lft).Denot = record { marker = record {}; name = b.name; id = t.0; seen = t.1 } in
+    rewrite ! 0 (λ (P : Fml). ‵ P) (sym (own_pass b.name [] t.0 t.1 (many_own b.name.gate t.0 free))) refl $
     sets ! (agg ! (no_more !)) refl (tt, tt) $ sets ! (agg ! (and_then ! (get ! refl) (no_more !))) refl (tt, (tt, tt)) $
-    use0 𝓛 (‵ (Token.own_val (record {}, tt) (token ∷ []))) (token_made 𝓛) $ fjoin ! $
+    use0 𝓛 (‵ ((Mark static_lft).own_val (record {}, tt) (token ∷ []))) (mark_made 𝓛 static_lft) $ fjoin ! $
     -- [the result; the tokens]
     nothing ! $ nothing ! $ fjoin ! $
     returns ! (look_at ! 0 refl) $ free_all ! refl $ keep ! (2 ∷ 0 ∷ 1 ∷ []) $
