@@ -181,7 +181,12 @@ fn fill(worker: Worker<'static>, words: &Words<u64>, rt: &impl Wait) -> Option<W
 }
 
 // One turn after the other. It gives the sum of the values read too.
-fn turns(worker: Worker<'static>, words: &Words<u64>, job: Job, rt: &impl Wait) -> Option<(Worker<'static>, u64)>
+fn turns(
+    worker: Worker<'static>,
+    words: &Words<u64>,
+    job: Job,
+    rt: &impl Wait,
+) -> Option<(Worker<'static>, u64)>
     requires may { MayWork words.now worker }
     ensures may { IfSome result (λ done. MayWork words.now done.0) }
 {
@@ -310,7 +315,14 @@ fn four<R: Clock + CpuClock + Threads + Wait + Sync>(
     first: (Worker<'static>, Worker<'static>),
     last: (Worker<'static>, Worker<'static>),
     job: Job,
-) -> io::Result<(Span, (Worker<'static>, Worker<'static>), (Worker<'static>, Worker<'static>), u64)>
+) -> io::Result<
+    (
+        Span,
+        (Worker<'static>, Worker<'static>),
+        (Worker<'static>, Worker<'static>),
+        u64,
+    ),
+>
     requires may { MayWork words.now first.0 × MayWork words.now first.1 × MayWork words.now last.0 × MayWork words.now last.1 }
     ensures may { IfOk result (λ done. MayWork words.now done.1.0 × MayWork words.now done.1.1
         × MayWork words.now done.2.0 × MayWork words.now done.2.1) }

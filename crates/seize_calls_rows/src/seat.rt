@@ -259,7 +259,8 @@ pub struct Turn<'a, W> {
 }
 
 impl<W: Wait> Work<Post, bool> for Turn<'_, W> {
-    ghost may = { λ turn post. (turn.link < 1024) × IsPorterOf turn.words.now turn.porter.now × of_family (words_book turn.words.now).family (post_label post) };
+    ghost may = { λ turn post. (turn.link < 1024) × IsPorterOf turn.words.now turn.porter.now
+        × of_family (words_book turn.words.now).family (post_label post) };
 
     ghost gives = { λ _ _ _ _. Unit {0} };
 

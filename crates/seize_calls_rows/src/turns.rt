@@ -160,7 +160,9 @@ fn stand_up(
     ensures lost { NoneLost pass.old pass.new }
 {
     let Seat {
-        holder, activation, ..
+        holder,
+        activation,
+        ..
     } = left;
     let Some(activation) = activation else {
         return holder;

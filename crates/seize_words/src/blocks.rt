@@ -60,7 +60,11 @@ impl<T: Drop> Blocks<T> {
     }
 
     /// The same of a book as one of `Book::open_alone`: its one pass is alone, so only who has it appends, and it has seen all there is.
-    pub fn new_alone(alloc: Global, links: usize, size: usize) -> (Blocks<T>, Pass<'static>, BookKeys)
+    pub fn new_alone(
+        alloc: Global,
+        links: usize,
+        size: usize,
+    ) -> (Blocks<T>, Pass<'static>, BookKeys)
         ensures { OpensAloneIn result.0 result.1 result.2 links size }
     {
         let (unopened, family) = Unopened::new();

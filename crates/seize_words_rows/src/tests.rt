@@ -91,7 +91,8 @@ fn an_empty_link_is_read(rt: HostRuntime) {
     let (book, maker, mut links) = open(1);
     let link = Link::next(&mut links);
     let (mut one, maker) = Swapper::enter(&book, maker, &link);
-    assert_eq!(rt; link.read(&one.activation, &mut one.pass), 0);
+    let at = &mut one;
+    assert_eq!(rt; link.read(&at.activation, &mut at.pass), 0);
     drop((links, maker, one));
 }
 
@@ -113,9 +114,10 @@ fn a_swapped_value_comes_out(rt: HostRuntime) {
     let link = Link::next(&mut links);
     let (mut one, maker) = Swapper::enter(&book, maker, &link);
     let mut value = MaybeKey::some(book.block(5).value);
-    assert_eq!(rt; link.swap(6, &mut value, &one.activation, &mut one.pass), 0);
-    let mut none = MaybeKey::none(&mut one.pass);
-    assert_eq!(rt; link.swap(0, &mut none, &one.activation, &mut one.pass), 6);
+    let at = &mut one;
+    assert_eq!(rt; link.swap(6, &mut value, &at.activation, &mut at.pass), 0);
+    let mut none = MaybeKey::none(&mut at.pass);
+    assert_eq!(rt; link.swap(0, &mut none, &at.activation, &mut at.pass), 6);
     drop((links, maker, one, value, none));
 }
 
@@ -160,8 +162,9 @@ fn swaps_lose_and_invent_no_value(rt: HostRuntime) {
     let (two, maker) = Swapper::enter(&book, maker, &link);
     let (mut last, maker) = Swapper::enter(&book, maker, &link);
     let left = swap_both(&rt, &link, one, two);
-    let mut none = MaybeKey::none(&mut last.pass);
-    let word = link.swap(0, &mut none, &last.activation, &mut last.pass);
+    let at = &mut last;
+    let mut none = MaybeKey::none(&mut at.pass);
+    let word = link.swap(0, &mut none, &at.activation, &mut at.pass);
     assert_eq!(rt; left, word);
     drop((links, maker, last, none));
 }
@@ -193,8 +196,9 @@ fn exchanges_are_won_and_lose_no_value(rt: HostRuntime) {
     let (two, maker) = Swapper::enter(&book, maker, &link);
     let (mut last, maker) = Swapper::enter(&book, maker, &link);
     let both = exchange_both(&rt, &link, one, two);
-    let mut none = MaybeKey::none(&mut last.pass);
-    let word = link.swap(0, &mut none, &last.activation, &mut last.pass);
+    let at = &mut last;
+    let mut none = MaybeKey::none(&mut at.pass);
+    let word = link.swap(0, &mut none, &at.activation, &mut at.pass);
     assert_eq!(rt; both.left, word);
     assert!(rt; both.won >= EACH);
     drop((links, maker, last, none));
@@ -233,8 +237,9 @@ fn four_threads_lose_and_invent_no_value(rt: HostRuntime) {
     let (d, maker) = Swapper::enter(&book, maker, &link);
     let (mut last, maker) = Swapper::enter(&book, maker, &link);
     let left = four(&rt, &link, (a, b), (c, d));
-    let mut none = MaybeKey::none(&mut last.pass);
-    let word = link.swap(0, &mut none, &last.activation, &mut last.pass);
+    let at = &mut last;
+    let mut none = MaybeKey::none(&mut at.pass);
+    let word = link.swap(0, &mut none, &at.activation, &mut at.pass);
     assert_eq!(rt; left, word);
     drop((links, maker, last, none));
 }
@@ -263,25 +268,30 @@ fn a_row_is_read_whole(rt: HostRuntime) {
 fn threads_share_one_activation(rt: HostRuntime) {
     let (mut book, maker, mut links) = open(1);
     let link = Link::next(&mut links);
-    let (mut one, maker) = Swapper::enter(&book, maker, &link);
-    book.learn(&mut one.pass);
+    let (one, maker) = Swapper::enter(&book, maker, &link);
+    let Swapper {
+        activation,
+        mut pass,
+        ..
+    } = one;
+    book.learn(&mut pass);
     let mut value = MaybeKey::some(book.block(999_999).value);
-    link.swap(1_000_000, &mut value, &one.activation, &mut one.pass);
-    let (shared, book, activation) = (&link, &book, &one.activation);
+    link.swap(1_000_000, &mut value, &activation, &mut pass);
+    let (shared, book, held) = (&link, &book, &activation);
     let (left, sum) = thread::join(
         &rt,
         move || -> u64
-            requires { MayShare shared.now activation.now book.now }
-        { share_many(book, shared, activation, 1_000_000, EACH) },
+            requires { MayShare shared.now held.now book.now }
+        { share_many(book, shared, held, 1_000_000, EACH) },
         move || -> u64
-            requires { MayShare shared.now activation.now book.now }
-        { read_many(book, shared, activation, EACH) },
+            requires { MayShare shared.now held.now book.now }
+        { read_many(book, shared, held, EACH) },
     );
-    let mut none = MaybeKey::none(&mut one.pass);
-    let word = link.swap(0, &mut none, &one.activation, &mut one.pass);
+    let mut none = MaybeKey::none(&mut pass);
+    let word = link.swap(0, &mut none, &activation, &mut pass);
     assert_eq!(rt; left.wrapping_add(1_000_000), word);
     assert!(rt; sum >= EACH * 1_000_000 && sum <= EACH * 1_020_000);
-    drop((links, maker, one, value, none));
+    drop((links, maker, activation, value, none));
 }
 
 // Each of two threads swaps a value into one link and then waits for that of the other: it holds only where both run.

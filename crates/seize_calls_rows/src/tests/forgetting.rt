@@ -60,7 +60,16 @@ fn what_forgotten_holders_had_comes_back(rt: HostRuntime) {
     };
     let (first, one) = a.lend(&words);
     let (second, two) = b.lend(&words);
-    let done = turn_both(&rt, &words, &porter, marks.as_slice(), &first, one, &second, two);
+    let done = turn_both(
+        &rt,
+        &words,
+        &porter,
+        marks.as_slice(),
+        &first,
+        one,
+        &second,
+        two,
+    );
     assert_eq!(rt; done, (true, true));
     assert_eq!(rt; told(marks.as_slice()), (2 * TURNS, 0));
     porter.come_home();
@@ -90,7 +99,18 @@ fn a_holder_that_did_nothing_is_forgotten(rt: HostRuntime) {
     let (first, one) = a.lend(&words);
     let (second, two) = b.lend(&words);
     mem::forget(one);
-    assert!(rt; turn_and_forget(&words, &porter, &second, two, 0, LINKS, marks.as_slice(), &rt));
+    assert!(rt;
+        turn_and_forget(
+            &words,
+            &porter,
+            &second,
+            two,
+            0,
+            LINKS,
+            marks.as_slice(),
+            &rt
+        )
+    );
     assert_eq!(rt; told(marks.as_slice()), (LINKS, 0));
     let mut counting = Counting::new(marks.as_slice());
     let (mut pass, first, second) = shut_lent(&words, porter, first, second);
