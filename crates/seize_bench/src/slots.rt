@@ -230,7 +230,7 @@ fn alone<R: Clock + CpuClock + Wait>(
 {
     let (span, done) = team.timed(
         rt,
-        move || -> Option<(Worker<'static>, u64)>
+        move || -> Option<(Worker, u64)>
             requires { MayWork words.now worker }
             ensures { IfSome result (λ done. MayWork words.entry.now done.0) }
         { turns(worker, words, job, rt) },
@@ -255,11 +255,11 @@ fn pair<R: Clock + CpuClock + Threads + Wait + Sync>(
 {
     let (one, two) = thread::join(
         rt,
-        move || -> io::Result<(Span, Worker<'static>, u64)>
+        move || -> io::Result<(Span, Worker, u64)>
             requires { MayWork words.now a }
             ensures { IfOk result (λ done. MayWork words.entry.now done.1) }
         { alone(rt, team, words, a, job) },
-        move || -> io::Result<(Span, Worker<'static>, u64)>
+        move || -> io::Result<(Span, Worker, u64)>
             requires { MayWork words.now b }
             ensures { IfOk result (λ done. MayWork words.entry.now done.1) }
         { alone(rt, team, words, b, job) },
@@ -333,11 +333,11 @@ fn four<R: Clock + CpuClock + Threads + Wait + Sync>(
     let team = &team;
     let (one, two) = thread::join(
         rt,
-        move || -> io::Result<(Span, (Worker<'static>, Worker<'static>), u64)>
+        move || -> io::Result<(Span, (Worker, Worker), u64)>
             requires { MayWork words.now a × MayWork words.now b }
             ensures { IfOk result (λ done. MayWork words.entry.now done.1.0 × MayWork words.entry.now done.1.1) }
         { pair(rt, team, words, a, b, job) },
-        move || -> io::Result<(Span, (Worker<'static>, Worker<'static>), u64)>
+        move || -> io::Result<(Span, (Worker, Worker), u64)>
             requires { MayWork words.now c × MayWork words.now d }
             ensures { IfOk result (λ done. MayWork words.entry.now done.1.0 × MayWork words.entry.now done.1.1) }
         { pair(rt, team, words, c, d, job) },

@@ -352,11 +352,11 @@ fn work_both<'p, R: Threads + Wait + Sync>(
 {
     let (one, two) = thread::join(
         rt,
-        move || -> Option<(Worker<'p>, Tally)>
+        move || -> Option<(Worker, Tally)>
             requires { MayWork words.now a }
             ensures { IfSome result (λ worked. MayWork words.entry.now worked.0) }
         { a.work(words, 0, TURNS, marks, rt) },
-        move || -> Option<(Worker<'p>, Tally)>
+        move || -> Option<(Worker, Tally)>
             requires { MayWork words.now b }
             ensures { IfSome result (λ worked. MayWork words.entry.now worked.0) }
         { b.work(words, TURNS, TURNS, marks, rt) },
