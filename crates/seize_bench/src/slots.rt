@@ -149,6 +149,28 @@ fn update(
     }
 }
 
+// Does so, or reads the link. It gives what it read.
+fn update_or_read(
+    active: Active<'static>,
+    words: &Words<u64>,
+    link: usize,
+    value: u64,
+    updates: bool,
+    dropping: &mut Dropping,
+    rt: &impl Wait,
+) -> Option<(Active<'static>, u64)>
+    requires stands { Stands words.now active }
+    requires link { link < 1024 }
+    ensures stands { IfSome result (λ done. Stands words.now done.0) }
+{
+    if updates {
+        let active = update(active, words, link, value, dropping, rt)?;
+        return Some((active, 0));
+    }
+    let (active, found) = active.find(words, link);
+    Some((active, found.unwrap_or(0)))
+}
+
 // Enters, retires so many values of new blocks, and leaves.
 fn retire_many(
     worker: Worker<'static>,
@@ -203,15 +225,13 @@ fn turns(
         at = at.wrapping_add(job.step);
         due = due.wrapping_add(job.updates);
         let link = (at % ROW as u64) as usize;
-        let active = worker.enter(words);
-        let active = if due >= 100 {
+        let updates = due >= 100;
+        if updates {
             due = due.wrapping_sub(100);
-            update(active, words, link, turn, &mut dropping, rt)?
-        } else {
-            let (active, found) = active.find(words, link);
-            sum = sum.wrapping_add(found.unwrap_or(0));
-            active
-        };
+        }
+        let active = worker.enter(words);
+        let (active, read) = update_or_read(active, words, link, turn, updates, &mut dropping, rt)?;
+        sum = sum.wrapping_add(read);
         worker = active.leave(words, &mut dropping, rt);
     }
     Some((worker, sum))
