@@ -1,5 +1,5 @@
--- A porter gives passes out and takes them back, and where all are back it comes home: nobody may add then, until a pass goes out, or the
--- first one, which is alone. Assumes `Logic`.
+-- A porter that has all tickets comes home: nobody may add then, until it goes off, or gives the first pass in its place, which is alone.
+-- A new key is given a ticket of a porter that is off. Assumes `Logic`.
 use Rattle.std.proofs.Common.{◌≡◌, ℕ, zero, suc, Bool, true, false, List, [], ◌∷◌, refl, sym, ◌∙◌, arith}
 use seplogic.Ra.Ura.{Ura}
 use base.Growing.{prefix_trans}

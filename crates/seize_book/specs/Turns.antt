@@ -1,6 +1,8 @@
 -- The words in which the contracts of porters speak.
 --     HasTurn pass              it is the first pass of a book whose passes come from a porter: while someone has it, no other is there
---     GoesOnTo name seen seen'  seen' is a legal list that goes on from seen
+--     GoesOnTo name seen seen'  seen' is a legal list that goes on from seen, and the laws hold of it: it is sound (`IsSound`), with each
+--                               value that was named something is lent, where the blocks lie in a store, and the links of the opening
+--                               are distinct
 --     Gives porter pass         a new pass of the porter's book, which isn't alone, with which nothing was made, and which has seen a list
 --                               that goes on from what the porter has seen
 --     LeavesHome porter porter'     it is the same, but not at home
