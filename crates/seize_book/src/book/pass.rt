@@ -14,7 +14,7 @@ use std::marker::{Model, PhantomData};
 /// What its holder has seen of the list, and the right to add entries under its id, for as long as `'p` lasts.
 ///
 /// A porter lends a pass for as long as the porter is shared ([`Porter::pass`]); dropping or forgetting such a pass keeps nobody out. A
-/// pass of `Pass<'static>` lasts for good: [`Book::pass`] makes one of many, and dropping it hinders nobody either. [`Book::open_alone`]
+/// pass of `Pass<'static>` lasts for good: [`Book::pass`] makes one of many, and dropping it hinders nobody either. [`Unopened::open_alone`]
 /// and [`Porter::shut`] give a pass that is alone; if that one is dropped, nobody adds to the list any more.
 pub struct Pass<'p> {
     pub(super) marker: PhantomData<&'p ()>,

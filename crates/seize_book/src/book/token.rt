@@ -52,7 +52,7 @@ impl Keeps for Brand {
 
 impl Book {
     ghost use mathlib.Core.List.{IsPrefix};
-    ghost use Rattle.seize_book.specs.Books.{AreOf, Begins, IsAlone, IsCountAt, IsFieldAt, IsFirstIn, IsMany, IsNew, Opens, OpensAlone};
+    ghost use Rattle.seize_book.specs.Books.{AreOf, Begins, IsAlone, IsCountAt, IsFieldAt, IsFirstIn, IsMany, IsNew, Opens};
     ghost use Rattle.seize_book.specs.Bare.{IsChunkOf, IsNewChunk};
     ghost use Rattle.seize_book.specs.Chains.{first_field, next_field};
     ghost use Rattle.seize_book.specs.Homes.{home_of};
@@ -68,14 +68,6 @@ impl Book {
     {
         let (unopened, _) = Unopened::new();
         unopened.open::<K>(links, size)
-    }
-
-    /// A new book as `open` makes one, but that its one pass is alone: only who has it appends, and it has seen all there is.
-    pub fn open_alone<K: Keeps>(links: usize, size: usize) -> (Book, Pass<'static>, BookKeys)
-        ensures { OpensAlone result.0 result.1 result.2 links size K.store K.table }
-    {
-        let (unopened, _) = Unopened::new();
-        unopened.open_alone::<K>(links, size)
     }
 
     /// A new book as `open` makes one, but that its passes come from the porter, which is at home.
