@@ -158,7 +158,7 @@ module _ {M : Type 1} {𝓤 : Ura M} (𝓛 : Logic 𝓤) (n : Name) where
 
   pub shut_by : (home : Bool) (seen log : List Entry) → IsHome home seen log
       → Shuts (record { marker = record {}; name = n; seen = seen; home = home }) (record { marker = record {}; name = n; id = 0; seen = log })
-  shut_by home seen log is = record { book = refl; turn = (is.0, refl); alone = turn_alone n.gate is.0; goes_on = is.1; none_made = is.2; was = is.3 }
+  shut_by home seen log is = record { book = refl; turn = (is.0, refl); goes_on = is.1; none_made = is.2; was = is.3 }
 
   -- what it has at home is what the first pass has
   pub home_passes : (seen : List Entry) → IsTurns n.gate → ⟦ porter_owns n true 0 seen ⟧ ⊢ ⟦ pass_owns n 0 seen ⟧
