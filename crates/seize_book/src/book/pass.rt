@@ -37,7 +37,7 @@ impl<'p> Pass<'p> {
     ghost use Rattle.seize_book.specs.Tables.{AreSlotsOf};
 
     /// Two passes of one book tell each other what they have seen: afterwards both have seen the longer of their two beginnings. No event
-    /// is made with either.
+    /// is made with either. Their ids differ, so an event that was made with one was not made with the other.
     pub fn meet(&mut self, other: &mut Pass)
         requires { other.old.name ≡ self.old.name }
         ensures { Meets self.old other.old self.new other.new }
