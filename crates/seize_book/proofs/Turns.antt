@@ -126,6 +126,12 @@ module _ {M : Type 1} {𝓤 : Ura M} (𝓛 : Logic 𝓤) (n : Name) where
       go (Gate.sole η) = qed 𝓛 (‵ (gate_leaves (Gate.sole η) home out seen) ∷ []) ∵ fpick ! (λ x. absurd x)
       go (turns η κ) = qed 𝓛 (‵ (gate_leaves (turns η κ) home out seen) ∷ []) ∵ check ! tt $ done !
 
+  pub has_turns : (home : Bool) (out : ℕ) (seen : List Entry) → ⟦ porter_owns n home out seen ⟧ ⊢ guard 𝓤 (IsTurns n.gate) ⟦ porter_owns n home out seen ⟧
+  has_turns home out seen = qed 𝓛 (‵ (porter_owns n home out seen) ∷ []) ∵ fsplit ! $ move ! (1 ∷ []) $ use1 𝓛 (taken home out seen) (takes home out seen) $ pick ! (λ own. learn ! (λ past. split3 ! $
+      -- [its key; what it has seen; the gate; the book]
+      move ! (2 ∷ []) $ use1 𝓛 (given (IsTurns n.gate) (‵ (leaves home out seen))) (is_turns home out seen) $ learn ! (λ is.
+      move ! (1 ∷ 2 ∷ 0 ∷ []) $ use3 𝓛 (‵ (holds home out seen)) (whole home out seen own past) $ move ! (1 ∷ 0 ∷ []) $ fjoin ! $ check ! is $ done !)))
+
   -- no pass is out, and it has seen all that there is
   abbrev pub IsHome : Bool → List Entry → List Entry → Type 0
   IsHome home seen log = IsTurns n.gate × GoesOnTo n seen log × (mine st 0 log ≡ mine st 0 seen) × WasWhole home seen log

@@ -1,5 +1,5 @@
 //! Porters: a porter lends the passes of its book to those who share it by `&`, and comes home for a caller who has it alone.
-ghost use Rattle.std.specs.Prelude.{◌≡◌, Bool, false, List};
+ghost use Rattle.std.specs.Prelude.{◌≡◌, Bool, false, true, List};
 ghost use base.Stored.{coded_list};
 ghost use Rattle.std.specs.Coded.{coded_bool};
 ghost use Rattle.seize_book.specs.Shared.{porter_has, porter_shares};
@@ -7,6 +7,7 @@ ghost use Rattle.seize_book.specs.Entry.{Entry, entry_coded};
 ghost use Rattle.seize_book.specs.Tokens.{Name, name_coded};
 
 use crate::book::pass::Pass;
+use crate::book::token::Book;
 use std::marker::{Model, PhantomData};
 
 /// Lends the passes of its book, of which it is the one porter. If it is dropped, nobody adds to the list any more: the passes that it
@@ -28,6 +29,7 @@ impl Model for Porter {
 }
 
 impl Porter {
+    ghost use mathlib.Core.List.{IsPrefix};
     ghost use Rattle.seize_book.specs.Turns.{ComesHome, Gives, HasTurn, LeavesHome, OpensAgain, Shuts};
 
     /// A new pass, which has seen what the porter has, and perhaps more; a kept [`Book`] tells a new pass what an earlier one saw
@@ -54,6 +56,13 @@ impl Porter {
     /// it.
     pub fn come_home(&mut self)
         ensures { ComesHome self.old self.new }
+    {}
+
+    /// At home the porter has the whole list: it has seen what the book has. So what a thread keeps in a [`Book`] of what its pass saw is
+    /// known here. It does nothing: its contract is the law.
+    pub fn covers(&mut self, book: &Book)
+        requires { (self.old.home ≡ true) × (book.now.name ≡ self.old.name) }
+        ensures { (self.new ≡ self.old) × IsPrefix book.now.seen self.new.seen }
     {}
 
     /// Comes home and gives the first pass of the book, which has seen the whole list. It is alone: nobody else can add to the list until
