@@ -1,13 +1,13 @@
--- A pass learns of a beginning of the list, as the token of a book has seen it. Assumes `Logic`.
-use Rattle.std.proofs.Common.{◌≡◌, ℕ, List, [], ◌∷◌, sym, ◌∙◌, arith}
+-- A pass learns of a beginning of the list, as the token of a book has seen it; a porter at home knows of it already. Assumes `Logic`.
+use Rattle.std.proofs.Common.{◌≡◌, ℕ, true, List, [], ◌∷◌, refl, sym, ◌∙◌, subst, ⊎_elim, arith}
 use mathlib.Core.List.{IsPrefix}
 use seplogic.Ra.Ura.{Ura}
-use base.Growing.{Least, prefix_trans}
+use base.Growing.{Least, prefix_refl, prefix_trans}
 use base.Logic.{SProp, ent, sep, ex, guard}
 use base.Fml.{Fml, ftrue, fsep}
 use types.Logic.{Logic, sem}
 use types.Growing.{at_least_dup, at_least_join}
-use types.Kit.{‵, raw, ◌⊛◌, some, given, later, ◌$◌, ◌∵◌, !, qed, move, keep, drop, split, split3, join, fsplit, fjoin, fpick, fpack, pick, learn, show, check, done, use1, use2, use3, updating, await, now}
+use types.Kit.{‵, raw, ◌⊛◌, some, given, later, ◌$◌, ◌∵◌, !, qed, move, keep, drop, split, split3, join, fsplit, fjoin, fpick, fpack, pick, learn, rewrite, show, check, done, use1, use2, use3, updating, await, now}
 use denote.Steps.{nothing}
 use Rattle.seize_machine.specs.Machine.State.{State}
 use Rattle.seize_book.specs.Ledger.{Held, Known, fact, logs, reached}
@@ -16,7 +16,7 @@ use Rattle.seize_book.specs.Begin.{book_owns}
 use Rattle.seize_book.specs.Book.{IsLegalList, after, mine, rules}
 use Rattle.seize_book.specs.Fair.{pass_key}
 use Rattle.seize_book.specs.Passes.{Longer}
-use Rattle.seize_book.specs.Tokens.{AllLentIn, IsSole, Name, gate_gives, gate_keeps, knows, pass_holds, pass_owns, start}
+use Rattle.seize_book.specs.Tokens.{AllLentIn, IsSole, IsTurns, Name, gate_gives, gate_keeps, knows, pass_holds, pass_owns, porter_owns, start}
 use Rattle.seize_book.proofs.Gates.{agrees, gives_as}
 use Rattle.seize_book.proofs.Lists.{between}
 use Rattle.seize_book.proofs.Looks.{Idle, apart, together}
@@ -24,7 +24,11 @@ use Rattle.seize_book.proofs.Meets.{least_all, longer}
 use Rattle.seize_book.proofs.Notes.{knows_twice}
 use Rattle.seize_book.proofs.Passes.{rights}
 use Rattle.seize_book.proofs.Plans.{legal_prefix}
-use Rattle.seize_book.proofs.Turns.{changes}
+use Rattle.seize_book.proofs.Turns.{changes, has_turns, home_passes, pass_homes, turn_alone}
+
+-- the longer of two lists, where that is the first, goes on from the second
+past_it : (x y z : List Entry) → Longer x y z → z ≡ x → IsPrefix y x
+past_it x y z longer is = ⊎_elim (λ p. subst (IsPrefix y) (sym p.1 ∙ is) (prefix_refl y)) (λ p. p.0) longer
 
 module _ {M : Type 1} {𝓤 : Ura M} (𝓛 : Logic 𝓤) (n : Name) where
   open 𝓛 use {H}
@@ -90,3 +94,11 @@ module _ {M : Type 1} {𝓤 : Ura M} (𝓛 : Logic 𝓤) (n : Name) where
       -- [its copy; its key; what was reached; the book; z was reached; the book's token]
       move ! (1 ∷ 4 ∷ 0 ∷ []) $ use3 𝓛 (‵ (pass_holds n p z)) (together 𝓛 n p z a (prefix_trans a x z past.0 least.0, sym same)) $
       now ! $ show ! (Learned p x y) z $ check ! (longer x y z least, same ∙ past.1, λ s. sym (least_all x z log least.0 known.0.1 (all s)), legal_prefix st z log known.0.1 known.0.0.0) $ move ! (2 ∷ 0 ∷ []) $ fjoin ! $ keep ! (0 ∷ 2 ∷ []) $ done !)))))))
+
+  -- a porter at home has what the first pass has, which is alone
+  pub covered : (x y : List Entry) → ⟦ porter_owns n true 0 x ⟧ ∗ ⟦ book_owns n y ⟧ ⊢ H.⇛ (guard 𝓤 (IsPrefix y x) (⟦ porter_owns n true 0 x ⟧ ∗ ⟦ book_owns n y ⟧))
+  covered x y = qed 𝓛 (‵ (porter_owns n true 0 x) ∷ ‵ (book_owns n y) ∷ []) ∵ updating ! $ use1 𝓛 (given (IsTurns n.gate) (‵ (porter_owns n true 0 x))) (has_turns 𝓛 n true 0 x) $ learn ! (λ is.
+      use1 𝓛 (‵ (pass_owns n 0 x)) (home_passes 𝓛 n x is) $
+      use2 𝓛 (later (some (λ (z : List Entry). given (Longer x y z × (mine st 0 z ≡ mine st 0 x) × (IsSole n.gate 0 → z ≡ x) × IsLegalList st z) (‵ (pass_owns n 0 z) ⊛ ‵ (book_owns n y))))) (hears 0 x y) $ await ! tt $ pick ! (λ z. learn ! (λ so. split ! $
+      let all : z ≡ x = so.2 (turn_alone n.gate is) in rewrite ! 0 (λ (log : List Entry). ‵ (pass_owns n 0 log)) all refl $ use1 𝓛 (‵ (porter_owns n true 0 x)) (pass_homes 𝓛 n x is) $
+      now ! $ check ! (past_it x y z so.0 all) $ done !)))

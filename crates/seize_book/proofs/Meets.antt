@@ -9,12 +9,13 @@ use types.Logic.{Logic, sem}
 use types.Growing.{at_least_dup, at_least_join}
 use types.Kit.{‵, ◌⊛◌, some, given, later, ◌$◌, ◌∵◌, !, qed, move, keep, split, split3, join, fsplit, fjoin, pick, learn, show, check, frame, assume, suffices, done, use1, use2, use3, updating, await, now}
 use Rattle.seize_machine.specs.Machine.State.{State}
-use Rattle.seize_book.specs.Ledger.{Held, logs, reached, WithKinds, Known}
+use Rattle.seize_book.specs.Ledger.{AllApart, Held, logs, reached, WithKinds, Known}
 use Rattle.seize_book.specs.Entry.{Entry, entry_coded}
 use Rattle.seize_book.specs.Book.{mine, rules, kinds}
 use Rattle.seize_book.specs.Fair.{pass_key}
 use Rattle.seize_book.specs.Passes.{Longer}
 use Rattle.seize_book.specs.Tokens.{Name, rows, start, beside, inside, knows, IsSole, gate_keeps, gate_gives, pass_holds, pass_owns}
+use Rattle.seize_book.proofs.Apart.{all_apart}
 use Rattle.seize_book.proofs.Append.{looks, looks_beside}
 use Rattle.seize_book.proofs.Gates.{agrees, gives_as}
 use Rattle.seize_book.proofs.Lists.{between}
@@ -115,7 +116,7 @@ module _ {M : Type 1} {𝓤 : Ura M} (𝓛 : Logic 𝓤) (n : Name) where
       show ! (PeekedBy held seen p q x y) log $ check ! known $ keep ! (2 ∷ 0 ∷ 1 ∷ []) $ done !))
 
   abbrev pub Met : ℕ → ℕ → List Entry → List Entry → List Entry → Pr
-  Met p q x y z = guard 𝓤 (Longer x y z × (mine st p z ≡ mine st p x) × (mine st q z ≡ mine st q y)) (⟦ pass_owns n p z ⟧ ∗ ⟦ pass_owns n q z ⟧)
+  Met p q x y z = guard 𝓤 (Longer x y z × (mine st p z ≡ mine st p x) × (mine st q z ≡ mine st q y) × ¬ (p ≡ q)) (⟦ pass_owns n p z ⟧ ∗ ⟦ pass_owns n q z ⟧)
 
   pub meets : (p q : ℕ) (x y : List Entry) → ⟦ pass_owns n p x ⟧ ∗ ⟦ pass_owns n q y ⟧ ⊢ H.⇛ (ex 𝓤 (Met p q x y))
   meets p q x y = qed 𝓛 ((‵ (knows n) ⊛ ‵ (pass_holds n p x)) ∷ (‵ (knows n) ⊛ ‵ (pass_holds n q y)) ∷ []) ∵ updating ! $ split ! $ move ! (2 ∷ []) $ split ! $
@@ -134,6 +135,7 @@ module _ {M : Type 1} {𝓤 : Ura M} (𝓛 : Logic 𝓤) (n : Name) where
       let held : List (Held Entry) = pass_key p a ∷ pass_key q b ∷ [] in
       move ! (2 ∷ 3 ∷ []) $ fjoin ! $ move ! (1 ∷ 0 ∷ []) $ fjoin ! $
       -- [the keys; nothing; the book, twice; z, three times; q's copy; p's copy; the book]
+      use1 𝓛 (given (AllApart held) (‵ (rights 𝓛 n held))) (all_apart entry_coded (rows n) 𝓛 held) $ learn ! (λ apart_are. let differ : ¬ (p ≡ q) = λ e. apart_are.0.0 (refl, e) in
       move ! (8 ∷ 7 ∷ []) $ join ! $ move ! (5 ∷ 0 ∷ []) $ join ! $ move ! (3 ∷ 1 ∷ 0 ∷ []) $
       use3 𝓛 (later (some (λ (log : List Entry). given (Knows held z log × Alone p q x y log) (‵ (rights 𝓛 n held) ⊛ ‵ (gives p x) ⊛ ‵ (gives q y))))) (peeks_by held z p q x y (omega arith, (omega arith, tt))) $ await ! tt $ pick ! (λ log. learn ! (λ known. split3 ! $
       -- [the keys; p's copy; q's copy; nothing; the book; z, twice; the book]
@@ -146,8 +148,8 @@ module _ {M : Type 1} {𝓤 : Ura M} (𝓛 : Logic 𝓤) (n : Name) where
       -- [q's copy; p's copy; q's key; p's key; nothing; the book; z, twice; the book]
       move ! (2 ∷ 6 ∷ 0 ∷ []) $ use3 𝓛 (‵ (pass_holds n q z)) (together 𝓛 n q z b (prefix_trans b y z past'.0 least.1, sym same')) $
       -- [q's pass; p's copy; p's key; nothing; the book; z; the book]
-      now ! $ show ! (Met p q x y) z $ check ! (longer x y z least, same ∙ past.1, same' ∙ past'.1) $
+      now ! $ show ! (Met p q x y) z $ check ! (longer x y z least, same ∙ past.1, same' ∙ past'.1, differ) $
       move ! (4 ∷ 0 ∷ []) $ fjoin ! $ move ! (2 ∷ 3 ∷ []) $ fjoin ! $ move ! (0 ∷ 3 ∷ 2 ∷ []) $
       use3 𝓛 (‵ (pass_holds n p z)) (together 𝓛 n p z a (prefix_trans a x z past.0 least.0, sym same)) $
       -- [p's pass; q's, with its book; the book]
-      move ! (2 ∷ 0 ∷ []) $ fjoin ! $ keep ! (0 ∷ 1 ∷ []) $ done !))))))))
+      move ! (2 ∷ 0 ∷ []) $ fjoin ! $ keep ! (0 ∷ 1 ∷ []) $ done !)))))))))

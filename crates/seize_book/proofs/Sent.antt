@@ -18,7 +18,7 @@ use Rattle.seize_book.specs.Laws.{ended}
 use Rattle.seize_book.specs.Loans.{cell_of, loan_if, loan_of, readers}
 use Rattle.seize_book.specs.Peeks.{keys_show, show_if, sight_if}
 use Rattle.seize_book.specs.Shared.{period, porter_has, porter_shares, row_has, rows_have, side}
-use Rattle.seize_book.specs.Tokens.{Name, rows, start, inside, over, Gate, many, sole, turns, all_but, turned, tickets, gate_keeps, gate_gives, gate_leaves, gate_lends, knows, lent_pass, porter_owns, leads_in, all_lead, lies_in, all_lie_in, lies_if, is_placed, slot_labels, note_if, note_in, notes_own, way_if, rights_own, keys_own, pass_owns}
+use Rattle.seize_book.specs.Tokens.{Name, rows, start, inside, over, Gate, many, sole, turns, all_but, turned, tickets, gate_keeps, gate_gives, gate_leaves, gate_lends, knows, lent_pass, porter_owns, leads_in, all_lead, lies_in, all_lie_in, lies_if, is_placed, slot_labels, note_if, note_in, notes_own, way_if, rights_own, keys_own}
 use Rattle.seize_book.specs.Begin.{book_owns}
 
 roster_keyless : (δ k : ℕ) (owns : List (List Entry)) → Keyless (roster entry_coded δ k owns)
@@ -112,10 +112,6 @@ book_keyless n seen = ((inside_keyless n, (tt, λ _. tt)), tt)
 
 knows_keyless : (n : Name) → Keyless (knows n)
 knows_keyless n = (inside_keyless n, (tt, λ _. tt))
-
-pub pass_keyless : (n : Name) (p : ℕ) (seen : List Entry) → Keyless (pass_owns n p seen)
-unfolding at_least
-pass_keyless n p seen = ((inside_keyless n, (tt, λ _. tt)), λ own. (entry_keyless (halved entry_coded) _ p _, (tt, (gives_keyless n.gate p seen, λ _. tt))))
 
 pub porter_keyless : (n : Name) (home : Bool) (out : ℕ) (seen : List Entry) → Keyless (porter_owns n home out seen)
 unfolding at_least

@@ -36,14 +36,14 @@ use Rattle.seize_book.specs.Book.{mine, passes}
 use Rattle.seize_book.specs.Entry.{Entry, entry_coded}
 use Rattle.seize_book.specs.Ledger.{halved, logs, piece, reached, roster}
 use Rattle.seize_book.specs.Fair.{Before}
-use Rattle.seize_book.specs.Tokens.{IsSole, IsTurns, Name, knows, lent_at, lent_pass, pass_owns, porter_owns, start}
+use Rattle.seize_book.specs.Tokens.{IsTurns, Name, knows, lent_at, lent_pass, pass_owns, porter_owns, start}
 use Rattle.seize_book.specs.Turns.{GoesOnTo}
 use Rattle.seize_book.proofs.Borrowed.{closed, opened as ticket_opened, waits}
 use Rattle.seize_book.proofs.Looks.{looks_now}
 use Rattle.seize_book.proofs.Passes.{IsDistinct}
 use Rattle.seize_book.proofs.Notes.{knows_twice, minted, new_keys, Picks}
 use Rattle.seize_book.proofs.Roster.{mints}
-use Rattle.seize_book.proofs.Turns.{IsHome, not_alone, porter_home, porter_knows, porter_off}
+use Rattle.seize_book.proofs.Turns.{IsHome, porter_home, porter_knows, porter_off}
 use Rattle.seize_book.specs.Shared.{the_ticket, known, porter_has, porter_shares, lending, lending_shown, period, side}
 use Rattle.seize_book.proofs.Periods.{Begun, Gathered, begins, gathers, had_back, its_key, lents, mark, same_loan, settles}
 
@@ -204,7 +204,7 @@ module _ {M : Type 1} {𝓤 : Ura M} (𝓛 : Logic 𝓤) where
 
       -- and it looks at the list
       abbrev pub IsGiven : ℕ × List Entry → Type 0
-      IsGiven t = ¬ (IsSole n.gate t.0) × (mine (start n) t.0 t.1 ≡ []) × GoesOnTo n seen t.1
+      IsGiven t = (IsTurns n.gate × ¬ (t.0 ≡ 0)) × (mine (start n) t.0 t.1 ≡ []) × GoesOnTo n seen t.1
 
       abbrev pub Given : ℕ × List Entry → Pr
       Given t = guard 𝓤 (IsGiven t) (⟦ lent_pass n κ t.0 t.1 ⟧ ∗ A.lft κ q)
@@ -217,7 +217,7 @@ module _ {M : Type 1} {𝓤 : Ura M} (𝓛 : Logic 𝓤) where
           -- [the pass; nothing; what waits]
           let on : GoesOnTo n seen log = record { grows = prefix_trans seen t.1 log so.2 is.0.grows; legal = is.0.legal; sound = is.0.sound; lent = is.0.lent; distinct = is.1 } in
           move ! (0 ∷ 2 ∷ []) $ use2 𝓛 (later (‵ (lent_pass n κ t.0 log) ⊛ ‵ (flft κ q))) (closed 𝓛 n t.0 log κ q) $ await ! tt $ split ! $
-          now ! $ show ! Given (t.0, log) $ check ! (not_alone n.gate t.0 so.0 so.1, is.0.none_made ∙ so.3, on) $ keep ! (0 ∷ 1 ∷ []) $ done !))))
+          now ! $ show ! Given (t.0, log) $ check ! ((so.0, so.1), is.0.none_made ∙ so.3, on) $ keep ! (0 ∷ 1 ∷ []) $ done !))))
 
   -- ---- whatever it is
   module _ (n : Name) (seen : List Entry) where

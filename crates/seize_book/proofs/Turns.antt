@@ -1,5 +1,5 @@
--- A porter gives passes out and takes them back, and where all are back it comes home: nobody may add then, until a pass goes out, or the
--- first one, which is alone. Assumes `Logic`.
+-- A porter that has all tickets comes home: nobody may add then, until it goes off, or gives the first pass in its place, which is alone.
+-- A new key is given a ticket of a porter that is off. Assumes `Logic`.
 use Rattle.std.proofs.Common.{◌≡◌, ℕ, zero, suc, Bool, true, false, List, [], ◌∷◌, refl, sym, ◌∙◌, arith}
 use seplogic.Ra.Ura.{Ura}
 use base.Growing.{prefix_trans}
@@ -126,6 +126,12 @@ module _ {M : Type 1} {𝓤 : Ura M} (𝓛 : Logic 𝓤) (n : Name) where
       go (Gate.sole η) = qed 𝓛 (‵ (gate_leaves (Gate.sole η) home out seen) ∷ []) ∵ fpick ! (λ x. absurd x)
       go (turns η κ) = qed 𝓛 (‵ (gate_leaves (turns η κ) home out seen) ∷ []) ∵ check ! tt $ done !
 
+  pub has_turns : (home : Bool) (out : ℕ) (seen : List Entry) → ⟦ porter_owns n home out seen ⟧ ⊢ guard 𝓤 (IsTurns n.gate) ⟦ porter_owns n home out seen ⟧
+  has_turns home out seen = qed 𝓛 (‵ (porter_owns n home out seen) ∷ []) ∵ fsplit ! $ move ! (1 ∷ []) $ use1 𝓛 (taken home out seen) (takes home out seen) $ pick ! (λ own. learn ! (λ past. split3 ! $
+      -- [its key; what it has seen; the gate; the book]
+      move ! (2 ∷ []) $ use1 𝓛 (given (IsTurns n.gate) (‵ (leaves home out seen))) (is_turns home out seen) $ learn ! (λ is.
+      move ! (1 ∷ 2 ∷ 0 ∷ []) $ use3 𝓛 (‵ (holds home out seen)) (whole home out seen own past) $ move ! (1 ∷ 0 ∷ []) $ fjoin ! $ check ! is $ done !)))
+
   -- no pass is out, and it has seen all that there is
   abbrev pub IsHome : Bool → List Entry → List Entry → Type 0
   IsHome home seen log = IsTurns n.gate × GoesOnTo n seen log × (mine st 0 log ≡ mine st 0 seen) × WasWhole home seen log
@@ -158,7 +164,7 @@ module _ {M : Type 1} {𝓤 : Ura M} (𝓛 : Logic 𝓤) (n : Name) where
 
   pub shut_by : (home : Bool) (seen log : List Entry) → IsHome home seen log
       → Shuts (record { marker = record {}; name = n; seen = seen; home = home }) (record { marker = record {}; name = n; id = 0; seen = log })
-  shut_by home seen log is = record { book = refl; turn = (is.0, refl); alone = turn_alone n.gate is.0; goes_on = is.1; none_made = is.2; was = is.3 }
+  shut_by home seen log is = record { book = refl; turn = (is.0, refl); goes_on = is.1; none_made = is.2; was = is.3 }
 
   -- what it has at home is what the first pass has
   pub home_passes : (seen : List Entry) → IsTurns n.gate → ⟦ porter_owns n true 0 seen ⟧ ⊢ ⟦ pass_owns n 0 seen ⟧

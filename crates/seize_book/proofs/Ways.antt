@@ -105,9 +105,6 @@ module _ {M : Type 1} {𝓤 : Ura M} (𝓛 : Logic 𝓤) (n : Name) where
       -- [the other rights; the other ways; the right; the way]
       move ! (2 ∷ 0 ∷ []) $ fjoin ! $ move ! (2 ∷ 1 ∷ []) $ fjoin ! $ move ! (1 ∷ 0 ∷ []) $ done !
 
-  pub only_rights : (held : Keys) → ⟦ keys_own n held ⟧ ⊢ ⟦ rights_own n held ⟧
-  only_rights held = qed 𝓛 (‵ (keys_own n held) ∷ []) ∵ use1 𝓛 (‵ (rights_own n held) ⊛ ‵ (ways held)) (keys_apart held) $ split ! $ keep ! (0 ∷ []) $ done !
-
   -- the rights, with what their holder notes
   pub keys_bared : (held : Keys) → ⟦ keys_own n held ⟧ ⊢ ⟦ rights_own n held ⟧ ∗ ⟦ notes_own n held ⟧
   keys_bared [] = qed 𝓛 (‵ ftrue ∷ []) ∵ nothing ! $ done !

@@ -3,7 +3,8 @@
 --     mine_of pass           what was made with it, with the answers
 --     events_by pass         the events among these
 --     MadeNone pass pass'    nothing was made with it
---     Meets pass other pass' other'    both have seen the longer of what they had, and nothing was made with either
+--     Meets pass other pass' other'    both have seen the longer of what they had, nothing was made with either, and they are two: what was
+--                            made with one was not made with the other
 --     Longer a b c           c is the longer of two lists of which one is a beginning of the other
 use Rattle.std.specs.Prelude.{◌≡◌, true, List, [], ◌∷◌, ◌⊎◌}
 use mathlib.Core.List.{IsPrefix}
@@ -52,4 +53,4 @@ Longer a b c = (IsPrefix a b × (c ≡ b)) ⊎ (IsPrefix b a × (c ≡ a))
 abbrev pub Meets : Pass → Pass → Pass → Pass → Type 0
 Meets pass other pass' other' =
     IsSame pass pass' × IsSame other other' × MadeNone pass pass' × MadeNone other other'
-    × (other'.seen ≡ pass'.seen) × Longer pass.seen other.seen pass'.seen
+    × (other'.seen ≡ pass'.seen) × Longer pass.seen other.seen pass'.seen × ¬ (pass.id ≡ other.id)

@@ -7,8 +7,8 @@
 --     inside        what stands in its invariant;  knows   that there is this invariant, for good
 --     pass_owns     a pass: its key, a beginning of the list that it has seen, and where it alone may append the list itself
 --     lent_pass n κ p seen     the same where its ticket is lent to it for κ, as those of a porter are that threads share
---     porter_owns   a porter: the key of the first pass, a beginning of the list that it has seen, and how many passes are out; and where
---                   it is at home, that what it has seen is the whole list
+--     porter_owns   a porter: the key of the first pass, a beginning of the list that it has seen, and all tickets but those of so many
+--                   passes; or, where it is at home, the copy of the whole list, which is what it has seen
 --     IsSole g p    at this gate pass p alone may append, whenever someone has it;  IsTurns g   passes come from a porter there
 --     leads n v     the value's number leads to the label of its home and cell, in the store where the book's blocks lie; and nothing where
 --                   they lie in none

@@ -1,13 +1,15 @@
 -- The words in which the contracts of porters speak.
 --     HasTurn pass              it is the first pass of a book whose passes come from a porter: while someone has it, no other is there
---     GoesOnTo name seen seen'  seen' is a legal list that goes on from seen
---     Gives porter pass         a new pass of the porter's book, which isn't alone, with which nothing was made, and which has seen a list
---                               that goes on from what the porter has seen
+--     GoesOnTo name seen seen'  seen' is a legal list that goes on from seen, and the laws hold of it: it is sound (`IsSound`), with each
+--                               value that was named something is lent, where the blocks lie in a store, and the links of the opening
+--                               are distinct
+--     Gives porter pass         a new pass of the porter's book, which isn't the first, with which nothing was made, and which has seen a
+--                               list that goes on from what the porter has seen
 --     LeavesHome porter porter'     it is the same, but not at home
 --     WasWhole home seen seen'  it is seen still, if the porter was at home: then that was the whole list, and nobody could add
 --     ComesHome porter porter'  the porter is at home: it owns the copy of the whole list (`gate_leaves` in `Tokens`), and nothing was made
 --                               with the first pass meanwhile
---     Shuts porter pass         the first pass, which is alone (`IsSole`), in the porter's place
+--     Shuts porter pass         the first pass in the porter's place: it is alone, as `HasTurn` says
 --     IsFirstTurn book pass     the same of a book that has just begun
 --     OpensAgain pass porter    the porter, which is at home, has seen what the pass had
 --     IsFullPorter book porter  the porter of a book that has just begun, which is at home
@@ -20,7 +22,7 @@ use Rattle.seize_book.specs.Book.{IsLegalList, after, mine}
 use Rattle.seize_book.specs.Books.{HasKeys, IsNew}
 use Rattle.seize_book.specs.Homes.{IsSound}
 use Rattle.seize_book.specs.Entry.{Entry}
-use Rattle.seize_book.specs.Tokens.{AllLentIn, IsSole, IsTurns, Name, start}
+use Rattle.seize_book.specs.Tokens.{AllLentIn, IsTurns, Name, start}
 use Rattle.seize_book.specs.declared.book.book_keys.BookKeys.{BookKeys}
 use Rattle.seize_book.specs.declared.book.pass.Pass.{Pass}
 use Rattle.seize_book.specs.declared.book.porter.Porter.{Porter}
@@ -39,7 +41,7 @@ pub record GoesOnTo (name : Name) (seen seen' : List Entry) : Type 0 where
 pub record Gives (porter : Porter) (pass : Pass) : Type 0 where
   pub book : pass.name ≡ porter.name
   pub new : IsNew pass
-  pub others : ¬ (IsSole pass.name.gate pass.id)
+  pub others : IsTurns pass.name.gate × ¬ (pass.id ≡ 0)
   pub goes_on : GoesOnTo porter.name porter.seen pass.seen
 
 abbrev pub LeavesHome : Porter → Porter → Type 0
@@ -58,7 +60,6 @@ pub record ComesHome (porter porter' : Porter) : Type 0 where
 pub record Shuts (porter : Porter) (pass : Pass) : Type 0 where
   pub book : pass.name ≡ porter.name
   pub turn : HasTurn pass
-  pub alone : IsSole pass.name.gate pass.id
   pub goes_on : GoesOnTo porter.name porter.seen pass.seen
   pub none_made : mine (start porter.name) 0 pass.seen ≡ mine (start porter.name) 0 porter.seen
   pub was : WasWhole porter.home porter.seen pass.seen

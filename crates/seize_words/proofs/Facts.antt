@@ -78,10 +78,6 @@ deed_grew : (pass pass' : Pass) (d : Deed) → IsSame pass pass' → (noted : No
 deed_grew pass pass' d same noted =
     ap (λ (n : Name). mine (start n) pass'.id pass'.seen) same.0 ∙ ap (λ (p : ℕ). mine (start pass.name) p pass'.seen) same.1 ∙ noted.made
 
-pub grew : (pass pass' : Pass) (event : Event) → IsSame pass pass' → (noted : Noted pass.name pass.id pass.seen pass'.seen (Made (private pass event)))
-    → mine_of pass' ≡ mine_of pass ++ (Made (private pass event), noted.answer) ∷ []
-grew pass pass' event same noted = deed_grew pass pass' (private pass event) same noted
-
 -- and so have the events made with it, while a use of a field leaves them as they were
 
 events_append : (xs ys : List (Entry × Answer)) → events_in (xs ++ ys) ≡ events_in xs ++ events_in ys
@@ -240,10 +236,6 @@ known_in link a pass pass' in_ name grows = record {
     is_link = in_.within.is_link;
   });
 }
-
--- after a step on a link the same activation may make the next, on this link or on another one
-pub still_in : (link other : Link) (a : Activation) (pass pass' : Pass) (event : Option ℕ → Event) (v : ℕ) → IsIn other a pass → Takes link a pass pass' event v → IsIn other a pass'
-still_in link other a pass pass' event v in_ t = known_in other a pass pass' in_ t.same.0 (seen_grows pass.name pass.id pass.seen pass'.seen _ t.noted)
 
 -- A value that was found in a link was named, as the pass has seen by then.
 module _ (link : Link) (a : Activation) (pass pass' : Pass) (event : Option ℕ → Event) (v w : ℕ) (t : Takes link a pass pass' event v) (is : held_before t ≡ Some w) where

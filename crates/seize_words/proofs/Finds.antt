@@ -10,7 +10,7 @@ use Rattle.seize_machine.proofs.Facts.{batched_named}
 use Rattle.seize_store.specs.Known.{entry_of, label_in}
 use Rattle.seize_store.specs.declared.known.Known.{Known}
 use Rattle.seize_table.specs.Place.{IsPlace}
-use Rattle.seize_book.specs.Blocks.{Plan, block_for, block_of, front_of, no_plan, plans}
+use Rattle.seize_book.specs.Blocks.{Plan, block_of, front_of, no_plan, plans}
 use Rattle.std.specs.Prelude.{slice_index_or, unwrap_or}
 use Rattle.seize_book.specs.Book.{IsLegalList, after}
 use Rattle.seize_book.specs.Chains.{served}
@@ -77,14 +77,7 @@ module _ (known : Known) (key : SlotKey) (pass : Pass) (book : IsOf key pass) (g
       ap (λ (k : ℕ). label_in known.chunks (entry_of known.row k)) is
       ∙ (homes v named (subst (λ (k : ℕ). IsPlace k known.row (entry_of known.row k)) is placed)).0
 
-  -- the block with which the batch waited for the slot
-  pub next_home : IsPlace (block_for (start_of key) own b (number_of key)) known.row (entry_of known.row (block_for (start_of key) own b (number_of key)))
-      → label_in known.chunks (entry_of known.row (block_for (start_of key) own b (number_of key))) ≡ chunk_label pass.name (home_of (served (plans (start_of key) own) b (number_of key))) (cell_of (served (plans (start_of key) own) b (number_of key)))
-  next_home = subst (λ (z : Name). IsPlace (block_for (start z) own b (number_of key)) known.row (entry_of known.row (block_for (start z) own b (number_of key)))
-      → label_in known.chunks (entry_of known.row (block_for (start z) own b (number_of key))) ≡ chunk_label pass.name (home_of (served (plans (start z) own) b (number_of key))) (cell_of (served (plans (start z) own) b (number_of key)))) (sym book)
-      (living_home (served (plans st own) b (number_of key)) (block_for st own b (number_of key)) refl (walked_living pass.name own distinct its_own b (number_of key) walks))
-
-  -- and the first block of the batch
+  -- the first block of the batch
   pub front_home : (front number : ℕ) → front_of (start_of key) own b ≡ Some front → number ≡ block_of front → IsPlace number known.row (entry_of known.row number)
       → label_in known.chunks (entry_of known.row number) ≡ chunk_label pass.name (home_of front) (cell_of front)
   front_home front number is its = living_home front number its (front_living pass.name own distinct its_own b front (number_of key) walks (subst (λ (z : Name). front_of (start z) own b ≡ Some front) book is))

@@ -1,5 +1,5 @@
 -- The code of a note, and that there is a cell for it.
-use Rattle.std.proofs.Common.{◌≡◌, refl, ◌∙◌}
+use Rattle.std.proofs.Common.{◌≡◌, ◌∙◌}
 use Rattle.seize_book.specs.Notes.{HasNoted, IsStored}
 use Rattle.seize_book.specs.declared.book.value_key.ValueKey.{ValueKey}
 use Rattle.seize_book.proofs.Facts.{has_noted}
@@ -9,9 +9,6 @@ use Rattle.seize_words.specs.Noted.{IsNoted, note_code}
 use Rattle.seize_words.specs.declared.blocks.Blocks.{Blocks}
 use Rattle.seize_words.specs.declared.note.Note.{Note as Noted}
 use Rattle.seize_words.specs.contracts.note.Note as Note
-
-pub its_code : (note : Noted) → Note.the_row.coded.code note ≡ note_code note
-its_code note = refl
 
 -- the blocks of a book that has a store lie there
 pub blocks_stored : {T : Type 0} (blocks : Blocks T) → IsStored (book_in blocks)

@@ -2,8 +2,6 @@
 --     header_book header, header_home header     the book whose words the header has, and the home of the values in its block
 --     header_cell header                the name of the cell in which the holder of the key of these values makes notes
 --     book_in blocks                    the book whose blocks these are
---     OpensIn blocks keys links size    a new book, to which many may append, with so many links, which are empty, and its keys;  see Opens
---     OpensAloneIn blocks pass keys links size     the same of a book to which this pass alone may append
 --     LiesIn key block                  the key is that of the values of this block;  LayIn key hollow     of the block whose value was
 --                                       taken out of this chunk
 --     IsPartOf key part                 it has the label of the chunk of the key's block
@@ -22,7 +20,7 @@
 --     StandsAt v number pass            v was named and not reclaimed, as the pass has seen, and this is its number
 --     IsHeaderOf header number pass     it is of the pass's book, and each value with this number that was ever named lies in its block,
 --                                       with its cell
-use Rattle.std.specs.Prelude.{◌≡◌, ℕ, ◌+◌, ◌<◌, ◌^◌, List, Option, Some, None, false, true}
+use Rattle.std.specs.Prelude.{◌≡◌, ℕ, ◌+◌, ◌<◌, ◌^◌, List, Option, Some, false, true}
 use base.Stored.{Gv}
 use Rattle.seize_machine.specs.Machine.State.{has}
 use Rattle.seize_store.specs.Named.{AreOf, bare_content, bare_label, bare_number, bare_store, bare_value, hollow_content, hollow_label, hollow_number, hollow_store}
@@ -31,7 +29,7 @@ use Rattle.seize_store.specs.declared.hollow.Hollow.{Hollow}
 use Rattle.seize_store.specs.declared.spot.Spots.{Spots}
 use Rattle.seize_book.specs.Bare.{bare_cell, bare_home}
 use Rattle.seize_book.specs.Blocks.{block_of}
-use Rattle.seize_book.specs.Books.{IsNextAfter, IsNextIn, Opens, OpensAlone}
+use Rattle.seize_book.specs.Books.{IsNextAfter, IsNextIn}
 use Rattle.seize_words.specs.Counts.{home}
 use Rattle.seize_book.specs.Homes.{home_of}
 use Rattle.seize_book.specs.Homesteads.{state_seen}
@@ -41,7 +39,6 @@ use Rattle.seize_book.specs.Notes.{cell_in}
 use Rattle.seize_book.specs.Others.{book_of, value_of}
 use Rattle.seize_book.specs.Tokens.{Name, chunk_label}
 use Rattle.seize_words.specs.declared.blocks.Blocks.{Blocks}
-use Rattle.seize_book.specs.declared.book.book_keys.BookKeys.{BookKeys}
 use Rattle.seize_book.specs.declared.book.pass.Pass.{Pass}
 use Rattle.seize_book.specs.declared.book.value_key.ValueKey.{ValueKey}
 use Rattle.seize_words.specs.declared.chunk.Header.{Header}
@@ -59,12 +56,6 @@ header_cell header = header.note.name
 
 abbrev pub book_in : {T : Type 0} → Blocks T → Name
 book_in blocks = blocks.book.name
-
-abbrev pub OpensIn : {T : Type 0} → Blocks T → BookKeys → ℕ → ℕ → Type 0
-OpensIn blocks keys links size = Opens blocks.book keys links size blocks.book.name.store None
-
-abbrev pub OpensAloneIn : {T : Type 0} → Blocks T → Pass → BookKeys → ℕ → ℕ → Type 0
-OpensAloneIn blocks pass keys links size = OpensAlone blocks.book pass keys links size blocks.book.name.store None
 
 abbrev pub LiesIn : {H P T : Type 0} → ValueKey → Bare H P T → Type 0
 LiesIn key block = chunk_label (book_of key) (home_of (value_of key)) (cell_in key) ≡ bare_label block

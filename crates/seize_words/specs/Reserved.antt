@@ -3,8 +3,6 @@
 --     slots_book slots                 the book whose slots they are
 --     comes_next next, next_key next   the slot that comes next, and its key;  IsSame next other   both are the same one
 --     HasNext numbers next             all numbers are in use, as the key of the numbers knows, and this is the slot that comes next
---     OpensSlots slots numbers next links many size     a new book with no slot yet, to which many may append, with so many links, which
---                                      are empty; and its keys
 --     MakesNext numbers next pass numbers' key next' pass'     the slot was made (MakesSlot), and the pass has seen it; the other is the
 --                                      one that comes after it
 --     IsHeadAt pass number head        it is the head of this slot of the pass's book
@@ -12,21 +10,18 @@
 --     IsCount pass pass' count         there were so many slots in what the pass saw between the two
 --     comes_to heads, ends_at heads    the slot whose head comes next in a walk, and the number before which the walk ends;  heads_book
 --                                      its book;  GoesOn heads head heads'   a step of it gives the next slot's head, or nothing at the end
-use Rattle.std.specs.Prelude.{◌≡◌, ℕ, ◌+◌, ◌<◌, [], length, IfSome, IfNone, None, Some}
+use Rattle.std.specs.Prelude.{◌≡◌, ℕ, ◌+◌, ◌<◌, length, IfSome, IfNone, Some}
 use Rattle.std.specs.declared.option.Option.{Option}
 use Rattle.crossbeam_utils.specs.Padded.{padded_value}
 use denote.Bor.{Bor}
 use Rattle.seize_table.specs.Walk.{end_of, walked}
 use Rattle.seize_table.specs.declared.tls.all_filled.AllFilled.{AllFilled}
-use Rattle.seize_book.specs.Begin.{BeganWith, first_links}
-use Rattle.seize_book.specs.Books.{IsMany}
 use Rattle.seize_words.specs.Named.{head_book}
 use Rattle.seize_book.specs.Passes.{LooksOn}
 use Rattle.seize_words.specs.Reservations.{slot}
 use Rattle.seize_book.specs.Slots.{number_of}
 use Rattle.seize_book.specs.Tokens.{Name, slot_labels}
 use Rattle.seize_words.specs.Totals.{IsFull, MakesSlot, made_of, slots_seen}
-use Rattle.seize_book.specs.declared.book.link_keys.LinkKeys.{LinkKeys}
 use Rattle.seize_book.specs.declared.book.numbers_key.NumbersKey.{NumbersKey}
 use Rattle.seize_book.specs.declared.book.pass.Pass.{Pass}
 use Rattle.seize_book.specs.declared.book.slot_key.SlotKey.{SlotKey}
@@ -55,13 +50,6 @@ IsSame next other =
 abbrev pub HasNext : NumbersKey → NextSlot → Type 0
 HasNext numbers next =
     IsFull numbers × (comes_next next ≡ made_of numbers) × ((next_key next).keys.name ≡ numbers.keys.name)
-
-pub record OpensSlots (slots : Slots) (numbers : NumbersKey) (next : NextSlot) (links : LinkKeys) (many size : ℕ) : Type 0 where
-  pub gate : IsMany slots.book
-  pub began : BeganWith (slots_book slots) many size None (slots_book slots).table × (slots.book.seen ≡ [])
-  pub numbers_are : (numbers.keys.name ≡ slots_book slots) × (made_of numbers ≡ 0)
-  pub next_is : HasNext numbers next
-  pub links_are : (links.keys.name ≡ slots_book slots) × (links.keys.held ≡ first_links 0 many)
 
 pub record MakesNext (numbers : NumbersKey) (next : NextSlot) (pass : Pass) (numbers' : NumbersKey) (key : SlotKey) (next' : NextSlot)
     (pass' : Pass) : Type 0 where

@@ -6,12 +6,11 @@ ghost use Rattle.seize_store.specs.Named.{name_of};
 use crate::chunk::{Header, Part};
 use crate::glimpse::Glimpse;
 use crate::note::Note;
-use seize_book::book::{Book, BookKeys, Keeps, Pass, SlotKey, Unopened, ValueKey, ValueKeys};
+use seize_book::book::{Book, Pass, SlotKey, ValueKey, ValueKeys};
 use seize_content::TokenCell;
 use seize_store::{Bare, Hollow, Owned, Spots, Store};
 use seize_table::Refusal;
 use std::alloc::{AllocError, Global};
-use std::marker::Brand;
 
 /// A book, with the store where its blocks lie. Threads share it by `&`.
 #[derive(Drop)]
@@ -24,10 +23,10 @@ pub struct Blocks<T> {
 }
 
 impl<T: Drop> Blocks<T> {
-    ghost use Rattle.seize_book.specs.Books.{IsNextIn, Opens, OpensAlone};
+    ghost use Rattle.seize_book.specs.Books.{IsNextIn};
     ghost use Rattle.seize_store.specs.Named.{bare_number, bare_title, bare_value, hollow_store, hollow_title, is_empty_list, store_of, title_of, titles_of, titles_with, value_of as owned_value};
     ghost use Rattle.seize_table.specs.declared.refusal.Refusal.TheVariants.{NoMemory};
-    ghost use Rattle.seize_words.specs.Chunks.{AreSpotsIn, IsBlockAfter, IsBlockIn, IsFoundAs, IsFoundAt, IsHeaderOf, IsLentAs, IsPartOf, LayIn, LendsIn, LiesIn, OpensAloneIn, OpensIn, StandsAt, book_in};
+    ghost use Rattle.seize_words.specs.Chunks.{AreSpotsIn, IsBlockAfter, IsBlockIn, IsFoundAs, IsFoundAt, IsHeaderOf, IsLentAs, IsPartOf, LayIn, LendsIn, LiesIn, StandsAt, book_in};
     ghost use Rattle.seize_book.specs.Others.{IsLast, IsVacated, IsValueOf, book_of, value_of};
     ghost use Rattle.seize_book.specs.Blocks.{block_of};
     ghost use Rattle.seize_book.specs.Notes.{HasNoted, IsUnchanged, cell_in};
@@ -47,58 +46,6 @@ impl<T: Drop> Blocks<T> {
         ensures { result.book ≡ book }
     {
         Blocks { store, book }
-    }
-
-    /// A new book, as one of `Book::open`, with its keys; and a store with no rows for its blocks. It takes no memory.
-    pub fn new(alloc: Global, links: usize, size: usize) -> (Blocks<T>, BookKeys)
-        ensures { OpensIn result.0 result.1 links size }
-    {
-        let (unopened, family) = Unopened::new();
-        let store = Store::new(alloc, &family);
-        let (book, keys) = Blocks::open::<Brand>(&store, unopened, links, size);
-        (Blocks { store, book }, keys)
-    }
-
-    /// The same of a book as one of `Book::open_alone`: its one pass is alone, so only who has it appends, and it has seen all there is.
-    pub fn new_alone(
-        alloc: Global,
-        links: usize,
-        size: usize,
-    ) -> (Blocks<T>, Pass<'static>, BookKeys)
-        ensures { OpensAloneIn result.0 result.1 result.2 links size }
-    {
-        let (unopened, family) = Unopened::new();
-        let store = Store::new(alloc, &family);
-        let (book, pass, keys) = Blocks::open_alone::<Brand>(&store, unopened, links, size);
-        (Blocks { store, book }, pass, keys)
-    }
-
-    // A book whose blocks lie in this store.
-    fn open<K: Keeps>(
-        _store: &Store<Header, Part, T>,
-        unopened: Unopened,
-        links: usize,
-        size: usize,
-    ) -> (Book, BookKeys)
-        requires { K.store ≡ Some (name_of _store.now) }
-        ensures book { Opens result.0 result.1 links size (Some (name_of _store.now)) K.table }
-        ensures family { result.0.name.family ≡ unopened.family }
-    {
-        unopened.open::<K>(links, size)
-    }
-
-    // The same, with its one pass.
-    fn open_alone<K: Keeps>(
-        _store: &Store<Header, Part, T>,
-        unopened: Unopened,
-        links: usize,
-        size: usize,
-    ) -> (Book, Pass<'static>, BookKeys)
-        requires { K.store ≡ Some (name_of _store.now) }
-        ensures book { OpensAlone result.0 result.1 result.2 links size (Some (name_of _store.now)) K.table }
-        ensures family { result.0.name.family ≡ unopened.family }
-    {
-        unopened.open_alone::<K>(links, size)
     }
 
     /// A block of the value, and the key for that value, by the number that the block has in the store. Where no chunk is in, it asks for

@@ -14,14 +14,10 @@ use crate::total::Total;
 use crossbeam_utils::CachePadded;
 pub use heads::Heads;
 pub use next::NextSlot;
-use seize_book::book::{
-    Book, BookKeys, Keeps, LinkKeys, NumbersKey, Pass, SlotKey, TotalKey, Unopened,
-};
-use seize_table::thread_id::{MAX_INDEX, Thread};
+use seize_book::book::{Book, NumbersKey, Pass, SlotKey, TotalKey};
+use seize_table::thread_id::Thread;
 use seize_table::tls::{AllFilled, ThreadLocal};
 use seize_table::{Labelled, Refusal};
-use std::alloc::Global;
-use std::marker::Brand;
 
 /// What a slot has in the table of its book: its head, with nothing else on its cache lines.
 #[derive(Drop)]
@@ -72,43 +68,13 @@ pub struct Slots {
 }
 
 impl Slots {
-    ghost use Rattle.std.specs.Prelude.{◌<◌, ◌⊎◌, ◌↔◌, Err, IfErr, IfOk};
+    ghost use Rattle.std.specs.Prelude.{◌<◌, IfErr, IfOk};
     ghost use Rattle.seize_table.specs.Place.{all_numbers};
-    ghost use Rattle.seize_table.specs.declared.refusal.Refusal.TheVariants.{NoMemory, NoNumbers};
-    ghost use Rattle.seize_book.specs.Books.{Opens};
+    ghost use Rattle.seize_table.specs.declared.refusal.Refusal.TheVariants.{NoMemory};
     ghost use Rattle.seize_words.specs.Named.{total_key_book};
     ghost use Rattle.seize_book.specs.Passes.{LooksOn};
-    ghost use Rattle.seize_words.specs.Reserved.{AreAll, HasNext, IsCount, IsHeadAt, IsSame, MakesNext, OpensSlots, comes_to, ends_at, heads_book, slots_book};
+    ghost use Rattle.seize_words.specs.Reserved.{AreAll, HasNext, IsCount, IsHeadAt, IsSame, MakesNext, comes_to, ends_at, heads_book, slots_book};
     ghost use Rattle.seize_words.specs.Totals.{NumbersOf, slots_seen, total_known};
-
-    /// A new book, as one of `Book::open` whose blocks lie in no store, with a table that has the buckets of the numbers from 0 to
-    /// `capacity`; what its slots are made with, and the keys of its links.
-    ///
-    /// # Errors
-    ///
-    /// As for the table: `NoNumbers` where `capacity` is above the greatest number, and only then; `NoMemory` where a growth was refused.
-    pub fn new(
-        alloc: Global,
-        capacity: usize,
-        links: usize,
-        size: usize,
-    ) -> Result<(Slots, NumbersKey, NextSlot, LinkKeys), Refusal>
-        ensures made { IfOk result (λ opened. OpensSlots opened.0 opened.1 opened.2 opened.3 links size) }
-        ensures refused { IfErr result (λ e. (e ≡ NoNumbers) ⊎ (e ≡ NoMemory)) }
-        ensures no_numbers { (result ≡ Err NoNumbers) ↔ (MAX_INDEX < capacity) }
-    {
-        let table = ThreadLocal::with_capacity(alloc, capacity)?;
-        let (unopened, _) = Unopened::new();
-        let (book, keys) = Slots::open::<Brand>(&table, unopened, links, size);
-        let BookKeys {
-            numbers,
-            total,
-            next,
-            links,
-        } = keys;
-        let next = NextSlot::new(next, 0, &book);
-        Ok((Slots::of(table, total, book), numbers, next, links))
-    }
 
     /// Those of a book that has no slot yet, and whose heads lie in this table: as for a book whose blocks lie in a store.
     pub fn of(table: ThreadLocal<Reservation>, total: TotalKey, book: Book) -> Slots
@@ -121,19 +87,6 @@ impl Slots {
             total: Total::new(total),
             book,
         }
-    }
-
-    // A book whose heads lie in this table.
-    fn open<K: Keeps>(
-        _table: &ThreadLocal<Reservation>,
-        unopened: Unopened,
-        links: usize,
-        size: usize,
-    ) -> (Book, BookKeys)
-        requires { K.table ≡ Some (name_of _table.now) }
-        ensures { Opens result.0 result.1 links size K.store (Some (name_of _table.now)) }
-    {
-        unopened.open::<K>(links, size)
     }
 
     /// Makes the slot that comes next: puts its head into the table, and then says that the slot is there (`Total::add`). It gives the

@@ -104,7 +104,7 @@ impl<T: Drop> Words<T> {
         Ok((words, pass, numbers, next))
     }
 
-    /// The same of a book whose passes come from the porter.
+    /// The same of a book whose passes come from the porter, which is at home.
     ///
     /// # Errors
     ///

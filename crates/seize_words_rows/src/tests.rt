@@ -1,10 +1,11 @@
 //! Books, passes and keys in hand, and threads that step on words.
+ghost use Rattle.std.specs.Prelude.{IfSome};
 ghost use Rattle.seize_words_rows.specs.Exchanges.{MayShare, MaySwap};
 ghost use Rattle.seize_words_rows.specs.Guests.{IsReady};
 ghost use Rattle.seize_words_rows.specs.Visits.{MayVisit};
 
 use crate::exchanges::{EACH, Exchanged, Swapper, learn_and_read, read_many, share_many};
-use crate::guests::open_off;
+use crate::guests::{Guest, leave_again, open_off, welcome};
 use crate::leaving::{Visitor, leave_head};
 use crate::making::open;
 use crate::row::{open_row, read_row, visit_many};
@@ -12,7 +13,7 @@ use seize_words::activation::Activation;
 use seize_words::batch::Count;
 use seize_words::book::{
     BareKey, BlockKeys, Book, BookKeys, ChunkKeys, CountKey, FieldKey, HeadKey, LinkKeys,
-    NumbersKey, Pass, SlotKey, SlotKeys, TotalKey, Unopened, ValueKey, ValueKeys,
+    NumbersKey, Pass, Porter, SlotKey, SlotKeys, TotalKey, Unopened, ValueKey, ValueKeys,
 };
 use seize_words::chunk::{Header, Part};
 use seize_words::header::Field;
@@ -334,24 +335,44 @@ fn two_slots_enter_and_leave(rt: HostRuntime) {
     drop((links, maker));
 }
 
-// The same with passes that one porter lends, which both share. Each pass is forgotten where it was used; still the porter comes home, and
-// the gate is shut.
+// Two guests visit, on a thread each, with passes that one porter lends, which both share.
+fn visit_both<R: Threads + Wait + Sync>(
+    rt: &R,
+    porter: &Porter,
+    a: Guest,
+    b: Guest,
+) -> Option<(Guest, Guest)>
+    requires { IsReady a porter.now × IsReady b porter.now }
+    ensures { IfSome result (λ both. IsReady both.0 porter.now × IsReady both.1 porter.now) }
+{
+    let (one, two) = thread::join(
+        rt,
+        move || -> Option<Guest>
+            requires { IsReady a porter.now }
+            ensures { IfSome result (λ guest. IsReady guest porter.entry.now) }
+        { a.visit(porter, 10_000) },
+        move || -> Option<Guest>
+            requires { IsReady b porter.now }
+            ensures { IfSome result (λ guest. IsReady guest porter.entry.now) }
+        { b.visit(porter, 10_000) },
+    );
+    Some((one?, two?))
+}
+
+// Each pass is forgotten where it was used; still the porter comes home, and has seen what each thread kept of the list. It leaves and
+// lends passes again, comes home again, and the gate is shut.
 #[test]
 fn threads_share_a_porter(rt: HostRuntime) {
-    let (porter, one, two) = open_off();
-    let shared = &porter;
-    let turns = thread::join(
-        &rt,
-        move || -> u64
-            requires { IsReady one shared.now }
-        { one.visit(shared, 20_000) },
-        move || -> u64
-            requires { IsReady two shared.now }
-        { two.visit(shared, 20_000) },
-    );
-    assert_eq!(rt; turns, (20_000, 20_000));
-    let mut porter = porter;
-    porter.come_home();
+    let (mut porter, one, two) = open_off();
+    let Some((one, two)) = visit_both(&rt, &porter, one, two) else {
+        panic!(rt; "something waited");
+    };
+    welcome(&mut porter, &one, &two);
+    leave_again(&mut porter, &one, &two);
+    let Some((one, two)) = visit_both(&rt, &porter, one, two) else {
+        panic!(rt; "something waited");
+    };
+    welcome(&mut porter, &one, &two);
     drop(porter.shut());
 }
 

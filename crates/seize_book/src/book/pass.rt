@@ -11,9 +11,11 @@ use seize_store::Known;
 use seize_table::tls::AllFilled;
 use std::marker::{Model, PhantomData};
 
-/// What its holder has seen of the list, and the right to add entries under its id, for as long as `'p` lasts: that is how long the porter
-/// is shared that lent it. Who drops or forgets a pass that was lent keeps nobody from anything. Where one that is alone is dropped, nobody
-/// adds to the list any more.
+/// What its holder has seen of the list, and the right to add entries under its id, for as long as `'p` lasts.
+///
+/// A porter lends a pass for as long as the porter is shared ([`Porter::pass`]); dropping or forgetting such a pass keeps nobody out. A
+/// pass of `Pass<'static>` lasts for good: [`Book::pass`] makes one of many, and dropping it hinders nobody either.
+/// [`Unopened::open_alone`] and [`Porter::shut`] give a pass that is alone; if that one is dropped, nobody adds to the list any more.
 pub struct Pass<'p> {
     pub(super) marker: PhantomData<&'p ()>,
     /// The book.
@@ -35,14 +37,14 @@ impl<'p> Pass<'p> {
     ghost use Rattle.seize_book.specs.Tables.{AreSlotsOf};
 
     /// Two passes of one book tell each other what they have seen: afterwards both have seen the longer of their two beginnings. No event
-    /// is made with either.
+    /// is made with either. Their ids differ: an event that was made with one was not made with the other.
     pub fn meet(&mut self, other: &mut Pass)
         requires { other.old.name ≡ self.old.name }
         ensures { Meets self.old other.old self.new other.new }
     {}
 
-    /// The pass learns what the book has seen: afterwards it has seen the longer of the two beginnings. So whoever shares a book by `&` may
-    /// tell others what it has seen, such as that an activation began. No event is made with the pass.
+    /// The pass learns what the book has seen: afterwards it has seen the longer of the two beginnings. So a caller who shares a book by
+    /// `&` tells others what it has seen, such as that an activation began. No event is made with the pass.
     pub fn learn(&mut self, book: &Book)
         requires { book.now.name ≡ self.old.name }
         ensures { Learns self.old book.now self.new }

@@ -1,5 +1,5 @@
-//! Porters: who shares a book's porter is lent passes by it; who has it alone is alone with the book. It uses passes beside it.
-ghost use Rattle.std.specs.Prelude.{◌≡◌, Bool, false, List};
+//! Porters: a porter lends the passes of its book to those who share it by `&`, and comes home for a caller who has it alone.
+ghost use Rattle.std.specs.Prelude.{◌≡◌, Bool, false, true, List};
 ghost use base.Stored.{coded_list};
 ghost use Rattle.std.specs.Coded.{coded_bool};
 ghost use Rattle.seize_book.specs.Shared.{porter_has, porter_shares};
@@ -7,10 +7,11 @@ ghost use Rattle.seize_book.specs.Entry.{Entry, entry_coded};
 ghost use Rattle.seize_book.specs.Tokens.{Name, name_coded};
 
 use crate::book::pass::Pass;
+use crate::book::token::Book;
 use std::marker::{Model, PhantomData};
 
-/// What passes of a book come from whose gate is `turns`. There is one. Who drops it at home leaves a book to which nobody may add any
-/// more.
+/// Lends the passes of its book, of which it is the one porter. If it is dropped, nobody adds to the list any more: the passes that it
+/// lent are over by then.
 pub struct Porter {
     pub(super) marker: PhantomData<()>,
     /// The book.
@@ -28,12 +29,15 @@ impl Model for Porter {
 }
 
 impl Porter {
+    ghost use mathlib.Core.List.{IsPrefix};
     ghost use Rattle.seize_book.specs.Turns.{ComesHome, Gives, HasTurn, LeavesHome, OpensAgain, Shuts};
 
-    /// A new pass, which has seen what the porter has, and more if there is more. It lasts for as long as the porter is shared: who has the
-    /// porter alone again may come home or leave, whether the pass was dropped or forgotten, here or by another thread.
+    /// A new pass, which has seen what the porter has, and perhaps more; a kept [`Book`] tells a new pass what an earlier one saw
+    /// ([`Pass::learn`]). It lasts for as long as the porter is shared: a caller who has the porter alone again may come home or leave,
+    /// whether the pass was dropped or forgotten, here or by another thread.
     ///
-    /// It takes no memory, and does nothing when the program runs.
+    /// A `Pass` has a `Drop`, so its holder drops or forgets it before the porter is borrowed by `&mut`. The call takes no memory, and does
+    /// nothing when the program runs.
     pub fn pass(&self) -> Pass<'_>
         requires { self.now.home ≡ false }
         ensures { Gives self.now result }
@@ -43,7 +47,7 @@ impl Porter {
         }
     }
 
-    /// Is no more at home: whoever has it by `&` is lent passes.
+    /// Leaves home: callers who share it by `&` are lent passes from then on.
     pub fn leave_home(&mut self)
         ensures { LeavesHome self.old self.new }
     {}
@@ -54,8 +58,15 @@ impl Porter {
         ensures { ComesHome self.old self.new }
     {}
 
-    /// Shuts the gate, where all passes are over: nobody else can add to the list until it is opened again. The first pass of the book has
-    /// seen the whole list then, and what is added with it is all that is added.
+    /// At home the porter has the whole list: it has seen what the book has. So what a thread keeps in a [`Book`] of what its pass saw is
+    /// known here. It does nothing: its contract is the law.
+    pub fn covers(&mut self, book: &Book)
+        requires { (self.old.home ≡ true) × (book.now.name ≡ self.old.name) }
+        ensures { (self.new ≡ self.old) × IsPrefix book.now.seen self.new.seen }
+    {}
+
+    /// Comes home and gives the first pass of the book, which has seen the whole list. It is alone: nobody else can add to the list until
+    /// [`Porter::again`] opens the gate.
     pub fn shut(self) -> Pass<'static>
         ensures { Shuts self result }
     {

@@ -25,7 +25,8 @@ pub struct Book {
     marker: PhantomData<()>,
     /// The book.
     pub ghost name: { Name } by { name_coded },
-    /// A beginning of the list. The passes that are made of it from now on have seen this.
+    /// A beginning of the list. The passes that [`Book::pass`] makes of it from now on have seen this; a pass of a porter learns it by
+    /// [`Pass::learn`].
     pub ghost seen: { List Entry } by { coded_list entry_coded },
 }
 
@@ -51,7 +52,7 @@ impl Keeps for Brand {
 
 impl Book {
     ghost use mathlib.Core.List.{IsPrefix};
-    ghost use Rattle.seize_book.specs.Books.{AreOf, Begins, IsAlone, IsCountAt, IsFieldAt, IsFirstIn, IsMany, IsNew, Opens, OpensAlone};
+    ghost use Rattle.seize_book.specs.Books.{AreOf, Begins, IsAlone, IsCountAt, IsFieldAt, IsFirstIn, IsMany, IsNew, Opens};
     ghost use Rattle.seize_book.specs.Bare.{IsChunkOf, IsNewChunk};
     ghost use Rattle.seize_book.specs.Chains.{first_field, next_field};
     ghost use Rattle.seize_book.specs.Homes.{home_of};
@@ -69,15 +70,7 @@ impl Book {
         unopened.open::<K>(links, size)
     }
 
-    /// A new book as `open` makes one, but that its one pass is alone: only who has it appends, and it has seen all there is.
-    pub fn open_alone<K: Keeps>(links: usize, size: usize) -> (Book, Pass<'static>, BookKeys)
-        ensures { OpensAlone result.0 result.1 result.2 links size K.store K.table }
-    {
-        let (unopened, _) = Unopened::new();
-        unopened.open_alone::<K>(links, size)
-    }
-
-    /// A new book as `open` makes one, but that its passes come from the porter.
+    /// A new book as `open` makes one, but that its passes come from the porter, which is at home.
     pub fn open_in_turns<K: Keeps>(links: usize, size: usize) -> (Book, Porter, BookKeys)
         ensures { OpensInTurns result.0 result.1 result.2 links size K.store K.table }
     {
@@ -166,7 +159,8 @@ impl Book {
         }
     }
 
-    /// It has seen what the pass has, and so have the passes made of it from then on. What it had seen beyond that it forgets.
+    /// It has seen what the pass has, and so have the passes that [`Book::pass`] makes of it from then on. What it had seen beyond that it
+    /// forgets.
     pub fn learn(&mut self, pass: &mut Pass)
         requires { self.old.name ≡ pass.old.name }
         ensures { (self.new.name ≡ self.old.name) × (self.new.seen ≡ pass.old.seen) × (pass.new ≡ pass.old) }

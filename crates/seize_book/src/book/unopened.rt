@@ -47,7 +47,8 @@ impl Unopened {
         (book, BookKeys::apart(keys))
     }
 
-    /// The book begins, as one of `Book::open_alone`.
+    /// The book begins, as one of `Book::open`, but that its one pass is alone: only its holder adds to the list, and it has seen all there
+    /// is.
     pub fn open_alone<K: Keeps>(self, links: usize, size: usize) -> (Book, Pass<'static>, BookKeys)
         ensures { OpensAlone result.0 result.1 result.2 links size K.store K.table × (result.0.name.family ≡ self.family) }
     {

@@ -12,8 +12,8 @@ pub returns : goal.returns
 returns c =
     let words = c.args.words.now in let first = c.args.first in let second = c.args.second in let seats = c.requires.seats in
     let p0 = c.shut-pass.result in let p1 = c.learn.new.self in let p2 = c.learn-2.new.self in let shut = c.shut-pass.ensures in let one = c.learn.ensures in let two = c.learn-2.ensures in
-    let turn = turn_still p1 p2 two.0 (turn_still p0 p1 one.0 shut.turn) in
-    let e1 = one.3 shut.alone in let e2 = two.3 (sole_still p0 p1 one.0 shut.alone) in
+    let turn = turn_still p1 p2 two.0 (turn_still p0 p1 one.0 shut.turn) in let sole = has_turn p0 shut.turn in
+    let e1 = one.3 sole in let e2 = two.3 (sole_still p0 p1 one.0 sole) in
     let seen1 = subst (IsPrefix first.seen.seen) (sym e2) (longer_right p0.seen first.seen.seen p1.seen one.2) in let seen2 = longer_right p1.seen second.seen.seen p2.seen two.2 in
     let book = two.0.0 ∙ one.0.0 ∙ shut.book in let legal = subst (λ (n : Name). IsLegalList (start n) p2.seen) (sym two.0.0) two.4 in
     record {

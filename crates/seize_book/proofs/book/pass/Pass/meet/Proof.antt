@@ -30,7 +30,7 @@ meet_spec 𝓤 𝓛 𝓜 𝓡 wired =
     -- [what self owns; self; its cell, in four entries; other, in two; other's token]
     move ! (6 ∷ 7 ∷ 8 ∷ []) $ opens_pass ! tt ℓr r rb ro (λ vs1. rewrite ! 0 (λ (z : Name). ‵ (pass_owns z r.id r.seen)) asked refl $
     -- [what other owns; other; its cell, in four entries; what self owns; self; its cell]
-    move ! (6 ∷ 0 ∷ []) $ use2 𝓛 (later (some (λ (z : List Entry). given (Longer p.seen r.seen z × (mine (start p.name) p.id z ≡ mine (start p.name) p.id p.seen) × (mine (start p.name) r.id z ≡ mine (start p.name) r.id r.seen)) (‵ (pass_owns p.name p.id z) ⊛ ‵ (pass_owns p.name r.id z))))) (meets 𝓛 p.name p.id r.id p.seen r.seen) $ await ! tt $ pick ! (λ log. learn ! (λ so. split ! $
+    move ! (6 ∷ 0 ∷ []) $ use2 𝓛 (later (some (λ (z : List Entry). given (Longer p.seen r.seen z × (mine (start p.name) p.id z ≡ mine (start p.name) p.id p.seen) × (mine (start p.name) r.id z ≡ mine (start p.name) r.id r.seen) × ¬ (p.id ≡ r.id)) (‵ (pass_owns p.name p.id z) ⊛ ‵ (pass_owns p.name r.id z))))) (meets 𝓛 p.name p.id r.id p.seen r.seen) $ await ! tt $ pick ! (λ log. learn ! (λ so. split ! $
     -- [self's; other's; other; its cell, in four entries; self; its cell]
     let p' : (Pass.the_row ℓ).Denot = record p { seen = log } in let r' : (Pass.the_row ℓr).Denot = record r { seen = log } in
     move ! (1 ∷ []) $ rewrite ! 0 (λ (z : Name). ‵ (pass_owns z r.id log)) (sym asked) refl $ move ! (2 ∷ 0 ∷ []) $ join ! $ move ! (2 ∷ 0 ∷ 3 ∷ 4 ∷ 5 ∷ []) $ closes_pass ! tt ℓr r' refl vs1 rb ro $
@@ -42,4 +42,4 @@ meet_spec 𝓤 𝓛 𝓜 𝓡 wired =
     -- [the tokens; the result; self, in two; other, in two]
     nothing ! $ feq_i ! (List Val) (vptr rb ro ∷ []) (vptr rb ro ∷ []) refl $ move ! (0 ∷ 6 ∷ 7 ∷ []) $ fjoin3 ! $ fjoin ! $ feq_i ! (List Val) (vptr pb po ∷ []) (vptr pb po ∷ []) refl $ move ! (0 ∷ 4 ∷ 5 ∷ []) $ fjoin3 ! $ fjoin ! $
     returns ! (look_at ! 0 refl) $ free_all ! refl $ keep ! (1 ∷ 0 ∷ 2 ∷ []) $
-    by ! (ends 𝓛 ended hs c y vunit tt (p', (r', tt)) (tt, (tt, tt)) (fact_i 𝓤 _ (emp 𝓤) ((refl, refl), (refl, refl), so.1, subst (λ (m : Name). mine (start m) r.id log ≡ mine (start m) r.id r.seen) (sym asked) so.2, refl, so.0))))))))))
+    by ! (ends 𝓛 ended hs c y vunit tt (p', (r', tt)) (tt, (tt, tt)) (fact_i 𝓤 _ (emp 𝓤) ((refl, refl), (refl, refl), so.1, subst (λ (m : Name). mine (start m) r.id log ≡ mine (start m) r.id r.seen) (sym asked) so.2, refl, so.0, so.3))))))))))

@@ -1,6 +1,0 @@
-use Rattle.std.specs.Prelude.{None, Some}
-use Rattle.seize_store.specs.Named.{name_of}
-use Rattle.seize_words.proofs.blocks.Blocks.new_alone.Given as goal
-
-abbrev pub ghosts-open_alone : goal.ghosts-open_alone
-ghosts-open_alone g a = record { store = Some (name_of a._store.now); table = None }
