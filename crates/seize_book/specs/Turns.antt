@@ -12,6 +12,9 @@
 --     Shuts porter pass         the first pass in the porter's place: it is alone, as `HasTurn` says
 --     IsFirstTurn book pass     the same of a book that has just begun
 --     OpensAgain pass porter    the porter, which is at home, has seen what the pass had
+--     MayStay may porter        the work may be done with each first pass that the porter may give
+--     HadStay gave porter porter'   the work was done with the first pass, `lent`, which was alone: `back` is the same pass when the work
+--                               ended. The porter is at home, and has seen what `back` had seen
 --     IsFullPorter book porter  the porter of a book that has just begun, which is at home
 --     OpensInTurns book porter keys links size store table     a new book whose passes come from this porter, with so many links, which
 --                               are empty; and its keys
@@ -22,6 +25,7 @@ use Rattle.seize_book.specs.Book.{IsLegalList, after, mine}
 use Rattle.seize_book.specs.Books.{HasKeys, IsNew}
 use Rattle.seize_book.specs.Homes.{IsSound}
 use Rattle.seize_book.specs.Entry.{Entry}
+use Rattle.seize_book.specs.Passes.{IsSame}
 use Rattle.seize_book.specs.Tokens.{AllLentIn, IsTurns, Name, start}
 use Rattle.seize_book.specs.declared.book.book_keys.BookKeys.{BookKeys}
 use Rattle.seize_book.specs.declared.book.pass.Pass.{Pass}
@@ -70,6 +74,17 @@ IsFirstTurn book pass = HasTurn pass × (pass.name ≡ book.name) × (pass.seen 
 
 abbrev pub OpensAgain : Pass → Porter → Type 0
 OpensAgain pass porter = (porter.name ≡ pass.name) × (porter.seen ≡ pass.seen) × (porter.home ≡ true)
+
+abbrev pub MayStay : (Pass → Type 0) → Porter → Type 0
+MayStay may porter = (pass : Pass) → Shuts porter pass → may pass
+
+pub record HadStay (gave : Pass → Pass → Type 0) (porter porter' : Porter) : Type 0 where
+  pub lent : Pass
+  pub back : Pass
+  pub shut : Shuts porter lent
+  pub same : IsSame lent back
+  pub gives : gave lent back
+  pub again : OpensAgain back porter'
 
 abbrev pub IsFullPorter : Book → Porter → Type 0
 IsFullPorter book porter = IsTurns porter.name.gate × (porter.name ≡ book.name) × (porter.seen ≡ []) × (porter.home ≡ true)

@@ -38,7 +38,7 @@ pub use keys::Keys;
 pub use link_keys::LinkKeys;
 pub use numbers_key::NumbersKey;
 pub use pass::Pass;
-pub use porter::Porter;
+pub use porter::{Porter, Stay};
 pub use slot_key::SlotKey;
 pub use slot_keys::SlotKeys;
 pub use token::{Book, Keeps};

@@ -28,9 +28,31 @@ impl Model for Porter {
     ghost also_shares = { λ p _ κ. porter_shares p.name p.home p.seen κ };
 }
 
+// Where the first pass lies while it is lent.
+struct Place {
+    marker: PhantomData<&'static ()>,
+}
+
+/// A piece of work that [`Porter::stay`] lends the first pass, and that leaves this pass there.
+pub trait Stay<R> {
+    ghost use Rattle.seize_book.specs.Passes.{IsSame};
+    ghost use Rattle.seize_book.specs.declared.book.pass.Pass.{Pass};
+
+    /// With which passes the work may be done.
+    ghost may: { Self → Pass → Type 0 };
+
+    /// What the work does: from the work and the pass as they were before, to both as they are afterwards, and the result.
+    ghost gives: { Self → Self → Pass → Pass → R → Type 0 };
+
+    /// Does the work. It leaves the pass that it was lent, and no other one in its place.
+    fn stay(&mut self, pass: &mut Pass<'static>) -> R
+        requires { may self.old pass.old }
+        ensures { IsSame pass.old pass.new × gives self.old self.new pass.old pass.new result };
+}
+
 impl Porter {
     ghost use mathlib.Core.List.{IsPrefix};
-    ghost use Rattle.seize_book.specs.Turns.{ComesHome, Gives, HasTurn, LeavesHome, OpensAgain, Shuts};
+    ghost use Rattle.seize_book.specs.Turns.{ComesHome, Gives, HadStay, HasTurn, LeavesHome, MayStay, OpensAgain, Shuts};
 
     /// A new pass, which has seen what the porter has, and perhaps more; a kept [`Book`] tells a new pass what an earlier one saw
     /// ([`Pass::learn`]). It lasts for as long as the porter is shared: a caller who has the porter alone again may come home or leave,
@@ -74,6 +96,23 @@ impl Porter {
         Pass {
             marker: PhantomData,
         }
+    }
+
+    /// Comes home and lends the first pass of the book to a piece of work. The pass has seen the whole list and is alone: until the work
+    /// ends, nobody else can add to the list. Afterwards the porter is at home, and has seen what the pass had seen when the work ended.
+    ///
+    /// The call itself takes no memory and waits for nobody; the work may do both.
+    pub fn stay<W: Stay<R>, R>(&mut self, work: &mut W) -> R
+        requires { MayStay (W.may work.old) self.old }
+        ensures { HadStay (λ lent back. W.gives work.old work.new lent back result) self.old self.new }
+    {
+        let mut place = Place {
+            marker: PhantomData,
+        };
+        let at = (&mut place as *mut Place).cast::<Pass<'static>>();
+        let result = work.stay(unsafe { &mut *at });
+        let Place { marker: _ } = place;
+        result
     }
 
     /// Opens the gate again, to which the first pass was alone. The porter is at home.
